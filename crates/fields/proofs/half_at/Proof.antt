@@ -1,0 +1,39 @@
+-- `fields::half_at` meets its contract: where no byte is left at the place, both read as 0.
+use native.Mathlib.Omega.{arith}
+use lib.ListN.{List·getD-eq-default}
+use denote.Ref.{now}
+use borrow.Author.Needs.{needs}
+use Rattle.fields.proofs.Bytes.{reads-past}
+use Rattle.fields.proofs.half_at.Statement.{statement}
+use Rattle.fields.proofs.half_at.Tie as tie
+
+shared-slice-read-join2 : tie.Need-shared-slice-read-join2
+shared-slice-read-join2 c = search needs
+
+add-byte-at : tie.Need-add-byte-at
+add-byte-at c = search needs
+
+byte-at-requires : tie.Need-byte-at-requires
+byte-at-requires c κs = search needs
+
+join2-requires : tie.Need-join2-requires
+join2-requires c κs = search needs
+
+returns : tie.Need-returns
+returns c = search needs
+
+returns-2 : tie.Need-returns-2
+returns-2 c =
+    let s = now (c .before .before .args .s) in
+    omega (arith, List·getD-eq-default s 0 (c .if1 .left), reads-past s (c .before .before .args .at) 1 (c .if1 .left))
+
+pub half-at-spec : {M : Type 1} → statement M
+half-at-spec =
+    tie.close
+    (tie.spec
+    shared-slice-read-join2
+    add-byte-at
+    byte-at-requires
+    join2-requires
+    returns
+    returns-2)

@@ -1,0 +1,16 @@
+-- Mark words: bit j stands for entry j, or for head j.
+use mathlib.Core.Bool.{Bool, not, cond, _&&_}
+use Prim.Native.Nat.{ℕ, _+_, _/_, _%_, _^_}
+use lib.Dec.{eqb, ltb}
+
+-- whether bit j of m is set
+unfoldable pub bitOf : ℕ → ℕ → Bool
+bitOf m j = eqb (m / 2 ^ j % 2) 1
+
+-- no mark at n or above
+unfoldable pub marksBelow : ℕ → ℕ → Bool
+marksBelow m n = ltb m (2 ^ n)
+
+-- m with bit k set, where a mark word has such a bit
+unfoldable pub withMark : ℕ → ℕ → ℕ
+withMark m k = cond (ltb k 32 && not (bitOf m k)) (m + 2 ^ k) m

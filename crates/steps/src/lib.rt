@@ -1,0 +1,38 @@
+// Positions in whole steps: which numbers are positions, half a sum, the size of a ring, the step scale.
+ghost use mathlib.Core.Path.{_≡_};
+ghost use lib.IntN.{_+ℤ_};
+ghost use Rattle.terms.specs.Positions.{isPosition, half};
+ghost use Rattle.terms.specs.Sizes.{sizeRefusal};
+use terms::refusal;
+
+pub mod scale;
+
+// Whether v is a position: from -1,000,000 to 1,000,000.
+pub fn is_position(v: i32) -> bool
+    ensures { λ r. ⌜ r ≡ isPosition v ⌝ }
+{
+    -1000000 <= v && v <= 1000000
+}
+
+// Half of a + b, an odd sum rounded down, towards minus infinity.
+pub fn half_sum(a: i32, b: i32) -> i32
+    ensures { λ r. ⌜ r ≡ half 0 (a +ℤ b) ⌝ }
+{
+    ((a as i64 + b as i64) >> 1) as i32
+}
+
+// Whether a ring of n heads with the struck limit f is taken: 0, or 1 for the head count, or 2 for the limit.
+pub fn size_refusal(n: u32, f: u32) -> u8
+    ensures { λ r. ⌜ r ≡ sizeRefusal n f ⌝ }
+{
+    if n == 0 {
+        return refusal::HEAD_COUNT;
+    }
+    if 32 < n {
+        return refusal::HEAD_COUNT;
+    }
+    if 2 * (n as u64) < 7 * (f as u64) + 2 {
+        return refusal::STRUCK_LIMIT;
+    }
+    0
+}

@@ -1,0 +1,30 @@
+-- Document 01, positions: whole steps with a sign. In ℤ `pos n` is n and `negsuc n` is -(n + 1).
+use mathlib.Core.Bool.{Bool, true, false, _&&_}
+use Prim.Native.Nat.{ℕ, _/_}
+use lib.Dec.{eqb}
+use lib.IntN.{ℤ, pos, negsuc, natAbs, _+ℤ_, _-ℤ_}
+use lib.Signed.{leZ}
+
+-- from -1,000,000 to 1,000,000
+unfoldable pub isPosition : ℤ → Bool
+isPosition v = leZ (negsuc 999_999) v && leZ v (pos 1_000_000)
+
+-- x / d, rounded down, towards minus infinity
+unfoldable pub floorDiv : ℤ → ℕ → ℤ
+floorDiv (pos n) d = pos (n / d)
+floorDiv (negsuc n) d = negsuc (n / d)
+
+-- half of z; an odd z is rounded down where r is 0, and up where r is 1 (document 01 has r = 0 throughout)
+unfoldable pub half : ℕ → ℤ → ℤ
+half r z = floorDiv (z +ℤ pos r) 2
+
+-- how far b lies above a, where it does
+unfoldable pub gap : ℤ → ℤ → ℕ
+gap a b = natAbs (b -ℤ a)
+
+-- whether two positions are the same
+unfoldable pub eqZ : ℤ → ℤ → Bool
+eqZ (pos a) (pos b) = eqb a b
+eqZ (pos a) (negsuc b) = false
+eqZ (negsuc a) (pos b) = false
+eqZ (negsuc a) (negsuc b) = eqb a b

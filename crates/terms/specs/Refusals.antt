@@ -1,0 +1,89 @@
+-- Document 01, "Stops": the numbers of the refusals, and checks in a fixed order. src/refusal.rt has the same table for the code.
+use mathlib.Core.Bool.{Bool, true, false}
+use Prim.Native.Nat.{ℕ}
+
+-- The first check that fails gives its number; 0 stands for none.
+abbrev pub check : Bool → ℕ → ℕ → ℕ
+check true number rest = rest
+check false number rest = number
+
+-- head count
+abbrev pub head-count : ℕ
+head-count = 1
+
+-- struck limit too high
+abbrev pub struck-limit : ℕ
+struck-limit = 2
+
+-- head or link number n or more
+abbrev pub number : ℕ
+number = 3
+
+-- position out of range
+abbrev pub position : ℕ
+position = 4
+
+-- phase out of range, or round neither 0 (collection) nor 1 (confession)
+abbrev pub phase : ℕ
+phase = 5
+
+-- fewer than 4 bytes, or the length field differs from the bytes given
+abbrev pub length : ℕ
+length = 6
+
+-- unknown kind
+abbrev pub kind : ℕ
+kind = 7
+
+-- a length wrong for its kind and count
+abbrev pub kind-length : ℕ
+kind-length = 8
+
+-- sender is not the link
+abbrev pub sender : ℕ
+sender = 9
+
+-- list count not n, or a mark at n or above
+abbrev pub marks : ℕ
+marks = 10
+
+-- entry out of range, or not 0 where null
+abbrev pub entry : ℕ
+entry = 11
+
+-- scale
+abbrev pub scale : ℕ
+scale = 12
+
+-- run record cut short, of wrong length, of unknown kind or out of order, a planted pair against its rule or with a number n or more, or file
+-- ended before a start or inside a phase
+abbrev pub run-record : ℕ
+run-record = 13
+
+-- more than f struck, or a mark at n or above
+abbrev pub struck : ℕ
+struck = 14
+
+-- link already heard this round
+abbrev pub heard : ℕ
+heard = 21
+
+-- frame of the other round
+abbrev pub round : ℕ
+round = 22
+
+-- frame of another phase
+abbrev pub other-phase : ℕ
+other-phase = 23
+
+-- buffer too short for the frame
+abbrev pub buffer : ℕ
+buffer = 24
+
+-- too few trusted
+abbrev pub trusted : ℕ
+trusted = 25
+
+-- phase 65,535 has ended
+abbrev pub ended : ℕ
+ended = 26

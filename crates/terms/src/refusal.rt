@@ -1,0 +1,43 @@
+// The numbers of the refusals, with the words of document 01. 0 stands for none. specs/Refusals.antt has the same table.
+
+// From the input.
+pub const HEAD_COUNT: u8 = 1; // head count
+
+pub const STRUCK_LIMIT: u8 = 2; // struck limit too high
+
+pub const NUMBER: u8 = 3; // head or link number n or more
+
+pub const POSITION: u8 = 4; // position out of range
+
+pub const PHASE: u8 = 5; // phase out of range, or round neither 0 (collection) nor 1 (confession)
+
+pub const LENGTH: u8 = 6; // fewer than 4 bytes, or the length field differs from the bytes given
+
+pub const KIND: u8 = 7; // unknown kind
+
+pub const KIND_LENGTH: u8 = 8; // a length wrong for its kind and count
+
+pub const SENDER: u8 = 9; // sender is not the link
+
+pub const MARKS: u8 = 10; // list count not n, or a mark at n or above
+
+pub const ENTRY: u8 = 11; // entry out of range, or not 0 where null
+
+pub const SCALE: u8 = 12; // scale
+
+pub const RUN_RECORD: u8 = 13; // run record cut short, of wrong length, of unknown kind or out of order, ..
+
+pub const STRUCK: u8 = 14; // more than f struck, or a mark at n or above
+
+// From the state.
+pub const HEARD: u8 = 21; // link already heard this round
+
+pub const ROUND: u8 = 22; // frame of the other round
+
+pub const OTHER_PHASE: u8 = 23; // frame of another phase
+
+pub const BUFFER: u8 = 24; // buffer too short for the frame
+
+pub const TRUSTED: u8 = 25; // too few trusted
+
+pub const ENDED: u8 = 26; // phase 65,535 has ended
