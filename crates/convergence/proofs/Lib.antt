@@ -1,0 +1,11 @@
+-- The proof of demand 3 for a ring played on what its links carry: `Demand3` has the theorem, and the modules before it its parts, in order.
+pub mod Sums
+pub mod Order
+pub mod Support
+pub mod OnePhase
+pub mod Links
+pub mod Halves
+pub mod Ends
+pub mod Demand3
+pub mod Same
+pub mod Tight

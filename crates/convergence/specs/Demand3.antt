@@ -1,0 +1,46 @@
+-- Demand 3, for a ring played on what its links carry. `Phases` says what a phase end is, who is struck, what the struck heads may send, and
+-- what the lowest, the highest and the spread are. proofs/Demand3.antt proves `Converges`.
+use mathlib.Core.Bool.{Bool, false}
+use mathlib.Core.Path.{_≡_}
+use Prim.Native.Nat.{ℕ, _+_, _-_, _*_, _/_, _^_, _≤_}
+use lib.IntN.{ℤ}
+use lib.Signed.{_≤ℤ_}
+use Rattle.terms.specs.declared.Entry.{Entry}
+use Rattle.terms.specs.declared.Entry.the-variants.{Null, Position}
+use Rattle.convergence.specs.Counting.{Each, AtMost}
+use Rattle.convergence.specs.Phases.{End, Faults, endOf, lowest, highest, spread}
+
+-- s divided by 2 to the power k, rounded up
+unfoldable pub halved : ℕ → ℕ → ℕ
+halved k s = (s + 2 ^ k - 1) / 2 ^ k
+
+-- a head holds a position, and it lies between the lowest and the highest
+abbrev pub HeldBetween : Entry → Entry → Entry → Type 0
+HeldBetween (Position low) (Position high) (Position u) = (low ≤ℤ u) × (u ≤ℤ high)
+HeldBetween low high Null = ⊥
+HeldBetween Null high (Position u) = ⊥
+HeldBetween (Position low) Null (Position u) = ⊥
+
+-- the sizes that are accepted: 2n at least 7f + 2
+abbrev pub Accepted : ℕ → ℕ → Type 0
+Accepted n f = 7 * f + 2 ≤ 2 * n
+
+-- the sizes at which halving is promised: 3n at least 11f + 3
+abbrev pub Halves : ℕ → ℕ → Type 0
+Halves n f = 11 * f + 3 ≤ 3 * n
+
+-- Two phase ends of n heads with the struck limit f, e the earlier and e′ the later, k phases apart.
+pub record Demand3 (n f k : ℕ) (e e′ : End) : Type 0 where
+  pub range : Each n (λ i. e′ .struck i ≡ false → HeldBetween (lowest n e) (highest n e) (e′ .at i))
+  pub halving : Halves n f → spread n e′ ≤ halved k (spread n e)
+
+-- no round strikes more than f heads
+abbrev pub Within : ℕ → ℕ → (ℕ → Faults) → Type 0
+Within n f F = (p : ℕ) → AtMost f n (F p .collect) × AtMost f n (F p .confess)
+
+-- At every accepted size, whatever the first positions, whichever heads each round strikes, at most f of them, and whatever these send to each
+-- neighbour: any two phase ends, the start among them.
+abbrev pub Converges : Type 0
+Converges =
+    (n f : ℕ) → Accepted n f → (v : ℕ → ℤ) (F : ℕ → Faults) → Within n f F
+    → (p k : ℕ) → Demand3 n f k (endOf n f v F p) (endOf n f v F (p + k))

@@ -1,0 +1,90 @@
+-- Document 01, "Strikes" and the two rounds, for a whole ring: from one phase end to the next.
+use mathlib.Core.Bool.{Bool, true, false, cond}
+use Prim.Native.Nat.{ℕ, zero, suc}
+use lib.IntN.{ℤ}
+use lib.Signed.{leZ}
+use Rattle.terms.specs.Positions.{gap}
+use Rattle.terms.specs.declared.Entry.{Entry}
+use Rattle.terms.specs.declared.Entry.the-variants.{Null, Position}
+use Rattle.convergence.specs.Settling.{settled}
+use Rattle.convergence.specs.Trust.{Given, confessed, gave, trusted}
+
+-- A phase end: the heads struck in its confession round, whose memory is lost, and the position that each other head holds. A head is sound
+-- there if it is not struck.
+pub record End : Type 0 where
+  pub struck : ℕ → Bool
+  pub at : ℕ → Entry
+
+-- the start: all heads are sound, with the positions of the start record
+unfoldable pub start : (ℕ → ℤ) → End
+start v = record { struck = λ j. false; at = λ j. Position (v j) }
+
+-- A phase's strikes, and what the struck heads send: anything, something else to each receiver, or nothing (a null entry, `nothing`).
+pub record Faults : Type 0 where
+  pub collect : ℕ → Bool  -- struck in the collection round
+  pub told : ℕ → ℕ → Entry  -- what such a sender then gives a receiver
+  pub confess : ℕ → Bool  -- struck in the confession round
+  pub replied : ℕ → ℕ → Given
+
+-- What a link gives, by whether its head is struck in this round, and whether it was in the round before: a struck head what it likes; one that is
+-- healed, struck in the round before only, that it is; a healthy one, struck in neither, what it has to say.
+abbrev pub gives : {A : Type 0} → Bool → Bool → A → A → A → A
+gives true before likes healed says = likes
+gives false true likes healed says = healed
+gives false false likes healed says = says
+
+-- Collection round: entry k of the list that receiver i fills. A healthy head sends its position, a healed one silence.
+unfoldable pub listOf : End → Faults → ℕ → ℕ → Entry
+listOf e F i k = gives (F .collect k) (e .struck k) (F .told k i) Null (e .at k)
+
+-- Confession round: what link k gives receiver i. A healed head sends a confession, any other unstruck head its list.
+unfoldable pub givenTo : End → Faults → ℕ → ℕ → Given
+givenTo e F i k = gives (F .confess k) (F .collect k) (F .replied k i) confessed (gave (listOf e F k))
+
+-- The phase's end: each head that is not struck settles a position. r: how odd sums are rounded.
+unfoldable pub after : ℕ → ℕ → ℕ → End → Faults → End
+after r n f e F = record { struck = F .confess; at = λ i. settled r n f (trusted n f (givenTo e F i)) }
+
+-- how phase p rounds odd sums: always down
+unfoldable pub rounding : ℕ → ℕ
+rounding p = 0
+
+-- the end of phase p; end 0 is the start
+unfoldable pub endOf : ℕ → ℕ → (ℕ → ℤ) → (ℕ → Faults) → ℕ → End
+endOf n f v F zero = start v
+endOf n f v F (suc p) = after (rounding (suc p)) n f (endOf n f v F p) (F (suc p))
+
+-- ---- lowest, highest and spread of the sound heads 0 .. n - 1
+
+abbrev pub lesser : ℤ → ℤ → ℤ
+lesser a b = cond (leZ a b) a b
+
+abbrev pub greater : ℤ → ℤ → ℤ
+greater a b = cond (leZ a b) b a
+
+-- of two entries, by their positions; a null counts for nothing
+abbrev pub join : (ℤ → ℤ → ℤ) → Entry → Entry → Entry
+join pick Null b = b
+join pick (Position a) Null = Position a
+join pick (Position a) (Position b) = Position (pick a b)
+
+-- the position of a sound head
+abbrev pub soundAt : End → ℕ → Entry
+soundAt e j = cond (e .struck j) Null (e .at j)
+
+unfoldable pub lowest : ℕ → End → Entry
+lowest zero e = Null
+lowest (suc n) e = join lesser (soundAt e n) (lowest n e)
+
+unfoldable pub highest : ℕ → End → Entry
+highest zero e = Null
+highest (suc n) e = join greater (soundAt e n) (highest n e)
+
+-- the highest less the lowest
+abbrev pub apart : Entry → Entry → ℕ
+apart Null b = 0
+apart (Position a) Null = 0
+apart (Position a) (Position b) = gap a b
+
+unfoldable pub spread : ℕ → End → ℕ
+spread n e = apart (lowest n e) (highest n e)
