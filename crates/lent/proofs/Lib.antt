@@ -1,0 +1,5 @@
+pub mod Walk
+pub mod Lendings
+pub mod Given
+pub mod Filled
+pub mod Blocks

@@ -1,0 +1,8 @@
+-- Laws of the head's calls.
+pub mod Proper
+pub mod Taking
+pub mod Hearing
+pub mod Range
+pub mod RoundEnd
+pub mod Speaking
+pub mod Stops
