@@ -1,0 +1,7 @@
+-- A ring of records and frames, phase by phase, is a ring in the sense of `convergence`.
+pub mod OneRound
+pub mod Closings
+pub mod OnePhase
+pub mod Counts
+pub mod Demand3
+pub mod Unrefused

@@ -1,0 +1,3 @@
+pub mod RunFile
+pub mod Listing
+pub mod EveryFile
