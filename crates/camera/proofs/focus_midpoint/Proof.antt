@@ -1,0 +1,30 @@
+-- `camera::focus_midpoint` meets its contract: it passes on what `midpoint` promises, case by case.
+use mathlib.Core.Path.{refl}
+use mir.Facts.{toZ-ofZ}
+use borrow.Author.Needs.{needs}
+use Rattle.camera.specs.Out.{settledNumber, settledOr}
+use Rattle.camera.proofs.Answers.{given-out}
+use Rattle.camera.proofs.focus_midpoint.Statement.{statement}
+use Rattle.camera.proofs.focus_midpoint.Tie as tie
+
+midpoint-requires : tie.Need-midpoint-requires
+midpoint-requires c κs = search needs
+
+enum-known-answer : tie.Need-enum-known-answer
+enum-known-answer c = search needs
+
+enum-known-answer-2 : tie.Need-enum-known-answer-2
+enum-known-answer-2 c = search needs
+
+returns : tie.Need-returns
+returns c = given-out settledNumber settledOr refl refl (c .before .before .before .midpoint .ensures) (c .before .answer .given .1)
+
+returns-2 : tie.Need-returns-2
+returns-2 c =
+    given-out settledNumber settledOr refl (toZ-ofZ (record { sfits = c .struct-told .given .1 .1 .1 .0 .1 }))
+    (c .before .before .before .before .midpoint .ensures)
+    (c .before .before .answer2 .given .1)
+
+pub focus-midpoint-spec : {M : Type 1} → statement M
+focus-midpoint-spec =
+    tie.close (tie.spec midpoint-requires enum-known-answer enum-known-answer-2 returns returns-2)

@@ -1,0 +1,61 @@
+// What the camera's C firmware calls: the frame check, the midpoint and the scale, on plain numbers and byte slices. host/include/focus.h declares them.
+// Each returns 0 or the refusal's number; a result goes to memory that the caller lends, which a refusal leaves as it was.
+ghost use mathlib.Core.Path.{_≡_};
+ghost use Rattle.frames.specs.Check.{frameRefusal};
+ghost use Rattle.midpoint.specs.Call.{midpointCall};
+ghost use Rattle.steps.specs.Scale.{scaled};
+ghost use Rattle.camera.specs.Out.{settledNumber, settledOr, scaledNumber, scaledOr};
+use midpoint::Settled;
+use steps::scale::Scaled;
+
+// The frame check: 0, 6, 7 or 8. The rest of an accepted frame starts at its byte 7.
+#[no_mangle]
+pub extern "C" fn focus_frame_check(frame: &[u8]) -> u8
+    ensures { λ r. ⌜ r ≡ frameRefusal (now (frame .entry)) ⌝ }
+{
+    frames::frame_refusal(frame)
+}
+
+// The midpoint of a trusted table: 0 and the new position, or 1, 2, 8, 10, 11, 25.
+#[no_mangle]
+pub extern "C" fn focus_midpoint(
+    n: u32,
+    f: u32,
+    marks: u32,
+    entries: &[u8],
+    position: &mut i32,
+) -> u8
+    ensures number { λ r. ⌜ r ≡ settledNumber (midpointCall n f marks (now (entries .entry))) ⌝ }
+    ensures result { λ r. ⌜ now (position .exit) ≡ settledOr (midpointCall n f marks (now (entries .entry))) (now (position .entry)) ⌝ }
+{
+    let answer = midpoint::midpoint(n, f, marks, entries);
+    match answer {
+        Settled::Refused(number) => number,
+        Settled::New(kept) => {
+            let v = kept.position;
+            *position = v;
+            0
+        }
+    }
+}
+
+// The step scale: 0 and the nanometres, or 12, 4.
+#[no_mangle]
+pub extern "C" fn focus_scale(
+    steps: i32,
+    numerator: u32,
+    denominator: u32,
+    nanometres: &mut i64,
+) -> u8
+    ensures number { λ r. ⌜ r ≡ scaledNumber (scaled steps numerator denominator) ⌝ }
+    ensures result { λ r. ⌜ now (nanometres .exit) ≡ scaledOr (scaled steps numerator denominator) (now (nanometres .entry)) ⌝ }
+{
+    let answer = steps::scale::scale(steps, numerator, denominator);
+    match answer {
+        Scaled::Refused(number) => number,
+        Scaled::Nanometres(x) => {
+            *nanometres = x;
+            0
+        }
+    }
+}

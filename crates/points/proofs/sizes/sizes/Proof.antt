@@ -1,0 +1,50 @@
+-- The table is walked row by row. The measure is what is left of a thousand rows, more than any table here has, so that a row can be added without this file.
+use Prim.Native.Nat.{_-_}
+use borrow.Author.Needs.{needs}
+use Rattle.points.proofs.sizes.sizes.Statement.{statement}
+use Rattle.points.proofs.sizes.sizes.Tie as tie
+
+abbrev Inv-loop : tie.InvT-loop
+Inv-loop i₀ i = Unit {0}
+
+abbrev μ-loop : tie.MeasureT-loop
+μ-loop i₀ i = 1000 - i
+
+loop-holds : tie.Need-loop-holds Inv-loop μ-loop
+loop-holds c = search needs
+
+mul-size-line : tie.Need-mul-size-line Inv-loop μ-loop
+mul-size-line c = search needs
+
+array-copy-out-size-line : tie.Need-array-copy-out-size-line Inv-loop μ-loop
+array-copy-out-size-line c = search needs
+
+size-line-requires : tie.Need-size-line-requires Inv-loop μ-loop
+size-line-requires c κs = search needs
+
+add-i : tie.Need-add-i Inv-loop μ-loop
+add-i c = search needs
+
+loop-less : tie.Need-loop-less Inv-loop μ-loop
+loop-less c = search needs
+
+loop-again : tie.Need-loop-again Inv-loop μ-loop
+loop-again c = search needs
+
+returns : tie.Need-returns Inv-loop μ-loop
+returns c = search needs
+
+pub sizes-spec : {M : Type 1} → statement M
+sizes-spec =
+    tie.close
+    (tie.spec
+    Inv-loop
+    μ-loop
+    loop-holds
+    mul-size-line
+    array-copy-out-size-line
+    size-line-requires
+    add-i
+    loop-less
+    loop-again
+    returns)
