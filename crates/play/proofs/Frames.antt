@@ -1,0 +1,78 @@
+-- Frames as the player cuts, writes and reads them. A slot that is cut short, or lies past the end, has fewer bytes; a frame of up to 32 heads has 140
+-- bytes at most, so it fits a buffer of 140; and what was read, with the table beside it, is all that the frame says.
+use mathlib.Core.Path.{_≡_, refl, ap, sym, _∙_}
+use mathlib.Core.List.{List, [], _++_}
+use Prim.Native.Nat.{ℕ, _+_, _-_, _*_, _≤_}
+use native.Mathlib.Omega.{arith}
+use lib.ListN.{length, getD, take, drop, drop-of-length-le, length-append, length-drop}
+use lib.Seq.{take-nil, take-all, take-at}
+use borrow.Author.Tests.{le-leb}
+use Rattle.terms.specs.declared.Entry.{Entry}
+use Rattle.codec.specs.declared.Said.{Said}
+use Rattle.codec.specs.declared.Written.{Written}
+use Rattle.codec.specs.Said.{Meaning, refused, collected, listed, confessed, tableIn, said, saidOf, meant}
+use Rattle.codec.specs.Written.{frameOf, written, buffered}
+use Rattle.codec.proofs.Listing.{list-length}
+use Rattle.codec.proofs.OneMeaning.{meant-said}
+use Rattle.play.specs.Memory.{plantedIn}
+use Rattle.play.specs.Inner.{Front}
+
+-- ---- planted bytes
+
+module _ (bytes lengths : List ℕ) (k i : ℕ) where
+  abbrev from : ℕ
+  from = 140 * (32 * k + i)
+
+  pub planted-past : length bytes ≤ from → [] ≡ plantedIn bytes lengths k i
+  unfolding plantedIn
+  planted-past h = rw (drop-of-length-le bytes h) (sym (take-nil (getD lengths (32 * k + i) 0)))
+
+  pub planted-short : {len : ℕ} → len ≡ getD lengths (32 * k + i) 0 → length bytes - from ≤ len
+      → take (length bytes - from) (drop from bytes) ≡ plantedIn bytes lengths k i
+  unfolding plantedIn
+  planted-short e h =
+      let size = length-drop from bytes in
+      take-all (length bytes - from) (drop from bytes) (omega arith) ∙ sym (take-all (getD lengths (32 * k + i) 0) (drop from bytes) (omega arith))
+
+  pub planted-whole : {len : ℕ} → len ≡ getD lengths (32 * k + i) 0 → take (from + len - from) (drop from bytes) ≡ plantedIn bytes lengths k i
+  unfolding plantedIn
+  planted-whole {len} e = let q : from + len - from ≡ getD lengths (32 * k + i) 0 = omega arith in rw q
+
+-- a slot of no bytes
+pub planted-none : (bytes lengths : List ℕ) (k i : ℕ) → getD lengths (32 * k + i) 0 ≡ 0 → plantedIn bytes lengths k i ≡ []
+unfolding plantedIn
+planted-none bytes lengths k i e = rw e
+
+-- ---- written
+
+frame-fits : (n k p : ℕ) (m : Meaning) → n ≤ 32 → length (frameOf n k p m) ≤ 140
+frame-fits n k p (refused c) h = omega arith
+frame-fits n k p (collected Entry.Null) h = omega arith
+frame-fits n k p (collected (Entry.Position v)) h = omega arith
+frame-fits n k p (listed t) h = omega (arith, list-length n k p t)
+frame-fits n k p confessed h = omega arith
+
+-- the length that writing answered
+abbrev lengthIn : Written → ℕ
+lengthIn (Written.Refused c) = 0
+lengthIn (Written.Length len) = len
+
+-- x: what writing answered; out: the buffer after it
+pub front-written : (n k p : ℕ) (m : Meaning) (s : List ℕ) {x : Written} {out : List ℕ} → n ≤ 32 → length s ≡ 140 → x ≡ written (frameOf n k p m) s
+    → out ≡ buffered (frameOf n k p m) s → Front (frameOf n k p m) (lengthIn x) out
+unfolding written buffered
+front-written n k p m s {x} {out} h l e f =
+    let frame = frameOf n k p m in
+    let fits = le-leb (length frame) (length s) (omega (arith, frame-fits n k p m h)) in
+    let len : lengthIn x ≡ length frame = ap lengthIn (rw fits at e) in
+    let whole : out ≡ frame ++ drop (length frame) s = rw fits at f in
+    record {
+      within = rw (whole, len, length-append) (omega arith);
+      front = rw (whole, len) (take-at frame (drop (length frame) s) (length frame) refl);
+    }
+
+-- ---- read
+
+-- x: what was read
+pub said-read : (n p r k : ℕ) (s : List ℕ) {x : Said} → x ≡ saidOf (said n p r k s) → said n p r k s ≡ meant x (tableIn n s)
+said-read n p r k s e = sym (meant-said n p r k s) ∙ ap (λ (x : Said). meant x (tableIn n s)) (sym e)

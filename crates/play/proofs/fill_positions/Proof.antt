@@ -1,0 +1,101 @@
+-- `play::fill_positions` meets its contract: before head i, the unstruck heads below i have their new position, and all others the one they had.
+use mathlib.Core.Path.{_≡_, ap, sym, _∙_}
+use mathlib.Core.Logic.{⊎-elim}
+use mathlib.Core.Bool.{not}
+use Prim.Native.Nat.{_-_, _≤_}
+use native.Mathlib.Omega.{arith}
+use mir.Facts.{toZ-ofZ}
+use borrow.Author.Needs.{needs}
+use lib.ListN.{length, getD, length-set}
+use lib.IntN.{pos}
+use Rattle.fields.specs.Marks.{bitOf}
+use Rattle.play.specs.Memory.{heads, plantedIn}
+use Rattle.play.specs.Inner.{givenPlanted, settledFrom}
+use Rattle.play.proofs.Filling.{Filled, filled-none, filled-passed, filled-set}
+use Rattle.play.proofs.fill_positions.Statement.{statement}
+use Rattle.play.proofs.fill_positions.Tie as tie
+
+abbrev Inv-loop : tie.InvT-loop
+Inv-loop s planted lengths base rows positions₀ n alike i₀ positions i =
+    (i ≤ n) × (length positions ≡ 32)
+    × Filled (λ j. not (bitOf (s .struck) j)) (λ j. settledFrom s (givenPlanted s base rows (plantedIn planted lengths) j))
+    (λ j. getD positions₀ j (pos 0)) i (λ j. getD positions j (pos 0))
+
+abbrev μ-loop : tie.MeasureT-loop
+μ-loop s planted lengths base rows positions₀ n alike i₀ positions i = n - i
+
+head-count-requires : tie.Need-head-count-requires Inv-loop μ-loop
+head-count-requires c κs = search needs
+
+cast-n : tie.Need-cast-n Inv-loop μ-loop
+cast-n c = search needs
+
+settled-requires : tie.Need-settled-requires Inv-loop μ-loop
+settled-requires c κs = search needs
+
+loop-holds : tie.Need-loop-holds Inv-loop μ-loop
+loop-holds c = (search needs, search needs, filled-none _ _ _)
+
+marked-requires : tie.Need-marked-requires Inv-loop μ-loop
+marked-requires c κs = search needs
+
+position-for-requires : tie.Need-position-for-requires Inv-loop μ-loop
+position-for-requires c κs =
+    let t = c .before .before .before .before in
+    (search needs, search needs, toZ-ofZ (record { sfits = t .settled .ok }) ∙ t .settled .ensures)
+
+mul-v : tie.Need-mul-v Inv-loop μ-loop
+mul-v c = search needs
+
+slice-set-from-v : tie.Need-slice-set-from-v Inv-loop μ-loop
+slice-set-from-v c = search needs
+
+add-i : tie.Need-add-i Inv-loop μ-loop
+add-i c = search needs
+
+loop-less : tie.Need-loop-less Inv-loop μ-loop
+loop-less c = search needs
+
+loop-again : tie.Need-loop-again Inv-loop μ-loop
+loop-again c =
+    let m = c .before in
+    let l = m .before .before .loop in
+    let b = ap not (sym (m .marked .ensures)) in
+    let h = m .before .before .before .before .head-count .ensures in
+    ⊎-elim
+    (λ w. (
+      search needs,
+      rw (w .2) (simp length-set (l .inv .1)),
+      rw (w .2) (filled-set _ _ _ (l .positions) (pos 0) (l .i) (l .inv .2) (omega arith) (b ∙ w .0 .taken) (toZ-ofZ (record { sfits = w .1 .ok }) ∙ w .1 .ensures)),
+    ))
+    (λ w. (search needs, rw (w .1) (l .inv .1), rw (w .1) (filled-passed _ _ _ (l .i) (l .inv .2) (b ∙ w .0 .left))))
+    (c .if1 .came)
+
+same-length : tie.Need-same-length Inv-loop μ-loop
+same-length c = search needs
+
+returns : tie.Need-returns Inv-loop μ-loop
+returns c =
+    let l = c .before .loop in
+    let e : l .i ≡ heads (c .before .before .before .before .before .before .args .s) = omega (arith, c .before .before .before .head-count .ensures) in
+    rw e at (l .inv .2)
+
+pub fill-positions-spec : {M : Type 1} → statement M
+fill-positions-spec =
+    tie.close
+    (tie.spec
+    Inv-loop
+    μ-loop
+    head-count-requires
+    cast-n
+    settled-requires
+    loop-holds
+    marked-requires
+    position-for-requires
+    mul-v
+    slice-set-from-v
+    add-i
+    loop-less
+    loop-again
+    same-length
+    returns)

@@ -1,0 +1,3 @@
+-- What a round played on the heads' memory promises. `Inner` is for the private functions alone.
+pub mod Memory
+pub mod Inner

@@ -1,0 +1,26 @@
+-- `records::few_marks` meets its contract: its two tests are those of the definition.
+use mathlib.Core.Path.{sym, _∙_}
+use borrow.Author.Needs.{needs}
+use borrow.Author.Tests.{not-true, not-false}
+use Rattle.runfile.specs.RunFile.{fewMarks}
+use Rattle.records.proofs.few_marks.Statement.{statement}
+use Rattle.records.proofs.few_marks.Tie as tie
+
+marks-below-requires : tie.Need-marks-below-requires
+marks-below-requires c κs = search needs
+
+returns : tie.Need-returns
+unfolding fewMarks
+returns c = let m = sym (c .before .marks-below .ensures) ∙ not-true _ (c .if1 .taken) in rw m
+
+marked-among-requires : tie.Need-marked-among-requires
+marked-among-requires c κs = search needs
+
+returns-2 : tie.Need-returns-2
+unfolding fewMarks
+returns-2 c =
+    let m = sym (c .before .before .marks-below .ensures) ∙ not-false _ (c .before .if1 .left) in
+    rw (m, c .marked-among .ensures)
+
+pub few-marks-spec : {M : Type 1} → statement M
+few-marks-spec = tie.close (tie.spec marks-below-requires returns marked-among-requires returns-2)

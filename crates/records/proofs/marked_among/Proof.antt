@@ -1,0 +1,68 @@
+-- `records::marked_among` meets its contract: after k turns the count is the sum over the first k heads, and it is at most k, so that it fits.
+use mathlib.Core.Path.{_≡_, refl, ap, _∙_}
+use Prim.Native.Nat.{ℕ, _≤_, _-_}
+use native.Mathlib.Omega.{arith}
+use borrow.Author.Needs.{needs}
+use Rattle.fields.specs.Marks.{bitOf}
+use Rattle.convergence.specs.Counting.{sum, bit}
+use Rattle.convergence.proofs.Sums.{bit-le}
+use Rattle.settle.specs.Cells.{markedTo}
+use Rattle.settle.proofs.Counts.{byte-bit, sum-next, bits-le}
+use Rattle.records.proofs.marked_among.Statement.{statement}
+use Rattle.records.proofs.marked_among.Tie as tie
+
+abbrev Inv-loop : tie.InvT-loop
+Inv-loop m n c₀ k₀ c k = (k ≤ n) × (c ≡ markedTo m k)
+
+abbrev μ-loop : tie.MeasureT-loop
+μ-loop m n c₀ k₀ c k = n - k
+
+loop-holds : tie.Need-loop-holds Inv-loop μ-loop
+unfolding sum
+loop-holds c = (search needs, refl)
+
+marked-requires : tie.Need-marked-requires Inv-loop μ-loop
+marked-requires c κs = search needs
+
+cast-c : tie.Need-cast-c Inv-loop μ-loop
+cast-c c = search needs
+
+add-c : tie.Need-add-c Inv-loop μ-loop
+add-c c =
+    let b = c .marked .result in
+    let l = c .before .before in
+    omega (arith, byte-bit b, bit-le b, bits-le (l .loop .k) (bitOf (l .before .args .m)))
+
+add-k : tie.Need-add-k Inv-loop μ-loop
+add-k c = search needs
+
+loop-less : tie.Need-loop-less Inv-loop μ-loop
+loop-less c = search needs
+
+loop-again : tie.Need-loop-again Inv-loop μ-loop
+loop-again c =
+    let l = c .before .before in
+    let m = c .marked in
+    (search needs, sum-next (λ (k : ℕ). bit (bitOf (l .before .args .m) k)) (l .loop .k) (l .loop .inv .1) (byte-bit (m .result) ∙ ap bit (m .ensures)))
+
+returns : tie.Need-returns Inv-loop μ-loop
+returns c =
+    let l = c .before .loop in
+    let a = c .before .before .args in
+    let e : l .k ≡ a .n = omega arith in
+    l .inv .1 ∙ ap (markedTo (a .m)) e
+
+pub marked-among-spec : {M : Type 1} → statement M
+marked-among-spec =
+    tie.close
+    (tie.spec
+    Inv-loop
+    μ-loop
+    loop-holds
+    marked-requires
+    cast-c
+    add-c
+    add-k
+    loop-less
+    loop-again
+    returns)

@@ -1,0 +1,40 @@
+-- `records::may_stand` meets its contract: an arm for each known kind asks what the definition asks of it, and a kind that is none of these may not stand.
+use borrow.Author.Needs.{needs}
+use borrow.Author.Tests.{ne-eqb}
+use Rattle.records.proofs.may_stand.Statement.{statement}
+use Rattle.records.proofs.may_stand.Tie as tie
+
+has-place-requires : tie.Need-has-place-requires
+has-place-requires c κs = search needs
+
+has-place-requires-2 : tie.Need-has-place-requires-2
+has-place-requires-2 c κs = search needs
+
+returns : tie.Need-returns
+returns c F b w = rw (c .before .match .keys1, b) (c .has-place .ensures)
+
+returns-2 : tie.Need-returns-2
+returns-2 c F b w = rw (c .before .match .keys2, b, c .if1 .taken)
+
+returns-3 : tie.Need-returns-3
+returns-3 c F b w = rw (c .before .match .keys2, b, c .if1 .left)
+
+returns-4 : tie.Need-returns-4
+returns-4 c F b w = rw (c .before .match .keys3, w) (c .has-place2 .ensures)
+
+returns-5 : tie.Need-returns-5
+returns-5 c F b w =
+    let r = c .match .rest in
+    simp (ne-eqb _ _ (r .0 .0 .1), ne-eqb _ _ (r .0 .1), ne-eqb _ _ (r .1))
+
+pub may-stand-spec : {M : Type 1} → statement M
+may-stand-spec =
+    tie.close
+    (tie.spec
+    has-place-requires
+    has-place-requires-2
+    returns
+    returns-2
+    returns-3
+    returns-4
+    returns-5)
