@@ -1,0 +1,112 @@
+//! A head's record and its calls.
+
+use crate::frames::{self, Said};
+use crate::midpoint::settle;
+
+pub const LAST_PHASE: usize = 65_535;
+
+pub struct Head {
+    n: usize,
+    f: usize,
+    number: usize,
+    phase: usize,
+    round: usize,
+    healed: bool,
+    ended: bool,
+    pub position: Option<i32>,
+    list: Vec<Option<i32>>,
+    heard: Vec<Option<Said>>,
+}
+
+impl Head {
+    pub fn start(n: usize, f: usize, number: usize, position: i32) -> Head {
+        Head { healed: false, position: Some(position), ..Head::restart(n, f, number, 1, 0) }
+    }
+
+    pub fn restart(n: usize, f: usize, number: usize, phase: usize, round: usize) -> Head {
+        let (list, heard) = (vec![None; n], vec![None; n]);
+        Head { n, f, number, phase, round, healed: true, ended: false, position: None, list, heard }
+    }
+
+    /// 26, 3, 21, then what the frame is refused for.
+    pub fn hear(&mut self, link: usize, frame: &[u8]) -> Result<(), u8> {
+        if self.ended {
+            return Err(26);
+        }
+        if link >= self.n {
+            return Err(3);
+        }
+        if self.heard[link].is_some() {
+            return Err(21);
+        }
+        let said = frames::read(frame, self.n, self.phase, self.round, link)?;
+        self.heard[link] = Some(said);
+        Ok(())
+    }
+
+    pub fn write(&self) -> Result<Vec<u8>, u8> {
+        if self.ended {
+            return Err(26);
+        }
+        let said = match (self.round, self.healed) {
+            (0, true) => Said::Silence,
+            (0, false) => self.position.map_or(Said::Silence, Said::Position),
+            (_, true) => Said::Confession,
+            (_, false) => Said::List(self.list.clone()),
+        };
+        Ok(frames::write(&said, self.number, self.phase))
+    }
+
+    pub fn close(&mut self) -> Result<(), u8> {
+        if self.ended {
+            return Err(26);
+        }
+        if self.round == 0 {
+            let entry = |said: &Option<Said>| if let Some(Said::Position(v)) = said { Some(*v) } else { None };
+            self.list = self.heard.iter().map(entry).collect();
+            self.round = 1;
+        } else {
+            let trusted: Vec<_> = (0..self.n).map(|j| self.trusted(j)).collect();
+            self.position = Some(settle(self.f, &trusted)?);
+            self.list = vec![None; self.n];
+            self.ended = self.phase == LAST_PHASE;
+            if !self.ended {
+                self.phase += 1;
+                self.round = 0;
+            }
+        }
+        self.healed = false;
+        self.heard = vec![None; self.n];
+        Ok(())
+    }
+
+    /// How many links support u for head j.
+    fn support(&self, j: usize, u: i32) -> usize {
+        let supports = |said: &&Option<Said>| match said {
+            Some(Said::Confession) => true,
+            Some(Said::List(list)) => list[j] == Some(u),
+            _ => false,
+        };
+        self.heard.iter().filter(supports).count()
+    }
+
+    /// The one position with support n - f or more, unless link j confessed.
+    fn trusted(&self, j: usize) -> Option<i32> {
+        let reach = self.n - self.f;
+        let confessions = self.heard.iter().filter(|said| **said == Some(Said::Confession)).count();
+        if self.heard[j] == Some(Said::Confession) || confessions >= reach {
+            return None; // with so many confessions every position has the support
+        }
+        let mut found: Option<i32> = None;
+        let said_of = |said: &Said| if let Said::List(list) = said { list[j] } else { None };
+        for u in self.heard.iter().flatten().filter_map(said_of) {
+            if found != Some(u) && self.support(j, u) >= reach {
+                if found.is_some() {
+                    return None;
+                }
+                found = Some(u);
+            }
+        }
+        found
+    }
+}
