@@ -23,7 +23,7 @@ struct Ends {
 }
 
 // The empty text.
-fn empty() -> Text
+pub fn empty() -> Text
     ensures { λ r. ⌜ r .len ≡ 0 ⌝ }
 {
     Text {
@@ -139,6 +139,7 @@ fn put_entry(t: Text, e: Entry) -> Text
 // The first line.
 pub fn title_line() -> Text
     ensures { λ r. ⌜ bytesOf r ≡ title ⌝ }
+    ensures { λ r. ⌜ r .len ≤ 64 ⌝ }
 {
     put(empty(), b"phase low high spread collect confess\n")
 }
@@ -146,6 +147,7 @@ pub fn title_line() -> Text
 // The last line: `end`, or `refused` and the number.
 pub fn verdict_line(number: u8) -> Text
     ensures { λ r. ⌜ bytesOf r ≡ verdict number ⌝ }
+    ensures { λ r. ⌜ r .len ≤ 64 ⌝ }
 {
     if number == 0 {
         put(empty(), b"end\n")
@@ -228,6 +230,7 @@ fn spread_of(low: Entry, high: Entry) -> u32
 // The line of a phase end: the positions of n heads, and the mark words of its two rounds.
 pub fn end_line(phase: u16, positions: &[i32; 32], n: u8, collect: u32, confess: u32) -> Text
     ensures { λ r. ⌜ bytesOf r ≡ endLine n phase (now (positions .entry)) collect confess ⌝ }
+    ensures { λ r. ⌜ r .len ≤ 64 ⌝ }
 {
     let e = ends_of(positions, confess, n);
     let low = e.low;

@@ -4,3 +4,5 @@ pub mod Carried
 pub mod Keeping
 pub mod Waiting
 pub mod Shown
+pub mod Records
+pub mod Rounds

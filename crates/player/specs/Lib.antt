@@ -1,1 +1,3 @@
 pub mod Keeps
+pub mod Leads
+pub mod Inner

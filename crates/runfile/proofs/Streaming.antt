@@ -29,7 +29,7 @@ lineIn (suc r) n p e = line n p e
 abbrev pub roundLine : ℕ → ℕ → Ring → Round → List ℕ
 roundLine n f R w = lineIn (R .round) n (R .phase) (record { collect = R .before; confess = w .struck; heads = afterRound n f R w .heads })
 
-lines-next : (n f : ℕ) (v : ℕ → ℤ) (ws : List Round) (w : Round)
+pub lines-next : (n f : ℕ) (v : ℕ → ℤ) (ws : List Round) (w : Round)
     → lines n (endsAfter n f v (w ∷ ws)) ≡ lines n (endsAfter n f v ws) ++ roundLine n f (ringAfter n f v ws) w
 unfolding endsAfter ringAfter lines
 lines-next n f v ws w = go (ringAfter n f v ws .round) _

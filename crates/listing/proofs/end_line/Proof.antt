@@ -43,14 +43,16 @@ returns c =
     let t2 = t3 .before in
     let t1 = t2 .before in
     let o = t1 .before in
-    let a = o .before .before .args in
-    from-empty (o .empty .ensures)
-    (longer-then (t1 .put-number .ensures)
-    (longer-then (t2 .put-entry .ensures)
-    (longer-then (t3 .put-entry2 .ensures)
-    (longer-then (t4 .put-number2 .ensures)
-    (longer-then (t5 .put-digits .ensures) (c .put-digits2 .ensures))))))
-    ∙ fields-are (a .phase) (a .collect) (a .confess) (now (a .positions)) (o .before .ends-of .ensures) (w .spread-of .ensures)
+    let a = o .before .before .args in (
+      from-empty (o .empty .ensures)
+          (longer-then (t1 .put-number .ensures)
+          (longer-then (t2 .put-entry .ensures)
+          (longer-then (t3 .put-entry2 .ensures)
+          (longer-then (t4 .put-number2 .ensures)
+          (longer-then (t5 .put-digits .ensures) (c .put-digits2 .ensures))))))
+          ∙ fields-are (a .phase) (a .collect) (a .confess) (now (a .positions)) (o .before .ends-of .ensures) (w .spread-of .ensures),
+      search needs,
+    )
 
 pub end-line-spec : {M : Type 1} → statement M
 end-line-spec =

@@ -16,7 +16,7 @@ put-requires c κs = search needs
 
 returns : tie.Need-returns
 unfolding title
-returns c = from-empty (c .before .before .empty .ensures) (c .put .ensures)
+returns c = (from-empty (c .before .before .empty .ensures) (c .put .ensures), search needs)
 
 pub title-line-spec : {M : Type 1} → statement M
 title-line-spec = tie.close (tie.spec empty-requires slice-aggregate-put put-requires returns)

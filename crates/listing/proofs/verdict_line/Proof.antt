@@ -31,14 +31,14 @@ put-number-requires c κs = search needs
 returns : tie.Need-returns
 returns c =
     let s = c .before .before in
-    rw (s .before .if1 .taken) (from-empty (s .empty .ensures) (c .put .ensures))
+    (rw (s .before .if1 .taken) (from-empty (s .empty .ensures) (c .put .ensures)), search needs)
 
 returns-2 : tie.Need-returns-2
 returns-2 c =
     let s = c .before .before .before in
     let n = s .before .before .args .number in
     let e : n ≡ suc (n - 1) = omega (arith, s .before .if1 .left) in
-    rw e (rw e at (from-empty (s .empty2 .ensures) (longer-then (c .before .put2 .ensures) (c .put-number .ensures))))
+    (rw e (rw e at (from-empty (s .empty2 .ensures) (longer-then (c .before .put2 .ensures) (c .put-number .ensures)))), search needs)
 
 pub verdict-line-spec : {M : Type 1} → statement M
 verdict-line-spec =

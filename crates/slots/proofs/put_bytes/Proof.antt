@@ -1,0 +1,67 @@
+-- `slots::put_bytes` meets its contract: before byte j the first j bytes are pasted.
+use mathlib.Core.Path.{_≡_, _∙_, ap}
+use Prim.Native.Nat.{_-_, _≤_}
+use native.Mathlib.Numerals.{add-one}
+use native.Mathlib.Omega.{arith}
+use lib.ListN.{length}
+use lib.Seq.{paste, paste-zero, paste-suc}
+use denote.Ref.{now}
+use borrow.Author.Needs.{needs}
+use Rattle.slots.proofs.put_bytes.Statement.{statement}
+use Rattle.slots.proofs.put_bytes.Tie as tie
+
+abbrev Inv-loop : tie.InvT-loop
+Inv-loop planted₀ at bytes j₀ planted j = (j ≤ length bytes) × (length planted ≡ length planted₀) × (planted ≡ paste planted₀ at bytes j)
+
+abbrev μ-loop : tie.MeasureT-loop
+μ-loop planted₀ at bytes j₀ planted j = length bytes - j
+
+loop-holds : tie.Need-loop-holds Inv-loop μ-loop
+loop-holds c = let a = c .args in (search needs, search needs, paste-zero (now (a .planted)) (a .at) (now (a .bytes)))
+
+shared-slice-read-planted : tie.Need-shared-slice-read-planted Inv-loop μ-loop
+shared-slice-read-planted c = search needs
+
+add-planted : tie.Need-add-planted Inv-loop μ-loop
+add-planted c = search needs
+
+slice-write-planted : tie.Need-slice-write-planted Inv-loop μ-loop
+slice-write-planted c = search needs
+
+add-j : tie.Need-add-j Inv-loop μ-loop
+add-j c = search needs
+
+loop-less : tie.Need-loop-less Inv-loop μ-loop
+loop-less c = search needs
+
+loop-again : tie.Need-loop-again Inv-loop μ-loop
+loop-again c =
+    let a = c .before .before .before .args in
+    let l = c .before .before .loop in
+    (search needs, search needs, rw (l .inv .2, add-one (l .j)) (paste-suc (now (a .planted)) (a .at) (now (a .bytes)) (l .j) 0 (omega arith) (omega arith)))
+
+same-length : tie.Need-same-length Inv-loop μ-loop
+same-length c = search needs
+
+returns : tie.Need-returns Inv-loop μ-loop
+returns c =
+    let a = c .before .before .args in
+    let l = c .before .loop in
+    let e : l .j ≡ length (now (a .bytes)) = omega arith in
+    l .inv .2 ∙ ap (paste (now (a .planted)) (a .at) (now (a .bytes))) e
+
+pub put-bytes-spec : {M : Type 1} → statement M
+put-bytes-spec =
+    tie.close
+    (tie.spec
+    Inv-loop
+    μ-loop
+    loop-holds
+    shared-slice-read-planted
+    add-planted
+    slice-write-planted
+    add-j
+    loop-less
+    loop-again
+    same-length
+    returns)

@@ -1,0 +1,69 @@
+// The bytes planted in the round that waits: a slot of 140 bytes and a length for each link, as a round is played from them.
+ghost use mathlib.Core.Bool.{cond, _&&_};
+ghost use mathlib.Core.List.{List, []};
+ghost use mathlib.Core.Path.{_≡_};
+ghost use Prim.Native.Nat.{ℕ, _+_, _*_, _≤_, _<_};
+ghost use lib.Dec.{eqb};
+ghost use lib.ListN.{length, getD, set};
+ghost use lib.Seq.{paste};
+ghost use Rattle.play.specs.Memory.{plantedIn};
+
+// Every length is 0.
+fn wipe(lengths: &mut [u8])
+    ensures { λ _. ⌜ ((s : ℕ) → getD (now (lengths .exit)) s 0 ≡ 0) ⌝ }
+{
+    let mut s: usize = 0;
+    while s < lengths.len() {
+        lengths[s] = 0;
+        s += 1;
+    }
+}
+
+// Nothing is planted.
+pub fn clear(lengths: &mut [u8; 1024])
+    ensures { λ _. ⌜ ((bytes : List ℕ) (k i : ℕ) → plantedIn bytes (now (lengths .exit)) k i ≡ []) ⌝ }
+{
+    wipe(lengths);
+}
+
+// The bytes of a slice from an index on.
+fn put_bytes(planted: &mut [u8], at: usize, bytes: &[u8])
+    requires { ⌜ at + length (now bytes) ≤ length (now planted) ⌝ }
+    ensures { λ _. ⌜ now (planted .exit) ≡ paste (now (planted .entry)) at (now (bytes .entry)) (length (now (bytes .entry))) ⌝ }
+{
+    let mut j: usize = 0;
+    while j < bytes.len() {
+        planted[at + j] = bytes[j];
+        j += 1;
+    }
+}
+
+// The length of a slot.
+fn put_length(lengths: &mut [u8], slot: usize, len: u8)
+    requires { ⌜ slot < length (now lengths) ⌝ }
+    ensures { λ _. ⌜ now (lengths .exit) ≡ set (now (lengths .entry)) slot len ⌝ }
+{
+    lengths[slot] = len;
+}
+
+// Plants bytes on the link from k to i: at most 140 bytes, on the links of 32 heads. What is planted on any other link stays.
+pub fn plant(planted: &mut [u8; 143360], lengths: &mut [u8; 1024], k: u8, i: u8, bytes: &[u8])
+    ensures { λ _. ⌜ (length (now (bytes .entry)) ≤ 140 → (j m : ℕ) → j < 32 → m < 32
+        → length (plantedIn (now (planted .entry)) (now (lengths .entry)) j m) ≤ 140
+        → plantedIn (now (planted .exit)) (now (lengths .exit)) j m
+        ≡ cond (eqb k j && eqb i m) (now (bytes .entry)) (plantedIn (now (planted .entry)) (now (lengths .entry)) j m)) ⌝ }
+{
+    if 32 <= k {
+        return;
+    }
+    if 32 <= i {
+        return;
+    }
+    let len = bytes.len();
+    if 140 < len {
+        return;
+    }
+    let slot = 32 * (k as usize) + (i as usize);
+    put_bytes(planted, 140 * slot, bytes);
+    put_length(lengths, slot, len as u8);
+}
