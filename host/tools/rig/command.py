@@ -1,0 +1,36 @@
+"""What the commands share: a file or standard input in, all of the output or none of it out, and a status."""
+import os
+import sys
+
+
+def read(name):
+    if name == '-':
+        return sys.stdin.buffer.read()
+    with open(name, 'rb') as file:
+        return file.read()
+
+
+def shown(name):
+    return 'standard input' if name == '-' else name
+
+
+def text_of(data):
+    """Any bytes as text, without the mark that some editors put in front."""
+    return data.decode('utf-8-sig', errors='replace')
+
+
+def finish(make, wrong):
+    """Writes the bytes that `make` gives. Where it raises `wrong`, or a file cannot be read, one line on standard error and status 1."""
+    try:
+        output = make()
+        sys.stdout.buffer.write(output)
+        sys.stdout.buffer.flush()
+    except BrokenPipeError:          # the reader has seen enough
+        os.dup2(os.open(os.devnull, os.O_WRONLY), sys.stdout.fileno())
+    except wrong as error:
+        print(error, file=sys.stderr)
+        return 1
+    except OSError as error:
+        print('%s: %s' % (error.filename, error.strerror), file=sys.stderr)
+        return 1
+    return 0

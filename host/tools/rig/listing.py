@@ -1,0 +1,67 @@
+"""A listing as it is printed: a line for each phase end, and how the file ended."""
+import re
+from collections import namedtuple
+
+TITLE = 'phase low high spread collect confess'
+LINE = re.compile('([0-9]{1,6}) (-?[0-9]{1,9}) (-?[0-9]{1,9}) ([0-9]{1,9}) ([0-9a-f]{8}) ([0-9a-f]{8})')
+ENDING = re.compile('end|refused [0-9]{1,3}')
+
+PhaseEnd = namedtuple('PhaseEnd', 'phase low high spread collect confess')
+Listing = namedtuple('Listing', 'ends ending last')      # some phase ends or all, the last line, and the last phase of all
+
+
+class ListingError(Exception):
+    """Begins with the number of the line at fault."""
+
+
+def read(text):
+    lines = text.split('\n')
+    if lines[0] != TITLE:
+        raise ListingError('1: the first line of a listing is "%s"' % TITLE)
+    ends = []
+    for at, line in enumerate(lines[1:], 2):
+        if ENDING.fullmatch(line):
+            no_more(lines, at)
+            return Listing(ends, line, len(ends) - 1)
+        ends.append(read_end(line, at, len(ends)))
+    raise AssertionError('the last line is empty, and no end of a phase')
+
+
+def read_end(line, at, phase):
+    found = LINE.fullmatch(line)
+    if not found:
+        raise ListingError('%d: neither a phase nor "end" nor "refused" and a number: "%s"' % (at, line[:60]))
+    end = PhaseEnd(*map(int, found.groups()[:4]), *(int(word, 16) for word in found.groups()[4:]))
+    if end.phase != phase:
+        raise ListingError('%d: phase %d stands where phase %d is due' % (at, end.phase, phase))
+    if end.spread != end.high - end.low or end.spread < 0:
+        raise ListingError('%d: the spread of %d to %d is not %d' % (at, end.low, end.high, end.spread))
+    if phase == 0 and (end.collect or end.confess):
+        raise ListingError('%d: no head is struck before the start' % at)
+    return end
+
+
+def no_more(lines, at):
+    if lines[at:] != ['']:
+        raise ListingError('%d: the listing goes on after its last line' % (at + 1))
+
+
+def part(listing, first, last):
+    """The listing with the phases from `first` to `last` alone."""
+    ends = [end for end in listing.ends if first <= end.phase <= last]
+    if listing.ends and not ends:
+        raise ListingError('no phase from %d to %d: the last is %d' % (first, last, listing.last))
+    return listing._replace(ends=ends)
+
+
+def summary(listing):
+    return '%s, %s' % (phases(listing), listing.ending)
+
+
+def phases(listing):
+    if not listing.ends:
+        return 'no phase'
+    first, last = listing.ends[0].phase, listing.ends[-1].phase
+    if (first, last) == (0, listing.last):
+        return 'phases 0 to %d' % last if last else 'the start alone'
+    return 'phases %d to %d of %d' % (first, last, listing.last)

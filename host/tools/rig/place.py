@@ -1,0 +1,148 @@
+"""Where a record stands: what the start and round records before it have fixed, and whether a player takes it there."""
+from rig import wire
+
+LAST_ROUND = 2 * 65535
+LIMIT = 1000000
+
+
+class Place:
+    def __init__(self):
+        self.begun = False
+        self.n = self.f = 0
+        self.rounds = 0              # round records so far
+        self.struck = 0              # marks of the last of them
+        self.before = 0              # and of the one before it
+        self.unstruck = []           # the heads that are not struck in it
+        self.pair = (-1, -1)         # the last pair planted in it
+
+    @property
+    def phase(self):
+        return max(1, (self.rounds + 1) // 2)
+
+    @property
+    def collecting(self):
+        return self.rounds % 2 == 1
+
+    @property
+    def round_name(self):
+        return 'collection' if self.collecting else 'confession'
+
+    def healed(self):
+        return wire.heads_in(self.before & ~self.struck)
+
+    def follow(self, record):
+        """Goes past one whole record, taken or not."""
+        kind = wire.kind_of(record)
+        if kind == wire.START and len(record) >= 6:
+            self.begun, self.n, self.f = True, record[4], record[5]
+        elif kind == wire.ROUND and len(record) == 8:
+            self.rounds += 1
+            self.before, self.struck = self.struck, wire.word(record, 4)
+            self.pair = (-1, -1)
+        elif kind == wire.PLANT and len(record) >= 6:
+            self.pair = (record[4], record[5])
+            return
+        self.unstruck = [head for head in range(self.n) if not wire.marked(self.struck, head)]
+
+
+def fault(place, record):
+    """None, or the number with which a player refuses the record, and why. Up to here it has refused none."""
+    judge = {wire.START: start_fault, wire.ROUND: round_fault, wire.PLANT: plant_fault}.get(wire.kind_of(record))
+    return judge(place, record) if judge else (13, 'unknown kind')
+
+
+def start_fault(place, record):
+    if place.begun:
+        return 13, 'a second start'
+    if len(record) < 6 or len(record) != 6 + 4 * record[4]:
+        return 13, 'wrong length'
+    n, f = record[4], record[5]
+    if not 1 <= n <= 32:
+        return 1, 'head count'
+    if 2 * n < 7 * f + 2:
+        return 2, 'struck limit too high'
+    if any(abs(v) > LIMIT for v in wire.signed(record, 6, n)):
+        return 4, 'position out of range'
+    return None
+
+
+def round_fault(place, record):
+    if not place.begun:
+        return 13, 'a round before the start'
+    if len(record) != 8:
+        return 13, 'wrong length'
+    heads = wire.heads_in(wire.word(record, 4))
+    if any(head >= place.n for head in heads):
+        return 14, 'a mark at %d or above' % place.n
+    if len(heads) > place.f:
+        return 14, 'more than %d struck' % place.f
+    if place.rounds >= LAST_ROUND:
+        return 26, 'phase 65535 has had its rounds'
+    return None
+
+
+def plant_fault(place, record):
+    if place.rounds == 0:
+        return 13, 'planted before a round'
+    if not 6 <= len(record) <= 146:
+        return 13, 'wrong length'
+    sender, receiver = record[4], record[5]
+    if sender >= place.n or receiver >= place.n:
+        return 13, 'no such head'
+    if not wire.marked(place.struck, sender):
+        return 13, 'the sender is not struck'
+    if wire.marked(place.struck, receiver):
+        return 13, 'the receiver is struck'
+    if (sender, receiver) <= place.pair:
+        return 13, 'pairs must rise by sender, then receiver'
+    return None
+
+
+def end_fault(place, rest):
+    """The same for the end of the file, with the bytes that are left where its last record is not whole."""
+    if len(rest) >= 4 and wire.half(rest, 0) < 4:
+        return 13, 'wrong length'
+    if rest:
+        return 13, 'cut short'
+    if not place.begun:
+        return 13, 'the file ends before a start'
+    if place.collecting:
+        return 13, 'the file ends inside a phase'
+    return None
+
+
+def frame_fault(place, link, frame):
+    """None, or the number with which a receiver refuses a frame planted here on the link, and why. The link then gives nothing."""
+    if len(frame) < 4:
+        return 6, 'fewer than 4 bytes'
+    if wire.half(frame, 0) != len(frame):
+        return 6, 'length field differs from the bytes'
+    kind = wire.kind_of(frame)
+    lengths = {wire.POSITION: 11, wire.SILENCE: 7, wire.LIST: 12 + 4 * frame[7] if len(frame) > 7 else 0, wire.CONFESSION: 7}
+    if kind not in lengths:
+        return 7, 'unknown kind'
+    if len(frame) != lengths[kind]:
+        return 8, 'length wrong for its kind and count' if kind == wire.LIST else 'length wrong for its kind'
+    if (kind in (wire.POSITION, wire.SILENCE)) != place.collecting:
+        return 22, 'frame of the other round'
+    if frame[4] != link:
+        return 9, 'sender is not the link'
+    if wire.half(frame, 5) != place.phase:
+        return 23, 'frame of another phase'
+    if kind == wire.POSITION and abs(wire.signed(frame, 7, 1)[0]) > LIMIT:
+        return 11, 'out of range'
+    return list_fault(place, frame) if kind == wire.LIST else None
+
+
+def list_fault(place, frame):
+    marks = wire.word(frame, 8)
+    if frame[7] != place.n:
+        return 10, 'list count is not %d' % place.n
+    if any(head >= place.n for head in wire.heads_in(marks)):
+        return 10, 'a mark at %d or above' % place.n
+    for head, value in enumerate(wire.signed(frame, 12, place.n)):
+        if wire.marked(marks, head) and abs(value) > LIMIT:
+            return 11, 'entry %d out of range' % head
+        if not wire.marked(marks, head) and value != 0:
+            return 11, 'entry %d is not 0 where null' % head
+    return None
