@@ -1,0 +1,166 @@
+//! The proved exports against the functions of the second implementation, on the same inputs.
+
+use crate::clock::now;
+use crate::exported::{self, Block, SIZE};
+use crate::frames::{self, Said};
+use crate::head::Head;
+use crate::midpoint::LIMIT;
+use crate::paper;
+use crate::random::Random;
+use std::hint::black_box;
+
+/// How many inputs, or heads, are taken in one measured stretch.
+const MANY: usize = 64;
+/// Measured stretches, after some that only warm up.
+const TURNS: usize = 200;
+const WARM: usize = 5;
+const PHASE: usize = 7;
+
+/// Nanoseconds of CPU time a call.
+pub struct Row {
+    pub name: String,
+    pub export: f64,
+    pub plain: f64,
+}
+
+/// One side: what is made ready outside the measured time, and the calls, which give the sum of their numbers.
+type Side<'a, S> = (&'a dyn Fn() -> S, &'a dyn Fn(&mut S) -> u64);
+
+fn stretch<S>(side: &Side<S>) -> (f64, u64) {
+    let mut ready = black_box((side.0)());
+    let before = now();
+    let sum = (side.1)(&mut ready);
+    (now() - before, black_box(sum))
+}
+
+/// Both sides in turns, the least of each; their numbers must be the same.
+fn row<A, B>(name: &str, calls: usize, export: Side<A>, plain: Side<B>) -> Row {
+    let mut least = (f64::MAX, f64::MAX);
+    for turn in 0..WARM + TURNS {
+        let (one, two) = (stretch(&export), stretch(&plain));
+        assert_eq!(one.1, two.1, "{name}: other numbers");
+        if turn >= WARM {
+            least = (least.0.min(one.0), least.1.min(two.0));
+        }
+    }
+    let each = |seconds: f64| seconds * 1e9 / calls as f64;
+    Row { name: name.to_owned(), export: each(least.0), plain: each(least.1) }
+}
+
+fn number<T>(result: Result<T, u8>) -> u64 {
+    black_box(result).err().unwrap_or(0) as u64
+}
+
+fn list(random: &mut Random, n: usize) -> Vec<Option<i32>> {
+    (0..n).map(|_| Some(random.between(-LIMIT, LIMIT))).collect()
+}
+
+fn frame_check(n: usize) -> Row {
+    let mut random = Random::new(1);
+    let mut all = Vec::new();
+    for i in 0..MANY {
+        let said = [Said::Position(i as i32), Said::Silence, Said::List(list(&mut random, n)), Said::Confession];
+        let mut frame = frames::write(&said[i % 4], i % n, PHASE);
+        frame[0] ^= (i % 9 == 0) as u8; // some of each kind have a wrong length
+        all.push(frame);
+    }
+    let export = |all: &mut Vec<Vec<u8>>| (0..MANY * MANY).map(|i| exported::frame_check(&mut all[i % MANY]) as u64).sum();
+    let plain = |all: &mut Vec<Vec<u8>>| (0..MANY * MANY).map(|i| number(frames::check(&all[i % MANY]))).sum();
+    row(&format!("frame check, all kinds, lists of {n}"), MANY * MANY, (&|| all.clone(), &export), (&|| all.clone(), &plain))
+}
+
+fn midpoint(n: usize, f: usize, nulls: usize) -> Row {
+    let mut random = Random::new(2);
+    let marks = u32::MAX >> (32 - n) & u32::MAX << nulls;
+    let entry = |j: usize, v: i32| if j < nulls { 0 } else { v };
+    let table = |random: &mut Random| (0..n).flat_map(|j| entry(j, random.between(-LIMIT, LIMIT)).to_le_bytes()).collect();
+    let all: Vec<Vec<u8>> = (0..MANY).map(|_| table(&mut random)).collect();
+    let (n, f) = (n as u32, f as u32);
+    let export = |all: &mut Vec<Vec<u8>>| {
+        let mut out = 0;
+        all.iter_mut().map(|table| exported::midpoint(n, f, marks, table, &mut out) as u64 + out as u64 % 8).sum()
+    };
+    let given = |table: &[u8]| paper::midpoint(n, f, marks, table).map_or_else(|number| number as u64, |out| out as u64 % 8);
+    let plain = |all: &mut Vec<Vec<u8>>| all.iter().map(|table| given(table)).sum();
+    row(&format!("midpoint, ({n},{f}), {nulls} null"), MANY, (&|| all.clone(), &export), (&|| all.clone(), &plain))
+}
+
+/// A round as a head hears it: its frames by link.
+struct Heard {
+    n: usize,
+    f: usize,
+    round: usize,
+    frames: Vec<Vec<u8>>,
+}
+
+impl Heard {
+    /// A collection round of positions, or a confession round in which `healed` links confess, `liars` give each another list, and the others agree.
+    fn new(n: usize, f: usize, round: usize, healed: usize, liars: usize) -> Heard {
+        let mut random = Random::new(3);
+        let truth = list(&mut random, n);
+        let said = |k: usize| match round {
+            0 => Said::Position(truth[k].unwrap_or(0)),
+            _ if k < healed => Said::Confession,
+            _ if k < healed + liars => Said::List(list(&mut Random::new(k as u64), n)),
+            _ => Said::List(truth.clone()),
+        };
+        let frames = (0..n).map(|k| frames::write(&said(k), k, PHASE)).collect();
+        Heard { n, f, round, frames }
+    }
+
+    fn blocks(&self) -> Vec<Block> {
+        let mut blocks = vec![Block([0; SIZE]); MANY];
+        for block in &mut blocks {
+            block.restart(self.n as u32, self.f as u32, 0, PHASE as u32, self.round as u32);
+        }
+        blocks
+    }
+
+    fn heads(&self) -> Vec<Head> {
+        (0..MANY).map(|_| Head::restart(self.n, self.f, 0, PHASE, self.round)).collect()
+    }
+
+    fn tell_blocks(&self, (blocks, frames): &mut (Vec<Block>, Vec<Vec<u8>>)) -> u64 {
+        let mut hear = |block: &mut Block| (0..self.n).map(|k| block.hear(k as u32, &mut frames[k]) as u64).sum::<u64>();
+        blocks.iter_mut().map(&mut hear).sum()
+    }
+
+    fn tell_heads(&self, heads: &mut [Head]) -> u64 {
+        let hear = |head: &mut Head| (0..self.n).map(|k| number(head.hear(k, &self.frames[k]))).sum::<u64>();
+        heads.iter_mut().map(hear).sum()
+    }
+
+    fn hearing(&self, what: &str) -> Row {
+        let name = format!("hearing {what}, ({},{})", self.n, self.f);
+        let blocks = || (self.blocks(), self.frames.clone());
+        row(&name, MANY * self.n, (&blocks, &|ready| self.tell_blocks(ready)), (&|| self.heads(), &|heads| self.tell_heads(heads)))
+    }
+
+    fn closing(&self, what: &str) -> Row {
+        let name = format!("closing {what}, ({},{})", self.n, self.f);
+        let blocks = || {
+            let mut ready = (self.blocks(), self.frames.clone());
+            self.tell_blocks(&mut ready);
+            ready.0
+        };
+        let heads = || {
+            let mut heads = self.heads();
+            self.tell_heads(&mut heads);
+            heads
+        };
+        let close_blocks = |blocks: &mut Vec<Block>| blocks.iter_mut().map(|block| block.close() as u64).sum();
+        let close_heads = |heads: &mut Vec<Head>| heads.iter_mut().map(|head| number(head.close())).sum();
+        row(&name, MANY, (&blocks, &close_blocks), (&heads, &close_heads))
+    }
+}
+
+pub fn rows() -> Vec<Row> {
+    let mut rows = vec![frame_check(5), frame_check(32), midpoint(5, 1, 0), midpoint(32, 8, 0), midpoint(32, 8, 16)];
+    for (n, f) in [(5, 1), (32, 8)] {
+        let (collection, confession) = (Heard::new(n, f, 0, 0, 0), Heard::new(n, f, 1, 0, 0));
+        rows.extend([collection.hearing("a position"), confession.hearing("a list")]);
+        rows.extend([collection.closing("a collection round"), confession.closing("a confession round, lists that agree")]);
+        rows.push(Heard::new(n, f, 1, f, f).closing("a confession round, f confessions and f liars"));
+    }
+    rows
+}

@@ -1,0 +1,109 @@
+//! The proved player against the second implementation, as programs on the same run files.
+
+use crate::clock::{ended, watched, Used};
+use crate::runs::Run;
+use std::fs::{self, File};
+use std::io::{self, BufWriter, Write};
+use std::process::{Child, Command, Stdio};
+use std::thread;
+
+pub struct Players {
+    pub rigplay: String,
+    pub plain: String,
+    /// A directory for run files and listings.
+    pub place: String,
+}
+
+/// CPU times in seconds; the file's length and the proved player's memory in bytes.
+pub struct Timed {
+    pub bytes: u64,
+    pub resident: u64,
+    pub rigplay: f64,
+    pub plain: f64,
+}
+
+impl Timed {
+    pub fn ratio(&self) -> f64 {
+        self.rigplay / self.plain
+    }
+}
+
+fn spawn(program: &str, input: Stdio, output: Stdio) -> io::Result<Child> {
+    let failed = |error: io::Error| io::Error::other(format!("{program}: {error}"));
+    Command::new(program).stdin(input).stdout(output).spawn().map_err(failed)
+}
+
+impl Players {
+    fn path(&self, name: &str) -> String {
+        format!("{}/{name}", self.place)
+    }
+
+    fn start(&self, program: &str, file: &str, output: Stdio) -> io::Result<Child> {
+        spawn(program, File::open(self.path(file))?.into(), output)
+    }
+
+    fn seconds(&self, program: &str, file: &str) -> io::Result<f64> {
+        Ok(ended(self.start(program, file, Stdio::null())?)?.seconds)
+    }
+
+    /// Both players must print the same; this also warms up both, and the file. The proved player's memory is given.
+    fn compare(&self, file: &str) -> io::Result<u64> {
+        let listing = |program: &str, name: &str| {
+            let used = watched(self.start(program, file, File::create(self.path(name))?.into())?)?;
+            Ok::<_, io::Error>((fs::read(self.path(name))?, used.resident))
+        };
+        let (ours, others) = (listing(&self.rigplay, "rigplay.listing")?, listing(&self.plain, "plain.listing")?);
+        if ours.0 != others.0 || !ours.0.ends_with(b"\nend\n") {
+            return Err(io::Error::other(format!("the listings of {file} differ, or it was not played out")));
+        }
+        Ok(ours.1)
+    }
+
+    fn store(&self, run: &Run, file: &str) -> io::Result<u64> {
+        let mut out = BufWriter::new(File::create(self.path(file))?);
+        let bytes = run.write(&mut out)?;
+        out.flush()?;
+        Ok(bytes)
+    }
+
+    /// The least time of each player, taken in turns.
+    pub fn time(&self, run: &Run, turns: usize) -> io::Result<Timed> {
+        let bytes = self.store(run, "timed.run")?;
+        let resident = self.compare("timed.run")?;
+        let mut timed = Timed { bytes, resident, rigplay: f64::MAX, plain: f64::MAX };
+        for _ in 0..turns {
+            timed.rigplay = timed.rigplay.min(self.seconds(&self.rigplay, "timed.run")?);
+            timed.plain = timed.plain.min(self.seconds(&self.plain, "timed.run")?);
+        }
+        Ok(timed)
+    }
+
+    /// The proved player's time for a run twice as long, as a multiple of that for the run, taken in turns.
+    pub fn growth(&self, run: &Run, turns: usize) -> io::Result<f64> {
+        self.store(run, "timed.run")?;
+        self.store(&Run { phases: 2 * run.phases, ..*run }, "twice.run")?;
+        let (mut once, mut twice) = (f64::MAX, f64::MAX);
+        for _ in 0..turns {
+            once = once.min(self.seconds(&self.rigplay, "timed.run")?);
+            twice = twice.min(self.seconds(&self.rigplay, "twice.run")?);
+        }
+        Ok(twice / once)
+    }
+
+    /// Plays a run that is made as it is read: the file's length and what the proved player used. Its listing must have a line for every phase.
+    pub fn stream(&self, run: &Run) -> io::Result<(u64, Used)> {
+        let listing = self.path("long.listing");
+        let mut child = spawn(&self.rigplay, Stdio::piped(), File::create(&listing)?.into())?;
+        let mut input = child.stdin.take().expect("a piped input");
+        let (bytes, used) = thread::scope(|scope| {
+            let feeding = scope.spawn(move || run.write(&mut input));
+            let used = watched(child)?;
+            Ok::<_, io::Error>((feeding.join().expect("a writer that ends")?, used))
+        })?;
+        let text = fs::read_to_string(&listing)?;
+        if text.lines().count() != run.phases + 3 || !text.ends_with("\nend\n") {
+            return Err(io::Error::other("the long file was not played out"));
+        }
+        Ok((bytes, used))
+    }
+}

@@ -1,0 +1,228 @@
+//! Run files that are not right: with one fault whose number is known, or damaged in any way.
+
+use crate::random::Random;
+use crate::ring::{has, marks};
+use crate::wire::{self, fitted, kind, out_of_range};
+
+pub type Records = Vec<Vec<u8>>;
+
+/// The right records of a run, to be spoilt.
+pub struct Right {
+    pub n: usize,
+    pub f: usize,
+    pub records: Records,
+}
+
+/// Records of which the first `sound` are right, and the number of the fault that follows them.
+pub struct Faulty {
+    pub records: Records,
+    pub sound: usize,
+    pub number: u8,
+}
+
+impl Right {
+    /// Where a round begins and where it ends; now and then, a place past the end.
+    fn round(&self, random: &mut Random) -> (usize, usize) {
+        let is_round = |&i: &usize| kind(&self.records[i]) == wire::ROUND;
+        let end = self.records.len();
+        let places: Vec<usize> = (0..end).filter(is_round).collect();
+        if places.is_empty() || random.chance(1, 8) {
+            return (end, end);
+        }
+        let at = random.pick(&places);
+        (at, (at + 1..end).find(is_round).unwrap_or(end))
+    }
+
+    /// The records before `at`, then others, of which the last is at fault, then those from `rest` on. A player that misses the fault finds these right.
+    fn with(&self, at: usize, others: Records, rest: usize, number: u8) -> Faulty {
+        let sound = at + others.len().saturating_sub(1);
+        let rest = self.records.get(rest..).unwrap_or_default();
+        Faulty { records: [&self.records[..at], &others, rest].concat(), sound, number }
+    }
+
+    pub fn start_fault(&self, random: &mut Random) -> Faulty {
+        let mut record = self.records[0].clone();
+        let number = match random.below(7) {
+            0 => {
+                record[4] ^= 1 << random.below(8);
+                13
+            }
+            1 => {
+                record.resize(4 + random.below(2 * record.len()), 0);
+                record.extend(if record.len() == self.records[0].len() { &[0][..] } else { &[] });
+                13
+            }
+            2 => {
+                let n = random.pick(&[0, 33, 33, 34, 64, 255]);
+                let f = random.pick(&[0, self.f, 255]);
+                record = wire::start(n, f, &vec![random.pick(&[0, i32::MAX]); n]);
+                1
+            }
+            3 | 4 => {
+                let least = (2 * self.n - 2) / 7 + 1;
+                record[5] = random.pick(&[least, least, least + 1, 37, 73, 110, 147, 255]).max(least) as u8;
+                if random.chance(1, 3) {
+                    record[6..10].copy_from_slice(&out_of_range(random).to_le_bytes());
+                }
+                2
+            }
+            _ => {
+                let at = 6 + 4 * random.below(self.n);
+                record[at..at + 4].copy_from_slice(&out_of_range(random).to_le_bytes());
+                4
+            }
+        };
+        self.with(0, vec![fitted(record)], 1, number)
+    }
+
+    pub fn round_fault(&self, random: &mut Random) -> Faulty {
+        let (at, end) = self.round(random);
+        let count = self.f + 1 + random.below(self.n - self.f);
+        let many = marks(&random.some(&(0..self.n).collect::<Vec<_>>(), count));
+        let (record, number) = match random.below(4) {
+            0 => {
+                let length = random.pick(&[4, 5, 6, 7, 9, 10, 12, 40]);
+                let mut record = wire::round(random.pick(&[0, many, u32::MAX]));
+                record.resize(length, 0);
+                (fitted(record), 13)
+            }
+            1 if self.n < 32 => (wire::round(1 << (self.n + random.below(32 - self.n))), 14),
+            2 if self.n < 32 => (wire::round(u32::MAX << self.n), 14),
+            _ => (wire::round(many), 14),
+        };
+        self.with(at, vec![record], end, number)
+    }
+
+    /// It needs f of 1 or more.
+    pub fn planted_fault(&self, random: &mut Random) -> Faulty {
+        let (at, end) = self.round(random);
+        let all: Vec<usize> = (0..self.n).collect();
+        let count = 1 + random.below(self.f);
+        let struck = random.some(&all, count);
+        let mut free: Vec<usize> = all.into_iter().filter(|i| !struck.contains(i)).collect();
+        let before = self.struck_before(at);
+        free.sort_by_key(|&i| !has(before, i)); // first those that were struck in the round before
+        let planted = bad_pairs(random, self.n, &struck, &free);
+        if random.chance(1, 16) {
+            return self.with(1, vec![wire::planted(struck[0], free[0], &[])], 1, 13);
+        }
+        let mut others = vec![wire::round(marks(&struck))];
+        others.extend(planted);
+        self.with(at, others, end, 13)
+    }
+
+    /// The mark word of the last round record before `at`.
+    fn struck_before(&self, at: usize) -> u32 {
+        let last = self.records[..at].iter().rev().find(|record| kind(record) == wire::ROUND);
+        last.map_or(0, |record| u32::from_le_bytes([record[4], record[5], record[6], record[7]]))
+    }
+
+    /// A record of no right form, anywhere.
+    pub fn form_fault(&self, random: &mut Random) -> Faulty {
+        let at = random.below(self.records.len() + 1);
+        let mut record = if at == 0 || random.chance(1, 3) { self.records[0].clone() } else { wire::round(0) };
+        match random.below(4) {
+            0 => record[..2].copy_from_slice(&[random.below(4) as u8, 0]),
+            1 if at > 0 => record = random.pick(&[&self.records[0], &wire::start(0, 0, &[])]).clone(),
+            2 => {
+                record[1] = 0xff;
+                return self.with(at, vec![record], usize::MAX, 13);
+            }
+            _ => {
+                let kinds = [0, 1, 2, 3, 4, 0x13, 0x14, 0x15, 0x110, 0x111, 0x112, 0x1000, 0x8011, 0xffff];
+                record[2..4].copy_from_slice(&random.pick::<u16>(&kinds).to_le_bytes());
+            }
+        }
+        self.with(at, vec![record], at, 13)
+    }
+
+    /// A file that ends too early or too late.
+    pub fn ending_fault(&self, random: &mut Random) -> Faulty {
+        let length = self.records.len();
+        match random.below(6) {
+            0 => self.with(0, Vec::new(), usize::MAX, 13),
+            1 => self.with(0, Vec::new(), 1, 13),
+            2 => {
+                let count = 1 + random.below(3);
+                self.with(length, vec![wire::round(0)[..count].to_vec()], usize::MAX, 13)
+            }
+            3 => {
+                let at = random.below(length);
+                let cut = 1 + random.below(self.records[at].len() - 1);
+                self.with(at, vec![self.records[at][..cut].to_vec()], usize::MAX, 13)
+            }
+            _ => self.inside_phase(random),
+        }
+    }
+
+    fn inside_phase(&self, random: &mut Random) -> Faulty {
+        let rounds = |end: usize| self.records[..end].iter().filter(|record| kind(record) == wire::ROUND).count();
+        let inside: Vec<usize> = (0..self.records.len()).filter(|&end| rounds(end) % 2 == 1).collect();
+        if inside.is_empty() {
+            let mut all = self.with(self.records.len(), vec![wire::round(0)], usize::MAX, 13);
+            all.sound += 1;
+            return all;
+        }
+        self.with(random.pick(&inside), Vec::new(), usize::MAX, 13)
+    }
+}
+
+/// Planted records, the last of which is against the rule.
+fn bad_pairs(random: &mut Random, n: usize, struck: &[usize], free: &[usize]) -> Records {
+    let (from, to) = (random.pick(struck), random.pick(free));
+    let (low, high) = (to.min(free[0]), to.max(free[0]));
+    let count = random.below(12);
+    let body = random.bytes(count);
+    let plant = |from: usize, to: usize| wire::planted(from, to, &body);
+    match random.below(10) {
+        0 | 1 => vec![plant(free[0], free[1 + random.below(free.len() - 1)])],
+        2 => vec![plant(from, random.pick(struck))],
+        3 => vec![plant(random.pick(&[n, 255, 32 + from, 64 + from]), to)],
+        4 => vec![plant(from, random.pick(&[n, 255, 32 + to, 64 + to]))],
+        5 => vec![plant(from, to), plant(from, to)],
+        6 if low < high => vec![plant(from, high), plant(from, low)],
+        7 if from != struck[0] => vec![plant(from.max(struck[0]), low), plant(from.min(struck[0]), high)],
+        8 => vec![wire::record(wire::PLANTED, &[from as u8][..random.below(2)])],
+        _ => vec![wire::planted(from, to, &vec![random.below(256) as u8; random.pick(&[141, 142, 144, 256, 5000])])],
+    }
+}
+
+/// Damage of any kind; what a player makes of it is not foretold.
+pub fn damaged(random: &mut Random, mut records: Records) -> Vec<u8> {
+    let (at, other) = (random.below(records.len()), random.below(records.len()));
+    match random.below(10) {
+        0 => records.swap(at, other),
+        1 => drop(records.remove(at)),
+        2 => records.insert(other, records[at].clone()),
+        3 => {
+            let moved = records.remove(at);
+            records.insert(other, moved);
+        }
+        4 => records.truncate(at + 1),
+        5 => {
+            let kind = random.pick(&[wire::START, wire::ROUND, wire::PLANTED]);
+            let length = random.below(20);
+            records.insert(at, wire::record(kind, &random.bytes(length)));
+        }
+        _ => return shaken(random, records.concat()),
+    }
+    records.concat()
+}
+
+fn shaken(random: &mut Random, mut bytes: Vec<u8>) -> Vec<u8> {
+    let at = random.below(bytes.len());
+    let count = 1 + random.below(8);
+    match random.below(8) {
+        0 => bytes.truncate(at),
+        1 => drop(bytes.drain(at..bytes.len().min(at + count))),
+        2 => drop(bytes.splice(at..at, random.bytes(count))),
+        3 => bytes = random.bytes(at),
+        _ => {
+            for _ in 0..1 + random.below(3) {
+                let at = random.below(bytes.len());
+                bytes[at] ^= 1 << random.below(8);
+            }
+        }
+    }
+    bytes
+}

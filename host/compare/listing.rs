@@ -1,0 +1,83 @@
+//! What every listing must be, whatever the file: its form, and demand 3 on its phase ends.
+
+use crate::files::TITLE;
+use crate::ring::LIMIT;
+
+/// The numbers that a run file can be refused with.
+pub const NUMBERS: [u8; 6] = [1, 2, 4, 13, 14, 26];
+
+/// The sound heads at a phase end.
+#[derive(Clone, Copy)]
+pub struct End {
+    pub low: i32,
+    pub high: i32,
+}
+
+impl End {
+    pub fn spread(&self) -> i32 {
+        self.high - self.low
+    }
+}
+
+pub struct Listing {
+    pub ends: Vec<End>,
+    /// 0 for a file played out.
+    pub number: u8,
+}
+
+/// The listing of a ring of n heads with limit f, or what is wrong with its form.
+pub fn read(bytes: &[u8], n: usize, f: usize) -> Result<Listing, String> {
+    let text = std::str::from_utf8(bytes).map_err(|_| "the listing is not text")?;
+    let rest = text.strip_prefix(TITLE).ok_or("no title line")?;
+    let mut lines: Vec<&str> = rest.split_inclusive('\n').collect();
+    let last = lines.pop().ok_or("no last line")?;
+    let number = ended(last).ok_or_else(|| format!("a last line {last:?}"))?;
+    let mut ends = Vec::with_capacity(lines.len());
+    for (phase, line) in lines.iter().enumerate() {
+        ends.push(end(line, phase, n, f).ok_or_else(|| format!("a line of phase {phase} {line:?}"))?);
+    }
+    let fits = match number {
+        0 | 14 => !ends.is_empty(),
+        1 | 2 | 4 => ends.is_empty(),
+        26 => ends.len() == 65_535,
+        _ => true,
+    };
+    if fits { Ok(Listing { ends, number }) } else { Err(format!("{last:?} after {} lines", ends.len())) }
+}
+
+fn ended(line: &str) -> Option<u8> {
+    NUMBERS.into_iter().find(|number| line == format!("refused {number}\n")).or((line == "end\n").then_some(0))
+}
+
+/// A line is read, and must be what is printed of what was read.
+fn end(line: &str, phase: usize, n: usize, f: usize) -> Option<End> {
+    let fields: Vec<&str> = line.split_ascii_whitespace().collect();
+    let (low, high): (i32, i32) = (fields.get(1)?.parse().ok()?, fields.get(2)?.parse().ok()?);
+    let collect = u32::from_str_radix(fields.get(4)?, 16).ok()?;
+    let confess = u32::from_str_radix(fields.get(5)?, 16).ok()?;
+    let most = if phase == 0 { 0 } else { f as u32 };
+    let fits = |marks: u32| marks.count_ones() <= most && (n >= 32 || marks >> n == 0);
+    let right = -LIMIT <= low && low <= high && high <= LIMIT && fits(collect) && fits(confess);
+    let printed = || format!("{phase} {low} {high} {} {collect:08x} {confess:08x}\n", high - low);
+    (right && printed() == line).then_some(End { low, high })
+}
+
+pub fn halving(n: usize, f: usize) -> bool {
+    3 * n >= 11 * f + 3
+}
+
+/// Demand 3 on every two phase ends up to 21 apart. From there on a spread of at most 2,000,000 is bounded by 1, or 0, for good, and the ends
+/// between them carry that on.
+pub fn converges(ends: &[End], n: usize, f: usize) -> Result<(), String> {
+    for (at, earlier) in ends.iter().enumerate() {
+        for (k, later) in ends[at..].iter().enumerate().take(22) {
+            if later.low < earlier.low || earlier.high < later.high {
+                return Err(format!("phase end {} is not in the range of phase end {at}", at + k));
+            }
+            if halving(n, f) && later.spread() > (earlier.spread() + (1 << k) - 1) >> k {
+                return Err(format!("the spread at phase end {} is too great after phase end {at}", at + k));
+            }
+        }
+    }
+    Ok(())
+}

@@ -1,0 +1,154 @@
+//! The model: a ring as document 01 has it, without a byte. What a struck head does is, for each neighbour, what that neighbour makes of it.
+
+use std::collections::BTreeMap;
+
+pub const LIMIT: i32 = 1_000_000;
+
+/// A position, or null.
+pub type Entry = Option<i32>;
+
+/// What a link gives to one receiver in a round.
+#[derive(Clone)]
+pub enum Given {
+    Nothing,
+    Position(i32),
+    Silence,
+    List(Vec<Entry>),
+    Confession,
+}
+
+/// Bytes planted on one link, and what their receiver makes of them.
+#[derive(Clone)]
+pub struct Lie {
+    pub bytes: Vec<u8>,
+    pub given: Given,
+}
+
+/// A round: the mark word of its struck heads, and what these send, by sender and receiver.
+pub struct Round {
+    pub struck: u32,
+    pub lies: BTreeMap<(usize, usize), Lie>,
+}
+
+pub fn has(marks: u32, head: usize) -> bool {
+    marks >> head & 1 == 1
+}
+
+pub fn marks(heads: &[usize]) -> u32 {
+    heads.iter().fold(0, |word, head| word | 1 << head)
+}
+
+pub struct Ring {
+    pub n: usize,
+    pub f: usize,
+    /// None where the memory was lost.
+    pub positions: Vec<Entry>,
+    pub lists: Vec<Vec<Entry>>,
+    /// The heads struck in the round before.
+    pub before: u32,
+    /// How many rounds were played.
+    pub rounds: usize,
+    /// The lines of the listing, from line 0.
+    pub lines: Vec<String>,
+}
+
+impl Ring {
+    pub fn start(f: usize, positions: &[i32]) -> Ring {
+        let n = positions.len();
+        let positions = positions.iter().copied().map(Some).collect();
+        let mut ring = Ring { n, f, positions, lists: vec![Vec::new(); n], before: 0, rounds: 0, lines: Vec::new() };
+        ring.print(0);
+        ring
+    }
+
+    /// The phase that the next round belongs to.
+    pub fn phase(&self) -> usize {
+        self.rounds / 2 + 1
+    }
+
+    pub fn collecting(&self) -> bool {
+        self.rounds % 2 == 0
+    }
+
+    pub fn heads(&self, wanted: impl Fn(usize) -> bool) -> Vec<usize> {
+        (0..self.n).filter(|&i| wanted(i)).collect()
+    }
+
+    pub fn play(&mut self, round: &Round) {
+        let said: Vec<Given> = (0..self.n).map(|i| self.says(i, round)).collect();
+        let ends = !self.collecting();
+        for i in 0..self.n {
+            if has(round.struck, i) {
+                self.positions[i] = None;
+                self.lists[i].clear();
+                continue;
+            }
+            let heard: Vec<&Given> = (0..self.n).map(|k| round.lies.get(&(k, i)).map_or(&said[k], |lie| &lie.given)).collect();
+            if ends {
+                self.positions[i] = Some(self.settled(&heard));
+            } else {
+                self.lists[i] = heard.iter().map(|given| if let Given::Position(v) = given { Some(*v) } else { None }).collect();
+            }
+        }
+        self.rounds += 1;
+        if ends {
+            self.print(round.struck);
+        }
+        self.before = round.struck;
+    }
+
+    /// What head i sends to all; a struck one sends only its lies.
+    fn says(&self, i: usize, round: &Round) -> Given {
+        let healed = has(self.before, i);
+        match (self.collecting(), healed) {
+            _ if has(round.struck, i) => Given::Nothing,
+            (true, true) => Given::Silence,
+            (true, false) => Given::Position(self.positions[i].expect("a healthy head holds a position")),
+            (false, true) => Given::Confession,
+            (false, false) => Given::List(self.lists[i].clone()),
+        }
+    }
+
+    fn settled(&self, heard: &[&Given]) -> i32 {
+        let mut kept: Vec<i32> = (0..self.n).filter_map(|j| self.trusted(j, heard)).collect();
+        let nulls = self.n - kept.len();
+        assert!(nulls <= 3 * self.f, "more than 3f nulls with at most f struck in a round");
+        let trim = if nulls <= self.f { self.f } else { (3 * self.f - nulls).div_ceil(2) };
+        kept.sort_unstable();
+        (kept[trim] + kept[kept.len() - 1 - trim]) >> 1
+    }
+
+    /// The only position with support n - f, if link j has not confessed.
+    fn trusted(&self, j: usize, heard: &[&Given]) -> Entry {
+        if matches!(heard[j], Given::Confession) {
+            return None;
+        }
+        let mut confessed = 0;
+        let mut named: Vec<(i32, usize)> = Vec::new();
+        for given in heard {
+            match given {
+                Given::Confession => confessed += 1,
+                Given::List(list) => list[j].into_iter().for_each(|u| match named.iter_mut().find(|name| name.0 == u) {
+                    Some(name) => name.1 += 1,
+                    None => named.push((u, 1)),
+                }),
+                _ => {}
+            }
+        }
+        assert!(confessed < self.n - self.f, "n - f confessions with at most f struck in a round");
+        let mut reach = named.iter().filter(|name| name.1 + confessed >= self.n - self.f);
+        reach.next().filter(|_| reach.next().is_none()).map(|name| name.0)
+    }
+
+    fn print(&mut self, confess: u32) {
+        let (low, high) = self.range();
+        let collect = self.before;
+        self.lines.push(format!("{} {low} {high} {} {collect:08x} {confess:08x}\n", self.rounds / 2, high - low));
+    }
+
+    /// The lowest and the highest position held.
+    pub fn range(&self) -> (i32, i32) {
+        let held = self.positions.iter().flatten();
+        (*held.clone().min().expect("a sound head"), *held.max().expect("a sound head"))
+    }
+}

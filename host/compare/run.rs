@@ -1,0 +1,104 @@
+//! A run as it is written, round by round, and the lies of a round.
+
+use crate::random::Random;
+use crate::ring::{has, Given, Lie, Ring, Round, LIMIT};
+use crate::wire::{self, Link};
+use std::collections::BTreeMap;
+
+/// A run as it is written: the model beside it knows the listing.
+pub struct Run {
+    pub ring: Ring,
+    start: Vec<u8>,
+    rounds: Vec<Round>,
+}
+
+impl Run {
+    pub fn new(f: usize, positions: &[i32]) -> Run {
+        let start = wire::start(positions.len(), f, positions);
+        Run { ring: Ring::start(f, positions), start, rounds: Vec::new() }
+    }
+
+    pub fn play(&mut self, struck: u32, lies: Lies) {
+        let round = Round { struck, lies: lies.lies };
+        self.ring.play(&round);
+        self.rounds.push(round);
+    }
+
+    /// The records of the run file.
+    pub fn records(&self) -> Vec<Vec<u8>> {
+        let mut records = vec![self.start.clone()];
+        for round in &self.rounds {
+            records.push(wire::round(round.struck));
+            records.extend(round.lies.iter().map(|((from, to), lie)| wire::planted(*from, *to, &lie.bytes)));
+        }
+        records
+    }
+}
+
+/// The lies of a round that is being written.
+pub struct Lies {
+    n: usize,
+    phase: usize,
+    collecting: bool,
+    lies: BTreeMap<(usize, usize), Lie>,
+}
+
+impl Lies {
+    pub fn of(ring: &Ring) -> Lies {
+        Lies { n: ring.n, phase: ring.phase(), collecting: ring.collecting(), lies: BTreeMap::new() }
+    }
+
+    fn link(&self, from: usize) -> Link {
+        Link { n: self.n, phase: self.phase, collecting: self.collecting, from }
+    }
+
+    pub fn say(&mut self, from: usize, to: usize, given: Given) {
+        let bytes = self.link(from).says(&given);
+        self.lies.insert((from, to), Lie { bytes, given });
+    }
+
+    /// A frame that says it but for one thing, and so gives nothing.
+    pub fn spoil(&mut self, random: &mut Random, from: usize, to: usize, given: &Given) {
+        let bytes = self.link(from).spoilt(random, given);
+        self.lies.insert((from, to), Lie { bytes, given: Given::Nothing });
+    }
+}
+
+/// A position that a lie may name.
+pub fn value(random: &mut Random, ring: &Ring) -> i32 {
+    let (low, high) = ring.range();
+    let held: Vec<i32> = ring.positions.iter().flatten().copied().collect();
+    let value = match random.below(8) {
+        0 => LIMIT,
+        1 => -LIMIT,
+        2 => 0,
+        3 => low - random.between(0, 2),
+        4 => high + random.between(0, 2),
+        5 => random.between(-LIMIT, LIMIT),
+        _ => random.pick(&held),
+    };
+    value.clamp(-LIMIT, LIMIT)
+}
+
+/// A list like that of an unstruck head, with other entries for heads struck in collection, and now and then for others.
+pub fn list(random: &mut Random, ring: &Ring) -> Given {
+    let holders = ring.heads(|i| !ring.lists[i].is_empty());
+    let mut list = ring.lists[random.pick(&holders)].clone();
+    for (j, entry) in list.iter_mut().enumerate() {
+        if random.chance(if has(ring.before, j) { 4 } else { 1 }, 8) {
+            *entry = random.chance(3, 4).then(|| value(random, ring));
+        }
+    }
+    Given::List(list)
+}
+
+/// Anything that a frame of this round can say.
+pub fn any(random: &mut Random, ring: &Ring) -> Given {
+    match (random.below(8), ring.collecting()) {
+        (0, _) => Given::Nothing,
+        (1, true) => Given::Silence,
+        (_, true) => Given::Position(value(random, ring)),
+        (1..=3, false) => Given::Confession,
+        _ => list(random, ring),
+    }
+}

@@ -1,0 +1,108 @@
+//! A call with all its arguments, made on both sides: the proved export, and the second implementation.
+
+use crate::exported::{self, Block};
+use crate::frames;
+use crate::head::Head;
+use crate::paper;
+use std::fmt;
+
+/// Bytes that are lent, printed in hexadecimal as far as a frame can go.
+#[derive(Clone, PartialEq)]
+pub struct Bytes(pub Vec<u8>);
+
+impl fmt::Debug for Bytes {
+    fn fmt(&self, out: &mut fmt::Formatter) -> fmt::Result {
+        self.0.iter().take(160).try_for_each(|byte| write!(out, "{byte:02x}"))?;
+        write!(out, " ({} bytes)", self.0.len())
+    }
+}
+
+/// `out` is what stands in the lent number before the call.
+#[derive(Debug)]
+pub enum Call {
+    FrameCheck { frame: Bytes },
+    Midpoint { n: u32, f: u32, marks: u32, entries: Bytes, out: i32 },
+    Scale { steps: i32, numerator: u32, denominator: u32, out: i64 },
+    Start { n: u32, f: u32, number: u32, position: i32 },
+    Restart { n: u32, f: u32, number: u32, phase: u32, round: u32 },
+    Hear { link: u32, frame: Bytes },
+    Write { buffer: Bytes, room: usize, out: usize },
+    Close,
+    Position { out: i32 },
+}
+
+/// What a call gave back and left in lent memory. The block of a head is disturbed where a refused or reading call changed it.
+#[derive(Debug, PartialEq)]
+pub struct Answer {
+    pub number: u8,
+    out: i64,
+    lent: Bytes,
+    disturbed: bool,
+}
+
+impl Call {
+    /// The call's place among `tally::CALLS`.
+    pub fn index(&self) -> usize {
+        match self {
+            Call::FrameCheck { .. } => 0,
+            Call::Midpoint { .. } => 1,
+            Call::Scale { .. } => 2,
+            Call::Start { .. } => 3,
+            Call::Restart { .. } => 4,
+            Call::Hear { .. } => 5,
+            Call::Write { .. } => 6,
+            Call::Close => 7,
+            Call::Position { .. } => 8,
+        }
+    }
+
+    fn lent(&self) -> Vec<u8> {
+        match self {
+            Call::FrameCheck { frame } | Call::Hear { frame, .. } => frame.0.clone(),
+            Call::Midpoint { entries, .. } => entries.0.clone(),
+            Call::Write { buffer, .. } => buffer.0.clone(),
+            _ => Vec::new(),
+        }
+    }
+
+    /// By the proved export, on a block.
+    pub fn exported(&self, block: &mut Block) -> Answer {
+        let (before, mut lent) = (*block, self.lent());
+        let (number, out) = match *self {
+            Call::FrameCheck { .. } => (exported::frame_check(&mut lent), 0),
+            Call::Midpoint { n, f, marks, mut out, .. } => (exported::midpoint(n, f, marks, &mut lent, &mut out), out as i64),
+            Call::Scale { steps, numerator, denominator, mut out } => (exported::scale(steps, numerator, denominator, &mut out), out),
+            Call::Start { n, f, number, position } => (block.start(n, f, number, position), 0),
+            Call::Restart { n, f, number, phase, round } => (block.restart(n, f, number, phase, round), 0),
+            Call::Hear { link, .. } => (block.hear(link, &mut lent), 0),
+            Call::Write { room, mut out, .. } => (block.write(&mut lent[..room], &mut out), out as i64),
+            Call::Close => (block.close(), 0),
+            Call::Position { mut out } => (block.position(&mut out), out as i64),
+        };
+        let reads = matches!(self, Call::Write { .. } | Call::Position { .. });
+        let disturbed = (number != 0 || reads) && *block != before;
+        Answer { number, out, lent: Bytes(lent), disturbed }
+    }
+
+    /// By the second implementation, on its head.
+    pub fn plain(&self, head: &mut Head) -> Answer {
+        let mut lent = self.lent();
+        let (done, out) = match *self {
+            Call::FrameCheck { .. } => (frames::check(&lent).map(drop), 0),
+            Call::Midpoint { n, f, marks, out, .. } => valued(paper::midpoint(n, f, marks, &lent), out),
+            Call::Scale { steps, numerator, denominator, out } => valued(paper::scale(steps, numerator, denominator), out),
+            Call::Start { n, f, number, position } => (paper::start(n, f, number, position).map(|new| *head = new), 0),
+            Call::Restart { n, f, number, phase, round } => (paper::restart(n, f, number, phase, round).map(|new| *head = new), 0),
+            Call::Hear { link, .. } => (head.hear(link as usize, &lent), 0),
+            Call::Write { room, out, .. } => valued(paper::write(head, &mut lent[..room]).map(|length| length as i64), out as i64),
+            Call::Close => (head.close(), 0),
+            Call::Position { out } => (head.position.map_or(Ok(()), |_| Err(1)), head.position.unwrap_or(out) as i64),
+        };
+        Answer { number: done.err().unwrap_or(0), out, lent: Bytes(lent), disturbed: false }
+    }
+}
+
+/// The value given, or what stood there before a refusal.
+fn valued<T: Into<i64> + Copy>(result: Result<T, u8>, before: T) -> (Result<(), u8>, i64) {
+    (result.map(drop), result.unwrap_or(before).into())
+}

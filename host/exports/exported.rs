@@ -1,0 +1,68 @@
+//! The proved calls, as host/include declares them. Whatever is lent is taken as mutable here, also where a call only reads it, so that a change would be seen.
+
+use std::ops::Range;
+
+mod c {
+    use super::Block;
+
+    extern "C" {
+        pub fn focus_frame_check(frame: *const u8, length: usize) -> u8;
+        pub fn focus_midpoint(n: u32, f: u32, marks: u32, entries: *const u8, length: usize, position: *mut i32) -> u8;
+        pub fn focus_scale(steps: i32, numerator: u32, denominator: u32, nanometres: *mut i64) -> u8;
+        pub fn focus_head_start(head: *mut Block, n: u32, f: u32, number: u32, position: i32) -> u8;
+        pub fn focus_head_restart(head: *mut Block, n: u32, f: u32, number: u32, phase: u32, round: u32) -> u8;
+        pub fn focus_head_hear(head: *mut Block, link: u32, frame: *const u8, length: usize) -> u8;
+        pub fn focus_head_write(head: *const Block, buffer: *mut u8, room: usize, length: *mut usize) -> u8;
+        pub fn focus_head_close(head: *mut Block) -> u8;
+        pub fn focus_head_position(head: *const Block, position: *mut i32) -> u8;
+    }
+}
+
+/// The bytes of a block.
+pub const SIZE: usize = 4_384;
+
+/// The bytes of a block that hold nothing: its owner may write them.
+pub const NOTHING: Range<usize> = 9..12;
+
+/// A head's block, as C keeps it.
+#[repr(C, align(4))]
+#[derive(Clone, Copy, PartialEq)]
+pub struct Block(pub [u8; SIZE]);
+
+pub fn frame_check(frame: &mut [u8]) -> u8 {
+    unsafe { c::focus_frame_check(frame.as_mut_ptr(), frame.len()) }
+}
+
+pub fn midpoint(n: u32, f: u32, marks: u32, entries: &mut [u8], position: &mut i32) -> u8 {
+    unsafe { c::focus_midpoint(n, f, marks, entries.as_mut_ptr(), entries.len(), position) }
+}
+
+pub fn scale(steps: i32, numerator: u32, denominator: u32, nanometres: &mut i64) -> u8 {
+    unsafe { c::focus_scale(steps, numerator, denominator, nanometres) }
+}
+
+impl Block {
+    pub fn start(&mut self, n: u32, f: u32, number: u32, position: i32) -> u8 {
+        unsafe { c::focus_head_start(self, n, f, number, position) }
+    }
+
+    pub fn restart(&mut self, n: u32, f: u32, number: u32, phase: u32, round: u32) -> u8 {
+        unsafe { c::focus_head_restart(self, n, f, number, phase, round) }
+    }
+
+    pub fn hear(&mut self, link: u32, frame: &mut [u8]) -> u8 {
+        unsafe { c::focus_head_hear(self, link, frame.as_mut_ptr(), frame.len()) }
+    }
+
+    pub fn write(&mut self, buffer: &mut [u8], length: &mut usize) -> u8 {
+        unsafe { c::focus_head_write(self, buffer.as_mut_ptr(), buffer.len(), length) }
+    }
+
+    pub fn close(&mut self) -> u8 {
+        unsafe { c::focus_head_close(self) }
+    }
+
+    pub fn position(&mut self, position: &mut i32) -> u8 {
+        unsafe { c::focus_head_position(self, position) }
+    }
+}

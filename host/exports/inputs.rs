@@ -1,0 +1,99 @@
+//! Arguments from a seed: most of them right, some just beside it, some equal to a right one in their low bits only.
+
+use crate::calls::{Bytes, Call};
+use crate::damage::damaged;
+use crate::midpoint::LIMIT;
+use crate::random::Random;
+
+/// Ends of numbers, and struck limits f for which 7f + 2 is small again in 8 or in 32 bits.
+const EDGES: [u32; 12] = [0, 1, 31, 32, 33, 37, 110, 255, 256, 613_566_757, 1 << 31, u32::MAX];
+
+pub fn position(random: &mut Random) -> i32 {
+    match random.below(5) {
+        0 => random.between(-3, 3),
+        1 => random.between(-LIMIT, LIMIT),
+        2 => LIMIT - random.between(0, 2),
+        3 => random.between(0, 2) - LIMIT,
+        _ => random.between(0, 2),
+    }
+}
+
+pub fn no_position(random: &mut Random) -> i32 {
+    random.pick(&[LIMIT + 1, -LIMIT - 1, i32::MIN, i32::MAX, 1 << 24, LIMIT + 256])
+}
+
+/// The right number, but once in `often` another.
+pub fn near(random: &mut Random, right: u32, often: usize) -> u32 {
+    if !random.chance(1, often) {
+        return right;
+    }
+    match random.below(6) {
+        0 => right.wrapping_add(1),
+        1 => right.wrapping_sub(1),
+        2 => right.wrapping_add(1 << 8),
+        3 => right.wrapping_add(1 << 16),
+        4 => random.pick(&EDGES),
+        _ => random.next() as u32,
+    }
+}
+
+/// An accepted n and f.
+pub fn size(random: &mut Random) -> (usize, usize) {
+    let n = if random.chance(1, 3) { random.pick(&[1, 5, 8, 9, 12, 23, 32]) } else { 1 + random.below(32) };
+    let most = (2 * n - 2) / 7;
+    (n, if random.chance(1, 2) { most } else { random.below(most + 1) })
+}
+
+pub fn midpoint(random: &mut Random) -> Call {
+    let (n, f) = size(random);
+    let mut marks = u32::MAX >> (32 - n);
+    for _ in 0..random.below(3 * f + 3) {
+        marks &= !(1 << random.below(32));
+    }
+    let mut entries = Vec::new();
+    for j in 0..n {
+        let value = if marks >> j & 1 == 1 { position(random) } else { 0 };
+        let value = if random.chance(1, 600) { random.next() as i32 } else { value };
+        entries.extend(if random.chance(1, 600) { no_position(random) } else { value }.to_le_bytes());
+    }
+    if random.chance(1, 20) {
+        entries.resize(random.below(140), 0);
+    }
+    if random.chance(1, 30) {
+        marks |= 1 << random.below(32);
+    }
+    let most = (2 * n as u32 - 2) / 7;
+    let f = if random.chance(1, 30) { most + 1 } else { f as u32 };
+    let (n, f) = (near(random, n as u32, 25), near(random, f, 25));
+    Call::Midpoint { n, f, marks, entries: Bytes(entries), out: random.next() as i32 }
+}
+
+fn ratio_side(random: &mut Random) -> u32 {
+    let any = 1 + random.below(1_000_000) as u32;
+    random.pick(&[1, 2, 3, 999_999, 1_000_000, any, any])
+}
+
+pub fn scale(random: &mut Random) -> Call {
+    let steps = if random.chance(1, 12) { no_position(random) } else { position(random) };
+    let (one, other) = (ratio_side(random), ratio_side(random));
+    let (low, high) = if random.chance(1, 12) { (one, other) } else { (one.min(other), one.max(other)) };
+    let (numerator, denominator) = (near(random, high, 12), near(random, low, 12));
+    Call::Scale { steps, numerator, denominator, out: random.next() as i64 }
+}
+
+/// The frame check looks at length, kind and a list's own count, which may be any byte.
+pub fn frame_check(random: &mut Random) -> Call {
+    let kind = if random.chance(1, 8) { random.pick(&[0, 5, 6, 0x10, 0x12, 0x81]) } else { 1 + random.below(4) as u8 };
+    let count = if random.chance(1, 2) { random.below(34) } else { random.below(256) };
+    let length = match kind {
+        3 => 12 + 4 * count,
+        1 => 11,
+        _ => 7,
+    };
+    let mut frame = random.bytes(length);
+    frame[..4].copy_from_slice(&[length as u8, (length >> 8) as u8, kind, 0]);
+    if kind == 3 {
+        frame[7] = count as u8;
+    }
+    Call::FrameCheck { frame: Bytes(if random.chance(1, 2) { damaged(random, frame) } else { frame }) }
+}

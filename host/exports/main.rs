@@ -1,0 +1,116 @@
+//! Compares the proved C exports with the second implementation of document 01 (host/plain) on calls made from seeds: the camera's three calls, and whole
+//! sequences of calls on a head's block against a head of that implementation.
+//!
+//!     exports COUNT [SEED]    at least COUNT calls, from the seed on
+//!
+//! Return numbers and lent memory must be the same, and a refused call must leave every byte of the block. The first difference prints its seed, its call and both
+//! answers, and the exit status is 1; `exports 1 SEED` makes the calls of that seed again. From ENOUGH calls on, an answer that no call gave is a failure too.
+
+mod calls;
+mod damage;
+mod exported;
+#[path = "../plain/frames.rs"]
+mod frames;
+#[path = "../plain/head.rs"]
+mod head;
+mod inputs;
+#[path = "../plain/midpoint.rs"]
+mod midpoint;
+mod paper;
+#[path = "../compare/random.rs"]
+#[allow(dead_code)]
+mod random;
+mod rounds;
+mod tally;
+
+use calls::Call;
+use exported::{Block, NOTHING, SIZE};
+use head::Head;
+use random::Random;
+use std::panic::{catch_unwind, AssertUnwindSafe};
+use std::process::ExitCode;
+use tally::{Tally, CALLS};
+
+/// So many calls are known to meet every answer.
+const ENOUGH: u64 = 20_000;
+
+/// A block between two others that no call may touch, and the head beside it.
+struct Pair {
+    blocks: [Block; 3],
+    head: Head,
+    calls: u64,
+}
+
+impl Pair {
+    fn new(random: &mut Random, zeros: bool) -> Pair {
+        let guard = Block([0xa5; SIZE]);
+        let mut block = Block([0; SIZE]);
+        if !zeros {
+            block.0.copy_from_slice(&random.bytes(SIZE));
+        }
+        Pair { blocks: [guard, block, guard], head: Head::restart(0, 0, 0, 0, 0), calls: 0 }
+    }
+
+    fn ask(&mut self, tally: &mut Tally, call: &Call) -> Result<u8, String> {
+        self.calls += 1;
+        self.blocks[1].0[NOTHING].fill(self.calls as u8);
+        let (export, plain) = (call.exported(&mut self.blocks[1]), call.plain(&mut self.head));
+        let known = tally.count(call.index(), plain.number);
+        let guarded = [0, 2].iter().all(|&at| self.blocks[at] == Block([0xa5; SIZE]));
+        if export == plain && known && guarded {
+            return Ok(plain.number);
+        }
+        let name = CALLS[call.index()].0;
+        let beside = if guarded { "" } else { "\nmemory beside the block was changed" };
+        Err(format!("call {}, focus_{name}: {call:?}\nexport: {export:?}\nplain:  {plain:?}{beside}", self.calls))
+    }
+}
+
+/// All calls of a seed.
+fn compare(seed: u64, tally: &mut Tally) -> Result<(), String> {
+    let mut random = Random::new(seed);
+    let zeros = random.chance(1, 2);
+    let mut pair = Pair::new(&mut random, zeros);
+    for _ in 0..12 {
+        pair.ask(tally, &inputs::frame_check(&mut random))?;
+        pair.ask(tally, &inputs::midpoint(&mut random))?;
+        pair.ask(tally, &inputs::scale(&mut random))?;
+    }
+    rounds::sequence(&mut random, zeros, &mut |call| pair.ask(tally, &call))
+}
+
+fn run(count: u64, first: u64) -> Result<Tally, String> {
+    let mut tally = Tally::default();
+    for seed in first.. {
+        if tally.calls >= count {
+            break;
+        }
+        let done = catch_unwind(AssertUnwindSafe(|| compare(seed, &mut tally)));
+        done.unwrap_or_else(|_| Err("the second implementation panicked".to_owned())).map_err(|what| format!("seed {seed}, {what}"))?;
+    }
+    let unseen = tally.unseen();
+    if count >= ENOUGH && !unseen.is_empty() {
+        return Err(format!("no call was answered: {}", unseen.join(", ")));
+    }
+    Ok(tally)
+}
+
+fn main() -> ExitCode {
+    let words: Vec<String> = std::env::args().skip(1).collect();
+    let numbers: Vec<u64> = words.iter().filter_map(|word| word.parse().ok()).collect();
+    let done = match numbers[..] {
+        [count] if words.len() == 1 => run(count, 1),
+        [count, seed] => run(count, seed),
+        _ => Err("exports COUNT [SEED]".to_owned()),
+    };
+    match done {
+        Ok(tally) => {
+            println!("{}", tally.summary());
+            ExitCode::SUCCESS
+        }
+        Err(what) => {
+            println!("{what}");
+            ExitCode::FAILURE
+        }
+    }
+}

@@ -1,0 +1,215 @@
+//! Sequences of calls on one head: rounds in which most links give what a head takes, with other calls, and frames it refuses, in between.
+
+use crate::calls::{Bytes, Call};
+use crate::damage::damaged;
+use crate::frames::{self, Said};
+use crate::inputs::{near, no_position, position, size};
+use crate::random::Random;
+
+const LAST: usize = 65_535;
+
+/// Makes a call on both sides: its number where they agree.
+pub type Ask<'a> = &'a mut dyn FnMut(Call) -> Result<u8, String>;
+
+/// The writer of a sequence, with what it knows of the head: enough to make frames that are taken.
+struct Writer<'a> {
+    random: &'a mut Random,
+    ask: Ask<'a>,
+    n: usize,
+    f: usize,
+    phase: usize,
+    round: usize,
+    /// How often a record was opened or a round closed: what was planned before is stale.
+    turns: usize,
+}
+
+/// A sequence on a head that was not started: of a block of zeros every call but closing is known, of any other block only what a start refuses.
+pub fn sequence(random: &mut Random, zeros: bool, ask: Ask) -> Result<(), String> {
+    let mut writer = Writer { random, ask, n: 0, f: 0, phase: 0, round: 0, turns: 0 };
+    for _ in 0..writer.random.below(4) {
+        if zeros {
+            writer.looks()?;
+        }
+        writer.refused_opening()?;
+    }
+    writer.opening()?;
+    for _ in 0..1 + writer.random.below(6) {
+        if writer.random.chance(1, 8) {
+            writer.opening()?;
+        }
+        writer.round()?;
+    }
+    Ok(())
+}
+
+impl Writer<'_> {
+    fn opened(&mut self, n: u32, f: u32, phase: u32, round: u32) {
+        (self.n, self.f, self.phase, self.round) = (n as usize, f as usize, phase as usize, round as usize);
+        self.turns += 1;
+    }
+
+    /// A start or a restart that is taken.
+    fn opening(&mut self) -> Result<(), String> {
+        let (n, f) = size(self.random);
+        self.open(n as u32, f as u32, false)
+    }
+
+    /// A start or a restart in which most numbers are wrong.
+    fn refused_opening(&mut self) -> Result<(), String> {
+        let (n, f) = size(self.random);
+        let most = (2 * n - 2) / 7;
+        let f = if self.random.chance(1, 4) { most + 1 } else { f };
+        let (n, f) = (near(self.random, n as u32, 4), near(self.random, f as u32, 4));
+        self.open(n, f, true)
+    }
+
+    fn open(&mut self, n: u32, f: u32, spoilt: bool) -> Result<(), String> {
+        let often = if spoilt { 3 } else { usize::MAX };
+        let random = &mut *self.random;
+        let number = random.below(n.clamp(1, 32) as usize) as u32;
+        let number = if spoilt && random.chance(1, 4) { n } else { near(random, number, often) };
+        if random.chance(1, 2) {
+            let position = if random.chance(1, often) { no_position(random) } else { position(random) };
+            if (self.ask)(Call::Start { n, f, number, position })? == 0 {
+                self.opened(n, f, 1, 0);
+            }
+            return Ok(());
+        }
+        let any = 1 + random.below(LAST);
+        let phase = random.pick(&[1, 2, 255, 256, LAST - 1, LAST, LAST, any]) as u32;
+        let round = random.below(2) as u32;
+        let (phase, round) = (near(random, phase, often), near(random, round, often));
+        if (self.ask)(Call::Restart { n, f, number, phase, round })? == 0 {
+            self.opened(n, f, phase, round);
+        }
+        Ok(())
+    }
+
+    /// All links in any order, other calls in between, the closing, and what it made.
+    fn round(&mut self) -> Result<(), String> {
+        let given = if self.round == 0 { self.collection() } else { self.confession() };
+        let links = self.random.some(&(0..self.n).collect::<Vec<_>>(), self.n);
+        let turns = self.turns;
+        for link in links {
+            if self.random.chance(1, 6) {
+                self.other_call()?;
+            }
+            if self.turns != turns {
+                return Ok(());
+            }
+            if self.random.chance(1, 8) {
+                self.wrong_frame(link)?;
+            }
+            if let Some(said) = &given[link] {
+                self.hear(link, frames::write(said, link, self.phase))?;
+            }
+        }
+        self.looks()?;
+        self.close()?;
+        if self.turns == turns && self.random.chance(3, 4) {
+            self.opening()?; // the round cannot be closed
+        }
+        self.looks()
+    }
+
+    fn hear(&mut self, link: usize, frame: Vec<u8>) -> Result<(), String> {
+        let link = near(self.random, link as u32, 60);
+        (self.ask)(Call::Hear { link, frame: Bytes(frame) }).map(drop)
+    }
+
+    fn close(&mut self) -> Result<(), String> {
+        if (self.ask)(Call::Close)? == 0 {
+            self.turns += 1;
+            self.phase = (self.phase + self.round).min(LAST);
+            self.round = 1 - self.round;
+        }
+        Ok(())
+    }
+
+    /// A frame with faults, or one of the other round.
+    fn wrong_frame(&mut self, link: usize) -> Result<(), String> {
+        let round = if self.random.chance(1, 4) { 1 - self.round } else { self.round };
+        let said = match (round, self.random.chance(1, 4)) {
+            (0, true) => Said::Silence,
+            (0, false) => Said::Position(position(self.random)),
+            (_, true) => Said::Confession,
+            (_, false) => Said::List(self.list()),
+        };
+        let frame = frames::write(&said, link, self.phase);
+        let frame = if round == self.round || self.random.chance(1, 2) { damaged(self.random, frame) } else { frame };
+        self.hear(link, frame)
+    }
+
+    fn other_call(&mut self) -> Result<(), String> {
+        let link = self.random.below(self.n);
+        match self.random.below(12) {
+            0..=2 => self.looks(),
+            3..=7 => self.wrong_frame(link),
+            8 | 9 => self.refused_opening(),
+            10 => self.hear(link, Vec::new()),
+            _ if self.random.chance(1, 4) => self.close(),
+            _ => Ok(()),
+        }
+    }
+
+    /// What the head holds and has to say, into a buffer of any length; before a start, a frame to no link besides.
+    fn looks(&mut self) -> Result<(), String> {
+        let list = 12 + 4 * self.n;
+        let any = self.random.below(150);
+        let rooms = [7, 11, list, list + 1, 140, any + 1, any + 1];
+        let room = self.random.pick(&rooms) - self.random.chance(1, 8) as usize;
+        let (after, out) = (self.random.below(9), self.random.next() as usize >> 1);
+        let buffer = Bytes(self.random.bytes(room + after));
+        (self.ask)(Call::Write { buffer, room, out })?;
+        (self.ask)(Call::Position { out: self.random.next() as i32 })?;
+        if self.n == 0 { self.hear(0, frames::write(&Said::Silence, 0, 0)) } else { Ok(()) }
+    }
+
+    fn collection(&mut self) -> Vec<Option<Said>> {
+        let said = |random: &mut Random| match random.below(8) {
+            0 => None,
+            1 => Some(Said::Silence),
+            _ => Some(Said::Position(position(random))),
+        };
+        (0..self.n).map(|_| said(self.random)).collect()
+    }
+
+    /// A list of n entries, a few of them null.
+    fn list(&mut self) -> Vec<Option<i32>> {
+        let mut list: Vec<_> = (0..self.n).map(|_| Some(position(self.random))).collect();
+        for _ in 0..self.random.below(3 * self.f + 2) {
+            let null = self.random.below(self.n);
+            list[null] = None;
+        }
+        list
+    }
+
+    /// Lists that agree but for some links: often few enough for a new position, in one round of four any number.
+    fn confession(&mut self) -> Vec<Option<Said>> {
+        let (truth, other) = (self.list(), self.list());
+        let wild = self.random.chance(1, 4);
+        let most = if wild { self.n } else { self.f };
+        let (bad, healed) = (self.random.below(most + 1), self.random.below(most + 1));
+        let mut given = vec![Some(Said::List(truth.clone())); self.n];
+        let links = self.random.some(&(0..self.n).collect::<Vec<_>>(), self.n);
+        for (at, &link) in links.iter().enumerate() {
+            if at < bad {
+                given[link] = self.liar(&truth, &other);
+            } else if at < bad + healed {
+                given[link] = Some(Said::Confession);
+            }
+        }
+        given
+    }
+
+    /// Nothing, a confession, the other list, or the true one with some entries of the other.
+    fn liar(&mut self, truth: &[Option<i32>], other: &[Option<i32>]) -> Option<Said> {
+        let random = &mut *self.random;
+        match random.below(6) {
+            0 => None,
+            1 => Some(Said::Confession),
+            2 | 3 => Some(Said::List(other.to_vec())),
+            _ => Some(Said::List(truth.iter().zip(other).map(|(&one, &two)| if random.chance(1, 4) { two } else { one }).collect())),
+        }
+    }
+}

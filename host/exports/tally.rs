@@ -1,0 +1,52 @@
+//! How often each call gave each number.
+
+/// Each call with the numbers it can give, in the order of its checks. A position is answered 1 where one is held, else 0.
+pub const CALLS: [(&str, &[u8]); 9] = [
+    ("frame_check", &[0, 6, 7, 8]),
+    ("midpoint", &[0, 1, 2, 8, 10, 11, 25]),
+    ("scale", &[0, 12, 4]),
+    ("head_start", &[0, 1, 2, 3, 4]),
+    ("head_restart", &[0, 1, 2, 3, 5]),
+    ("head_hear", &[0, 26, 3, 21, 6, 7, 8, 22, 9, 23, 10, 11]),
+    ("head_write", &[0, 26, 24]),
+    ("head_close", &[0, 26, 25]),
+    ("head_position", &[0, 1]),
+];
+
+#[derive(Default)]
+pub struct Tally {
+    counts: [[u64; 32]; CALLS.len()],
+    pub calls: u64,
+}
+
+impl Tally {
+    /// Whether the number is one that the call can give.
+    pub fn count(&mut self, call: usize, number: u8) -> bool {
+        self.calls += 1;
+        let known = CALLS[call].1.contains(&number);
+        if known {
+            self.counts[call][number as usize] += 1;
+        }
+        known
+    }
+
+    /// The answers that no call gave.
+    pub fn unseen(&self) -> Vec<String> {
+        let mut unseen = Vec::new();
+        for (call, (name, numbers)) in CALLS.iter().enumerate() {
+            let never = numbers.iter().filter(|&&number| self.counts[call][number as usize] == 0);
+            unseen.extend(never.map(|number| format!("{name} {number}")));
+        }
+        unseen
+    }
+
+    pub fn summary(&self) -> String {
+        let of = |call: usize, number: u8| format!("{number}:{}", self.counts[call][number as usize]);
+        let line = |(call, (name, numbers)): (usize, &(&str, &[u8]))| {
+            let counts: Vec<String> = numbers.iter().map(|&number| of(call, number)).collect();
+            format!("{name} {}", counts.join(" "))
+        };
+        let lines: Vec<String> = CALLS.iter().enumerate().map(line).collect();
+        format!("{} calls, no difference; {}", self.calls, lines.join(", "))
+    }
+}
