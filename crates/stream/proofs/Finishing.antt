@@ -1,0 +1,83 @@
+-- The end of the file: by the player's numbers it ends as the definition says, and what is left to show is the last round's line, where it is played, and
+-- the verdict.
+use mathlib.Core.Path.{_≡_, refl, ap, sym, _∙_}
+use mathlib.Core.Bool.{Bool, true, false, cond, _&&_, true≢false}
+use mathlib.Core.List.{List, [], _∷_, _++_, append-assoc}
+use Prim.Native.Nat.{ℕ, suc, _%_}
+use native.Mathlib.Omega.{arith}
+use lib.Dec.{eqb}
+use lib.ListN.{length}
+use lib.IntN.{ℤ}
+use borrow.Author.Tests.{eqb-true, eqb-false, eq-eqb, ne-eqb}
+use Rattle.terms.specs.Refusals as refusal
+use Rattle.terms.specs.Refusals.{check}
+use Rattle.ring.specs.Rounds.{Round, endsAfter}
+use Rattle.runfile.specs.RunFile.{File, isEmpty, thenPlayed, readFile, ending, roundsPlayed, endsPlayed}
+use Rattle.runfile.specs.Listing.{title, lines, verdict, shown, listingOf}
+use Rattle.runfile.proofs.Demand3.{every-file}
+use Rattle.listing.specs.declared.Text.{Text}
+use Rattle.listing.specs.Texts.{bytesOf}
+use Rattle.player.specs.declared.Player.{Player}
+use Rattle.player.specs.Leads.{Played}
+use Rattle.stream.specs.Stream.{Leads, Ends}
+use Rattle.stream.specs.Inner.{endingOf}
+use Rattle.stream.proofs.Feeding.{unshown}
+
+empty-length : (l : List ℕ) → isEmpty l ≡ eqb (length l) 0
+empty-length [] = refl
+empty-length (x ∷ l) = sym (ne-eqb (suc (length l)) 0 (omega arith))
+
+-- a file that ends well has begun
+begun-by : (p : Player) → endingOf p ≡ 0 → p .begun ≡ true
+unfolding endingOf
+begun-by p e = go (p .begun) (eqb (p .fault) 0) refl e
+  where
+    go : (b ok : Bool) → eqb (p .fault) 0 ≡ ok → check ok (p .fault) (check (b && eqb (p .have) 0 && eqb (p .given % 2) 0) refusal.run-record 0) ≡ 0 → b ≡ true
+    go true ok f e = refl
+    go false true f e = absurd (omega arith)
+    go false false f e = absurd (eqb-false (p .fault) 0 f e)
+
+-- the rounds played are those played before, where the last one is not
+unplayed : (ok w : Bool) (ws : List Round) (x : Round) → (ok ≡ true → w ≡ false) → cond ok (thenPlayed w ws x) ws ≡ ws
+unplayed true true ws x h = absurd (true≢false (h refl))
+unplayed true false ws x h = refl
+unplayed false w ws x h = refl
+
+module _ {a : List ℕ} {p : Player} {carry : List ℕ} {positions : List ℤ} {marks : List ℕ} {lists : List (List ℤ)} {planted lengths : List ℕ}
+    (L : Leads a p carry positions marks lists planted lengths) where
+  abbrev F : File
+  F = readFile a
+
+  ends-by : ending F ≡ endingOf p
+  unfolding ending endingOf
+  ends-by = rw (empty-length (F .part), ← L .have, L .tells .fault, L .tells .begun, L .tells .given)
+
+  ends : {line v : Text} → title ++ lines (F .n) (endsPlayed F) ≡ shown F ++ bytesOf line → bytesOf v ≡ verdict (endingOf p)
+      → Ends a (record { line = line; verdict = v })
+  unfolding listingOf
+  ends l v = record { shows = rw (l, v, ends-by); demand3 = every-file a }
+
+  -- the round that waits is played
+  pub ends-played : {line v : Text} {positions′ : List ℤ} {marks′ : List ℕ} {lists′ : List (List ℤ)} {n : ℕ} → n ≡ endingOf p → n ≡ 0 → p .waits ≡ true
+      → bytesOf v ≡ verdict n → (F .begun ≡ true → F .waits ≡ true → Played F line positions′ marks′ lists′) → Ends a (record { line = line; verdict = v })
+  unfolding shown endsPlayed roundsPlayed
+  ends-played {line} {n} e z w v P =
+      let begun = L .tells .begun ∙ begun-by p (sym e ∙ z) in
+      let waits = L .tells .waits ∙ w in
+      ends (go (F .begun) (eqb (ending F) 0) (F .waits) begun (eq-eqb (ending F) 0 (ends-by ∙ sym e ∙ z)) waits (P begun waits .shows)) (v ∙ ap verdict e)
+    where
+      go : (b ok w : Bool) → b ≡ true → ok ≡ true → w ≡ true
+          → lines (F .n) (endsAfter (F .n) (F .f) (F .first) (F .last ∷ F .played)) ≡ lines (F .n) (endsAfter (F .n) (F .f) (F .first) (F .played)) ++ bytesOf line
+          → title ++ lines (F .n) (cond b (endsAfter (F .n) (F .f) (F .first) (cond ok (thenPlayed w (F .played) (F .last)) (F .played))) [])
+          ≡ title ++ lines (F .n) (cond b (endsAfter (F .n) (F .f) (F .first) (F .played)) []) ++ bytesOf line
+      go b ok w p q r shows = rw (p, q, r, shows) (sym (append-assoc title _ (bytesOf line)))
+
+  -- no round is played
+  pub ends-unplayed : {line v : Text} {n : ℕ} → n ≡ endingOf p → (n ≡ 0 → p .waits ≡ false) → bytesOf v ≡ verdict n → line .len ≡ 0
+      → Ends a (record { line = line; verdict = v })
+  unfolding shown endsPlayed roundsPlayed
+  ends-unplayed {line} {n} e none v empty =
+      let same = unplayed (eqb (ending F) 0) (F .waits) (F .played) (F .last) (λ t. L .tells .waits ∙ none (e ∙ sym ends-by ∙ eqb-true (ending F) 0 t)) in
+      ends
+      (unshown line (ap (λ (ws : List Round). title ++ lines (F .n) (cond (F .begun) (endsAfter (F .n) (F .f) (F .first) ws) [])) same) empty)
+      (v ∙ ap verdict e)
