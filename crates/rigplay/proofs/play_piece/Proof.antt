@@ -1,0 +1,99 @@
+-- `rigplay::play_piece` meets its contract: at the head of the loop the player stands where the bytes before `at` lead.
+use mathlib.Core.Path.{sym}
+use mathlib.Core.Bool.{true≢false}
+use mathlib.Core.List.{List, _++_}
+use Prim.Native.Nat.{ℕ, _+_, _-_, _≤_, _<_}
+use native.Mathlib.Omega.{arith}
+use lib.ListN.{length, take}
+use lib.Seq.{take-all}
+use denote.Ref.{now}
+use borrow.Author.Needs.{needs}
+use Rattle.stream.specs.Stream.{Leads}
+use Rattle.stream.proofs.Pieces.{at-first, moved, joined}
+use Rattle.rigplay.proofs.play_piece.Statement.{statement}
+use Rattle.rigplay.proofs.play_piece.Tie as tie
+
+abbrev Inv-loop : tie.InvT-loop
+Inv-loop bytes carry₀ positions₀ marks₀ lists₀ planted₀ lengths₀ page₀ player₀ at₀ carry positions marks lists planted lengths page player at =
+    (at ≤ length bytes)
+    × ((a : List ℕ) → Leads a player₀ carry₀ positions₀ marks₀ lists₀ planted₀ lengths₀ → Leads (a ++ take at bytes) player carry positions marks lists planted lengths)
+
+abbrev μ-loop : tie.MeasureT-loop
+μ-loop bytes carry₀ positions₀ marks₀ lists₀ planted₀ lengths₀ page₀ player₀ at₀ carry positions marks lists planted lengths page player at = length bytes - at
+
+buffer-requires : tie.Need-buffer-requires Inv-loop μ-loop
+buffer-requires c κs = search needs
+
+loop-holds : tie.Need-loop-holds Inv-loop μ-loop
+loop-holds c = (omega arith, λ a L. at-first {bytes = now (c .before .before .args .bytes)} .follows a L .leads)
+
+sub-fill : tie.Need-sub-fill Inv-loop μ-loop
+sub-fill c = search needs
+
+part-fill-start : tie.Need-part-fill-start Inv-loop μ-loop
+part-fill-start c = search needs
+
+part-fill-end : tie.Need-part-fill-end Inv-loop μ-loop
+part-fill-end c = search needs
+
+fill-requires : tie.Need-fill-requires Inv-loop μ-loop
+fill-requires c κs = search needs
+
+-- the step from `at`
+moves : (c : tie.After-fill Inv-loop μ-loop) →
+    let l = c .before .before .before .before .before .before .before .before .before .before in
+    (l .loop .at + c .fill .result .used ≤ length (now (l .before .before .before .args .bytes))) × (0 < c .fill .result .used)
+moves c =
+    let i = c .before .before .before .before .before .before .before .before .before in
+    let l = i .before in
+    let e = c .fill .ensures .0 in
+    moved (l .loop .at) (c .fill .result .used) (now (l .before .before .before .args .bytes)) (i .loop-test .taken) (e .0) (e .1)
+
+add-at : tie.Need-add-at Inv-loop μ-loop
+add-at c =
+    let v = c .before .before in
+    let s = v .before .before .before .before .before .before .before .before .before .before .before .before .before in
+    omega (arith, moves v .0, s .good .1 .0 .0)
+
+write-page-requires : tie.Need-write-page-requires Inv-loop μ-loop
+write-page-requires c κs = search needs
+
+returns : tie.Need-returns Inv-loop μ-loop
+returns c = λ a L e. absurd (true≢false (sym e))
+
+loop-less : tie.Need-loop-less Inv-loop μ-loop
+loop-less c = let m = moves (c .before .before .before .before .before) in omega arith
+
+loop-again : tie.Need-loop-again Inv-loop μ-loop
+loop-again c =
+    let v = c .before .before .before .before .before in
+    let l = v .before .before .before .before .before .before .before .before .before .before in
+    let bytes = now (l .before .before .before .args .bytes) in (
+      moves v .0,
+      λ a L. rw (← joined a (l .loop .at) (v .fill .result .used) bytes) (v .fill .ensures .1 (a ++ take (l .loop .at) bytes) (l .loop .inv .1 a L) .leads),
+    )
+
+returns-2 : tie.Need-returns-2 Inv-loop μ-loop
+returns-2 c =
+    let s = c .before .before .before .before in
+    let l = c .before .loop in
+    λ a L e. rw (take-all (l .at) (now (s .args .bytes)) (c .loop-test .left)) at (l .inv .1 a L)
+
+pub play-piece-spec : {M : Type 1} → statement M
+play-piece-spec =
+    tie.close
+    (tie.spec
+    Inv-loop
+    μ-loop
+    buffer-requires
+    loop-holds
+    sub-fill
+    part-fill-start
+    part-fill-end
+    fill-requires
+    add-at
+    write-page-requires
+    returns
+    loop-less
+    loop-again
+    returns-2)

@@ -1,0 +1,191 @@
+// rigplay: a run file from standard input, its listing to standard output. What each page holds is promised by page::fill, and what is left at the end by
+// stream::finish; the lines of a piece are written before more input is waited for. Where a read or a write fails it ends, and no last line is written.
+ghost use mathlib.Core.Bool.{true};
+ghost use mathlib.Core.List.{List, _++_};
+ghost use mathlib.Core.Path.{_≡_};
+ghost use Prim.Native.Nat.{ℕ};
+ghost use Rattle.stream.specs.Stream.{Leads};
+use libc::STDIN_FILENO;
+use libc::STDOUT_FILENO;
+use listing::Text;
+use player::Player;
+
+// What comes of a piece: the player after it, and whether all that it shows is written.
+struct Wrote {
+    player: Player,
+    all: bool,
+}
+
+// What comes of a read: the player after it, whether to go on, and whether the input has come to its end.
+struct Turn {
+    player: Player,
+    more: bool,
+    ended: bool,
+}
+
+// Writes the first n bytes.
+fn write_front(bytes: &[u8], n: usize) -> bool {
+    if bytes.len() < n {
+        return false;
+    }
+    io::write_all(STDOUT_FILENO, &bytes[..n])
+}
+
+fn write_text(t: Text) -> bool {
+    let bytes = t.bytes;
+    write_front(&bytes, t.len)
+}
+
+fn write_page(page: &[u8; 4096], n: usize) -> bool {
+    write_front(page, n)
+}
+
+// Plays a piece and writes the lines that it shows.
+fn play_piece(
+    p: Player,
+    bytes: &[u8],
+    carry: &mut [u8; 1026],
+    positions: &mut [i32; 32],
+    marks: &mut [u32; 32],
+    lists: &mut [[i32; 32]; 32],
+    planted: &mut [u8; 143360],
+    lengths: &mut [u8; 1024],
+) -> Wrote
+    ensures { λ r. ⌜ ((a : List ℕ)
+        → Leads a p (now (carry .entry)) (now (positions .entry)) (now (marks .entry)) (now (lists .entry)) (now (planted .entry)) (now (lengths .entry))
+        → r .all ≡ true
+        → Leads (a ++ now (bytes .entry)) (r .player) (now (carry .exit)) (now (positions .exit)) (now (marks .exit)) (now (lists .exit)) (now (planted .exit)) (now (lengths .exit))) ⌝ }
+{
+    let mut page = io::buffer();
+    let mut player = p;
+    let mut at: usize = 0;
+    while at < bytes.len() {
+        let filled = page::fill(
+            player,
+            &bytes[at..],
+            &mut page,
+            carry,
+            positions,
+            marks,
+            lists,
+            planted,
+            lengths,
+        );
+        player = filled.player;
+        at += filled.used;
+        if !write_page(&page, filled.len) {
+            return Wrote { player, all: false };
+        }
+    }
+    Wrote { player, all: true }
+}
+
+// Reads once and plays what came.
+fn play_some(
+    p: Player,
+    piece: &mut [u8],
+    carry: &mut [u8; 1026],
+    positions: &mut [i32; 32],
+    marks: &mut [u32; 32],
+    lists: &mut [[i32; 32]; 32],
+    planted: &mut [u8; 143360],
+    lengths: &mut [u8; 1024],
+) -> Turn {
+    let got = libc::read(STDIN_FILENO, piece);
+    let len = io::count(got, piece);
+    if len == 0 {
+        return Turn {
+            player: p,
+            more: false,
+            ended: got == 0,
+        };
+    }
+    let wrote = play_piece(
+        p,
+        &piece[..len],
+        carry,
+        positions,
+        marks,
+        lists,
+        planted,
+        lengths,
+    );
+    let player = wrote.player;
+    Turn {
+        player,
+        more: wrote.all,
+        ended: false,
+    }
+}
+
+// Reads and plays to the end of the input. A proved loop ends, and nothing says that the input does: the turns are counted down from a number that no run
+// uses up.
+fn play_all(
+    p: Player,
+    piece: &mut [u8],
+    carry: &mut [u8; 1026],
+    positions: &mut [i32; 32],
+    marks: &mut [u32; 32],
+    lists: &mut [[i32; 32]; 32],
+    planted: &mut [u8; 143360],
+    lengths: &mut [u8; 1024],
+) -> Turn {
+    let mut turn = Turn {
+        player: p,
+        more: true,
+        ended: false,
+    };
+    let mut turns = u64::MAX;
+    while turns > 0 && turn.more {
+        turn = play_some(
+            turn.player,
+            piece,
+            carry,
+            positions,
+            marks,
+            lists,
+            planted,
+            lengths,
+        );
+        turns -= 1;
+    }
+    turn
+}
+
+fn main() {
+    let mut piece = io::large_buffer();
+    let mut carry = [0u8; 1026];
+    let mut positions = [0i32; 32];
+    let mut marks = [0u32; 32];
+    let none = [0i32; 32];
+    let mut lists = [none; 32];
+    let mut planted = [0u8; 143360];
+    let mut lengths = [0u8; 1024];
+    if !write_text(listing::title_line()) {
+        return;
+    }
+    let turn = play_all(
+        page::begin(),
+        &mut piece,
+        &mut carry,
+        &mut positions,
+        &mut marks,
+        &mut lists,
+        &mut planted,
+        &mut lengths,
+    );
+    if !turn.ended {
+        return;
+    }
+    let finale = stream::finish(
+        turn.player,
+        &mut positions,
+        &mut marks,
+        &mut lists,
+        &planted,
+        &lengths,
+    );
+    if write_text(finale.line) {
+        write_text(finale.verdict);
+    }
+}
