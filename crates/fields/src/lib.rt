@@ -1,4 +1,5 @@
 // Fields of a slice of bytes: little-endian numbers, mark words, and the entries of a list. A byte past the end reads as 0, and is not written.
+ghost use mathlib.Core.Bool.{true};
 ghost use mathlib.Core.Path.{_≡_};
 ghost use mathlib.Core.List.{[]};
 ghost use Prim.Native.Nat.{_+_, _*_, _^_, _≤_, _<_};
@@ -70,6 +71,17 @@ pub fn word_at(s: &[u8], at: usize) -> u32
         return word_cut(s, at);
     }
     0
+}
+
+// The same where it is known whether all are there: a loop over the words of a list asks that once.
+fn word_in(whole: bool, s: &[u8], at: usize) -> u32
+    requires { ⌜ (whole ≡ true → at + 4 ≤ length (now s)) ⌝ }
+    ensures { λ r. ⌜ r ≡ at4 (now (s .entry)) at ⌝ }
+{
+    if whole {
+        return word_within(s, at);
+    }
+    word_at(s, at)
 }
 
 // A word as a number with a sign.
@@ -197,9 +209,10 @@ pub fn entries_fit(m: u32, s: &[u8], n: u8) -> bool
     ensures { λ r. ⌜ r ≡ entriesFit m (now (s .entry)) n ⌝ }
 {
     let count = n as usize;
+    let whole = 4 * count <= s.len();
     let mut j: usize = 0;
     while j < count {
-        if !word_fits(marked(m, j), word_at(s, 4 * j)) {
+        if !word_fits(marked(m, j), word_in(whole, s, 4 * j)) {
             return false;
         }
         j += 1;
@@ -216,9 +229,10 @@ pub fn numbers_at(s: &[u8], n: u8) -> [i32; 32]
     if 32 < end {
         end = 32;
     }
+    let whole = 4 * end <= s.len();
     let mut k: usize = 0;
     while k < end {
-        let v = signed_at(s, 4 * k);
+        let v = signed(word_in(whole, s, 4 * k));
         out[k] = v;
         k += 1;
     }

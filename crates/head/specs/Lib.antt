@@ -1,3 +1,2 @@
--- What the head's functions promise besides the definitions of `record`: the frames of a round side by side, and the calls cut into the steps of the code.
-pub mod Slots
+-- The calls, cut into the steps of the code.
 pub mod Steps

@@ -1,14 +1,11 @@
 -- The calls, cut into the steps of the code.
-use mathlib.Core.Bool.{Bool, not, cond, _&&_}
-use mathlib.Core.List.{List}
+use mathlib.Core.Bool.{Bool, cond, _&&_}
 use Prim.Native.Nat.{ℕ, zero, suc}
 use lib.Dec.{leb, ltb}
 use Rattle.terms.specs.Refusals as refusal
 use Rattle.terms.specs.Refusals.{check}
 use Rattle.terms.specs.Sizes.{checkSize}
 use Rattle.terms.specs.declared.Entry.{Entry}
-use Rattle.fields.specs.Marks.{bitOf}
-use Rattle.codec.specs.Said.{Meaning, unlessRefused, said}
 use Rattle.codec.specs.declared.Said.{Said}
 
 -- 1, 2, 3, before the checks that follow
@@ -18,15 +15,6 @@ checkMember n f i rest = checkSize n f (check (ltb i n) refusal.number rest)
 -- phases 1 to 65,535, and the two rounds
 abbrev pub isTime : ℕ → ℕ → Bool
 isTime p r = leb 1 p && leb p 65535 && ltb r 2
-
--- 26, 3, 21
-abbrev pub linkRefusal : Bool → ℕ → ℕ → ℕ → ℕ
-linkRefusal ended n heard k =
-    check (not ended) refusal.ended (check (ltb k n) refusal.number (check (not (bitOf heard k)) refusal.heard 0))
-
--- what link k says to a head that has heard these links
-abbrev pub saidOn : Bool → ℕ → ℕ → ℕ → ℕ → ℕ → List ℕ → Meaning
-saidOn ended n p r heard k s = unlessRefused (linkRefusal ended n heard k) (said n p r k s)
 
 -- what a head has to say, as the code has it: a list stands beside this
 abbrev pub saidBy : ℕ → Bool → Entry → Said

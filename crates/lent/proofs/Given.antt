@@ -1,6 +1,6 @@
 -- An answer that was taken apart. Where the answer is promised to be m and was found to be x, the number and the memory that belong to x are those that
 -- belong to m.
-use mathlib.Core.Path.{_≡_, sym, ap, _∙_}
+use mathlib.Core.Path.{_≡_, sym, _∙_}
 use Prim.Native.Nat.{ℕ}
 
 pub given-out : {A B : Type 0} (number : A → ℕ) (result : A → B → B) {s m x : A} {c : ℕ} {v old : B}
@@ -11,7 +11,3 @@ given-out number result p q e t = rw (sym e ∙ t) (p, q)
 pub given-with : {A B P : Type 0} (number : A → ℕ) (result : A → B → B) {s m x : A} {c : ℕ} {v old : B}
     → P → c ≡ number x → v ≡ result x old → s ≡ m → s ≡ x → (c ≡ number m) × P × (v ≡ result m old)
 given-with number result f p q e t = rw (sym e ∙ t) (p, f, q)
-
--- an answer that was passed on, from a call on a value that is promised to be y
-pub carried : {A B C : Type 0} (f : B → C) (call : A → B) {r : C} {s : B} {x y : A} → r ≡ f s → s ≡ call x → x ≡ y → r ≡ f (call y)
-carried f call p q e = p ∙ ap f (q ∙ ap call e)

@@ -1,12 +1,8 @@
--- The two records that are lent: the head's own, and the block that C keeps.
+-- The head's own record, as it is lent.
 use Rattle.record.specs.declared.Answer.{Answer}
 use Rattle.record.proofs.Head as Head
 use Rattle.record.proofs.Head.Laws as Head′
 use Rattle.record.proofs.Answer as Answer′
-use Rattle.lent.specs.declared.block.FocusAnswer.{FocusAnswer}
-use Rattle.lent.proofs.block.FocusHead as FocusHead
-use Rattle.lent.proofs.block.FocusHead.Laws as FocusHead′
-use Rattle.lent.proofs.block.FocusAnswer as FocusAnswer′
 use Rattle.lent.proofs.Walk.Lending.{Lending}
 
 abbrev pub heads : Lending
@@ -21,18 +17,4 @@ heads = record {
   number = λ r. r .refusal;
   next = λ r. r .head;
   one = Answer′.the-type .to-one;
-}
-
-abbrev pub blocks : Lending
-blocks = record {
-  T = FocusHead.the-type;
-  laws = FocusHead′.the-laws;
-  plain = FocusHead′.the-plain;
-  copy = FocusHead′.the-copy;
-  lowers = FocusHead′.lowers;
-  answer = FocusAnswer′.the-type .name;
-  D = FocusAnswer;
-  number = λ r. r .refusal;
-  next = λ r. r .head;
-  one = FocusAnswer′.the-type .to-one;
 }

@@ -9,9 +9,6 @@ use record::Closed;
 use record::Head;
 use terms::Entry;
 
-pub mod block;
-pub mod from_c;
-
 // Starts the record with a position, in phase 1: 0, or 1, 2, 3, 4.
 pub fn start(h: &mut Head, n: u32, f: u32, number: u32, position: i32) -> u8
     ensures { λ r. ⌜ (r ≡ start (now (h .entry)) n f number position .refusal) × (now (h .exit) ≡ start (now (h .entry)) n f number position .head) ⌝ }
@@ -34,7 +31,7 @@ pub fn restart(h: &mut Head, n: u32, f: u32, number: u32, phase: u32, round: u32
 pub fn hear(h: &mut Head, link: u32, frame: &[u8]) -> u8
     ensures { λ r. ⌜ (r ≡ hear (now (h .entry)) link (now (frame .entry)) .refusal) × (now (h .exit) ≡ hear (now (h .entry)) link (now (frame .entry)) .head) ⌝ }
 {
-    let out = head::hear(*h, link, frame);
+    let out = hearing::hear(*h, link, frame);
     *h = out.head;
     out.refusal
 }

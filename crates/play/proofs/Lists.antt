@@ -1,6 +1,6 @@
 -- The list that a head fills: what head i hears of head k is what is planted, or what head k sent; and two tables of n entries are the same where their
 -- entries below n are.
-use mathlib.Core.Path.{_≡_, refl, ap₂, _∙_}
+use mathlib.Core.Path.{_≡_, refl, ap₂, _∙_, fun-ext}
 use mathlib.Core.Bool.{Bool, true, false, cond}
 use mathlib.Core.List.{List, []}
 use Prim.Native.Nat.{ℕ, zero, suc, _+_, _<_}
@@ -11,6 +11,7 @@ use borrow.Author.Tests.{lt-ltb}
 use Rattle.terms.specs.declared.Entry.{Entry}
 use Rattle.terms.specs.declared.Table.{Table}
 use Rattle.fields.specs.Marks.{bitOf}
+use Rattle.fields.proofs.Marks.{bit-none}
 use Rattle.fields.specs.Tables.{marksOf, numbersOf, tableOf}
 use Rattle.convergence.specs.Counting.{Each}
 use Rattle.convergence.proofs.Sums.{each-last, each-less}
@@ -64,6 +65,11 @@ module _ (s : Stage) (positions : List ℤ) (plant : ℕ → ℕ → List ℕ) (
 
   pub heard-list : tableOf (heads s) (heardFrom s entries plant i) ≡ tableOf (heads s) (listEntry s positions plant i)
   heard-list = table-same (heads s) _ _ heard-entry
+
+-- where no head is struck, nothing planted is heard
+pub heard-alike : (s : Stage) (entries : List Entry) (plant : ℕ → ℕ → List ℕ) (i j : ℕ) → s .struck ≡ 0 → heardFrom s entries plant i ≡ heardFrom s entries plant j
+unfolding heard
+heard-alike s entries plant i j e = fun-ext (λ k. rw (e, bit-none k))
 
 -- ---- the memory
 

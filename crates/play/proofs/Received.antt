@@ -1,16 +1,20 @@
 -- What the links gave, one link heard after the other. Hearing on link k marks link k alone and stores its row alone, so a link that had given nothing
 -- gave what was said on it, and the other links gave what they did.
-use mathlib.Core.Path.{_≡_, refl, ap, sym, _∙_}
+use mathlib.Core.Path.{_≡_, refl, ap, sym, _∙_, fun-ext}
 use mathlib.Core.Logic.{_≢_}
-use mathlib.Core.Bool.{Bool, true, false}
+use mathlib.Core.Bool.{Bool, true, false, cond}
 use mathlib.Core.List.{List, []}
 use Prim.Native.Nat.{ℕ, _+_, _<_}
 use native.Mathlib.Omega.{arith}
-use lib.ListN.{length, replicate, length-set}
+use native.Mathlib.Decide.{ℕ-discrete}
+use lib.ListN.{length, set, replicate, length-set}
 use lib.Seq.{getD-set-same, getD-set-other}
 use lib.IntN.{ℤ}
+use Rattle.terms.specs.declared.Entry.{Entry}
+use Rattle.fields.specs.Marks.{bitOf}
 use Rattle.fields.proofs.Marks.{bit-none, with-same, with-other}
-use Rattle.convergence.specs.Trust.{Given, nothing, hasConfessed}
+use Rattle.convergence.specs.Trust as trust
+use Rattle.convergence.specs.Trust.{Given, nothing, gave, hasConfessed}
 use Rattle.codec.specs.Said.{Meaning, refused, collected, listed, confessed}
 use Rattle.settle.specs.declared.Links.{Links}
 use Rattle.settle.specs.Received.{givenBy}
@@ -55,6 +59,23 @@ module _ (g : Links) (rows : List (List ℤ)) (k : ℕ) where
           getD-set-same rows k (t .entries) [] (omega arith),
         )
     given-said a b e confessed = rw (with-same (g .confessed) k small)
+
+  -- a row of a link that gave nothing is not read
+  unread : (a b : Bool) (x y : ℕ → Entry) → cond a trust.confessed (cond b (gave x) nothing) ≡ nothing → cond a trust.confessed (cond b (gave y) nothing) ≡ cond a trust.confessed (cond b (gave x) nothing)
+  unread true b x y e = let z : _≡_ {A = ℕ} 0 1 = cc in absurd (omega arith)
+  unread false true x y e = let z : _≡_ {A = ℕ} 0 1 = cc in absurd (omega arith)
+  unread false false x y e = refl
+
+  pub rows-kept : givenBy g rows k ≡ nothing → (m : Meaning) → givenBy g (rowsWith rows k m) ≡ givenBy g rows
+  unfolding givenBy
+  rows-kept e (refused c) = refl
+  rows-kept e (collected x) = refl
+  rows-kept e confessed = refl
+  rows-kept e (listed t) = fun-ext (λ j. go j (ℕ-discrete j k))
+    where
+      go : (j : ℕ) → Dec (j ≡ k) → givenBy g (set rows k (t .entries)) j ≡ givenBy g rows j
+      go j (yes q) = rw q (unread (bitOf (g .confessed) k) (bitOf (g .listed) k) _ _ e)
+      go j (no d) = rw (getD-set-other rows k j (t .entries) [] d)
 
 -- ---- link by link
 

@@ -26,7 +26,7 @@ use Rattle.settle.specs.Received.{givenBy}
 use Rattle.record.specs.Record.{givenOf}
 use Rattle.play.specs.declared.Stage.{Stage}
 use Rattle.play.specs.Memory.{heads, plantedIn, rowIn, replies, givenEntry, positionOf, newPosition}
-use Rattle.play.specs.Inner.{isStruck, ownReply, replied, Received, givenAlike, Untold, givenPlanted, Unplanted, settledFrom}
+use Rattle.play.specs.Inner.{isStruck, ownReply, replied, Received, Kept, givenAlike, Untold, givenPlanted, Unplanted, settledFrom}
 use Rattle.play.proofs.Frames.{planted-none}
 
 -- ---- what an unstruck head replies
@@ -60,6 +60,16 @@ pub settled-received : (s : Stage) (g : Links) (rows : List (List ℤ)) (G : ℕ
 settled-received s g rows G h = ap (settledFrom s) (fun-ext (h .gives))
 
 -- ---- what is planted
+
+-- g gives the same with other rows
+module _ (s : Stage) (g : Links) (rows rows′ : List (List ℤ)) (h : Kept g rows rows′) where
+  pub untold-kept : Untold s g rows → Untold s g rows′
+  untold-kept u = record { marks-long = u .marks-long; rows-long = h .long; untold = λ k e. ap (λ (G : ℕ → Given). G k) (h .gives) ∙ u .untold k e }
+
+  pub planted-kept : (plant : ℕ → ℕ → List ℕ) (i : ℕ) → givenPlanted s g rows′ plant i ≡ givenPlanted s g rows plant i
+  unfolding givenPlanted
+  planted-kept plant i =
+      ap {B = ℕ → Given} (λ (G : ℕ → Given). λ k. cond (isStruck s k) (givenOf (said (heads s) (s .phase) 1 k (plant k i))) (G k)) (h .gives)
 
 module _ (s : Stage) (g : Links) (rows : List (List ℤ)) (u : Untold s g rows) (bytes lengths : List ℕ) (i : ℕ) where
   pub alike-settled : Unplanted s lengths i → settledFrom s (givenBy g rows) ≡ settledFrom s (givenPlanted s g rows (plantedIn bytes lengths) i)

@@ -76,6 +76,11 @@ pub record Received (g : Links) (rows : List (List ℤ)) (G : ℕ → Given) : T
   pub rows-long : length rows ≡ 32
   pub gives : (k : ℕ) → givenBy g rows k ≡ G k
 
+-- with other rows the links give what they gave
+pub record Kept (g : Links) (rows rows′ : List (List ℤ)) : Type 0 where
+  pub long : length rows′ ≡ 32
+  pub gives : givenBy g rows′ ≡ givenBy g rows
+
 -- what the unstruck heads give, to each of them alike
 unfoldable pub givenAlike : Stage → List ℕ → List (List ℤ) → ℕ → Given
 givenAlike s marks lists k = cond (hears s k) (givenOf (replied s marks lists k)) nothing

@@ -11,7 +11,7 @@ ghost use Rattle.codec.specs.Written.{frameOf};
 ghost use Rattle.settle.specs.Received.{givenBy};
 ghost use Rattle.record.specs.Record.{entryOf};
 ghost use Rattle.play.specs.Memory.{heads, hears, plantedIn, listEntry, rowIn, newPosition};
-ghost use Rattle.play.specs.Inner.{Front, ownEntry, sent, heard, heardFrom, ownReply, replied, linksWith, rowsWith, Received, givenAlike, Untold, givenPlanted, Unplanted, settledFrom};
+ghost use Rattle.play.specs.Inner.{Front, ownEntry, sent, heard, heardFrom, ownReply, replied, linksWith, rowsWith, Received, Kept, givenAlike, Untold, givenPlanted, Unplanted, settledFrom};
 use codec::Said;
 use codec::Written;
 use midpoint::Settled;
@@ -173,6 +173,35 @@ fn list_for(s: Stage, sent: [Entry; 32], planted: &[u8], lengths: &[u8], i: usiz
     Table { marks, entries }
 }
 
+// The list that all heads fill alike, where none is struck. Where one is, nothing is promised of it.
+fn list_alike(s: Stage, sent: [Entry; 32], planted: &[u8], lengths: &[u8]) -> Table
+    ensures { λ r. ⌜ (s .struck ≡ 0 → (i : ℕ) → r ≡ tableOf (heads s) (heardFrom s sent (plantedIn (now (planted .entry)) (now (lengths .entry))) i)) ⌝ }
+{
+    if s.struck == 0 {
+        return list_for(s, sent, planted, lengths, 0);
+    }
+    let entries = [0i32; 32];
+    Table { marks: 0, entries }
+}
+
+// The list of head i, beside the one that all fill alike where none is struck.
+fn list_of(
+    s: Stage,
+    alike: Table,
+    sent: [Entry; 32],
+    planted: &[u8],
+    lengths: &[u8],
+    i: usize,
+) -> Table
+    requires { ⌜ (i < 32) × (s .struck ≡ 0 → (j : ℕ) → alike ≡ tableOf (heads s) (heardFrom s sent (plantedIn (now planted) (now lengths)) j)) ⌝ }
+    ensures { λ r. ⌜ r ≡ tableOf (heads s) (heardFrom s sent (plantedIn (now (planted .entry)) (now (lengths .entry))) i) ⌝ }
+{
+    if s.struck == 0 {
+        return alike;
+    }
+    list_for(s, sent, planted, lengths, i)
+}
+
 // Stores the list of each unstruck head.
 fn fill_lists(
     s: Stage,
@@ -189,10 +218,11 @@ fn fill_lists(
         (rowIn (now (marks .entry)) (now (lists .entry)) i)) ⌝ }
 {
     let n = head_count(s) as usize;
+    let alike = list_alike(s, sent, planted, lengths);
     let mut i: usize = 0;
     while i < n {
         if !fields::marked(s.struck, i) {
-            let list = list_for(s, sent, planted, lengths, i);
+            let list = list_of(s, alike, sent, planted, lengths, i);
             let entries = list.entries;
             marks[i] = list.marks;
             lists[i] = entries;
@@ -313,7 +343,7 @@ fn hear_replies(
     links
 }
 
-// Hears what is planted from the struck heads to head i, on links that gave nothing.
+// Hears what is planted from the struck heads to head i, on links that gave nothing. Their rows may hold what was planted to another head: no one reads them.
 fn hear_planted(
     s: Stage,
     planted: &[u8],
@@ -323,7 +353,8 @@ fn hear_planted(
     rows: &mut [[i32; 32]; 32],
 ) -> Links
     requires { ⌜ (i < 32) × Untold s base (now rows) ⌝ }
-    ensures { λ r. ⌜ Received r (now (rows .exit)) (givenPlanted s base (now (rows .entry)) (plantedIn (now (planted .entry)) (now (lengths .entry))) i) ⌝ }
+    ensures given { λ r. ⌜ Received r (now (rows .exit)) (givenPlanted s base (now (rows .entry)) (plantedIn (now (planted .entry)) (now (lengths .entry))) i) ⌝ }
+    ensures kept { λ r. ⌜ Kept base (now (rows .entry)) (now (rows .exit)) ⌝ }
 {
     let n = head_count(s);
     let count = n as usize;
@@ -344,6 +375,9 @@ fn is_planted(s: Stage, lengths: &[u8], i: usize) -> bool
     requires { ⌜ i < 32 ⌝ }
     ensures { λ r. ⌜ (r ≡ false → Unplanted s (now (lengths .entry)) i) ⌝ }
 {
+    if s.struck == 0 {
+        return false;
+    }
     let n = head_count(s) as usize;
     let mut k: usize = 0;
     while k < n {
@@ -355,11 +389,20 @@ fn is_planted(s: Stage, lengths: &[u8], i: usize) -> bool
     false
 }
 
+// The lowest link that gave a list; 0 where none did.
+fn first_listed(m: u32) -> usize
+    ensures { λ r. ⌜ r < 32 ⌝ }
+{
+    let k = u32::trailing_zeros(m);
+    if k < 32 { k as usize } else { 0 }
+}
+
 // The position that a head settles from what its links gave; 0 where it is refused.
-fn settled(s: Stage, rows: &[[i32; 32]; 32], links: Links) -> i32
+fn settled(s: Stage, rows: &[[i32; 32]; 32], links: Links, lead: usize) -> i32
+    requires { ⌜ lead < 32 ⌝ }
     ensures { λ r. ⌜ r ≡ settledFrom s (givenBy links (now (rows .entry))) ⌝ }
 {
-    match settle::settle(*rows, links, head_count(s), s.f) {
+    match settle::settle_led(rows, links, lead, head_count(s), s.f) {
         Settled::Refused(_) => 0,
         Settled::New(kept) => kept.position,
     }
@@ -372,16 +415,17 @@ fn position_for(
     lengths: &[u8],
     i: usize,
     base: Links,
-    rows: &[[i32; 32]; 32],
+    rows: &mut [[i32; 32]; 32],
+    lead: usize,
     alike: i32,
 ) -> i32
-    requires { ⌜ (i < 32) × Untold s base (now rows) × (alike ≡ settledFrom s (givenBy base (now rows))) ⌝ }
-    ensures { λ r. ⌜ r ≡ settledFrom s (givenPlanted s base (now (rows .entry)) (plantedIn (now (planted .entry)) (now (lengths .entry))) i) ⌝ }
+    requires { ⌜ (i < 32) × Untold s base (now rows) × (lead < 32) × (alike ≡ settledFrom s (givenBy base (now rows))) ⌝ }
+    ensures position { λ r. ⌜ r ≡ settledFrom s (givenPlanted s base (now (rows .entry)) (plantedIn (now (planted .entry)) (now (lengths .entry))) i) ⌝ }
+    ensures kept { λ r. ⌜ Kept base (now (rows .entry)) (now (rows .exit)) ⌝ }
 {
     if is_planted(s, lengths, i) {
-        let mut own = *rows;
-        let links = hear_planted(s, planted, lengths, i, base, &mut own);
-        return settled(s, &own, links);
+        let links = hear_planted(s, planted, lengths, i, base, rows);
+        return settled(s, rows, links, lead);
     }
     alike
 }
@@ -392,7 +436,7 @@ fn fill_positions(
     planted: &[u8],
     lengths: &[u8],
     base: Links,
-    rows: &[[i32; 32]; 32],
+    rows: &mut [[i32; 32]; 32],
     positions: &mut [i32],
 )
     requires { ⌜ Untold s base (now rows) × (length (now positions) ≡ 32) ⌝ }
@@ -402,11 +446,12 @@ fn fill_positions(
         (getD (now (positions .entry)) i (pos 0))) ⌝ }
 {
     let n = head_count(s) as usize;
-    let alike = settled(s, rows, base);
+    let lead = first_listed(base.listed);
+    let alike = settled(s, rows, base, lead);
     let mut i: usize = 0;
     while i < n {
         if !fields::marked(s.struck, i) {
-            let v = position_for(s, planted, lengths, i, base, rows, alike);
+            let v = position_for(s, planted, lengths, i, base, rows, lead, alike);
             positions[i] = v;
         }
         i += 1;
@@ -430,5 +475,5 @@ pub fn confess(
     let none = [0i32; 32];
     let mut rows = [none; 32];
     let links = hear_replies(s, marks, lists, &mut rows);
-    fill_positions(s, planted, lengths, links, &rows, positions);
+    fill_positions(s, planted, lengths, links, &mut rows, positions);
 }

@@ -13,7 +13,7 @@ use borrow.Author.Tests.{leb-true, eqb-true, eqb-false, ltb-true, ltb-false, not
 use Rattle.terms.specs.Refusals as refusal
 use Rattle.fields.specs.Bytes.{at2}
 use Rattle.codec.proofs.Listing.{and-both}
-use Rattle.runfile.specs.RunFile.{File, unread, RecordKind, start, round, plant, other, lengthOf, kindOf, mayStand, pairFits, recordFault, withRecord, stopped, unlessFault, judged, withPart, readOn, unlessStopped, step, feed, readFile}
+use Rattle.runfile.specs.RunFile.{File, unread, RecordKind, start, round, plant, other, lengthOf, kindOf, mayStand, pairFits, recordFault, stopped, unlessFault, judged, withPart, readOn, unlessStopped, step, feed, readFile}
 
 -- ---- the header: four bytes
 

@@ -65,6 +65,13 @@ same-word a b h k =
     (λ t. let e : b ≡ a = sym (word-back b k) ∙ ap wordOf (sym (eqZ→eq (signedOf a) (signedOf b) t)) ∙ word-back a h in rw e (eqb-refl a))
     (λ t. rw (eqb→eq b a t) (eqZ-refl (signedOf a)))
 
+-- the machine compares the words of two numbers
+pub same-bits : {x y : ℤ} → SFits w32 x → SFits w32 y → eqb (ofZ w32 x) (ofZ w32 y) ≡ eqZ x y
+same-bits {x} {y} f g =
+    same-test (eqb (ofZ w32 x) (ofZ w32 y)) (eqZ x y)
+    (λ t. let e : x ≡ y = sym (toZ-ofZ f) ∙ ap (toZ w32) (eqb→eq (ofZ w32 x) (ofZ w32 y) t) ∙ toZ-ofZ g in rw e (eqZ-refl y))
+    (λ t. rw (eqZ→eq x y t) (eqb-refl (ofZ w32 y)))
+
 is-cell : (w y : ℕ) → w < 4294967296 → y ≤ 4294967296 → bit (eqb y (suc w)) ≡ is (signedOf w) (entryOf y)
 is-cell w zero h k = ap bit (eqb·zero-suc w)
 is-cell w (suc b) h k = ap bit (eqb·suc-suc b w ∙ sym (same-word w b h k))

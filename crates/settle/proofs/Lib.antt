@@ -5,6 +5,7 @@ pub mod Counts
 pub mod Cells
 pub mod Received
 pub mod Search
+pub mod Leading
 pub mod Trusted
 pub mod Tables
 pub mod Settling

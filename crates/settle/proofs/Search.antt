@@ -139,7 +139,55 @@ unfolding seen sum
 knows-early ok E u zero t h = absurd (omega arith)
 knows-early ok E u (suc k) t h = knows-step ok u (E k) (seen ok k E) (sum k (λ i. is u (E i))) t (knows-early ok E u k t) h
 
-is-le : (u : ℤ) (e : Entry) → is u e ≤ 1
+-- no position but u was seen
+abbrev Within : ℤ → Seen → Type 0
+Within u none = Unit {0}
+Within u (one w) = w ≡ u
+Within u many = ⊥
+
+within-see : (u : ℤ) (s : Seen) → Within u s → Within u (see u s)
+within-see u none h = refl
+within-see u (one w) h = go (eqZ w u) (rw h (eqZ-refl u))
+  where
+    go : (b : Bool) → T b → Within u (pick b (one w) many)
+    go true t = h
+within-see u many h = h
+
+module _ (ok : ℤ → Bool) (E : ℕ → Entry) where
+  module _ (u : ℤ) (only : (w : ℤ) → ok w ≡ true → w ≡ u) where
+    within-entry : (e : Entry) (s : Seen) → Within u s → Within u (seeEntry ok e s)
+    within-entry Null s h = h
+    within-entry (Position w) s h = go (ok w) (only w)
+      where
+        go : (b : Bool) → (b ≡ true → w ≡ u) → Within u (pick b (see w s) s)
+        go true p = rw (p refl) (within-see u s h)
+        go false p = h
+
+    within-seen : (n : ℕ) → Within u (seen ok n E)
+    unfolding seen
+    within-seen zero = tt
+    within-seen (suc n) = within-entry (E n) (seen ok n E) (within-seen n)
+
+    -- u alone passes the test, and stands among the first n
+    pub only-seen : (n : ℕ) → ok u ≡ true → 1 ≤ sum n (λ i. is u (E i)) → seen ok n E ≡ one u
+    only-seen n t h = go (seen ok n E) (knows-early ok E u n t h) (within-seen n)
+      where
+        go : (s : Seen) → Knows u s → Within u s → s ≡ one u
+        go none k w = absurd k
+        go (one x) k w = ap one w
+        go many k w = absurd w
+
+  -- no position passes the test
+  pub none-seen : ((w : ℤ) → ok w ≡ false) → (n : ℕ) → seen ok n E ≡ none
+  unfolding seen
+  none-seen h zero = refl
+  none-seen h (suc n) = rw (none-seen h n) (go (E n))
+    where
+      go : (e : Entry) → seeEntry ok e none ≡ none
+      go Null = refl
+      go (Position w) = rw (h w)
+
+pub is-le : (u : ℤ) (e : Entry) → is u e ≤ 1
 is-le u Null = omega arith
 is-le u (Position w) = bit-le (eqZ u w)
 

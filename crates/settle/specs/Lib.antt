@@ -1,3 +1,4 @@
 -- What the settling functions promise, over the definitions of `convergence`: how the code holds what the links gave.
 pub mod Received
 pub mod Cells
+pub mod Leading

@@ -1,14 +1,15 @@
 // From what the links gave in a confession round to the new position: support, trusted entries, settling.
 ghost use mathlib.Core.Path.{_≡_};
-ghost use mathlib.Core.Bool.{false};
-ghost use Prim.Native.Nat.{ℕ, _-_, _≤_, _<_, min};
+ghost use mathlib.Core.Bool.{true, false};
+ghost use Prim.Native.Nat.{ℕ, _+_, _-_, _≤_, _<_, min};
 ghost use lib.ListN.{length, getD};
 ghost use Rattle.fields.specs.Marks.{bitOf};
 ghost use Rattle.fields.specs.Entries.{entryAt};
 ghost use Rattle.fields.specs.Tables.{tableOf, mark, number};
-ghost use Rattle.convergence.specs.Counting.{Each};
+ghost use Rattle.convergence.specs.Counting.{Each, bit};
 ghost use Rattle.convergence.specs.Trust.{support, trusted, choose};
 ghost use Rattle.settle.specs.Received.{givenBy};
+ghost use Rattle.settle.specs.Leading.{sameNumber, isApart, alikeTo, apartFrom, agreeing, Follows, Decides};
 ghost use Rattle.settle.specs.Cells.{marksGiven, marksOfLink, entriesOf, entryOf, Holds, HoldsEach, equalTo, isAnother, agreed, decided, markedTo};
 ghost use Rattle.midpoint.specs.Answers.{settling};
 use midpoint::Order;
@@ -185,6 +186,101 @@ fn trusted_cell(
     only(&cells, n, need)
 }
 
+// ---- a list that leads
+
+// How n lists stand to the list of one link, the lead: how many have its mark word, how many another one that is not 0, and for each entry how many of the
+// first have its number.
+pub struct Following {
+    pub alike: usize,
+    pub apart: usize,
+    pub same: [u32; 32],
+}
+
+// One more for each entry at which two lists have the same number.
+fn add_same(a: &[i32; 32], b: &[i32; 32], same: &mut [u32; 32])
+    requires { ⌜ (length (now same) ≡ 32) × Each 32 (λ j. getD (now same) j 0 < 32) ⌝ }
+    ensures { λ _. ⌜ (length (now (same .exit)) ≡ 32) × Each 32 (λ j. getD (now (same .exit)) j 0 ≡ getD (now (same .entry)) j 0 + bit (sameNumber (now (a .entry)) (now (b .entry)) j)) ⌝ }
+{
+    let mut j: usize = 0;
+    while j < 32 {
+        same[j] = same[j] + (a[j] == b[j]) as u32;
+        j += 1;
+    }
+}
+
+// Whether a list with the mark word m has marks, and others than `word`.
+fn is_apart(m: u32, word: u32) -> bool
+    ensures { λ r. ⌜ r ≡ isApart m word ⌝ }
+{
+    if m == word {
+        return false;
+    }
+    m != 0
+}
+
+// How the lists of the first n links stand to that of the lead.
+fn follow(lists: &[[i32; 32]; 32], marks: &[u32; 32], n: usize, lead: usize) -> Following
+    requires { ⌜ (n ≤ 32) × (lead < 32) ⌝ }
+    ensures { λ r. ⌜ Follows n (now (marks .entry)) (now (lists .entry)) lead r ⌝ }
+{
+    let word = marks[lead];
+    let row = lists[lead];
+    let mut alike: usize = 0;
+    let mut apart: usize = 0;
+    let mut same = [0u32; 32];
+    let mut k: usize = 0;
+    while k < n {
+        alike += (marks[k] == word) as usize;
+        apart += is_apart(marks[k], word) as usize;
+        if marks[k] == word {
+            add_same(&lists[k], &row, &mut same);
+        }
+        k += 1;
+    }
+    Following { alike, apart, same }
+}
+
+// Whether the cell x of the lead's list decides: enough lists hold it, and those that may hold another position are too few.
+fn decides(x: u64, need: usize, alike: usize, apart: usize, same: usize) -> bool
+    requires { ⌜ (need ≤ 255) × (alike ≤ 32) × (apart ≤ 32) × (same ≤ 32) ⌝ }
+    ensures { λ r. ⌜ (r ≡ true → Decides x need alike apart same) ⌝ }
+{
+    if x == 0 {
+        return apart < need;
+    }
+    if same < need {
+        return false;
+    }
+    alike + apart < same + need
+}
+
+// The cell of trusted entry j as `trusted_cell` has it, from the lead's list alone where that decides.
+fn led_cell(
+    lists: &[[i32; 32]; 32],
+    marks: &[u32; 32],
+    confessed: u32,
+    n: usize,
+    need: usize,
+    j: usize,
+    lead: usize,
+    alike: usize,
+    apart: usize,
+    same: usize,
+) -> u64
+    requires { ⌜ (n ≤ 32) × (need ≤ 255) × (lead < 32) × (alike ≡ alikeTo n (now marks) lead) × (apart ≡ apartFrom n (now marks) lead) × (same ≡ agreeing n (now marks) (now lists) lead j) ⌝ }
+    ensures { λ r. ⌜ ((E : ℕ → Entry) → Each n (λ k. entriesOf (now (marks .entry)) (now (lists .entry)) j k ≡ E k) → Holds r (decided (bitOf confessed j) n need E)) ⌝ }
+{
+    let confesses = fields::marked(confessed, j);
+    if confesses {
+        return 0;
+    }
+    let x = entry_cell(marks[lead], &lists[lead], j);
+    if decides(x, need, alike, apart, same) {
+        return x;
+    }
+    trusted_cell(lists, marks, confessed, n, need, j)
+}
+
 // The mark of the entry that a cell holds.
 fn mark_of(x: u64) -> u32
     ensures { λ r. ⌜ r ≡ mark (entryOf x) ⌝ }
@@ -248,18 +344,41 @@ pub fn trusted_table(lists: [[i32; 32]; 32], links: Links, n: u8, f: u8) -> Tabl
     Table { marks, entries }
 }
 
-// The new position from what the links gave. Each trusted entry goes to its place in the order as soon as it is decided, from entry 0 up.
-pub fn settle(lists: [[i32; 32]; 32], links: Links, n: u8, f: u8) -> midpoint::Settled
-    ensures { λ r. ⌜ r ≡ settling 0 n f (trusted n f (givenBy links lists)) ⌝ }
+// The new position from what the links gave. Each trusted entry goes to its place in the order as soon as it is decided, from entry 0 up. The list of the link
+// `lead` is looked at first: where most lists are like it, it decides nearly all entries.
+fn settle_after(
+    lists: &[[i32; 32]; 32],
+    links: Links,
+    lead: usize,
+    n: u8,
+    f: u8,
+) -> midpoint::Settled
+    requires { ⌜ lead < 32 ⌝ }
+    ensures { λ r. ⌜ r ≡ settling 0 n f (trusted n f (givenBy links (now (lists .entry)))) ⌝ }
 {
     let need = lists_needed(links.confessed, n, f);
     let count = link_count(n);
     let given = all_marks(links, count);
+    let following = follow(lists, &given, count, lead);
+    let alike = following.alike;
+    let apart = following.apart;
+    let same = following.same;
     let mut positions = [0i32; 32];
     let mut len: usize = 0;
     let mut j: usize = 0;
     while j < count {
-        let x = trusted_cell(&lists, &given, links.confessed, count, need, j);
+        let x = led_cell(
+            lists,
+            &given,
+            links.confessed,
+            count,
+            need,
+            j,
+            lead,
+            alike,
+            apart,
+            same[j] as usize,
+        );
         if x != 0 {
             midpoint::insert(&mut positions, len, number_of(x));
             len += 1;
@@ -267,4 +386,27 @@ pub fn settle(lists: [[i32; 32]; 32], links: Links, n: u8, f: u8) -> midpoint::S
         j += 1;
     }
     midpoint::middle_of(Order { len, positions }, n, f)
+}
+
+// The same for every lead.
+pub fn settle_led(
+    lists: &[[i32; 32]; 32],
+    links: Links,
+    lead: usize,
+    n: u8,
+    f: u8,
+) -> midpoint::Settled
+    ensures { λ r. ⌜ r ≡ settling 0 n f (trusted n f (givenBy links (now (lists .entry)))) ⌝ }
+{
+    if 32 <= lead {
+        return settle_after(lists, links, 0, n, f);
+    }
+    settle_after(lists, links, lead, n, f)
+}
+
+// The same of lists by value.
+pub fn settle(lists: [[i32; 32]; 32], links: Links, n: u8, f: u8) -> midpoint::Settled
+    ensures { λ r. ⌜ r ≡ settling 0 n f (trusted n f (givenBy links lists)) ⌝ }
+{
+    settle_led(&lists, links, 0, n, f)
 }

@@ -2,7 +2,7 @@
 -- the text at the end makes it whole. Of the phase ends that the listing shows, any two keep demand 3.
 use mathlib.Core.List.{List, _++_}
 use mathlib.Core.Path.{_≡_}
-use Prim.Native.Nat.{ℕ, _≤_}
+use Prim.Native.Nat.{ℕ}
 use lib.ListN.{length, take}
 use lib.IntN.{ℤ}
 use Rattle.runfile.specs.RunFile.{readFile}

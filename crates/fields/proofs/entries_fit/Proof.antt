@@ -5,17 +5,20 @@ use Prim.Native.Nat.{_+_, _-_, _≤_}
 use native.Mathlib.Omega.{arith}
 use denote.Ref.{now}
 use borrow.Author.Needs.{needs}
-use borrow.Author.Tests.{not-true, not-false}
+use borrow.Author.Tests.{leb-true, not-true, not-false}
 use Rattle.fields.specs.Entries.{entriesFit}
 use Rattle.fields.proofs.Entries.{fits-next, misfit}
 use Rattle.fields.proofs.entries_fit.Statement.{statement}
 use Rattle.fields.proofs.entries_fit.Tie as tie
 
 abbrev Inv-loop : tie.InvT-loop
-Inv-loop m s n count j₀ j = (j ≤ n) × (entriesFit m s j ≡ true)
+Inv-loop m s n count whole j₀ j = (j ≤ n) × (entriesFit m s j ≡ true)
 
 abbrev μ-loop : tie.MeasureT-loop
-μ-loop m s n count j₀ j = n - j
+μ-loop m s n count whole j₀ j = n - j
+
+mul-whole : tie.Need-mul-whole Inv-loop μ-loop
+mul-whole c = search needs
 
 loop-holds : tie.Need-loop-holds Inv-loop μ-loop
 unfolding entriesFit
@@ -24,11 +27,11 @@ loop-holds c = (search needs, refl)
 marked-requires : tie.Need-marked-requires Inv-loop μ-loop
 marked-requires c κs = search needs
 
-mul-word-at : tie.Need-mul-word-at Inv-loop μ-loop
-mul-word-at c = search needs
+mul-word-in : tie.Need-mul-word-in Inv-loop μ-loop
+mul-word-in c = search needs
 
-word-at-requires : tie.Need-word-at-requires Inv-loop μ-loop
-word-at-requires c κs = search needs
+word-in-requires : tie.Need-word-in-requires Inv-loop μ-loop
+word-in-requires c κs = λ t. omega (arith, leb-true)
 
 word-fits-requires : tie.Need-word-fits-requires Inv-loop μ-loop
 word-fits-requires c κs = search needs
@@ -41,7 +44,7 @@ next : (c : tie.After-word-fits Inv-loop μ-loop) →
 next c =
     let l = c .before .before .before .before in
     let a = l .before .before .args in
-    fits-next (a .m) (now (a .s)) (l .loop .j) (l .loop .inv .1) (c .before .before .marked .ensures) (c .before .word-at .ensures) (c .word-fits .ensures)
+    fits-next (a .m) (now (a .s)) (l .loop .j) (l .loop .inv .1) (c .before .before .marked .ensures) (c .before .word-in .ensures) (c .word-fits .ensures)
 
 returns : tie.Need-returns Inv-loop μ-loop
 returns c =
@@ -69,10 +72,11 @@ entries-fit-spec =
     (tie.spec
     Inv-loop
     μ-loop
+    mul-whole
     loop-holds
     marked-requires
-    mul-word-at
-    word-at-requires
+    mul-word-in
+    word-in-requires
     word-fits-requires
     returns
     add-j

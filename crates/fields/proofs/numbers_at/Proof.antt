@@ -6,16 +6,18 @@ use native.Mathlib.Omega.{arith}
 use mir.Facts.{toZ-ofZ}
 use denote.Ref.{now}
 use borrow.Author.Needs.{needs}
+use borrow.Author.Tests.{leb-true}
+use Rattle.fields.specs.Bytes.{signedOf}
 use Rattle.fields.specs.Entries.{zeros, numbers}
 use Rattle.fields.proofs.Entries.{numbers-next, numbers-past}
 use Rattle.fields.proofs.numbers_at.Statement.{statement}
 use Rattle.fields.proofs.numbers_at.Tie as tie
 
 abbrev Inv-loop : tie.InvT-loop
-Inv-loop s n out₀ end k₀ out k = (end ≤ 32) × (numbers s end ≡ numbers s n) × (k ≤ end) × (out ≡ numbers s k)
+Inv-loop s n out₀ end whole k₀ out k = (end ≤ 32) × (numbers s end ≡ numbers s n) × (k ≤ end) × (out ≡ numbers s k)
 
 abbrev μ-loop : tie.MeasureT-loop
-μ-loop s n out₀ end k₀ out k = end - k
+μ-loop s n out₀ end whole k₀ out k = end - k
 
 -- the loop stores n entries, or 32, from where on nothing would be stored
 capped : (c : tie.Joined1 Inv-loop μ-loop) →
@@ -28,15 +30,21 @@ capped c =
     (λ w. (omega (arith, w .0, w .1), ap (numbers (now (a .s))) (w .1)))
     (c .if1 .came)
 
+mul-whole : tie.Need-mul-whole Inv-loop μ-loop
+mul-whole c = omega (arith, capped (c .before) .0)
+
 loop-holds : tie.Need-loop-holds Inv-loop μ-loop
 unfolding numbers zeros
-loop-holds c = (capped c .0, capped c .1, search needs, refl)
+loop-holds c = (capped (c .before) .0, capped (c .before) .1, search needs, refl)
 
-mul-signed-at : tie.Need-mul-signed-at Inv-loop μ-loop
-mul-signed-at c = search needs
+mul-word-in : tie.Need-mul-word-in Inv-loop μ-loop
+mul-word-in c = search needs
 
-signed-at-requires : tie.Need-signed-at-requires Inv-loop μ-loop
-signed-at-requires c κs = search needs
+word-in-requires : tie.Need-word-in-requires Inv-loop μ-loop
+word-in-requires c κs = λ t. omega (arith, leb-true)
+
+signed-requires : tie.Need-signed-requires Inv-loop μ-loop
+signed-requires c κs = search needs
 
 mul-out : tie.Need-mul-out Inv-loop μ-loop
 mul-out c = search needs
@@ -52,14 +60,19 @@ loop-less c = search needs
 
 loop-again : tie.Need-loop-again Inv-loop μ-loop
 loop-again c =
-    let l = c .before .before in
-    let a = l .before .before .before .args in
-    (l .loop .inv .0, l .loop .inv .1, search needs, numbers-next (now (a .s)) (l .loop .k) (l .loop .inv .3) (toZ-ofZ (record { sfits = c .signed-at .ok }) ∙ c .signed-at .ensures))
+    let w = c .before in
+    let l = w .before .before in
+    let a = l .before .before .before .before .args in (
+      l .loop .inv .0,
+      l .loop .inv .1,
+      search needs,
+      numbers-next (now (a .s)) (l .loop .k) (l .loop .inv .3) (toZ-ofZ (record { sfits = c .signed .ok }) ∙ c .signed .ensures ∙ ap signedOf (w .word-in .ensures)),
+    )
 
 returns : tie.Need-returns Inv-loop μ-loop
 returns c =
     let l = c .before in
-    let e : l .loop .k ≡ l .before .if1 .end = omega arith in
+    let e : l .loop .k ≡ l .before .before .if1 .end = omega arith in
     l .loop .inv .3 ∙ ap (numbers _) e ∙ l .loop .inv .1
 
 pub numbers-at-spec : {M : Type 1} → statement M
@@ -68,9 +81,11 @@ numbers-at-spec =
     (tie.spec
     Inv-loop
     μ-loop
+    mul-whole
     loop-holds
-    mul-signed-at
-    signed-at-requires
+    mul-word-in
+    word-in-requires
+    signed-requires
     mul-out
     array-set-from-out
     add-k

@@ -1,4 +1,4 @@
--- `lent::hear` meets its contract: a walk of its MIR, by hand, around the call of `head::hear`.
+-- `lent::hear` meets its contract: a walk of its MIR, by hand, around the call of `hearing::hear`.
 use mathlib.Core.Path.{_≡_, refl, ap}
 use mathlib.Core.List.{[], _∷_}
 use mir.Syntax.{named}
@@ -15,10 +15,10 @@ use Rattle.record.specs.declared.Answer.{Answer}
 use Rattle.lent.proofs.Walk.ChangeMeets.{changes}
 use Rattle.lent.proofs.Walk.Params.{word, bytes}
 use Rattle.lent.proofs.Lendings.{heads}
-use Rattle.head.proofs.hear as core
-use Rattle.head.proofs.hear.Symbol as core-def
-use Rattle.head.proofs.hear.Symbol.{name as #core}
-use Rattle.head.proofs.hear.Met as core-thm
+use Rattle.hearing.proofs.hear as core
+use Rattle.hearing.proofs.hear.Symbol as core-def
+use Rattle.hearing.proofs.hear.Symbol.{name as #core}
+use Rattle.hearing.proofs.hear.Met as core-thm
 use Rattle.lent.proofs.hear.Key.{name as #f}
 use Rattle.lent.proofs.hear as f
 use Rattle.lent.proofs.hear.Statement as stated
@@ -32,4 +32,4 @@ hear-spec 𝓤 H 𝓜 𝓖 𝓡 =
     (λ κs qs a. ((κs .1, qs .1, tt, (a .0 .now, a .1), _), tt)) (λ κs qs a. refl) (λ κs qs a. id⊢ 𝓤 _) _ (λ κs qs a u. id⊢ 𝓤 _)
     (λ κs a r. r ≡ hear (a .0 .now) (a .1 .0) (a .1 .1 .0 .now)) (λ κs a r. exE 𝓤 _ (λ ws. snd∗ 𝓤 (sem 𝓤 H (𝓖 .A) (lasts core.ended (κs .1) (a .0 .now, a .1) ws)) _))
     (λ κs a ghost r e. factI 𝓤 _ (emp 𝓤) (ap (λ (y : Answer). y .refusal) e, ap (λ (y : Answer). y .head) e))
-    code.env #f 𝓜 𝓡 (code.unfolded 𝓤 H 𝓜 𝓡) core-def.routine code.calls-head·hear (core-thm.met 𝓤 H 𝓜 𝓖 𝓡)
+    code.env #f 𝓜 𝓡 (code.unfolded 𝓤 H 𝓜 𝓡) core-def.routine code.calls-hearing·hear (core-thm.met 𝓤 H 𝓜 𝓖 𝓡)

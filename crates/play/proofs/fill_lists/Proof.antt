@@ -16,12 +16,12 @@ use Rattle.play.proofs.fill_lists.Statement.{statement}
 use Rattle.play.proofs.fill_lists.Tie as tie
 
 abbrev Inv-loop : tie.InvT-loop
-Inv-loop s sent planted lengths marks₀ lists₀ n i₀ marks lists i =
+Inv-loop s sent planted lengths marks₀ lists₀ n alike i₀ marks lists i =
     (i ≤ n) × (length marks ≡ 32) × (length lists ≡ 32)
     × Filled (λ j. not (bitOf (s .struck) j)) (λ j. tableOf (heads s) (heardFrom s sent (plantedIn planted lengths) j)) (rowIn marks₀ lists₀) i (rowIn marks lists)
 
 abbrev μ-loop : tie.MeasureT-loop
-μ-loop s sent planted lengths marks₀ lists₀ n i₀ marks lists i = n - i
+μ-loop s sent planted lengths marks₀ lists₀ n alike i₀ marks lists i = n - i
 
 head-count-requires : tie.Need-head-count-requires Inv-loop μ-loop
 head-count-requires c κs = search needs
@@ -29,14 +29,17 @@ head-count-requires c κs = search needs
 cast-n : tie.Need-cast-n Inv-loop μ-loop
 cast-n c = search needs
 
+list-alike-requires : tie.Need-list-alike-requires Inv-loop μ-loop
+list-alike-requires c κs = search needs
+
 loop-holds : tie.Need-loop-holds Inv-loop μ-loop
 loop-holds c = (search needs, search needs, search needs, filled-none _ _ _)
 
 marked-requires : tie.Need-marked-requires Inv-loop μ-loop
 marked-requires c κs = search needs
 
-list-for-requires : tie.Need-list-for-requires Inv-loop μ-loop
-list-for-requires c κs = search needs
+list-of-requires : tie.Need-list-of-requires Inv-loop μ-loop
+list-of-requires c κs = (search needs, c .before .before .before .before .list-alike .ensures)
 
 mul-marks : tie.Need-mul-marks Inv-loop μ-loop
 mul-marks c = search needs
@@ -61,7 +64,7 @@ loop-again c =
     let m = c .before in
     let l = m .before .before .loop in
     let b = ap not (sym (m .marked .ensures)) in
-    let h = m .before .before .before .head-count .ensures in
+    let h = m .before .before .before .before .head-count .ensures in
     ⊎-elim
     (λ w. (
       search needs,
@@ -81,7 +84,7 @@ same-length-2 c = search needs
 returns : tie.Need-returns Inv-loop μ-loop
 returns c =
     let l = c .before .loop in
-    let e : l .i ≡ heads (c .before .before .before .before .before .before .args .s) = omega (arith, c .before .before .head-count .ensures) in
+    let e : l .i ≡ heads (c .before .before .before .before .before .before .before .args .s) = omega (arith, c .before .before .before .head-count .ensures) in
     rw e at (l .inv .3)
 
 pub fill-lists-spec : {M : Type 1} → statement M
@@ -92,9 +95,10 @@ fill-lists-spec =
     μ-loop
     head-count-requires
     cast-n
+    list-alike-requires
     loop-holds
     marked-requires
-    list-for-requires
+    list-of-requires
     mul-marks
     slice-write-marks
     mul-entries

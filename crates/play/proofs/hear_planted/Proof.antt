@@ -1,7 +1,8 @@
 -- `play::hear_planted` meets its contract: before head k, the struck heads below k gave what is planted, and all others what they had given; a struck
 -- head had given nothing.
-use mathlib.Core.Path.{_≡_, refl, ap₂, sym, _∙_}
+use mathlib.Core.Path.{_≡_, refl, ap, ap₂, sym, _∙_}
 use mathlib.Core.Logic.{⊎-elim}
+use mathlib.Core.Bool.{true}
 use mathlib.Core.List.{List}
 use Prim.Native.Nat.{ℕ, _-_, _≤_, _<_}
 use native.Mathlib.Omega.{arith}
@@ -9,13 +10,14 @@ use denote.Ref.{now}
 use borrow.Author.Needs.{needs}
 use borrow.Author.Tests.{lt-ltb}
 use Rattle.fields.specs.Marks.{bitOf}
+use Rattle.convergence.specs.Trust.{Given, nothing}
 use Rattle.codec.specs.Said.{said}
 use Rattle.settle.specs.Received.{givenBy}
 use Rattle.record.specs.Record.{givenOf}
 use Rattle.play.specs.Memory.{heads, plantedIn}
 use Rattle.play.specs.Inner.{Received, givenPlanted}
 use Rattle.play.proofs.Filling.{filledTo}
-use Rattle.play.proofs.Received.{received-start, received-passed, received-heard}
+use Rattle.play.proofs.Received.{rows-kept, received-start, received-passed, received-heard}
 use Rattle.play.proofs.hear_planted.Statement.{statement}
 use Rattle.play.proofs.hear_planted.Tie as tie
 
@@ -23,6 +25,7 @@ abbrev Inv-loop : tie.InvT-loop
 Inv-loop s planted lengths i rows₀ n count links₀ k₀ rows links k =
     (k ≤ count)
     × Received links rows (filledTo (bitOf (s .struck)) (λ j. givenOf (said (heads s) (s .phase) 1 j (plantedIn planted lengths j i))) (givenBy links₀ rows₀) k)
+    × (givenBy links₀ rows ≡ givenBy links₀ rows₀)
 
 abbrev μ-loop : tie.MeasureT-loop
 μ-loop s planted lengths i rows₀ n count links₀ k₀ rows links k = count - k
@@ -36,7 +39,7 @@ cast-count c = search needs
 loop-holds : tie.Need-loop-holds Inv-loop μ-loop
 loop-holds c =
     let u = c .before .before .before .pre .1 in
-    (search needs, received-start _ _ _ _ _ (record { marks-long = u .marks-long; rows-long = u .rows-long; gives = λ j. refl }))
+    (search needs, received-start _ _ _ _ _ (record { marks-long = u .marks-long; rows-long = u .rows-long; gives = λ j. refl }), refl)
 
 marked-requires : tie.Need-marked-requires Inv-loop μ-loop
 marked-requires c κs = search needs
@@ -63,14 +66,18 @@ loop-again c =
     let h = n .head-count .ensures in
     let b = sym (m .marked .ensures) in
     let below : l .k < heads (a .s) = omega arith in
+    let untold : bitOf (a .s .struck) (l .k) ≡ true → givenBy (a .base) (now (a .rows)) (l .k) ≡ nothing = λ t. p .pre .1 .untold (l .k) (rw (lt-ltb (l .k) (heads (a .s)) below) t) in
     ⊎-elim
     (λ w. (
       search needs,
       rw (w .4, w .5) (received-heard _ _ _ (l .links) (l .rows) (l .k) (l .inv .1) (said (n .head-count .result) (a .s .phase) 1 (l .k) (now (w .1 .result))) (omega arith)
-          (p .pre .1 .untold (l .k) (rw (lt-ltb (l .k) (heads (a .s)) below) (b ∙ w .0 .taken))) (b ∙ w .0 .taken)
+          (untold (b ∙ w .0 .taken)) (b ∙ w .0 .taken)
           (ap₂ (λ (x : ℕ) (y : List ℕ). givenOf (said x (a .s .phase) 1 (l .k) y)) h (w .1 .ensures)) (w .3 .ensures .0) (w .3 .ensures .1)),
+      rw (w .4) (ap (givenBy (a .base)) (w .3 .ensures .1)
+          ∙ rows-kept (a .base) (l .rows) (l .k) (ap (λ (G : ℕ → Given). G (l .k)) (l .inv .2) ∙ untold (b ∙ w .0 .taken)) (said (n .head-count .result) (a .s .phase) 1 (l .k) (now (w .1 .result)))
+          ∙ l .inv .2),
     ))
-    (λ w. (search needs, rw (w .1, w .2) (received-passed _ _ _ (l .links) (l .rows) (l .k) (l .inv .1) (b ∙ w .0 .left))))
+    (λ w. (search needs, rw (w .1, w .2) (received-passed _ _ _ (l .links) (l .rows) (l .k) (l .inv .1) (b ∙ w .0 .left)), rw (w .1) (l .inv .2)))
     (c .if1 .came)
 
 returns : tie.Need-returns Inv-loop μ-loop
@@ -78,7 +85,7 @@ unfolding givenPlanted
 returns c =
     let l = c .before .loop in
     let e : l .k ≡ heads (c .before .before .before .before .before .args .s) = omega (arith, c .before .before .head-count .ensures) in
-    rw e at (l .inv .1)
+    (rw e at (l .inv .1), record { long = l .inv .1 .rows-long; gives = l .inv .2 })
 
 pub hear-planted-spec : {M : Type 1} → statement M
 hear-planted-spec =

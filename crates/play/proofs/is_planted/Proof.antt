@@ -10,6 +10,7 @@ use borrow.Author.Tests.{ltb-true, eqb-true, not-false}
 use lib.Dec.{ltb}
 use lib.ListN.{getD}
 use Rattle.fields.specs.Marks.{bitOf}
+use Rattle.fields.proofs.Marks.{bit-none}
 use Rattle.convergence.specs.Counting.{Each}
 use Rattle.codec.proofs.Listing.{and-both}
 use Rattle.play.specs.Memory.{heads}
@@ -21,6 +22,12 @@ Inv-loop s lengths i n k₀ k = (k ≤ n) × Each k (λ j. bitOf (s .struck) j �
 
 abbrev μ-loop : tie.MeasureT-loop
 μ-loop s lengths i n k₀ k = n - k
+
+returns : tie.Need-returns Inv-loop μ-loop
+returns c =
+    let a = c .before .before .before .args in
+    λ e k h.
+    absurd (true≢false (sym (and-both (ltb k (heads (a .s))) (bitOf (a .s .struck) k) h .1) ∙ rw (c .if1 .taken) (bit-none k)))
 
 head-count-requires : tie.Need-head-count-requires Inv-loop μ-loop
 head-count-requires c κs = search needs
@@ -43,8 +50,8 @@ add-byte-at c = search needs
 byte-at-requires : tie.Need-byte-at-requires Inv-loop μ-loop
 byte-at-requires c κs = search needs
 
-returns : tie.Need-returns Inv-loop μ-loop
-returns c = λ e. absurd (true≢false e)
+returns-2 : tie.Need-returns-2 Inv-loop μ-loop
+returns-2 c = λ e. absurd (true≢false e)
 
 add-k : tie.Need-add-k Inv-loop μ-loop
 add-k c = search needs
@@ -60,12 +67,12 @@ loop-again c =
     ⊎-elim
     (λ w. (search needs, below-more _ (l .k) (l .inv .1) (λ q. sym (w .1 .ensures) ∙ eqb-true (w .1 .result) 0 (not-false _ (w .2 .left)))))
     (λ w. (search needs, below-more _ (l .k) (l .inv .1) (λ q. absurd (true≢false (sym q ∙ sym e ∙ w .left)))))
-    (c .if1 .came)
+    (c .if2 .came)
 
-returns-2 : tie.Need-returns-2 Inv-loop μ-loop
-returns-2 c =
+returns-3 : tie.Need-returns-3 Inv-loop μ-loop
+returns-3 c =
     let l = c .before .loop in
-    let a = c .before .before .before .before .args in
+    let a = c .before .before .before .before .before .before .args in
     λ e k h.
     let b = and-both (ltb k (heads (a .s))) (bitOf (a .s .struck) k) h in
     l .inv .1 k (omega (arith, ltb-true k (heads (a .s)) (b .0), c .before .before .head-count .ensures)) (b .1)
@@ -76,6 +83,7 @@ is-planted-spec =
     (tie.spec
     Inv-loop
     μ-loop
+    returns
     head-count-requires
     cast-n
     loop-holds
@@ -83,8 +91,8 @@ is-planted-spec =
     mul-byte-at
     add-byte-at
     byte-at-requires
-    returns
+    returns-2
     add-k
     loop-less
     loop-again
-    returns-2)
+    returns-3)

@@ -11,8 +11,8 @@ use Rattle.play.proofs.settled.Tie as tie
 head-count-requires : tie.Need-head-count-requires
 head-count-requires c κs = search needs
 
-settle-requires : tie.Need-settle-requires
-settle-requires c κs = search needs
+settle-led-requires : tie.Need-settle-led-requires
+settle-led-requires c κs = search needs
 
 enum-told : tie.Need-enum-told
 enum-told c = search needs
@@ -23,18 +23,18 @@ enum-known-kept c = search needs
 returns : tie.Need-returns
 returns c =
     let w = c .before .before in
-    let a = w .before .before .before .args in
-    settled-is (a .s) (givenBy (a .links) (now (a .rows))) (w .before .head-count .ensures) (sym (c .enum-told .given .1) ∙ w .settle .ensures)
+    let a = w .before .before .args in
+    settled-is (a .s) (givenBy (a .links) (now (a .rows))) (w .before .head-count .ensures) (sym (c .enum-told .given .1) ∙ w .settle-led .ensures)
 
 returns-2 : tie.Need-returns-2
 returns-2 c =
     let k = c .before .before in
     let w = k .before .before in
-    let a = w .before .before .before .args in
+    let a = w .before .before .args in
     toZ-ofZ (record { sfits = c .struct-told .given .1 .1 .1 .0 .1 })
-    ∙ settled-is (a .s) (givenBy (a .links) (now (a .rows))) (w .before .head-count .ensures) (sym (k .kept .given .1) ∙ w .settle .ensures)
+    ∙ settled-is (a .s) (givenBy (a .links) (now (a .rows))) (w .before .head-count .ensures) (sym (k .kept .given .1) ∙ w .settle-led .ensures)
 
 pub settled-spec : {M : Type 1} → statement M
 settled-spec =
     tie.close
-    (tie.spec head-count-requires settle-requires enum-told enum-known-kept returns returns-2)
+    (tie.spec head-count-requires settle-led-requires enum-told enum-known-kept returns returns-2)

@@ -1,0 +1,20 @@
+-- The block that C keeps, as it is lent.
+use Rattle.lent.proofs.Walk.Lending.{Lending}
+use Rattle.block.specs.declared.FocusAnswer.{FocusAnswer}
+use Rattle.block.proofs.FocusHead as FocusHead
+use Rattle.block.proofs.FocusHead.Laws as FocusHead′
+use Rattle.block.proofs.FocusAnswer as FocusAnswer′
+
+abbrev pub blocks : Lending
+blocks = record {
+  T = FocusHead.the-type;
+  laws = FocusHead′.the-laws;
+  plain = FocusHead′.the-plain;
+  copy = FocusHead′.the-copy;
+  lowers = FocusHead′.lowers;
+  answer = FocusAnswer′.the-type .name;
+  D = FocusAnswer;
+  number = λ r. r .refusal;
+  next = λ r. r .head;
+  one = FocusAnswer′.the-type .to-one;
+}

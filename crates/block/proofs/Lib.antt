@@ -1,0 +1,4 @@
+pub mod Lendings
+pub mod Carried
+pub mod Filled
+pub mod Blocks

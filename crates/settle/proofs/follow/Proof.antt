@@ -1,0 +1,161 @@
+-- `settle::follow` meets its contract: after k turns the counts are those of the first k lists.
+use mathlib.Core.Path.{_≡_, refl, ap, _∙_}
+use mathlib.Core.Logic.{⊎-elim}
+use mathlib.Core.Bool.{Bool}
+use Prim.Native.Nat.{ℕ, _-_, _≤_}
+use native.Mathlib.Omega.{arith}
+use denote.Ref.{now}
+use borrow.Author.Needs.{needs}
+use lib.Dec.{eqb}
+use lib.ListN.{length, getD, getD-replicate}
+use Rattle.convergence.specs.Counting.{Each, sum, bit}
+use Rattle.convergence.proofs.Sums.{bit-le}
+use Rattle.settle.specs.Leading.{isApart, agrees, alikeTo, apartFrom, agreeing}
+use Rattle.settle.proofs.Counts.{byte-bit, sum-next, bits-le}
+use Rattle.settle.proofs.Leading.{agree-more, agree-skip}
+use Rattle.settle.proofs.follow.Statement.{statement}
+use Rattle.settle.proofs.follow.Tie as tie
+
+abbrev Inv-loop : tie.InvT-loop
+Inv-loop lists marks n lead word row alike₀ apart₀ same₀ k₀ alike apart same k =
+    (k ≤ n) × (alike ≡ alikeTo k marks lead) × (apart ≡ apartFrom k marks lead) × (length same ≡ 32) × Each 32 (λ j. getD same j 0 ≡ agreeing k marks lists lead j)
+
+abbrev μ-loop : tie.MeasureT-loop
+μ-loop lists marks n lead word row alike₀ apart₀ same₀ k₀ alike apart same k = n - k
+
+mul-word : tie.Need-mul-word Inv-loop μ-loop
+mul-word c = search needs
+
+element-copy-out-word : tie.Need-element-copy-out-word Inv-loop μ-loop
+element-copy-out-word c = search needs
+
+mul-row : tie.Need-mul-row Inv-loop μ-loop
+mul-row c = search needs
+
+element-copy-out-row : tie.Need-element-copy-out-row Inv-loop μ-loop
+element-copy-out-row c = search needs
+
+loop-holds : tie.Need-loop-holds Inv-loop μ-loop
+unfolding sum
+loop-holds c = (search needs, refl, refl, refl, λ j l. getD-replicate 32 j 0 0 l)
+
+mul-alike : tie.Need-mul-alike Inv-loop μ-loop
+mul-alike c = search needs
+
+element-copy-out-alike : tie.Need-element-copy-out-alike Inv-loop μ-loop
+element-copy-out-alike c = search needs
+
+cast-alike : tie.Need-cast-alike Inv-loop μ-loop
+cast-alike c = search needs
+
+add-alike : tie.Need-add-alike Inv-loop μ-loop
+add-alike c =
+    let l = c .before .before .loop in
+    let a = c .before .before .before .before .before .args in
+    let t : ℕ → Bool = λ k. eqb (getD (now (a .marks)) k 0) (getD (now (a .marks)) (a .lead) 0) in
+    omega (arith, byte-bit (t (l .k)), bit-le (t (l .k)), bits-le (l .k) t)
+
+mul-is-apart : tie.Need-mul-is-apart Inv-loop μ-loop
+mul-is-apart c = search needs
+
+element-copy-out-is-apart : tie.Need-element-copy-out-is-apart Inv-loop μ-loop
+element-copy-out-is-apart c = search needs
+
+is-apart-requires : tie.Need-is-apart-requires Inv-loop μ-loop
+is-apart-requires c κs = search needs
+
+cast-apart : tie.Need-cast-apart Inv-loop μ-loop
+cast-apart c = search needs
+
+add-apart : tie.Need-add-apart Inv-loop μ-loop
+add-apart c =
+    let l = c .before .before .before .before .loop in
+    let a = c .before .before .before .before .before .before .before .args in
+    let t : ℕ → Bool = λ k. isApart (getD (now (a .marks)) k 0) (getD (now (a .marks)) (a .lead) 0) in
+    omega (arith, byte-bit (c .is-apart .result), bit-le (c .is-apart .result), bits-le (l .k) t)
+
+mul-if1 : tie.Need-mul-if1 Inv-loop μ-loop
+mul-if1 c = search needs
+
+element-copy-out-if1 : tie.Need-element-copy-out-if1 Inv-loop μ-loop
+element-copy-out-if1 c = search needs
+
+mul-add-same : tie.Need-mul-add-same Inv-loop μ-loop
+mul-add-same c = search needs
+
+index-1-add-same : tie.Need-index-1-add-same Inv-loop μ-loop
+index-1-add-same c = search needs
+
+add-same-requires : tie.Need-add-same-requires Inv-loop μ-loop
+add-same-requires c κs =
+    let h = c .before .before .before .before .before .before .before .before .before in
+    let l = h .loop in
+    let a = h .before .before .before .args in
+    (l .inv .3, λ j i. omega (arith, l .inv .4 j i, bits-le (l .k) (agrees (now (a .marks)) (now (a .lists)) (a .lead) j)))
+
+add-k : tie.Need-add-k Inv-loop μ-loop
+add-k c = search needs
+
+loop-less : tie.Need-loop-less Inv-loop μ-loop
+loop-less c = search needs
+
+loop-again : tie.Need-loop-again Inv-loop μ-loop
+loop-again c =
+    let p = c .before .before in
+    let h = p .before .before .before .before in
+    let l = h .loop in
+    let a = h .before .before .before .args in
+    let M = now (a .marks) in
+    let m : ℕ → ℕ = λ k. getD M k 0 in
+    let L = now (a .lists) in (
+      search needs,
+      sum-next (λ k. bit (eqb (m k) (m (a .lead)))) (l .k) (l .inv .1) (byte-bit (eqb (m (l .k)) (m (a .lead)))),
+      sum-next (λ k. bit (isApart (m k) (m (a .lead)))) (l .k) (l .inv .2) (byte-bit (p .is-apart .result) ∙ ap bit (p .is-apart .ensures)),
+      ⊎-elim (λ w. rw (w .5) (w .4 .ensures .0)) (λ w. rw (w .1) (l .inv .3)) (c .if1 .came),
+      λ j i.
+          ⊎-elim
+          (λ w. rw (w .5) (agree-more M L (a .lead) j (l .k) (l .inv .4 j i) (w .0 .taken) (w .4 .ensures .1 j i)))
+          (λ w. rw (w .1) (agree-skip M L (a .lead) j (l .k) (l .inv .4 j i) (w .0 .left)))
+          (c .if1 .came),
+    )
+
+returns : tie.Need-returns Inv-loop μ-loop
+returns c =
+    let l = c .before .loop in
+    let a = c .before .before .before .before .args in
+    let e : l .k ≡ a .n = omega arith in
+    record {
+      alike = l .inv .1 ∙ ap (λ (k : ℕ). alikeTo k (now (a .marks)) (a .lead)) e;
+      apart = l .inv .2 ∙ ap (λ (k : ℕ). apartFrom k (now (a .marks)) (a .lead)) e;
+      same = λ j i. l .inv .4 j i ∙ ap (λ (k : ℕ). agreeing k (now (a .marks)) (now (a .lists)) (a .lead) j) e;
+    }
+
+pub follow-spec : {M : Type 1} → statement M
+follow-spec =
+    tie.close
+    (tie.spec
+    Inv-loop
+    μ-loop
+    mul-word
+    element-copy-out-word
+    mul-row
+    element-copy-out-row
+    loop-holds
+    mul-alike
+    element-copy-out-alike
+    cast-alike
+    add-alike
+    mul-is-apart
+    element-copy-out-is-apart
+    is-apart-requires
+    cast-apart
+    add-apart
+    mul-if1
+    element-copy-out-if1
+    mul-add-same
+    index-1-add-same
+    add-same-requires
+    add-k
+    loop-less
+    loop-again
+    returns)

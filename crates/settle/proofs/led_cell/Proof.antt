@@ -1,0 +1,83 @@
+-- `settle::led_cell` meets its contract: link j confessed; or the lead's list decides; or the column is searched.
+use mathlib.Core.Path.{sym, _∙_}
+use Prim.Native.Nat.{ℕ}
+use native.Mathlib.Omega.{arith}
+use denote.Ref.{now}
+use borrow.Author.Needs.{needs}
+use lib.Dec.{eqb}
+use lib.ListN.{getD}
+use Rattle.settle.specs.Leading.{isApart, agrees}
+use Rattle.settle.proofs.Counts.{bits-le}
+use Rattle.settle.proofs.Cells.{holds-null, holds-same}
+use Rattle.settle.proofs.Trusted.{decided-confessed}
+use Rattle.settle.proofs.Leading.{led-decided}
+use Rattle.settle.proofs.led_cell.Statement.{statement}
+use Rattle.settle.proofs.led_cell.Tie as tie
+
+marked-requires : tie.Need-marked-requires
+marked-requires c κs = search needs
+
+returns : tie.Need-returns
+returns c =
+    let a = c .before .before .args in
+    λ E h. holds-same holds-null (sym (decided-confessed (a .n) (a .need) E (sym (c .before .marked .ensures) ∙ c .if1 .taken)))
+
+mul-entry-cell : tie.Need-mul-entry-cell
+mul-entry-cell c = search needs
+
+element-copy-out-entry-cell : tie.Need-element-copy-out-entry-cell
+element-copy-out-entry-cell c = search needs
+
+mul-entry-cell-2 : tie.Need-mul-entry-cell-2
+mul-entry-cell-2 c = search needs
+
+index-1-entry-cell : tie.Need-index-1-entry-cell
+index-1-entry-cell c = search needs
+
+entry-cell-requires : tie.Need-entry-cell-requires
+entry-cell-requires c κs = search needs
+
+decides-requires : tie.Need-decides-requires
+decides-requires c κs =
+    let s = c .before .before .before .before .before in
+    let a = s .args in
+    let p = s .pre in
+    let m : ℕ → ℕ = λ k. getD (now (a .marks)) k 0 in (
+      p .1,
+      omega (arith, p .3, bits-le (a .n) (λ k. eqb (m k) (m (a .lead)))),
+      omega (arith, p .4, bits-le (a .n) (λ k. isApart (m k) (m (a .lead)))),
+      omega (arith, p .5, bits-le (a .n) (agrees (now (a .marks)) (now (a .lists)) (a .lead) (a .j))),
+    )
+
+returns-2 : tie.Need-returns-2
+returns-2 c =
+    let d = c .before in
+    let e = d .before in
+    let i = e .before .before .before in
+    let s = i .before .before in
+    let a = s .args in
+    λ E h.
+    led-decided (a .n) (a .need) (now (a .marks)) (now (a .lists)) (a .lead) (a .j) E h (sym (i .before .marked .ensures) ∙ i .if1 .left)
+    (s .pre .3) (s .pre .4) (s .pre .5) (e .entry-cell .ensures) (d .decides .ensures (c .if2 .taken))
+
+trusted-cell-requires : tie.Need-trusted-cell-requires
+trusted-cell-requires c κs = search needs
+
+returns-3 : tie.Need-returns-3
+returns-3 c = search needs
+
+pub led-cell-spec : {M : Type 1} → statement M
+led-cell-spec =
+    tie.close
+    (tie.spec
+    marked-requires
+    returns
+    mul-entry-cell
+    element-copy-out-entry-cell
+    mul-entry-cell-2
+    index-1-entry-cell
+    entry-cell-requires
+    decides-requires
+    returns-2
+    trusted-cell-requires
+    returns-3)

@@ -1,0 +1,45 @@
+-- How the search for the trusted entries goes by the list of one link, the lead, before it counts a column. Nothing here is needed to read the promises of
+-- public functions.
+use mathlib.Core.Path.{_≡_}
+use mathlib.Core.Bool.{Bool, not, _&&_}
+use mathlib.Core.List.{List, []}
+use Prim.Native.Nat.{ℕ, zero, suc, _+_, _≤_, _<_}
+use lib.Dec.{eqb}
+use lib.IntN.{ℤ, pos}
+use lib.ListN.{getD}
+use Rattle.terms.specs.Positions.{eqZ}
+use Rattle.convergence.specs.Counting.{Each, sum, bit}
+use Rattle.settle.specs.declared.Following.{Following}
+
+-- two lists have the same number at entry j
+abbrev pub sameNumber : List ℤ → List ℤ → ℕ → Bool
+sameNumber a b j = eqZ (getD a j (pos 0)) (getD b j (pos 0))
+
+-- the mark word m has marks, and others than w
+abbrev pub isApart : ℕ → ℕ → Bool
+isApart m w = not (eqb m w) && not (eqb m 0)
+
+-- list k has the marks of the lead, and its number at entry j
+abbrev pub agrees : List ℕ → List (List ℤ) → ℕ → ℕ → ℕ → Bool
+agrees marks lists lead j k = eqb (getD marks k 0) (getD marks lead 0) && sameNumber (getD lists k []) (getD lists lead []) j
+
+-- how many of the first n lists have the marks of the lead, how many have others, and how many of the first have its number at entry j
+abbrev pub alikeTo : ℕ → List ℕ → ℕ → ℕ
+alikeTo n marks lead = sum n (λ k. bit (eqb (getD marks k 0) (getD marks lead 0)))
+
+abbrev pub apartFrom : ℕ → List ℕ → ℕ → ℕ
+apartFrom n marks lead = sum n (λ k. bit (isApart (getD marks k 0) (getD marks lead 0)))
+
+abbrev pub agreeing : ℕ → List ℕ → List (List ℤ) → ℕ → ℕ → ℕ
+agreeing n marks lists lead j = sum n (λ k. bit (agrees marks lists lead j k))
+
+pub record Follows (n : ℕ) (marks : List ℕ) (lists : List (List ℤ)) (lead : ℕ) (r : Following) : Type 0 where
+  pub alike : r .alike ≡ alikeTo n marks lead
+  pub apart : r .apart ≡ apartFrom n marks lead
+  pub same : Each 32 (λ j. getD (r .same) j 0 ≡ agreeing n marks lists lead j)
+
+-- The cell x of the lead decides. Where it is null, only lists with other marks hold a position. Where it is not, enough lists agree with it, and those that
+-- may hold another position are too few.
+abbrev pub Decides : ℕ → ℕ → ℕ → ℕ → ℕ → Type 0
+Decides zero need alike apart same = apart < need
+Decides (suc w) need alike apart same = (need ≤ same) × (alike + apart < same + need)
