@@ -198,7 +198,7 @@ pub fn is_position_word(x: u32) -> bool
 }
 
 // Whether a word may stand in a list.
-pub fn word_fits(mark: bool, x: u32) -> bool
+fn word_fits(mark: bool, x: u32) -> bool
     ensures { λ r. ⌜ r ≡ fits mark (signedOf x) ⌝ }
 {
     if mark { is_position_word(x) } else { x == 0 }

@@ -4,7 +4,7 @@ ghost use mathlib.Core.List.{_∷_, [], _++_};
 ghost use Prim.Native.Nat.{_+_, _≤_, _<_};
 ghost use lib.ListN.{length, getD};
 ghost use lib.IntN.{pos};
-ghost use Rattle.convergence.specs.Phases.{join, lowest, highest, apart};
+ghost use Rattle.convergence.specs.Phases.{join, apart};
 ghost use Rattle.runfile.specs.Listing.{size, decimal, whole, textOf, hexDigit, title, verdict};
 ghost use Rattle.listing.specs.Texts.{bytesOf, endIn, endLine};
 ghost use Rattle.listing.specs.Inner.{Longer, spelled, heightOf, outward, Found};
@@ -194,22 +194,6 @@ fn ends_of(positions: &[i32; 32], struck: u32, n: u8) -> Ends
         j += 1;
     }
     Ends { low, high }
-}
-
-// The lowest position of the first n heads that the mark word leaves.
-pub fn lowest_of(positions: &[i32; 32], struck: u32, n: u8) -> Entry
-    ensures { λ r. ⌜ r ≡ lowest n (endIn struck (now (positions .entry))) ⌝ }
-{
-    let e = ends_of(positions, struck, n);
-    e.low
-}
-
-// The highest.
-pub fn highest_of(positions: &[i32; 32], struck: u32, n: u8) -> Entry
-    ensures { λ r. ⌜ r ≡ highest n (endIn struck (now (positions .entry))) ⌝ }
-{
-    let e = ends_of(positions, struck, n);
-    e.high
 }
 
 // How far apart two entries are; 0 where one is null.
