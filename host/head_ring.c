@@ -105,7 +105,8 @@ static size_t confess_to_one(const struct ring *r, uint32_t from, uint32_t to, u
     return frame(at, 3, from, r->phase, rest, sizeof rest);
 }
 
-int main(void) {
+int main(int argc, char **argv) {
+    long phases = argc > 1 ? atol(argv[1]) : 65535; /* of the last run; the calls after the last phase are tried where it comes to it */
     static struct ring r;
     const int32_t paper[5] = {10, 20, 30, 40, 50};
 
@@ -138,11 +139,15 @@ int main(void) {
     uint8_t buffer[FOCUS_FRAME_MAX];
     size_t length = 99;
     start(&r, 1, 0, &one);
-    for (int i = 0; i < 65535; i++) {
+    for (long i = 0; i < phases; i++) {
         play(&r, 0, NULL);
         play(&r, 0, NULL);
     }
     all_at(&r, 0, 7);
+    if (phases < 65535) {
+        printf("%lu checks\n", checks);
+        return 0;
+    }
     expect(focus_head_write(&r.heads[0], buffer, sizeof buffer, &length) == 26, "write after the last phase", 0, 26);
     expect(length == 99, "length of a refused frame", (long)length, 99);
     expect(focus_head_hear(&r.heads[0], 40, buffer, 0) == 26, "hear after the last phase", 0, 26);
