@@ -7,9 +7,9 @@ ghost use Rattle.block.specs.Blocks.{entryIn, rowOf, listOf, headOf, foc
 use record::Answer;
 use record::Head;
 use record::Row;
-use settle::Links;
 use terms::Entry;
 use terms::Table;
+use trust::Links;
 
 pub mod from_c;
 

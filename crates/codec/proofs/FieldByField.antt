@@ -9,7 +9,7 @@ use lib.ListN.{length, getD, drop, drop-of-length-le}
 use lib.Seq.{drop-cons, getD-drop}
 use lib.IntN.{pos}
 use Rattle.fields.specs.Bytes.{at2, at4, put2, put4, wordOf}
-use Rattle.fields.specs.Entries.{numbers}
+use Rattle.entries.specs.Entries.{numbers}
 use Rattle.fields.proofs.Bytes.{same2, same4, word-back}
 use Rattle.frames.specs.Check.{lengthField, senderField, phaseField}
 use Rattle.codec.specs.Written.{header, entryBytes}

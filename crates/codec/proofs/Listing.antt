@@ -14,10 +14,10 @@ use Rattle.terms.specs.Positions.{isPosition}
 use Rattle.terms.specs.declared.Table.{Table}
 use Rattle.terms.proofs.Whole.{eqZ→eq}
 use Rattle.fields.specs.Bytes.{at4, signedAt, put4, wordOf}
-use Rattle.fields.specs.Marks.{bitOf}
-use Rattle.fields.specs.Entries.{fits, entriesFit, zeros, numbers}
+use Rattle.marks.specs.Marks.{bitOf}
+use Rattle.entries.specs.Entries.{fits, entriesFit, zeros, numbers}
 use Rattle.fields.proofs.Bytes.{back4, word-below}
-use Rattle.fields.proofs.Entries.{numbers-length}
+use Rattle.entries.proofs.Entries.{numbers-length}
 use Rattle.codec.specs.Written.{entryBytes, listFrame}
 
 -- ---- the array

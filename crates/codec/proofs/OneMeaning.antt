@@ -12,9 +12,9 @@ use lib.Seq.{drop-cons}
 use borrow.Author.Tests.{eqb-true, ltb-true}
 use Rattle.terms.specs.Refusals as refusal
 use Rattle.fields.specs.Bytes.{at2, at4, put4}
-use Rattle.fields.specs.Marks.{marksBelow}
+use Rattle.marks.specs.Marks.{marksBelow}
 use Rattle.fields.proofs.Bytes.{word-back}
-use Rattle.fields.proofs.Entries.{numbers-length}
+use Rattle.entries.proofs.Entries.{numbers-length}
 use Rattle.frames.specs.Check.{Kind, position, silence, list, confession, unknown, kindOf, isKnown, lengthOf, kindField, countField, checkFrame}
 use Rattle.frames.proofs.Laws.{accepted-whole, accepted-known, accepted-length, accepted-long}
 use Rattle.codec.specs.Said.{roundOf, marksField, entriesField, countFits, rangeFits, refusalOf, Meaning, refused, tableIn, meaning, unlessRefused, said, saidOf, meant}

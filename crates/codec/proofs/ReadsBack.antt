@@ -15,10 +15,10 @@ use Rattle.terms.specs.Positions.{isPosition}
 use Rattle.terms.specs.declared.Entry.{Entry}
 use Rattle.terms.specs.declared.Table.{Table}
 use Rattle.fields.specs.Bytes.{signedOf, signedAt, wordOf}
-use Rattle.fields.specs.Marks.{bitOf, marksBelow}
-use Rattle.fields.specs.Entries.{numbers}
+use Rattle.marks.specs.Marks.{bitOf, marksBelow}
+use Rattle.entries.specs.Entries.{numbers}
 use Rattle.fields.proofs.Bytes.{back2, back4, signed-back, word-below}
-use Rattle.fields.proofs.Entries.{numbers-length}
+use Rattle.entries.proofs.Entries.{numbers-length}
 use Rattle.frames.specs.Check.{checkFrame, frameRefusal}
 use Rattle.codec.specs.Said.{Meaning, refused, collected, listed, confessed, marksField, tableIn, said}
 use Rattle.codec.specs.Written.{entryBytes, positionFrame, silenceFrame, listFrame, confessionFrame, frameOf}

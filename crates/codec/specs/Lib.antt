@@ -2,4 +2,3 @@
 pub mod Said
 pub mod Written
 pub mod Proper
-pub mod Steps

@@ -8,8 +8,8 @@ use lib.IntN.{pos}
 use Rattle.terms.specs.Positions.{isPosition}
 use Rattle.terms.specs.declared.Entry.{Entry}
 use Rattle.terms.specs.declared.Table.{Table}
-use Rattle.fields.specs.Marks.{bitOf}
-use Rattle.fields.specs.Entries.{fits}
+use Rattle.marks.specs.Marks.{bitOf}
+use Rattle.entries.specs.Entries.{fits}
 use Rattle.codec.specs.Said.{Meaning, refused, collected, listed, confessed}
 
 -- bytes, as a slice of the machine has them

@@ -10,8 +10,8 @@ use Rattle.terms.specs.Positions.{isPosition}
 use Rattle.terms.specs.declared.Entry.{Entry}
 use Rattle.terms.specs.declared.Table.{Table}
 use Rattle.fields.specs.Bytes.{at4, signedAt}
-use Rattle.fields.specs.Marks.{marksBelow}
-use Rattle.fields.specs.Entries.{entriesFit, numbers}
+use Rattle.marks.specs.Marks.{marksBelow}
+use Rattle.entries.specs.Entries.{entriesFit, numbers}
 use Rattle.frames.specs.Check.{Kind, position, silence, list, confession, unknown, kindField, senderField, phaseField, countField, checkFrame}
 use Rattle.codec.specs.declared.Said.{Said}
 

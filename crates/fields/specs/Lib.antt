@@ -1,5 +1,2 @@
 -- Fields of bytes, as document 01 lays them out: "every field of several bytes is little-endian".
 pub mod Bytes
-pub mod Marks
-pub mod Entries
-pub mod Tables

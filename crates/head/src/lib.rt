@@ -13,10 +13,10 @@ use record::Closed;
 use record::Closing;
 use record::Head;
 use record::Row;
-use settle::Links;
 use terms::Entry;
 use terms::Table;
 use terms::refusal;
+use trust::Links;
 
 // A table of nulls.
 fn no_entries() -> Table
@@ -172,7 +172,7 @@ pub fn write(h: Head, buffer: &mut [u8]) -> Written
     }
     let position = h.position;
     let list = h.list;
-    codec::write(
+    encode::write(
         spoken(h.round, h.healed, position),
         list,
         h.n,

@@ -9,8 +9,8 @@ use native.Mathlib.Decide.{decLe, le-ind}
 use lib.ListN.{length-set}
 use lib.Seq.{set-out}
 use Rattle.terms.specs.declared.Entry.{Entry}
-use Rattle.fields.specs.Marks.{withMark}
-use Rattle.fields.proofs.Marks.{with-past}
+use Rattle.marks.specs.Marks.{withMark}
+use Rattle.marks.proofs.Marks.{with-past}
 use Rattle.codec.specs.Said.{Meaning, refused, collected, listed, confessed, said}
 use Rattle.record.specs.declared.Head.{Head}
 use Rattle.record.specs.declared.Answer.{Answer}

@@ -11,14 +11,14 @@ use Rattle.terms.specs.Refusals as refusal
 use Rattle.terms.specs.Refusals.{check}
 use Rattle.terms.specs.declared.Entry.{Entry}
 use Rattle.terms.specs.declared.Table.{Table}
-use Rattle.fields.specs.Marks.{bitOf, withMark}
+use Rattle.marks.specs.Marks.{bitOf, withMark}
 use Rattle.frames.specs.Check.{Kind, position, silence, list, confession, unknown, isKnown, kindField, lengthField, checkFrame}
 use Rattle.frames.proofs.Checks.{passed}
 use Rattle.codec.specs.declared.Said.{Said}
 use Rattle.codec.specs.Said.{Meaning, refused, collected, listed, confessed, refusalOf, tableIn, meaning, unlessRefused, said, saidOf, meant}
 use Rattle.codec.specs.Proper.{Accepted}
 use Rattle.codec.proofs.OneMeaning.{meant-said}
-use Rattle.settle.specs.declared.Links.{Links}
+use Rattle.trust.specs.declared.Links.{Links}
 use Rattle.record.specs.declared.Row.{Row}
 use Rattle.record.specs.declared.Head.{Head}
 use Rattle.record.specs.declared.Answer.{Answer}

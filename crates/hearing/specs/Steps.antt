@@ -5,7 +5,7 @@ use Prim.Native.Nat.{ℕ}
 use lib.Dec.{ltb}
 use Rattle.terms.specs.Refusals as refusal
 use Rattle.terms.specs.Refusals.{check}
-use Rattle.fields.specs.Marks.{bitOf}
+use Rattle.marks.specs.Marks.{bitOf}
 use Rattle.codec.specs.Said.{Meaning, unlessRefused, said}
 
 -- 26, 3, 21

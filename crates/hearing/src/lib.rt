@@ -10,16 +10,16 @@ use codec::Said;
 use record::Answer;
 use record::Head;
 use record::Row;
-use settle::Links;
 use terms::Entry;
 use terms::Table;
 use terms::refusal;
+use trust::Links;
 
 // Refusals 26, 3 and 21 of a link.
 fn link_refusal(ended: bool, n: u8, heard: u32, link: u32) -> u8
     ensures { λ r. ⌜ r ≡ linkRefusal ended n heard link ⌝ }
 {
-    let again = fields::marked(heard, link as usize);
+    let again = marks::marked(heard, link as usize);
     if ended {
         return refusal::ENDED;
     }
@@ -40,7 +40,7 @@ fn said_on(ended: bool, n: u8, phase: u16, round: u8, heard: u32, link: u32, fra
     if refused != 0 {
         return Said::Refused(refused);
     }
-    codec::read(frame, n, phase, round, link as u8)
+    decode::read(frame, n, phase, round, link as u8)
 }
 
 // A list with position v at k, where it has such a place.
@@ -48,7 +48,7 @@ fn with_position(list: Table, k: usize, v: i32) -> Table
     ensures { λ r. ⌜ r ≡ withEntry list k (Entry.Position v) ⌝ }
 {
     let mut next = list;
-    next.marks = fields::with_mark(list.marks, k);
+    next.marks = marks::with_mark(list.marks, k);
     if k < 32 {
         next.entries[k] = v;
     }
@@ -70,7 +70,7 @@ fn with_confession(links: Links, k: usize) -> Links
     ensures { λ r. ⌜ r ≡ withConfession links k ⌝ }
 {
     let mut next = links;
-    next.confessed = fields::with_mark(links.confessed, k);
+    next.confessed = marks::with_mark(links.confessed, k);
     next
 }
 
@@ -79,7 +79,7 @@ fn with_list(links: Links, k: usize, table: Table) -> Links
     ensures { λ r. ⌜ r ≡ withList links k table ⌝ }
 {
     let mut next = links;
-    next.listed = fields::with_mark(links.listed, k);
+    next.listed = marks::with_mark(links.listed, k);
     if k < 32 {
         next.marks[k] = table.marks;
     }
@@ -92,7 +92,7 @@ pub fn hear(h: Head, link: u32, frame: &[u8]) -> Answer
 {
     let k = link as usize;
     let mut next = h;
-    next.heard = fields::with_mark(h.heard, k);
+    next.heard = marks::with_mark(h.heard, k);
     match said_on(h.ended, h.n, h.phase, h.round, h.heard, link, frame) {
         Said::Refused(refused) => {
             return Answer {
@@ -106,7 +106,7 @@ pub fn hear(h: Head, link: u32, frame: &[u8]) -> Answer
             next.list = filled;
         }
         Said::List => {
-            let table = codec::table_in(frame, h.n);
+            let table = decode::table_in(frame, h.n);
             let links = h.links;
             let listed = with_list(links, k, table);
             next.links = listed;
@@ -172,14 +172,14 @@ pub fn hear_all(h: Head, frames: &[u8], lengths: &[u8; 32]) -> Head
         match said_on(h.ended, h.n, h.phase, h.round, heard, k as u32, frame) {
             Said::Refused(_) => {}
             Said::Collection(entry) => {
-                next.heard = fields::with_mark(heard, k);
+                next.heard = marks::with_mark(heard, k);
                 let list = next.list;
                 let filled = with_entry(list, k, entry);
                 next.list = filled;
             }
             Said::List => {
-                next.heard = fields::with_mark(heard, k);
-                let table = codec::table_in(frame, h.n);
+                next.heard = marks::with_mark(heard, k);
+                let table = decode::table_in(frame, h.n);
                 let links = next.links;
                 let listed = with_list(links, k, table);
                 next.links = listed;
@@ -187,7 +187,7 @@ pub fn hear_all(h: Head, frames: &[u8], lengths: &[u8; 32]) -> Head
                 next.lists[k] = Row { entries };
             }
             Said::Confession => {
-                next.heard = fields::with_mark(heard, k);
+                next.heard = marks::with_mark(heard, k);
                 let links = next.links;
                 let confessed = with_confession(links, k);
                 next.links = confessed;

@@ -8,7 +8,7 @@ use lib.ListN.{getD}
 use lib.Seq.{append-snoc}
 use lib.IntN.{ℤ, pos}
 use Rattle.terms.specs.declared.Entry.{Entry}
-use Rattle.fields.specs.Marks.{bitOf}
+use Rattle.marks.specs.Marks.{bitOf}
 use Rattle.convergence.specs.Counting.{Each}
 use Rattle.convergence.specs.Phases.{soundAt, apart, spread}
 use Rattle.ring.specs.Rounds.{PhaseEnd, endOf}

@@ -14,7 +14,7 @@ use mir.Facts.{toZ-ofZ}
 use Rattle.terms.specs.declared.Entry.{Entry}
 use Rattle.terms.specs.declared.Entry.the-variants.{Null, Position}
 use Rattle.terms.proofs.Machine.{read}
-use Rattle.fields.specs.Marks.{bitOf}
+use Rattle.marks.specs.Marks.{bitOf}
 use Rattle.convergence.specs.Counting.{Each}
 use Rattle.convergence.specs.Phases.{End, join, soundAt, lowest, highest}
 use Rattle.convergence.proofs.Sums.{each-last, each-less}

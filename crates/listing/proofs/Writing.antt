@@ -24,6 +24,9 @@ full t is = simp length-map at (is .1 .1 .1 .0 .1 .0 .1)
 -- ---- a text after a text
 
 -- behind the empty text stands nothing else
+pub empty-text : (t : Text) → t .len ≡ 0 → bytesOf t ≡ []
+empty-text t e = ap (λ (k : ℕ). take k (t .bytes)) e
+
 pub from-empty : {t r : Text} {s : List ℕ} {k : ℕ} → t .len ≡ 0 → Longer t s k r → bytesOf r ≡ s
 from-empty {t} {s} e l = l .text ∙ ap (λ (n : ℕ). take n (t .bytes) ++ s) e
 

@@ -4,7 +4,7 @@ use Prim.Native.Nat.{ℕ}
 use lib.ListN.{getD, take}
 use lib.IntN.{ℤ, pos}
 use Rattle.terms.specs.declared.Entry.{Entry}
-use Rattle.fields.specs.Marks.{bitOf}
+use Rattle.marks.specs.Marks.{bitOf}
 use Rattle.convergence.specs.Phases.{End, lowest, highest, spread}
 use Rattle.runfile.specs.Listing.{decimal, textOf, hex, spaced}
 use Rattle.listing.specs.declared.Text.{Text}

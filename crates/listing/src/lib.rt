@@ -186,7 +186,7 @@ fn ends_of(positions: &[i32; 32], struck: u32, n: u8) -> Ends
     let mut high = Entry::Null;
     let mut j: usize = 0;
     while j < count {
-        if !fields::marked(struck, j) {
+        if !marks::marked(struck, j) {
             let v = position_at(positions, j);
             low = outer(v, low, false);
             high = outer(v, high, true);

@@ -7,8 +7,8 @@ use Rattle.terms.specs.Refusals as refusal
 use Rattle.terms.specs.Refusals.{check}
 use Rattle.terms.specs.Sizes.{checkSize}
 use Rattle.terms.specs.declared.Entry.{Entry}
-use Rattle.fields.specs.Marks.{marksBelow}
-use Rattle.fields.specs.Entries.{entryAt, entriesFit, numbers}
+use Rattle.marks.specs.Marks.{marksBelow}
+use Rattle.entries.specs.Entries.{entryAt, entriesFit, numbers}
 use Rattle.midpoint.specs.declared.Settled.{Settled}
 use Rattle.midpoint.specs.Answers.{settling}
 

@@ -6,7 +6,7 @@ ghost use Prim.Native.Nat.{ℕ, _+_, _≤_, _<_};
 ghost use lib.IntN.{ℤ};
 ghost use lib.ListN.{length, take};
 ghost use Rattle.listing.specs.Texts.{bytesOf};
-ghost use Rattle.stream.specs.Stream.{Leads, Follows};
+ghost use Rattle.piece.specs.Leads.{Leads, Follows};
 use listing::Text;
 use player::Player;
 

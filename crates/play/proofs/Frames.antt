@@ -15,7 +15,7 @@ use Rattle.codec.specs.Written.{frameOf, written, buffered}
 use Rattle.codec.proofs.Listing.{list-length}
 use Rattle.codec.proofs.OneMeaning.{meant-said}
 use Rattle.play.specs.Memory.{plantedIn}
-use Rattle.play.specs.Inner.{Front}
+use Rattle.play.specs.Frames.{Front}
 
 -- ---- planted bytes
 
@@ -57,15 +57,16 @@ abbrev lengthIn : Written → ℕ
 lengthIn (Written.Refused c) = 0
 lengthIn (Written.Length len) = len
 
--- x: what writing answered; out: the buffer after it
-pub front-written : (n k p : ℕ) (m : Meaning) (s : List ℕ) {x : Written} {out : List ℕ} → n ≤ 32 → length s ≡ 140 → x ≡ written (frameOf n k p m) s
-    → out ≡ buffered (frameOf n k p m) s → Front (frameOf n k p m) (lengthIn x) out
+-- x: what writing answered; out: the buffer after it; n, the heads played, is N
+pub front-written : {n N : ℕ} (k p : ℕ) (m : Meaning) (s : List ℕ) {x : Written} {out : List ℕ} → n ≡ N → n ≤ 32 → length s ≡ 140 → x ≡ written (frameOf n k p m) s
+    → out ≡ buffered (frameOf n k p m) s → Front (frameOf N k p m) (lengthIn x) out
 unfolding written buffered
-front-written n k p m s {x} {out} h l e f =
+front-written {n} k p m s {x} {out} same h l e f =
     let frame = frameOf n k p m in
     let fits = le-leb (length frame) (length s) (omega (arith, frame-fits n k p m h)) in
     let len : lengthIn x ≡ length frame = ap lengthIn (rw fits at e) in
     let whole : out ≡ frame ++ drop (length frame) s = rw fits at f in
+    rw (← same)
     record {
       within = rw (whole, len, length-append) (omega arith);
       front = rw (whole, len) (take-at frame (drop (length frame) s) (length frame) refl);

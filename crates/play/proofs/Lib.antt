@@ -1,7 +1,3 @@
--- Laws of the crate: frames cut, written and read; a memory filled head by head; the lists of a collection round; what the links gave in a confession round,
--- and what is settled from it.
+-- Laws of the crate: frames cut, written and read; a memory filled head by head.
 pub mod Frames
 pub mod Filling
-pub mod Lists
-pub mod Received
-pub mod Settling

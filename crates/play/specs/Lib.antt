@@ -1,3 +1,3 @@
--- What a round played on the heads' memory promises. `Inner` is for the private functions alone.
+-- What a round played on the heads' memory promises, and a frame at the front of a buffer.
 pub mod Memory
-pub mod Inner
+pub mod Frames

@@ -8,7 +8,7 @@ use lib.ListN.{getD, take, drop}
 use lib.IntN.{ℤ, pos}
 use Rattle.terms.specs.declared.Entry.{Entry}
 use Rattle.terms.specs.declared.Table.{Table}
-use Rattle.fields.specs.Marks.{bitOf}
+use Rattle.marks.specs.Marks.{bitOf}
 use Rattle.convergence.specs.Trust.{Given, trusted}
 use Rattle.codec.specs.Said.{Meaning, collected, listed, confessed, said}
 use Rattle.codec.specs.Written.{frameOf}

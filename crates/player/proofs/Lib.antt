@@ -1,9 +1,1 @@
--- A player that keeps positions and lists apart from the head records holds what the records hold (`Tables` to `Waiting`), shows a line for each phase that
--- it plays (`Shown`, `Rounds`), and follows the file record by record (`Records`).
-pub mod Tables
-pub mod Carried
-pub mod Keeping
-pub mod Waiting
-pub mod Shown
-pub mod Records
-pub mod Rounds
+pub mod Told

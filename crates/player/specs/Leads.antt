@@ -1,19 +1,15 @@
--- What the player and the memory lent to it hold of the file read so far, and what a record changes.
+-- What the player and the memory lent to it hold of the file read so far.
 use mathlib.Core.Bool.{true}
-use mathlib.Core.List.{List, _∷_, _++_}
+use mathlib.Core.List.{List}
 use mathlib.Core.Path.{_≡_}
 use Prim.Native.Nat.{ℕ, _≤_, _<_}
 use lib.ListN.{length}
 use lib.IntN.{ℤ}
-use Rattle.ring.specs.Rounds.{Ring, planted, afterRound, ringAfter, endsAfter}
+use Rattle.ring.specs.Rounds.{Ring, planted, ringAfter}
 use Rattle.runfile.specs.RunFile.{File, given}
-use Rattle.runfile.specs.Listing.{lines, shown}
 use Rattle.play.specs.Memory.{plantedIn}
 use Rattle.records.specs.Pairs.{lastPair}
-use Rattle.listing.specs.declared.Text.{Text}
-use Rattle.listing.specs.Texts.{bytesOf}
 use Rattle.player.specs.declared.Player.{Player}
-use Rattle.player.specs.declared.Took.{Took}
 use Rattle.player.specs.Keeps.{Keeps}
 
 -- the ring when the rounds before the one that waits are played
@@ -37,18 +33,3 @@ pub record Holds (F : File) (positions : List ℤ) (marks : List ℕ) (lists : L
   pub keeps : F .begun ≡ true → Keeps (F .n) (ringBefore F) positions marks lists
   pub slots : F .waits ≡ true → (k i : ℕ) → k < 32 → i < 32 → plantedIn bytes lengths k i ≡ planted (F .last .plants) k i
   pub short : F .waits ≡ true → (k i : ℕ) → length (planted (F .last .plants) k i) ≤ 140
-
--- the round that waits is played: the memory after it, and the text by which the listing grows
-pub record Played (F : File) (text : Text) (positions : List ℤ) (marks : List ℕ) (lists : List (List ℤ)) : Type 0 where
-  pub keeps : Keeps (F .n) (afterRound (F .n) (F .f) (ringBefore F) (F .last)) positions marks lists
-  pub shows : lines (F .n) (endsAfter (F .n) (F .f) (F .first) (F .last ∷ F .played))
-      ≡ lines (F .n) (endsAfter (F .n) (F .f) (F .first) (F .played)) ++ bytesOf text
-  pub room : text .len ≤ 64
-
--- a record is taken, by which the file F becomes G: the player after it, its memory, and the text by which the listing grows
-pub record Next (F G : File) (r : Took) (positions : List ℤ) (marks : List ℕ) (lists : List (List ℤ)) (bytes lengths : List ℕ) : Type 0 where
-  pub tells : Tells (r .player) G
-  pub whole : r .player .have ≡ 0
-  pub holds : Holds G positions marks lists bytes lengths
-  pub shows : shown G ≡ shown F ++ bytesOf (r .text)
-  pub room : r .text .len ≤ 64

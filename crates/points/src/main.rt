@@ -8,14 +8,14 @@ mod print;
 mod rounds;
 mod scales;
 mod sizes;
-mod trust;
+mod supports;
 mod wrong;
 
 fn main() {
     sizes::section();
     halves::section();
     midpoints::section();
-    trust::section();
+    supports::section();
     rounds::section();
     checks::section();
     scales::section();

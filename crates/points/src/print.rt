@@ -47,7 +47,7 @@ pub fn table(n: usize, t: Table) {
     while j < 32 {
         if j < n {
             space(j);
-            entry(fields::marked(t.marks, j), t.entries[j]);
+            entry(marks::marked(t.marks, j), t.entries[j]);
         }
         j += 1;
     }
@@ -61,7 +61,7 @@ pub fn heads(words: &[u8], marks: u32) {
     }
     let mut k: usize = 0;
     while k < 32 {
-        if fields::marked(marks, k) {
+        if marks::marked(marks, k) {
             count(b" ", k as u64);
         }
         k += 1;

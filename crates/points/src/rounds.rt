@@ -7,7 +7,7 @@ use crate::midpoints;
 use crate::print;
 use crate::wrong;
 use midpoint::Settled;
-use settle::Links;
+use trust::Links;
 
 // n, f, marks of the links that confessed, marks of those that gave the list, marks of its entries, the list
 struct Round(u8, u8, u32, u32, u32, [i32; 8]);
@@ -64,7 +64,7 @@ fn round_line(c: Round) {
     print::text(b": trusted [");
     print::table(
         c.0 as usize,
-        settle::trusted_table(lists_of(c), links_of(c), c.0, c.1),
+        trust::trusted_table(lists_of(c), links_of(c), c.0, c.1),
     );
     answers::fill(
         b"], new position: #\n",

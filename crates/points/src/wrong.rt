@@ -1,5 +1,5 @@
 // The readings that are wrong though they look natural.
-use settle::Links;
+use trust::Links;
 
 // Halving from 2n at least 7f + 2: at every size that is taken.
 pub fn halves(n: u32, f: u32) -> bool {

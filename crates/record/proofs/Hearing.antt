@@ -10,10 +10,10 @@ use native.Mathlib.Nat.{le-refl}
 use lib.IntN.{ℤ}
 use borrow.Author.Tests.{lt-ltb}
 use Rattle.terms.specs.declared.Entry.{Entry}
-use Rattle.fields.specs.Entries.{entryAt}
-use Rattle.fields.specs.Tables.{tableAt}
-use Rattle.fields.proofs.Marks.{bit-none}
-use Rattle.fields.specs.Marks.{bitOf}
+use Rattle.entries.specs.Entries.{entryAt}
+use Rattle.entries.specs.Tables.{tableAt}
+use Rattle.marks.proofs.Marks.{bit-none}
+use Rattle.marks.specs.Marks.{bitOf}
 use Rattle.convergence.specs.Counting.{Each}
 use Rattle.convergence.proofs.Sums.{each-more}
 use Rattle.codec.specs.Said.{Meaning, refused, collected, listed, confessed, refusalOf, unlessRefused, said}

@@ -16,17 +16,17 @@ use Rattle.terms.specs.Sizes.{isCount, isLimit, checkSize}
 use Rattle.terms.specs.Positions.{isPosition, eqZ}
 use Rattle.terms.specs.declared.Entry.{Entry}
 use Rattle.terms.specs.declared.Table.{Table}
-use Rattle.fields.specs.Marks.{bitOf}
-use Rattle.fields.specs.Entries.{zeros, numbers}
-use Rattle.fields.proofs.Marks.{bit-none}
-use Rattle.fields.proofs.Entries.{numbers-length}
+use Rattle.marks.specs.Marks.{bitOf}
+use Rattle.entries.specs.Entries.{zeros, numbers}
+use Rattle.marks.proofs.Marks.{bit-none}
+use Rattle.entries.proofs.Entries.{numbers-length}
 use Rattle.convergence.specs.Counting.{Each}
 use Rattle.convergence.specs.Demand3.{Accepted}
 use Rattle.convergence.proofs.Support.{not-null}
 use Rattle.codec.specs.Said.{collected}
 use Rattle.codec.specs.Proper.{ProperTable, Proper}
 use Rattle.codec.proofs.Listing.{and-both, numbers-none}
-use Rattle.settle.specs.declared.Links.{Links}
+use Rattle.trust.specs.declared.Links.{Links}
 use Rattle.record.specs.declared.Row.{Row}
 use Rattle.record.specs.declared.Head.{Head}
 use Rattle.record.specs.Record.{noEntries, noLinks, noLists, opened, rows}

@@ -13,9 +13,9 @@ use Rattle.terms.specs.declared.Entry.{Entry}
 use Rattle.terms.specs.declared.Entry.the-variants.{Null, Position}
 use Rattle.terms.specs.declared.Table.{Table}
 use Rattle.terms.proofs.Whole.{arithZ, sum-lin, half-lin}
-use Rattle.fields.specs.Marks.{bitOf}
-use Rattle.fields.specs.Entries.{entryAt, fits}
-use Rattle.fields.specs.Tables.{tableAt}
+use Rattle.marks.specs.Marks.{bitOf}
+use Rattle.entries.specs.Entries.{entryAt, fits}
+use Rattle.entries.specs.Tables.{tableAt}
 use Rattle.convergence.specs.Counting.{Each}
 use Rattle.convergence.specs.Settling.{place, insert, put, ordered, lowKept, highKept, middle, midpoint}
 use Rattle.convergence.specs.Trust.{nothing, confessed, gave, saysOf}
@@ -23,7 +23,7 @@ use Rattle.convergence.proofs.Sums.{each-last, each-less}
 use Rattle.convergence.proofs.Support.{not-null, trusted-in-range}
 use Rattle.codec.specs.Proper.{ProperTable}
 use Rattle.codec.proofs.Listing.{and-both}
-use Rattle.settle.specs.Received.{givenBy}
+use Rattle.trust.specs.Received.{givenBy}
 use Rattle.record.specs.declared.Head.{Head}
 use Rattle.record.specs.Record.{given, trustedBy}
 use Rattle.record.proofs.Proper.{listFrom, ProperHead}

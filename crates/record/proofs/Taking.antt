@@ -15,16 +15,16 @@ use borrow.Author.Tests.{ltb-true}
 use Rattle.terms.specs.declared.Entry.{Entry}
 use Rattle.terms.specs.declared.Entry.the-variants.{Null, Position}
 use Rattle.terms.specs.declared.Table.{Table}
-use Rattle.fields.specs.Marks.{bitOf, withMark}
-use Rattle.fields.specs.Entries.{entryAt, fits}
-use Rattle.fields.specs.Tables.{tableAt}
-use Rattle.fields.proofs.Marks.{with-same, with-other, with-below}
+use Rattle.marks.specs.Marks.{bitOf, withMark}
+use Rattle.entries.specs.Entries.{entryAt, fits}
+use Rattle.entries.specs.Tables.{tableAt}
+use Rattle.marks.proofs.Marks.{with-same, with-other, with-below}
 use Rattle.convergence.specs.Trust as Trust
 use Rattle.codec.specs.Said.{Meaning, refused, collected, listed, confessed, said}
 use Rattle.codec.specs.Proper.{ProperTable, Proper}
 use Rattle.codec.proofs.OneMeaning.{said-proper}
-use Rattle.settle.specs.declared.Links.{Links}
-use Rattle.settle.specs.Received.{givenBy}
+use Rattle.trust.specs.declared.Links.{Links}
+use Rattle.trust.specs.Received.{givenBy}
 use Rattle.record.specs.declared.Row.{Row}
 use Rattle.record.specs.declared.Head.{Head}
 use Rattle.record.specs.Record.{rows, given, entryOf, givenOf}

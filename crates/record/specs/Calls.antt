@@ -11,7 +11,7 @@ use Rattle.terms.specs.Sizes.{checkSize}
 use Rattle.terms.specs.Positions.{isPosition}
 use Rattle.terms.specs.declared.Entry.{Entry}
 use Rattle.terms.specs.declared.Table.{Table}
-use Rattle.fields.specs.Marks.{bitOf, withMark}
+use Rattle.marks.specs.Marks.{bitOf, withMark}
 use Rattle.convergence.specs.Settling.{enough}
 use Rattle.convergence.specs.Phases.{rounding}
 use Rattle.midpoint.specs.Answers.{settling}
@@ -21,7 +21,7 @@ use Rattle.midpoint.specs.declared.Settled.the-variants as settled
 use Rattle.codec.specs.Said.{Meaning, refused, collected, listed, confessed, refusalOf, said}
 use Rattle.codec.specs.Written.{frameOf, written, buffered}
 use Rattle.codec.specs.declared.Written.{Written}
-use Rattle.settle.specs.declared.Links.{Links}
+use Rattle.trust.specs.declared.Links.{Links}
 use Rattle.record.specs.declared.Row.{Row}
 use Rattle.record.specs.declared.Head.{Head}
 use Rattle.record.specs.declared.Answer.{Answer}

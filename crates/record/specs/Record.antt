@@ -6,13 +6,13 @@ use lib.ListN.{replicate}
 use lib.IntN.{ℤ}
 use Rattle.terms.specs.declared.Entry.{Entry}
 use Rattle.terms.specs.declared.Table.{Table}
-use Rattle.fields.specs.Entries.{zeros}
-use Rattle.fields.specs.Tables.{tableAt}
+use Rattle.entries.specs.Entries.{zeros}
+use Rattle.entries.specs.Tables.{tableAt}
 use Rattle.convergence.specs.Trust as Trust
 use Rattle.convergence.specs.Trust.{Given, trusted}
 use Rattle.codec.specs.Said.{Meaning, refused, collected, listed, confessed}
-use Rattle.settle.specs.declared.Links.{Links}
-use Rattle.settle.specs.Received.{givenBy}
+use Rattle.trust.specs.declared.Links.{Links}
+use Rattle.trust.specs.Received.{givenBy}
 use Rattle.record.specs.declared.Row.{Row}
 use Rattle.record.specs.declared.Head.{Head}
 

@@ -7,7 +7,7 @@ ghost use Prim.Native.Nat.{ℕ, _<_};
 ghost use lib.Dec.{leb};
 ghost use lib.ListN.{getD, drop};
 ghost use lib.IntN.{pos};
-ghost use Rattle.settle.specs.Cells.{markedTo};
+ghost use Rattle.trust.specs.Cells.{markedTo};
 ghost use Rattle.ring.specs.Rounds.{Plant};
 ghost use Rattle.runfile.specs.RunFile.{File, given, recordKind, start, round, plant, mayStand, recordFault, positionIn, positionsFit, fewMarks, rises, pairFits};
 ghost use Rattle.records.specs.Pairs.{lastPair};
@@ -62,7 +62,7 @@ fn positions_fit(bytes: &[u8], n: u8) -> bool
     let count = n as usize;
     let mut j: usize = 0;
     while j < count {
-        if !fields::is_position_word(fields::word_at(bytes, 6 + 4 * j)) {
+        if !entries::is_position_word(fields::word_at(bytes, 6 + 4 * j)) {
             return false;
         }
         j += 1;
@@ -103,7 +103,7 @@ fn positions_in(bytes: &[u8]) -> &[u8]
 pub fn first_positions(bytes: &[u8]) -> [i32; 32]
     ensures { λ r. ⌜ ((j : ℕ) → j < 32 → getD r j (pos 0) ≡ positionIn (now (bytes .entry)) j) ⌝ }
 {
-    fields::numbers_at(positions_in(bytes), 32)
+    entries::numbers_at(positions_in(bytes), 32)
 }
 
 // How many of the first n heads are marked.
@@ -113,7 +113,7 @@ fn marked_among(m: u32, n: usize) -> usize
     let mut c: usize = 0;
     let mut k: usize = 0;
     while k < n {
-        c += fields::marked(m, k) as usize;
+        c += marks::marked(m, k) as usize;
         k += 1;
     }
     c
@@ -124,7 +124,7 @@ fn few_marks(n: u8, f: u8, m: u32) -> bool
     ensures { λ r. ⌜ r ≡ fewMarks n f m ⌝ }
 {
     let count = n as usize;
-    if !fields::marks_below(m, count) {
+    if !marks::marks_below(m, count) {
         return false;
     }
     marked_among(m, count) <= f as usize
@@ -166,10 +166,10 @@ fn pair_fits(from: u8, to: u8, n: u8, struck: u32, last: Pair) -> bool
     if n <= to {
         return false;
     }
-    if !fields::marked(struck, from as usize) {
+    if !marks::marked(struck, from as usize) {
         return false;
     }
-    if fields::marked(struck, to as usize) {
+    if marks::marked(struck, to as usize) {
         return false;
     }
     comes_after(last, from, to)

@@ -4,7 +4,7 @@ ghost use mathlib.Core.Bool.{true};
 ghost use mathlib.Core.List.{List, _++_};
 ghost use mathlib.Core.Path.{_≡_};
 ghost use Prim.Native.Nat.{ℕ};
-ghost use Rattle.stream.specs.Stream.{Leads};
+ghost use Rattle.piece.specs.Leads.{Leads};
 use libc::STDIN_FILENO;
 use libc::STDOUT_FILENO;
 use listing::Text;

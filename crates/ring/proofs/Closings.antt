@@ -6,7 +6,7 @@ use Prim.Native.Nat.{ℕ, _+_, _<_}
 use native.Mathlib.Omega.{arith}
 use borrow.Author.Tests.{lt-leb}
 use Rattle.terms.specs.declared.Entry.{Entry}
-use Rattle.fields.specs.Marks.{bitOf}
+use Rattle.marks.specs.Marks.{bitOf}
 use Rattle.convergence.specs.Counting.{Each}
 use Rattle.convergence.specs.Settling.{midpoint, enough}
 use Rattle.convergence.specs.Trust.{trusted}

@@ -9,8 +9,8 @@ use native.Mathlib.Nat.{le-refl, le-of-suc-le-suc, sub-zero}
 use lib.ListN.{length, getD}
 use lib.IntN.{ℤ}
 use Rattle.terms.specs.Positions.{isPosition}
-use Rattle.fields.specs.Marks.{bitOf}
-use Rattle.fields.proofs.Marks.{bit-none}
+use Rattle.marks.specs.Marks.{bitOf}
+use Rattle.marks.proofs.Marks.{bit-none}
 use Rattle.convergence.specs.Counting.{Each, AtMost}
 use Rattle.convergence.specs.Settling.{enough}
 use Rattle.convergence.specs.Trust.{trusted}

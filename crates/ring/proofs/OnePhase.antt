@@ -10,8 +10,8 @@ use lib.IntN.{ℤ}
 use borrow.Author.Tests.{le-leb}
 use Rattle.terms.specs.declared.Entry.{Entry}
 use Rattle.terms.specs.declared.Entry.the-variants.{Null, Position}
-use Rattle.fields.specs.Marks.{bitOf}
-use Rattle.fields.specs.Tables.{tableAt}
+use Rattle.marks.specs.Marks.{bitOf}
+use Rattle.entries.specs.Tables.{tableAt}
 use Rattle.convergence.specs.Counting.{Each, AtMost}
 use Rattle.convergence.specs.Settling.{nulls, midpoint, enough}
 use Rattle.convergence.specs.Trust.{Given, gave, hasConfessed, saysOf, trusted}

@@ -5,8 +5,8 @@ use mathlib.Core.Bool.{Bool, true, false, cond}
 use mathlib.Core.List.{List}
 use Prim.Native.Nat.{ℕ, _≤_, _<_}
 use Rattle.terms.specs.declared.Entry.{Entry}
-use Rattle.fields.specs.Marks.{bitOf}
-use Rattle.fields.specs.Tables.{tableAt}
+use Rattle.marks.specs.Marks.{bitOf}
+use Rattle.entries.specs.Tables.{tableAt}
 use Rattle.convergence.specs.Counting.{Each}
 use Rattle.codec.specs.Said.{Meaning, collected, listed, confessed, said}
 use Rattle.record.specs.declared.Head.{Head}

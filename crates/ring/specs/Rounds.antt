@@ -5,7 +5,7 @@ use Prim.Native.Nat.{ℕ, zero, suc, _+_}
 use lib.Dec.{eqb}
 use lib.IntN.{ℤ}
 use Rattle.terms.specs.declared.Entry.{Entry}
-use Rattle.fields.specs.Marks.{bitOf}
+use Rattle.marks.specs.Marks.{bitOf}
 use Rattle.convergence.specs.Phases.{End}
 use Rattle.record.specs.Record.{noEntries, opened}
 use Rattle.record.specs.Calls.{started, restarted, hearAll, frameFor, close}

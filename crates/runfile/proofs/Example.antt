@@ -6,8 +6,8 @@ use Prim.Native.Nat.{ℕ}
 use Rattle.terms.specs.Sizes.{isCount, isLimit}
 use Rattle.terms.specs.Positions.{isPosition, floorDiv, half, gap, eqZ}
 use Rattle.fields.specs.Bytes.{signedOf, wordOf}
-use Rattle.fields.specs.Marks.{bitOf, marksBelow, withMark}
-use Rattle.fields.specs.Entries.{entryAt, entriesFit, zeros, numbers}
+use Rattle.marks.specs.Marks.{bitOf, marksBelow, withMark}
+use Rattle.entries.specs.Entries.{entryAt, entriesFit, zeros, numbers}
 use Rattle.convergence.specs.Counting.{sum}
 use Rattle.convergence.specs.Settling.{nulls, trim, insert, ordered, lowKept, highKept, middle, midpoint, enough}
 use Rattle.convergence.specs.Trust.{support, confessions, seen, trusted}
@@ -16,7 +16,7 @@ use Rattle.frames.specs.Check.{checkFrame}
 use Rattle.codec.specs.Said.{refusalOf, tableIn, said}
 use Rattle.codec.specs.Written.{entryBytes}
 use Rattle.midpoint.specs.Answers.{settling}
-use Rattle.settle.specs.Received.{givenBy}
+use Rattle.trust.specs.Received.{givenBy}
 use Rattle.record.specs.Record.{noEntries, noLinks, noLists}
 use Rattle.record.specs.Calls.{started, restarted, hearRefusal, hear, hearAll, spoken, closedCollection, closedPhase, close}
 use Rattle.ring.specs.Rounds.{lost, openedAt, carried, closedAt, afterRound, firstHeads, ringAfter, endsAfter}

@@ -12,7 +12,7 @@ use borrow.Author.Tests.{leb-true, ltb-true}
 use Rattle.terms.specs.Refusals as refusal
 use Rattle.terms.specs.Sizes.{isCount, isLimit}
 use Rattle.terms.specs.Positions.{isPosition}
-use Rattle.fields.specs.Marks.{bitOf, marksBelow}
+use Rattle.marks.specs.Marks.{bitOf, marksBelow}
 use Rattle.convergence.specs.Counting.{Each, bit, AtMost}
 use Rattle.convergence.proofs.Sums.{each-more}
 use Rattle.codec.proofs.Listing.{and-both}

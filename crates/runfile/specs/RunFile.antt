@@ -10,7 +10,7 @@ use Rattle.terms.specs.Refusals.{check}
 use Rattle.terms.specs.Sizes.{checkSize}
 use Rattle.terms.specs.Positions.{isPosition}
 use Rattle.fields.specs.Bytes.{at2, at4, signedAt}
-use Rattle.fields.specs.Marks.{bitOf, marksBelow}
+use Rattle.marks.specs.Marks.{bitOf, marksBelow}
 use Rattle.convergence.specs.Counting.{sum, bit}
 use Rattle.ring.specs.Rounds.{Plant, Round, PhaseEnd, endsAfter}
 

@@ -14,19 +14,19 @@ use Rattle.terms.specs.Positions.{eqZ}
 use Rattle.terms.specs.declared.Entry.{Entry}
 use Rattle.terms.specs.declared.Entry.the-variants.{Null, Position}
 use Rattle.terms.proofs.Whole.{eqZ→eq}
-use Rattle.fields.specs.Marks.{bitOf}
-use Rattle.fields.specs.Entries.{entryAt}
-use Rattle.fields.proofs.Marks.{bit-none}
+use Rattle.marks.specs.Marks.{bitOf}
+use Rattle.entries.specs.Entries.{entryAt}
+use Rattle.marks.proofs.Marks.{bit-none}
 use Rattle.convergence.specs.Counting.{Each, sum, bit}
 use Rattle.convergence.specs.Trust.{is, choose}
 use Rattle.convergence.proofs.Sums.{sums-le}
 use Rattle.convergence.proofs.Support.{same-position, not-null, is-same, is-other}
-use Rattle.settle.specs.Cells.{entriesOf, Holds, standsIn, decided}
+use Rattle.trust.specs.Cells.{entriesOf, Holds, standsIn, decided}
 use Rattle.settle.specs.Leading.{sameNumber, isApart, agrees, alikeTo, apartFrom, agreeing, Decides}
-use Rattle.settle.proofs.Counts.{sum-next}
-use Rattle.settle.proofs.Cells.{holds-same}
-use Rattle.settle.proofs.Search.{is-le, only-seen, none-seen}
-use Rattle.settle.proofs.Trusted.{decided-by-lists}
+use Rattle.trust.proofs.Counts.{sum-next}
+use Rattle.trust.proofs.Cells.{holds-same}
+use Rattle.trust.proofs.Search.{is-le, only-seen, none-seen}
+use Rattle.trust.proofs.Trusted.{decided-by-lists}
 
 -- ---- one list, with the mark word m and the number a, beside the lead's, v and b
 

@@ -1,11 +1,3 @@
--- Laws of the crate: counting, cells of entries, what the links gave, the search of a column, and how these make the support, the trusted entries and
--- the new position.
-pub mod Tests
-pub mod Counts
-pub mod Cells
-pub mod Received
-pub mod Search
+-- Laws of the crate: what a list that leads decides, and how the trusted entries make the new position.
 pub mod Leading
-pub mod Trusted
-pub mod Tables
 pub mod Settling

@@ -1,4 +1,2 @@
--- What the settling functions promise, over the definitions of `convergence`: how the code holds what the links gave.
-pub mod Received
-pub mod Cells
+-- How the settling functions go by a list that leads. What they promise is said by `midpoint` and `convergence`.
 pub mod Leading

@@ -18,10 +18,11 @@ use Rattle.runfile.proofs.Demand3.{every-file}
 use Rattle.listing.specs.declared.Text.{Text}
 use Rattle.listing.specs.Texts.{bytesOf}
 use Rattle.player.specs.declared.Player.{Player}
-use Rattle.player.specs.Leads.{Played}
-use Rattle.stream.specs.Stream.{Leads, Ends}
+use Rattle.rounds.specs.Played.{Played}
+use Rattle.piece.specs.Leads.{Leads}
+use Rattle.stream.specs.Ends.{Ends}
 use Rattle.stream.specs.Inner.{endingOf}
-use Rattle.stream.proofs.Feeding.{unshown}
+use Rattle.piece.proofs.Feeding.{unshown}
 
 empty-length : (l : List ℕ) → isEmpty l ≡ eqb (length l) 0
 empty-length [] = refl

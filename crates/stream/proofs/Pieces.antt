@@ -12,11 +12,11 @@ use Rattle.runfile.specs.Listing.{shown}
 use Rattle.runfile.proofs.Demand3.{every-file}
 use Rattle.listing.specs.Texts.{bytesOf}
 use Rattle.player.specs.declared.Player.{Player}
-use Rattle.player.proofs.Records.{empty-text}
-use Rattle.stream.specs.declared.Fed.{Fed}
-use Rattle.stream.specs.Stream.{Leads, Follows}
-use Rattle.stream.specs.Inner.{Quiet}
-use Rattle.stream.proofs.Feeding.{used-as}
+use Rattle.listing.proofs.Writing.{empty-text}
+use Rattle.piece.specs.declared.Fed.{Fed}
+use Rattle.piece.specs.Leads.{Leads, Follows}
+use Rattle.piece.specs.Inner.{Quiet}
+use Rattle.piece.proofs.Feeding.{used-as}
 
 -- the bytes from `at` on, as the code has them
 abbrev pub rest : ℕ → List ℕ → List ℕ

@@ -12,8 +12,29 @@ use Rattle.fields.proofs.word_at.Tie as tie
 sub-if2 : tie.Need-sub-if2
 sub-if2 c = search needs
 
-word-within-requires : tie.Need-word-within-requires
-word-within-requires c κs = search needs
+shared-slice-read-join4 : tie.Need-shared-slice-read-join4
+shared-slice-read-join4 c = search needs
+
+add-join4 : tie.Need-add-join4
+add-join4 c = search needs
+
+shared-slice-read-join4-2 : tie.Need-shared-slice-read-join4-2
+shared-slice-read-join4-2 c = search needs
+
+add-join4-2 : tie.Need-add-join4-2
+add-join4-2 c = search needs
+
+shared-slice-read-join4-3 : tie.Need-shared-slice-read-join4-3
+shared-slice-read-join4-3 c = search needs
+
+add-join4-3 : tie.Need-add-join4-3
+add-join4-3 c = search needs
+
+shared-slice-read-join4-4 : tie.Need-shared-slice-read-join4-4
+shared-slice-read-join4-4 c = search needs
+
+join4-requires : tie.Need-join4-requires
+join4-requires c κs = search needs
 
 returns : tie.Need-returns
 returns c = search needs
@@ -33,4 +54,15 @@ returns-3 c =
 
 pub word-at-spec : {M : Type 1} → statement M
 word-at-spec =
-    tie.close (tie.spec sub-if2 word-within-requires returns word-cut-requires returns-2 returns-3)
+    tie.close
+    (tie.spec
+    sub-if2
+    shared-slice-read-join4
+    add-join4
+    shared-slice-read-join4-2
+    add-join4-2
+    shared-slice-read-join4-3
+    add-join4-3
+    shared-slice-read-join4-4
+    join4-requires
+    returns word-cut-requires returns-2 returns-3)

@@ -1,6 +1,6 @@
 -- No mark, and 32 zeros, are the table of nulls.
 use mathlib.Core.Path.{refl}
-use Rattle.fields.specs.Entries.{zeros}
+use Rattle.entries.specs.Entries.{zeros}
 use Rattle.record.specs.Record.{noEntries}
 use Rattle.head.proofs.no_entries.Statement.{statement}
 use Rattle.head.proofs.no_entries.Tie as tie

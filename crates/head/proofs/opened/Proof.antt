@@ -1,6 +1,6 @@
 -- Each field is the definition's: the lists are 32 rows of zeros, and no link is marked.
 use mathlib.Core.Path.{refl}
-use Rattle.fields.specs.Entries.{zeros}
+use Rattle.entries.specs.Entries.{zeros}
 use Rattle.record.specs.Record.{noLinks, noLists}
 use Rattle.head.proofs.opened.Statement.{statement}
 use Rattle.head.proofs.opened.Tie as tie

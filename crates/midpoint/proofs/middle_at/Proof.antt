@@ -5,7 +5,7 @@ use Prim.Native.Nat.{ℕ}
 use borrow.Author.Needs.{needs}
 use lib.IntN.{ℤ}
 use Rattle.convergence.specs.Settling.{ordered}
-use Rattle.fields.specs.Entries.{entryAt, numbers}
+use Rattle.entries.specs.Entries.{entryAt, numbers}
 use Rattle.midpoint.specs.declared.Order.{Order}
 use Rattle.midpoint.specs.Answers.{settling, orderOf, inOrder, settlingFrom}
 use Rattle.midpoint.specs.Call.{entriesOf}

@@ -1,11 +1,15 @@
--- `play::write_frame` meets its contract: the buffer of 140 bytes has room for the frame, so writing answers its length.
+-- `play::write_frame` meets its contract: the buffer of 140 bytes has room for a frame of the heads that are played, so writing answers its length.
 use mathlib.Core.Path.{sym, _∙_}
+use native.Mathlib.Omega.{arith}
 use denote.Ref.{now}
 use borrow.Author.Needs.{needs}
 use Rattle.codec.specs.Said.{meant}
 use Rattle.play.proofs.Frames.{front-written}
 use Rattle.play.proofs.write_frame.Statement.{statement}
 use Rattle.play.proofs.write_frame.Tie as tie
+
+head-count-requires : tie.Need-head-count-requires
+head-count-requires c κs = search needs
 
 write-requires : tie.Need-write-requires
 write-requires c κs = search needs
@@ -19,16 +23,18 @@ enum-told c = search needs
 returns : tie.Need-returns
 returns c =
     let w = c .before .before .before in
-    let a = w .before .before .args in
-    front-written (a .n) (a .k) (a .phase) (meant (a .what) (a .table)) (now (a .buffer)) (w .before .before .pre) (w .before .write-arg .given .0 .1)
+    let h = w .before .before in
+    let a = h .before .args in
+    front-written (a .k) (a .s .phase) (meant (a .what) (a .table)) (now (a .buffer)) (h .head-count .ensures) (omega (arith, h .head-count .ensures)) (w .before .write-arg .given .0 .1)
     (sym (c .before .len .given .1) ∙ w .write .ensures .0) (w .write .ensures .1)
 
 returns-2 : tie.Need-returns-2
 returns-2 c =
     let w = c .before .before in
-    let a = w .before .before .args in
-    front-written (a .n) (a .k) (a .phase) (meant (a .what) (a .table)) (now (a .buffer)) (w .before .before .pre) (w .before .write-arg .given .0 .1)
+    let h = w .before .before in
+    let a = h .before .args in
+    front-written (a .k) (a .s .phase) (meant (a .what) (a .table)) (now (a .buffer)) (h .head-count .ensures) (omega (arith, h .head-count .ensures)) (w .before .write-arg .given .0 .1)
     (sym (c .enum-told .given .1) ∙ w .write .ensures .0) (w .write .ensures .1)
 
 pub write-frame-spec : {M : Type 1} → statement M
-write-frame-spec = tie.close (tie.spec write-requires enum-known-len enum-told returns returns-2)
+write-frame-spec = tie.close (tie.spec head-count-requires write-requires enum-known-len enum-told returns returns-2)

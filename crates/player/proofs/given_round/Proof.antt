@@ -3,7 +3,7 @@ use mathlib.Core.Path.{refl, sym, _∙_}
 use native.Mathlib.Omega.{arith}
 use borrow.Author.Needs.{needs}
 use Rattle.runfile.proofs.Taken.{length-then}
-use Rattle.player.proofs.Records.{round-before}
+use Rattle.player.proofs.Told.{round-before}
 use Rattle.player.proofs.given_round.Statement.{statement}
 use Rattle.player.proofs.given_round.Tie as tie
 

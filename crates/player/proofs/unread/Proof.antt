@@ -1,7 +1,7 @@
 -- `player::unread` meets its contract: before the first byte nothing is told.
 use mathlib.Core.Path.{refl}
 use borrow.Author.Needs.{needs}
-use Rattle.player.proofs.Records.{unread-tells}
+use Rattle.player.proofs.Told.{unread-tells}
 use Rattle.player.proofs.unread.Statement.{statement}
 use Rattle.player.proofs.unread.Tie as tie
 

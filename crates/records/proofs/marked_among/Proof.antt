@@ -3,11 +3,11 @@ use mathlib.Core.Path.{_≡_, refl, ap, _∙_}
 use Prim.Native.Nat.{ℕ, _≤_, _-_}
 use native.Mathlib.Omega.{arith}
 use borrow.Author.Needs.{needs}
-use Rattle.fields.specs.Marks.{bitOf}
+use Rattle.marks.specs.Marks.{bitOf}
 use Rattle.convergence.specs.Counting.{sum, bit}
 use Rattle.convergence.proofs.Sums.{bit-le}
-use Rattle.settle.specs.Cells.{markedTo}
-use Rattle.settle.proofs.Counts.{byte-bit, sum-next, bits-le}
+use Rattle.trust.specs.Cells.{markedTo}
+use Rattle.trust.proofs.Counts.{byte-bit, sum-next, bits-le}
 use Rattle.records.proofs.marked_among.Statement.{statement}
 use Rattle.records.proofs.marked_among.Tie as tie
 

@@ -8,7 +8,7 @@ use lib.ListN.{length, take}
 use lib.Seq.{take-all}
 use denote.Ref.{now}
 use borrow.Author.Needs.{needs}
-use Rattle.stream.specs.Stream.{Leads}
+use Rattle.piece.specs.Leads.{Leads}
 use Rattle.stream.proofs.Pieces.{at-first, moved, joined}
 use Rattle.rigplay.proofs.play_piece.Statement.{statement}
 use Rattle.rigplay.proofs.play_piece.Tie as tie

@@ -16,8 +16,8 @@ use lib.Seq.{getD-set-other}
 use Rattle.convergence.specs.Counting.{Each, bit}
 use Rattle.convergence.proofs.Sums.{bit-le}
 use Rattle.settle.specs.Leading.{sameNumber}
-use Rattle.settle.proofs.Counts.{byte-bit}
-use Rattle.settle.proofs.Cells.{same-bits, each-stored}
+use Rattle.trust.proofs.Counts.{byte-bit}
+use Rattle.trust.proofs.Cells.{same-bits, each-stored}
 use Rattle.settle.proofs.add_same.Statement.{statement}
 use Rattle.settle.proofs.add_same.Tie as tie
 

@@ -7,9 +7,9 @@ use borrow.Author.Needs.{needs}
 use lib.Dec.{eqb}
 use lib.ListN.{getD}
 use Rattle.settle.specs.Leading.{isApart, agrees}
-use Rattle.settle.proofs.Counts.{bits-le}
-use Rattle.settle.proofs.Cells.{holds-null, holds-same}
-use Rattle.settle.proofs.Trusted.{decided-confessed}
+use Rattle.trust.proofs.Counts.{bits-le}
+use Rattle.trust.proofs.Cells.{holds-null, holds-same}
+use Rattle.trust.proofs.Trusted.{decided-confessed}
 use Rattle.settle.proofs.Leading.{led-decided}
 use Rattle.settle.proofs.led_cell.Statement.{statement}
 use Rattle.settle.proofs.led_cell.Tie as tie
@@ -64,7 +64,7 @@ trusted-cell-requires : tie.Need-trusted-cell-requires
 trusted-cell-requires c κs = search needs
 
 returns-3 : tie.Need-returns-3
-returns-3 c = search needs
+returns-3 c = c .trusted-cell .ensures (omega arith)
 
 pub led-cell-spec : {M : Type 1} → statement M
 led-cell-spec =

@@ -15,11 +15,11 @@ use Rattle.midpoint.specs.declared.Order.{Order}
 use Rattle.midpoint.proofs.Insertion.{inserted-read}
 use Rattle.midpoint.proofs.Ordering.{Held, held-order}
 use Rattle.midpoint.proofs.Middle.{settling-in-order}
-use Rattle.settle.specs.Received.{givenBy}
-use Rattle.settle.specs.Cells.{entryOf, Holds}
-use Rattle.settle.proofs.Cells.{cell-position}
-use Rattle.settle.proofs.Received.{words}
-use Rattle.settle.proofs.Trusted.{trusted-held, trusted-past}
+use Rattle.trust.specs.Received.{givenBy}
+use Rattle.trust.specs.Cells.{entryOf, Holds}
+use Rattle.trust.proofs.Cells.{cell-position}
+use Rattle.trust.proofs.Received.{words}
+use Rattle.trust.proofs.Trusted.{trusted-held, trusted-past}
 use Rattle.settle.proofs.Settling.{none-held, len-below, null-held, position-held, ordered-first-32}
 use Rattle.settle.proofs.settle_after.Statement.{statement}
 use Rattle.settle.proofs.settle_after.Tie as tie
@@ -87,7 +87,7 @@ module _ (c : tie.After-led-cell Inv-loop μ-loop) where
       (counted .link-count .ensures) (counted .before .lists-needed .ensures) (given .all-marks .ensures) (c .led-cell .ensures)
 
 number-of-requires : tie.Need-number-of-requires Inv-loop μ-loop
-number-of-requires c κs = held (c .before .before) .within
+number-of-requires c κs = search needs
 
 insert-requires : tie.Need-insert-requires Inv-loop μ-loop
 insert-requires c κs = search needs
@@ -113,7 +113,7 @@ loop-again c =
     (λ w. (
       search needs,
       rw (w .4, w .5) (position-held (entries t) (l .j) (l .inv .1) h
-          (sym e ∙ sym (cell-position (t .led-cell .result) (w .0 .taken)) ∙ ap Position (sym (w .2 .ensures)))
+          (sym e ∙ sym (cell-position (t .led-cell .result) (w .0 .taken)) ∙ ap Position (sym (w .2 .ensures (held t .within))))
           (w .3 .ensures ∙ inserted-read _ _ (record { sfits = w .2 .ok }))),
     ))
     (λ w. (search needs, rw (w .1, w .2) (null-held (entries t) (l .j) (l .inv .1) (sym e ∙ ap entryOf (w .0 .left)))))

@@ -6,7 +6,7 @@ use native.Mathlib.Omega.{arith}
 use lib.ListN.{length}
 use denote.Ref.{now}
 use borrow.Author.Needs.{needs}
-use Rattle.player.proofs.Records.{empty-text}
+use Rattle.listing.proofs.Writing.{empty-text}
 use Rattle.stream.proofs.Pieces.{Reached, at-first, at-last, moved, one-more, text-as}
 use Rattle.stream.proofs.feed.Statement.{statement}
 use Rattle.stream.proofs.feed.Tie as tie

@@ -1,0 +1,89 @@
+-- `collection::entries_sent` meets its contract: before head k, the unstruck heads below k have the entry that is heard of them.
+use mathlib.Core.Path.{_≡_, refl, ap, sym, _∙_}
+use mathlib.Core.Logic.{⊎-elim}
+use mathlib.Core.Bool.{not}
+use Prim.Native.Nat.{_-_, _≤_}
+use native.Mathlib.Omega.{arith}
+use borrow.Author.Needs.{needs}
+use lib.ListN.{length, getD, length-set}
+use Rattle.terms.specs.declared.Entry.{Entry}
+use Rattle.marks.specs.Marks.{bitOf}
+use Rattle.play.specs.Memory.{heads}
+use Rattle.collection.specs.Inner.{sent}
+use Rattle.play.proofs.Filling.{Filled, filled-none, filled-passed, filled-set}
+use Rattle.collection.proofs.entries_sent.Statement.{statement}
+use Rattle.collection.proofs.entries_sent.Tie as tie
+
+abbrev Inv-loop : tie.InvT-loop
+Inv-loop s positions n entries₀ k₀ entries k =
+    (k ≤ n) × (length entries ≡ 32)
+    × Filled (λ j. not (bitOf (s .struck) j)) (sent s positions) (λ j. getD entries₀ j Entry.Null) k (λ j. getD entries j Entry.Null)
+
+abbrev μ-loop : tie.MeasureT-loop
+μ-loop s positions n entries₀ k₀ entries k = n - k
+
+head-count-requires : tie.Need-head-count-requires Inv-loop μ-loop
+head-count-requires c κs = search needs
+
+cast-n : tie.Need-cast-n Inv-loop μ-loop
+cast-n c = search needs
+
+loop-holds : tie.Need-loop-holds Inv-loop μ-loop
+loop-holds c = (search needs, refl, filled-none _ _ _)
+
+marked-requires : tie.Need-marked-requires Inv-loop μ-loop
+marked-requires c κs = search needs
+
+entry-sent-requires : tie.Need-entry-sent-requires Inv-loop μ-loop
+entry-sent-requires c κs = search needs
+
+mul-entries : tie.Need-mul-entries Inv-loop μ-loop
+mul-entries c = search needs
+
+array-set-from-entries : tie.Need-array-set-from-entries Inv-loop μ-loop
+array-set-from-entries c = search needs
+
+add-k : tie.Need-add-k Inv-loop μ-loop
+add-k c = search needs
+
+loop-less : tie.Need-loop-less Inv-loop μ-loop
+loop-less c = search needs
+
+loop-again : tie.Need-loop-again Inv-loop μ-loop
+loop-again c =
+    let m = c .before in
+    let l = m .before .before .loop in
+    let a = m .before .before .before .before .args in
+    let b = ap not (sym (m .marked .ensures)) in
+    ⊎-elim
+    (λ w. (
+      search needs,
+      rw (w .2) (simp length-set (l .inv .1)),
+      rw (w .2) (filled-set _ _ _ (l .entries) Entry.Null (l .k) (l .inv .2) (omega (arith, m .before .before .before .head-count .ensures)) (b ∙ w .0 .taken) (w .1 .ensures)),
+    ))
+    (λ w. (search needs, rw (w .1) (l .inv .1), rw (w .1) (filled-passed _ _ _ (l .k) (l .inv .2) (b ∙ w .0 .left))))
+    (c .if1 .came)
+
+returns : tie.Need-returns Inv-loop μ-loop
+returns c =
+    let l = c .before .loop in
+    let e : l .k ≡ heads (c .before .before .before .args .s) = omega (arith, c .before .before .head-count .ensures) in
+    λ k h. rw h at ((rw e at (l .inv .2)) k)
+
+pub entries-sent-spec : {M : Type 1} → statement M
+entries-sent-spec =
+    tie.close
+    (tie.spec
+    Inv-loop
+    μ-loop
+    head-count-requires
+    cast-n
+    loop-holds
+    marked-requires
+    entry-sent-requires
+    mul-entries
+    array-set-from-entries
+    add-k
+    loop-less
+    loop-again
+    returns)

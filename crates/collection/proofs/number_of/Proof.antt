@@ -1,0 +1,20 @@
+-- `collection::number_of` meets its contract: each arm is one case of the definition.
+use mir.Facts.{toZ-ofZ}
+use borrow.Author.Needs.{needs}
+use Rattle.collection.proofs.number_of.Statement.{statement}
+use Rattle.collection.proofs.number_of.Tie as tie
+
+enum-told : tie.Need-enum-told
+enum-told c = search needs
+
+enum-known-e : tie.Need-enum-known-e
+enum-known-e c = search needs
+
+returns : tie.Need-returns
+returns c = rw (c .enum-told .given .1)
+
+returns-2 : tie.Need-returns-2
+returns-2 c = rw (c .before .e .given .1) (toZ-ofZ (record { sfits = c .known-told .given .0 .1 }))
+
+pub number-of-spec : {M : Type 1} → statement M
+number-of-spec = tie.close (tie.spec enum-told enum-known-e returns returns-2)

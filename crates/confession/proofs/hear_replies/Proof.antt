@@ -1,0 +1,84 @@
+-- `confession::hear_replies` meets its contract: before head k, the unstruck heads below k gave what they reply, and all others nothing.
+use mathlib.Core.Path.{_≡_, refl, ap, sym, _∙_}
+use mathlib.Core.Logic.{⊎-elim}
+use mathlib.Core.Bool.{not}
+use Prim.Native.Nat.{_-_, _≤_}
+use native.Mathlib.Omega.{arith}
+use denote.Ref.{now}
+use borrow.Author.Needs.{needs}
+use Rattle.marks.specs.Marks.{bitOf}
+use Rattle.convergence.specs.Trust.{nothing}
+use Rattle.record.specs.Record.{givenOf}
+use Rattle.play.specs.Memory.{heads}
+use Rattle.confession.specs.Inner.{replied, Received, givenAlike}
+use Rattle.play.proofs.Filling.{filledTo}
+use Rattle.confession.proofs.Received.{received-none, received-start, received-passed, received-heard}
+use Rattle.confession.proofs.hear_replies.Statement.{statement}
+use Rattle.confession.proofs.hear_replies.Tie as tie
+
+abbrev Inv-loop : tie.InvT-loop
+Inv-loop s marks lists rows₀ n links₀ k₀ rows links k =
+    (k ≤ n) × Received links rows (filledTo (λ j. not (bitOf (s .struck) j)) (λ j. givenOf (replied s marks lists j)) (λ j. nothing) k)
+
+abbrev μ-loop : tie.MeasureT-loop
+μ-loop s marks lists rows₀ n links₀ k₀ rows links k = n - k
+
+head-count-requires : tie.Need-head-count-requires Inv-loop μ-loop
+head-count-requires c κs = search needs
+
+cast-n : tie.Need-cast-n Inv-loop μ-loop
+cast-n c = search needs
+
+loop-holds : tie.Need-loop-holds Inv-loop μ-loop
+loop-holds c = (search needs, received-start _ _ _ _ _ (received-none _ (c .before .pre)))
+
+marked-requires : tie.Need-marked-requires Inv-loop μ-loop
+marked-requires c κs = search needs
+
+hear-reply-requires : tie.Need-hear-reply-requires Inv-loop μ-loop
+hear-reply-requires c κs = search needs
+
+add-k : tie.Need-add-k Inv-loop μ-loop
+add-k c = search needs
+
+loop-less : tie.Need-loop-less Inv-loop μ-loop
+loop-less c = search needs
+
+loop-again : tie.Need-loop-again Inv-loop μ-loop
+loop-again c =
+    let m = c .before in
+    let l = m .before .before .loop in
+    let a = m .before .before .before .before .args in
+    let b = ap not (sym (m .marked .ensures)) in
+    let h = m .before .before .before .head-count .ensures in
+    ⊎-elim
+    (λ w. (
+      search needs,
+      rw (w .3, w .4) (received-heard _ _ _ (l .links) (l .rows) (l .k) (l .inv .1) (replied (a .s) (now (a .marks)) (now (a .lists)) (l .k)) (omega arith) refl (b ∙ w .0 .taken) refl
+          (w .2 .ensures .0) (w .2 .ensures .1)),
+    ))
+    (λ w. (search needs, rw (w .1, w .2) (received-passed _ _ _ (l .links) (l .rows) (l .k) (l .inv .1) (b ∙ w .0 .left))))
+    (c .if1 .came)
+
+returns : tie.Need-returns Inv-loop μ-loop
+unfolding givenAlike
+returns c =
+    let l = c .before .loop in
+    let e : l .k ≡ heads (c .before .before .before .args .s) = omega (arith, c .before .before .head-count .ensures) in
+    rw e at (l .inv .1)
+
+pub hear-replies-spec : {M : Type 1} → statement M
+hear-replies-spec =
+    tie.close
+    (tie.spec
+    Inv-loop
+    μ-loop
+    head-count-requires
+    cast-n
+    loop-holds
+    marked-requires
+    hear-reply-requires
+    add-k
+    loop-less
+    loop-again
+    returns)

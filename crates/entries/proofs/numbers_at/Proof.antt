@@ -1,0 +1,94 @@
+-- `entries::numbers_at` meets its contract. The loop's invariant: the array has the first k numbers, and it is filled up to n, or to 32, where it ends.
+use mathlib.Core.Path.{_≡_, refl, ap, sym, _∙_}
+use mathlib.Core.Logic.{⊎-elim}
+use Prim.Native.Nat.{_≤_, _-_}
+use native.Mathlib.Omega.{arith}
+use mir.Facts.{toZ-ofZ}
+use denote.Ref.{now}
+use borrow.Author.Needs.{needs}
+use borrow.Author.Tests.{leb-true}
+use Rattle.fields.specs.Bytes.{signedOf}
+use Rattle.entries.specs.Entries.{zeros, numbers}
+use Rattle.entries.proofs.Entries.{numbers-next, numbers-past}
+use Rattle.entries.proofs.numbers_at.Statement.{statement}
+use Rattle.entries.proofs.numbers_at.Tie as tie
+
+abbrev Inv-loop : tie.InvT-loop
+Inv-loop s n out₀ end whole k₀ out k = (end ≤ 32) × (numbers s end ≡ numbers s n) × (k ≤ end) × (out ≡ numbers s k)
+
+abbrev μ-loop : tie.MeasureT-loop
+μ-loop s n out₀ end whole k₀ out k = end - k
+
+-- the loop stores n entries, or 32, from where on nothing would be stored
+capped : (c : tie.Joined1 Inv-loop μ-loop) →
+    let s = now (c .before .before .args .s) in
+    (c .if1 .end ≤ 32) × (numbers s (c .if1 .end) ≡ numbers s (c .before .before .args .n))
+capped c =
+    let a = c .before .before .args in
+    ⊎-elim
+    (λ w. (omega (arith, w .1), ap (numbers (now (a .s))) (w .1) ∙ sym (numbers-past (now (a .s)) (a .n) (omega (arith, w .0)))))
+    (λ w. (omega (arith, w .0, w .1), ap (numbers (now (a .s))) (w .1)))
+    (c .if1 .came)
+
+mul-whole : tie.Need-mul-whole Inv-loop μ-loop
+mul-whole c = omega (arith, capped (c .before) .0)
+
+loop-holds : tie.Need-loop-holds Inv-loop μ-loop
+unfolding numbers zeros
+loop-holds c = (capped (c .before) .0, capped (c .before) .1, search needs, refl)
+
+mul-word-in : tie.Need-mul-word-in Inv-loop μ-loop
+mul-word-in c = search needs
+
+word-in-requires : tie.Need-word-in-requires Inv-loop μ-loop
+word-in-requires c κs = λ t. omega (arith, leb-true)
+
+signed-requires : tie.Need-signed-requires Inv-loop μ-loop
+signed-requires c κs = search needs
+
+mul-out : tie.Need-mul-out Inv-loop μ-loop
+mul-out c = search needs
+
+array-set-from-out : tie.Need-array-set-from-out Inv-loop μ-loop
+array-set-from-out c = search needs
+
+add-k : tie.Need-add-k Inv-loop μ-loop
+add-k c = search needs
+
+loop-less : tie.Need-loop-less Inv-loop μ-loop
+loop-less c = search needs
+
+loop-again : tie.Need-loop-again Inv-loop μ-loop
+loop-again c =
+    let w = c .before in
+    let l = w .before .before in
+    let a = l .before .before .before .before .args in (
+      l .loop .inv .0,
+      l .loop .inv .1,
+      search needs,
+      numbers-next (now (a .s)) (l .loop .k) (l .loop .inv .3) (toZ-ofZ (record { sfits = c .signed .ok }) ∙ c .signed .ensures ∙ ap signedOf (w .word-in .ensures)),
+    )
+
+returns : tie.Need-returns Inv-loop μ-loop
+returns c =
+    let l = c .before in
+    let e : l .loop .k ≡ l .before .before .if1 .end = omega arith in
+    l .loop .inv .3 ∙ ap (numbers _) e ∙ l .loop .inv .1
+
+pub numbers-at-spec : {M : Type 1} → statement M
+numbers-at-spec =
+    tie.close
+    (tie.spec
+    Inv-loop
+    μ-loop
+    mul-whole
+    loop-holds
+    mul-word-in
+    word-in-requires
+    signed-requires
+    mul-out
+    array-set-from-out
+    add-k
+    loop-less
+    loop-again
+    returns)

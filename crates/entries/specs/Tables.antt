@@ -1,0 +1,33 @@
+-- A table of entries as the code holds it: a mark word, and numbers that are 0 where the entry is null.
+use mathlib.Core.List.{List}
+use Prim.Native.Nat.{ℕ, zero, suc, _+_, _*_, _^_}
+use lib.ListN.{set}
+use lib.IntN.{ℤ, pos}
+use Rattle.terms.specs.declared.Entry.{Entry}
+use Rattle.terms.specs.declared.Entry.the-variants.{Null, Position}
+use Rattle.terms.specs.declared.Table.{Table}
+use Rattle.entries.specs.Entries.{entryAt, zeros}
+
+-- entry j of a table
+abbrev pub tableAt : Table → ℕ → Entry
+tableAt t = entryAt (t .marks) (t .entries)
+
+abbrev pub mark : Entry → ℕ
+mark Null = 0
+mark (Position u) = 1
+
+abbrev pub number : Entry → ℤ
+number Null = pos 0
+number (Position u) = u
+
+unfoldable pub marksOf : ℕ → (ℕ → Entry) → ℕ
+marksOf zero E = 0
+marksOf (suc n) E = marksOf n E + mark (E n) * 2 ^ n
+
+unfoldable pub numbersOf : ℕ → (ℕ → Entry) → List ℤ
+numbersOf zero E = zeros
+numbersOf (suc n) E = set (numbersOf n E) n (number (E n))
+
+-- entries 0 .. n - 1 of E as a table
+abbrev pub tableOf : ℕ → (ℕ → Entry) → Table
+tableOf n E = record { marks = marksOf n E; entries = numbersOf n E }

@@ -1,0 +1,76 @@
+// The entries of a list, in the bytes of a frame and as an array.
+ghost use mathlib.Core.Bool.{true};
+ghost use mathlib.Core.Path.{_≡_};
+ghost use Prim.Native.Nat.{_+_, _≤_};
+ghost use lib.ListN.{length};
+ghost use Rattle.terms.specs.Positions.{isPosition};
+ghost use Rattle.fields.specs.Bytes.{at4, signedOf};
+ghost use Rattle.entries.specs.Entries.{fits, entriesFit, numbers};
+
+// Whether a word holds a position.
+pub fn is_position_word(x: u32) -> bool
+    ensures { λ r. ⌜ r ≡ isPosition (signedOf x) ⌝ }
+{
+    if x <= 1000000 { true } else { 4293967296 <= x }
+}
+
+// Four bytes that are all there.
+fn word_within(s: &[u8], at: usize) -> u32
+    requires { ⌜ at + 4 ≤ length (now s) ⌝ }
+    ensures { λ r. ⌜ r ≡ at4 (now (s .entry)) at ⌝ }
+{
+    fields::join4(s[at], s[at + 1], s[at + 2], s[at + 3])
+}
+
+// The same where it is known whether all are there: a loop over the words of a list asks that once.
+fn word_in(whole: bool, s: &[u8], at: usize) -> u32
+    requires { ⌜ (whole ≡ true → at + 4 ≤ length (now s)) ⌝ }
+    ensures { λ r. ⌜ r ≡ at4 (now (s .entry)) at ⌝ }
+{
+    if whole {
+        return word_within(s, at);
+    }
+    fields::word_at(s, at)
+}
+
+// Whether a word may stand in a list.
+fn word_fits(mark: bool, x: u32) -> bool
+    ensures { λ r. ⌜ r ≡ fits mark (signedOf x) ⌝ }
+{
+    if mark { is_position_word(x) } else { x == 0 }
+}
+
+// Whether the first n entries of a list may stand there.
+pub fn entries_fit(m: u32, s: &[u8], n: u8) -> bool
+    ensures { λ r. ⌜ r ≡ entriesFit m (now (s .entry)) n ⌝ }
+{
+    let count = n as usize;
+    let whole = 4 * count <= s.len();
+    let mut j: usize = 0;
+    while j < count {
+        if !word_fits(marks::marked(m, j), word_in(whole, s, 4 * j)) {
+            return false;
+        }
+        j += 1;
+    }
+    true
+}
+
+// The first n entries of a list as an array, 0 from n on.
+pub fn numbers_at(s: &[u8], n: u8) -> [i32; 32]
+    ensures { λ r. ⌜ r ≡ numbers (now (s .entry)) n ⌝ }
+{
+    let mut out = [0i32; 32];
+    let mut end = n as usize;
+    if 32 < end {
+        end = 32;
+    }
+    let whole = 4 * end <= s.len();
+    let mut k: usize = 0;
+    while k < end {
+        let v = fields::signed(word_in(whole, s, 4 * k));
+        out[k] = v;
+        k += 1;
+    }
+    out
+}

@@ -1,0 +1,39 @@
+// Mark words: a bit for each entry of a list, or for each head.
+ghost use mathlib.Core.Path.{_≡_};
+ghost use Prim.Native.Nat.{_^_, _<_};
+ghost use Rattle.marks.specs.Marks.{bitOf, marksBelow, withMark};
+
+// Whether bit j of a mark word is set.
+pub fn marked(m: u32, j: usize) -> bool
+    ensures { λ r. ⌜ r ≡ bitOf m j ⌝ }
+{
+    if j < 32 { (m >> j) % 2 == 1 } else { false }
+}
+
+// Whether no mark stands at n or above.
+pub fn marks_below(m: u32, n: usize) -> bool
+    ensures { λ r. ⌜ r ≡ marksBelow m n ⌝ }
+{
+    if n < 32 { m >> n == 0 } else { true }
+}
+
+// The mark of bit k.
+fn mark(k: usize) -> u32
+    requires { ⌜ k < 32 ⌝ }
+    ensures { λ r. ⌜ r ≡ 2 ^ k ⌝ }
+{
+    1u32 << k
+}
+
+// A mark word with bit k set.
+pub fn with_mark(m: u32, k: usize) -> u32
+    ensures { λ r. ⌜ r ≡ withMark m k ⌝ }
+{
+    if 32 <= k {
+        return m;
+    }
+    if marked(m, k) {
+        return m;
+    }
+    m + mark(k)
+}

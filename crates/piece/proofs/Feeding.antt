@@ -1,0 +1,190 @@
+-- What a step makes of the file read so far: after a fault nothing, of bytes that end inside a record the bytes kept, of a whole record what it is judged.
+use mathlib.Core.Path.{_≡_, refl, ap, sym, _∙_}
+use mathlib.Core.Bool.{Bool, true, false}
+use mathlib.Core.List.{List, [], _++_, append-nil}
+use Prim.Native.Nat.{ℕ, _+_, _≤_, _<_}
+use native.Mathlib.Omega.{arith}
+use native.Mathlib.Decide.{decLe}
+use lib.ListN.{length, take, length-append}
+use lib.Seq.{length-take-le}
+use lib.IntN.{ℤ}
+use borrow.Author.Needs.{needs}
+use Rattle.terms.specs.Refusals as refusal
+use Rattle.runfile.specs.RunFile.{File, unread, lengthOf, kindOf, judged, stopped, withPart, feed, readFile}
+use Rattle.runfile.specs.Listing.{shown}
+use Rattle.runfile.proofs.Streaming.{feed-append, part-shows}
+use Rattle.runfile.proofs.Demand3.{every-file}
+use Rattle.runfile.proofs.Whole.{stands, Cut, Heads, heads-take, heads-stand, stands-long, feed-cut, feed-refused, feed-whole, feed-stopped, judged-empty, kept, kept-on}
+use Rattle.listing.specs.declared.Text.{Text}
+use Rattle.listing.specs.Texts.{bytesOf}
+use Rattle.player.specs.declared.Player.{Player}
+use Rattle.reader.specs.declared.Took.{Took}
+use Rattle.player.specs.Leads.{Tells, Holds}
+use Rattle.reader.specs.Next.{Next}
+use Rattle.listing.proofs.Writing.{empty-text}
+use Rattle.reader.proofs.Records.{stopped-next}
+use Rattle.piece.specs.declared.Fed.{Fed}
+use Rattle.piece.specs.Leads.{Leads, Follows}
+use Rattle.piece.specs.Inner.{Missing, Whole, Headed, Quiet, Taken, Used}
+
+-- the bytes make G of the file, and the player q stands there
+follows : {a xs : List ℕ} {p : Player} {text carry : List ℕ} {positions : List ℤ} {marks : List ℕ} {lists : List (List ℤ)} {planted lengths : List ℕ}
+    (q : Player) (G : File) → p ≡ q → feed (readFile a) xs ≡ G → Tells q G → G .part ≡ take (q .have) carry → q .have ≡ length (G .part)
+    → Holds G positions marks lists planted lengths → shown G ≡ shown (readFile a) ++ text
+    → Follows a xs p text carry positions marks lists planted lengths
+follows {a} {xs} q G e f t part h m s =
+    let is : readFile (a ++ xs) ≡ G = feed-append unread a xs ∙ f in
+    record {
+      leads = record { tells = rw (e, is) t; part = rw (e, is) part; have = rw (e, is) h; holds = rw is m };
+      shows = rw is s;
+      demand3 = every-file (a ++ xs);
+    }
+
+pub used-as : {a : List ℕ} {p : Player} {text carry : List ℕ} {positions : List ℤ} {marks : List ℕ} {lists : List (List ℤ)} {planted lengths : List ℕ}
+    {m n : ℕ} (rest : List ℕ) → m ≡ n → Follows a (take n rest) p text carry positions marks lists planted lengths
+    → Follows a (take m rest) p text carry positions marks lists planted lengths
+used-as rest e f = rw e f
+
+-- what `reader::take_record` promises of a record b
+abbrev Judges : Player → List ℕ → Took → List ℤ → List ℕ → List (List ℤ) → List ℕ → List ℕ
+    → List ℤ → List ℕ → List (List ℤ) → List ℕ → List ℕ → Type 0
+Judges p b t positions marks lists planted lengths positions′ marks′ lists′ planted′ lengths′ =
+    (a : List ℕ) → Tells p (readFile a) → Holds (readFile a) positions marks lists planted lengths → stands (readFile a) b ≡ true → length b ≡ lengthOf b
+    → Next (readFile a) (judged (kindOf b) (readFile a) b) t positions′ marks′ lists′ planted′ lengths′
+
+-- an empty text shows nothing
+pub unshown : {x y : List ℕ} (t : Text) → x ≡ y → t .len ≡ 0 → x ≡ y ++ bytesOf t
+unshown {y} t e none = rw (e, empty-text t none) (sym (append-nil y))
+
+-- bytes of a record, gathered: as many as are missing, or all that there are
+pub record Gathered (have : ℕ) (before rest carry : List ℕ) (want used : ℕ) : Type 0 where
+  pub within : used ≤ length rest
+  pub some : 0 < length rest → 0 < used
+  pub most : used ≤ want
+  pub missing : Missing have before want
+  pub put : take (have + used) carry ≡ take have before ++ take used rest
+
+pub put-all : (have used : ℕ) (before rest carry : List ℕ) {x : List ℕ} → used ≤ length rest → x ≡ take used rest
+    → take (have + length x) carry ≡ take have before ++ x → take (have + used) carry ≡ take have before ++ take used rest
+put-all have used before rest carry h e g = rw (length-take-le used rest h) at (rw e at g)
+
+pub uses : {have : ℕ} {before rest carry : List ℕ} {want used : ℕ} {r : Fed} → Gathered have before rest carry want used → r .used ≡ used → r .text .len ≤ 64
+    → Used rest r
+uses G e room = record { within = omega (arith, e, G .within); some = λ h. omega (arith, e, G .some h); room = room }
+
+pub has-room : {t : Took} {n : ℕ} {r : Fed} → Taken t n r → t .text .len ≤ 64 → r .text .len ≤ 64
+has-room T h = rw (T .text) h
+
+pub uses-one : {p : Player} {rest : List ℕ} {used : ℕ} {t : Took} {r : Fed} → Whole p rest → used ≡ lengthOf rest → Taken t used r → t .text .len ≤ 64
+    → Used rest r
+uses-one W u T h =
+    record { within = omega (arith, T .used, W .within); some = λ k. omega (arith, T .used, W .long); room = has-room T h }
+
+pub uses-all : {q : Player} {rest : List ℕ} {r : Fed} → Quiet q (length rest) r → Used rest r
+uses-all Q = record { within = omega (arith, Q .used); some = λ h. omega (arith, Q .used); room = omega (arith, Q .none) }
+
+module _ {a : List ℕ} {p : Player} {before : List ℕ} {positions : List ℤ} {marks : List ℕ} {lists : List (List ℤ)} {planted lengths : List ℕ}
+    (L : Leads a p before positions marks lists planted lengths) where
+  abbrev F : File
+  F = readFile a
+
+  -- what is kept of a record leaves room for the rest of it
+  pub overfull : 1026 ≤ p .have → ⊥
+  overfull h =
+      let (may, few) = kept a (omega (arith, L .have)) in
+      omega (arith, L .have, stands-long (kindOf (F .part)) F (lengthOf (F .part)) may .1)
+
+  -- after a fault nothing is read
+  pub rests : {xs : List ℕ} {n : ℕ} {r : Fed} → (p .fault ≡ 0 → ⊥) → Quiet p n r → Follows a xs (r .player) (bytesOf (r .text)) before positions marks lists planted lengths
+  rests {xs} {r} fault Q =
+      follows p F (Q .player) (feed-stopped F xs (λ z. fault (sym (L .tells .fault) ∙ z))) (L .tells) (L .part) (L .have) (L .holds) (unshown (r .text) refl (Q .none))
+
+  -- what a record makes of it
+  becomes : {r : Fed} {t : Took} {used : ℕ} {carry : List ℕ} {positions′ : List ℤ} {marks′ : List ℕ} {lists′ : List (List ℤ)} {planted′ lengths′ : List ℕ}
+      (rest : List ℕ) (G : File) → feed F (take used rest) ≡ G → G .part ≡ [] → Taken t used r → Next F G t positions′ marks′ lists′ planted′ lengths′
+      → Follows a (take (r .used) rest) (r .player) (bytesOf (r .text)) carry positions′ marks′ lists′ planted′ lengths′
+  becomes {t} rest G is none T n =
+      used-as rest (T .used)
+      (follows (t .player) G (T .player) is (n .tells) (rw (none, n .whole)) (n .whole ∙ ap length (sym none)) (n .holds) (rw (T .text) (n .shows)))
+
+  module _ {r : Fed} {t : Took} {used : ℕ} {b carry : List ℕ} {positions′ : List ℤ} {marks′ : List ℕ} {lists′ : List (List ℤ)} {planted′ lengths′ : List ℕ}
+      (rest : List ℕ) (ok : p .fault ≡ 0) (T : Taken t used r)
+      (N : Judges p b t positions marks lists planted lengths positions′ marks′ lists′ planted′ lengths′) where
+    -- a whole record b is taken
+    takes : F .part ++ take used rest ≡ b → 0 < length (take used rest) → stands F b ≡ true → length b ≡ lengthOf b
+        → Follows a (take (r .used) rest) (r .player) (bytesOf (r .text)) carry positions′ marks′ lists′ planted′ lengths′
+    takes is some may all =
+        becomes rest (judged (kindOf b) F b) (rw (← is) (feed-whole F (L .tells .fault ∙ ok) (take used rest) some (rw is may) (rw is all)))
+        (judged-empty (kindOf b) F b) T (N a (L .tells) (L .holds) may all)
+
+    -- it stands in the piece
+    pub stands-there : Whole p rest → used ≡ lengthOf rest → b ≡ take used rest → Follows a (take (r .used) rest) (r .player) (bytesOf (r .text)) carry positions′ marks′ lists′ planted′ lengths′
+    stands-there W u e =
+        let none : F .part ≡ [] = L .part ∙ ap (λ (n : ℕ). take n before) (W .fresh) in
+        let same : Heads b rest = rw (← e) at (heads-take used rest (omega (arith, W .long))) in
+        let long = length-take-le used rest (omega (arith, W .within)) in
+        takes (ap (λ (l : List ℕ). l ++ take used rest) none ∙ sym e) (omega (arith, W .long)) (heads-stand F same ∙ W .tells F (L .tells))
+        (ap length e ∙ long ∙ u ∙ sym (same .long))
+
+  module _ {rest carry : List ℕ} {want used : ℕ} (G : Gathered (p .have) before rest carry want used) (ok : p .fault ≡ 0) where
+    abbrev s : List ℕ
+    s = F .part ++ take used rest
+
+    s-long : length s ≡ p .have + used
+    s-long = omega (arith, length-append (F .part) (take used rest), length-take-le used rest (G .within), L .have)
+
+    s-there : take (p .have + used) carry ≡ s
+    s-there = G .put ∙ ap (λ (l : List ℕ). l ++ take used rest) (sym (L .part))
+
+    -- where the header is there, it may stand, and says how long the record is
+    due : 4 ≤ p .have → (stands F s ≡ true) × (p .have + want ≡ lengthOf s)
+    due h =
+        let (may, same, few) = kept-on F (kept a) (take used rest) (omega (arith, L .have)) in
+        let long : lengthOf before ≡ lengthOf s = sym (ap lengthOf (L .part) ∙ heads-take (p .have) before h .long) ∙ same in
+        (may, G .missing .rest h (omega (arith, L .have)) ∙ long)
+
+    -- still cut
+    stays : {r : Fed} {q : Player} → Cut F s (length s) → q .have ≡ length s → Tells q (withPart F s) → Quiet q used r
+        → Follows a (take (r .used) rest) (r .player) (bytesOf (r .text)) carry positions marks lists planted lengths
+    stays {r} {q} cut h t Q =
+        used-as rest (Q .used)
+        (follows q (withPart F s) (Q .player) (feed-cut F (L .tells .fault ∙ ok) (take used rest) cut)
+        t (rw (h, s-long) (sym s-there)) h (search (needs, L .holds)) (unshown (r .text) (part-shows F s) (Q .none)))
+
+    pub grows : {r : Fed} {q : Player} → used < want → (q .have ≡ p .have + used) × ((F : File) (s : List ℕ) → Tells p F → Tells q (withPart F s))
+        → Quiet q used r → Follows a (take (r .used) rest) (r .player) (bytesOf (r .text)) carry positions marks lists planted lengths
+    grows few (h, t) Q = stays (go (decLe 4 (p .have))) (h ∙ sym s-long) (t F s (L .tells)) Q
+      where
+        go : Dec (4 ≤ p .have) → Cut F s (length s)
+        go (yes k) l = (due k .0, omega (arith, s-long, due k .1))
+        go (no k) l = absurd (omega (arith, s-long, G .missing .header (omega arith)))
+
+    -- the header is there
+    pub heads : {r : Fed} {q : Player} → p .have < 4 → want ≤ used → ((F : File) (s : List ℕ) → Tells p F → Headed (stands F carry) F s q)
+        → Quiet q used r → Follows a (take (r .used) rest) (r .player) (bytesOf (r .text)) carry positions marks lists planted lengths
+    heads {r} {q} few full H Q = go (stands F s) refl (rw (← same) at (H F s (L .tells)))
+      where
+        four : p .have + used ≡ 4
+        four = omega (arith, G .missing .header few, G .most)
+
+        same : stands F s ≡ stands F carry
+        same = heads-stand F (rw s-there at (heads-take (p .have + used) carry (omega (arith, four))))
+
+        go : (b : Bool) → stands F s ≡ b → Headed b F s q → Follows a (take (r .used) rest) (r .player) (bytesOf (r .text)) carry positions marks lists planted lengths
+        go true may (h, t) =
+            stays (λ k. (may, omega (arith, s-long, four, stands-long (kindOf s) F (lengthOf s) may .0))) (omega (arith, h, s-long, four)) t Q
+        go false no-place (h, t) =
+            let some : 0 < length (take used rest) = omega (arith, four, length-take-le used rest (G .within)) in
+            becomes rest (stopped F refusal.run-record) (feed-refused F (L .tells .fault ∙ ok) (take used rest) some (s-long ∙ four) no-place) refl
+            (record { player = Q .player; used = Q .used; text = refl }) (stopped-next {r = record { player = q; text = r .text }} (L .holds) (h, t) (Q .none))
+
+    -- the record is there
+    pub ends : {r : Fed} {t : Took} {b : List ℕ} {positions′ : List ℤ} {marks′ : List ℕ} {lists′ : List (List ℤ)} {planted′ lengths′ : List ℕ}
+        → 4 ≤ p .have → want ≤ used → b ≡ take (p .have + used) carry → Taken t used r
+        → Judges p b t positions marks lists planted lengths positions′ marks′ lists′ planted′ lengths′
+        → Follows a (take (r .used) rest) (r .player) (bytesOf (r .text)) carry positions′ marks′ lists′ planted′ lengths′
+    ends {b} h full e T N =
+        let is : s ≡ b = sym (e ∙ s-there) in
+        let (may, all) = due h in
+        let whole : length s ≡ lengthOf s = omega (arith, s-long, G .most) in
+        takes rest ok T N is (omega (arith, length-take-le used rest (G .within), G .missing .some)) (rw (← is) may) (rw (← is) whole)

@@ -1,0 +1,189 @@
+// One step over a piece of a run file, which may be cut anywhere, down to one byte: a record that stands whole in the piece is taken where it stands; one that
+// is cut is gathered first.
+ghost use mathlib.Core.Bool.{true};
+ghost use mathlib.Core.List.{List, _++_};
+ghost use mathlib.Core.Path.{_≡_};
+ghost use Prim.Native.Nat.{ℕ, _+_, _≤_, _<_, min};
+ghost use lib.ListN.{length, take};
+ghost use Rattle.runfile.specs.RunFile.{File, lengthOf, kindOf, mayStand, withPart};
+ghost use Rattle.player.specs.Leads.{Tells};
+ghost use Rattle.piece.specs.Inner.{Missing, Stood, Whole, Headed, Quiet, Taken, Used, Reads};
+use listing::Text;
+use player::Player;
+use reader::Took;
+use terms::refusal;
+
+// What comes of a piece: the player after it, how many of its bytes were taken, and the line that they show, if any.
+pub struct Fed {
+    pub player: Player,
+    pub used: usize,
+    pub text: Text,
+}
+
+fn least(a: usize, b: usize) -> usize
+    ensures { λ r. ⌜ r ≡ min a b ⌝ }
+{
+    if a < b { a } else { b }
+}
+
+// How many bytes are missing: to the end of the header, or to the end of the record.
+fn missing(have: usize, carry: &[u8]) -> usize
+    ensures { λ r. ⌜ Missing have (now (carry .entry)) r ⌝ }
+{
+    if have < 4 {
+        return 4 - have;
+    }
+    let len = fields::half_at(carry, 0) as usize;
+    if len <= have {
+        return 1;
+    }
+    len - have
+}
+
+// Puts bytes after those that are there.
+fn gather(carry: &mut [u8], have: usize, bytes: &[u8])
+    requires { ⌜ have + length (now bytes) ≤ length (now carry) ⌝ }
+    ensures { λ _. ⌜ take (have + length (now (bytes .entry))) (now (carry .exit)) ≡ take have (now (carry .entry)) ++ now (bytes .entry) ⌝ }
+{
+    let mut j: usize = 0;
+    while j < bytes.len() {
+        carry[have + j] = bytes[j];
+        j += 1;
+    }
+}
+
+// Whether the header of a record lets it stand.
+fn stands(p: Player, bytes: &[u8]) -> bool
+    ensures { λ r. ⌜ Stood p (now (bytes .entry)) r ⌝ }
+{
+    records::may_stand(
+        fields::half_at(bytes, 2),
+        fields::half_at(bytes, 0),
+        p.begun,
+        p.waits,
+    )
+}
+
+// Whether a piece begins with a whole record that may stand.
+fn is_whole(p: Player, bytes: &[u8]) -> bool
+    ensures { λ r. ⌜ (r ≡ true → Whole p (now (bytes .entry))) ⌝ }
+{
+    if p.have != 0 {
+        return false;
+    }
+    if bytes.len() < fields::half_at(bytes, 0) as usize {
+        return false;
+    }
+    stands(p, bytes)
+}
+
+// The player with more of a record that is not whole.
+fn holding(p: Player, have: usize) -> Player
+    ensures { λ r. ⌜ (r .have ≡ have) × ((F : File) (s : List ℕ) → Tells p F → Tells r (withPart F s)) ⌝ }
+{
+    let mut out = p;
+    out.have = have;
+    out
+}
+
+// The player with a record's header.
+fn headed(p: Player, bytes: &[u8]) -> Player
+    ensures { λ r. ⌜ ((F : File) (s : List ℕ) → Tells p F → Headed (mayStand (kindOf (now (bytes .entry))) F (lengthOf (now (bytes .entry)))) F s r) ⌝ }
+{
+    if stands(p, bytes) {
+        return holding(p, 4);
+    }
+    player::stop(p, refusal::RUN_RECORD)
+}
+
+// Bytes that show nothing.
+pub fn quiet(player: Player, used: usize) -> Fed
+    ensures { λ r. ⌜ Quiet player used r ⌝ }
+{
+    Fed {
+        player,
+        used,
+        text: listing::empty(),
+    }
+}
+
+// Bytes that are a record.
+fn taken(t: Took, used: usize) -> Fed
+    ensures { λ r. ⌜ Taken t used r ⌝ }
+{
+    let player = t.player;
+    let text = t.text;
+    Fed { player, used, text }
+}
+
+// The first n bytes.
+fn front(bytes: &[u8], n: usize) -> &[u8]
+    requires { ⌜ n ≤ length (now bytes) ⌝ }
+    ensures { λ r. ⌜ now r ≡ take n (now (bytes .entry)) ⌝ }
+{
+    &bytes[..n]
+}
+
+// Gathers bytes of a record that is cut, to the end of its header or of the record at most.
+fn take_part(
+    p: Player,
+    rest: &[u8],
+    carry: &mut [u8; 1026],
+    positions: &mut [i32; 32],
+    marks: &mut [u32; 32],
+    lists: &mut [[i32; 32]; 32],
+    planted: &mut [u8; 143360],
+    lengths: &mut [u8; 1024],
+) -> Fed
+    requires { ⌜ p .fault ≡ 0 ⌝ }
+    ensures { λ r. ⌜ Used (now (rest .entry)) r ⌝ }
+    ensures { λ r. ⌜ Reads p (now (rest .entry)) r
+        (now (carry .entry)) (now (positions .entry)) (now (marks .entry)) (now (lists .entry)) (now (planted .entry)) (now (lengths .entry))
+        (now (carry .exit)) (now (positions .exit)) (now (marks .exit)) (now (lists .exit)) (now (planted .exit)) (now (lengths .exit)) ⌝ }
+{
+    let have = p.have;
+    if 1026 <= have {
+        return quiet(p, rest.len());
+    }
+    let want = missing(have, carry);
+    let used = least(least(want, 1026 - have), rest.len());
+    gather(carry, have, front(rest, used));
+    let now = have + used;
+    if used < want {
+        return quiet(holding(p, now), used);
+    }
+    if have < 4 {
+        return quiet(headed(p, carry), used);
+    }
+    let whole = front(carry, now);
+    let t = reader::take_record(p, whole, positions, marks, lists, planted, lengths);
+    taken(t, used)
+}
+
+// One step: a whole record, or bytes of one that is cut. After a fault nothing is read.
+pub fn advance(
+    p: Player,
+    rest: &[u8],
+    carry: &mut [u8; 1026],
+    positions: &mut [i32; 32],
+    marks: &mut [u32; 32],
+    lists: &mut [[i32; 32]; 32],
+    planted: &mut [u8; 143360],
+    lengths: &mut [u8; 1024],
+) -> Fed
+    ensures { λ r. ⌜ Used (now (rest .entry)) r ⌝ }
+    ensures { λ r. ⌜ Reads p (now (rest .entry)) r
+        (now (carry .entry)) (now (positions .entry)) (now (marks .entry)) (now (lists .entry)) (now (planted .entry)) (now (lengths .entry))
+        (now (carry .exit)) (now (positions .exit)) (now (marks .exit)) (now (lists .exit)) (now (planted .exit)) (now (lengths .exit)) ⌝ }
+{
+    if p.fault != 0 {
+        return quiet(p, rest.len());
+    }
+    if is_whole(p, rest) {
+        let used = fields::half_at(rest, 0) as usize;
+        let whole = front(rest, used);
+        let t = reader::take_record(p, whole, positions, marks, lists, planted, lengths);
+        return taken(t, used);
+    }
+    take_part(p, rest, carry, positions, marks, lists, planted, lengths)
+}

@@ -1,0 +1,2 @@
+-- The player follows the file record by record.
+pub mod Records

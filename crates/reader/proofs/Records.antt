@@ -1,0 +1,157 @@
+-- What a record changes: what is told of the file, what the memory holds of it, and what is shown. A record with a fault changes the fault alone.
+use mathlib.Core.Path.{_≡_, refl, ap, sym, _∙_}
+use mathlib.Core.Bool.{Bool, true, false, not, cond, _&&_, true≢false}
+use mathlib.Core.List.{List, [], _++_, append-assoc, append-nil}
+use Prim.Native.Nat.{ℕ, zero, suc, _+_, _*_, _≤_, _<_}
+use native.Mathlib.Omega.{arith}
+use lib.Dec.{eqb, leb}
+use lib.ListN.{length, getD, drop}
+use lib.IntN.{ℤ, pos}
+use borrow.Author.Tests.{leb-true, ltb-true, not-true}
+use Rattle.terms.specs.Sizes.{isCount}
+use Rattle.convergence.specs.Counting.{Each}
+use Rattle.codec.proofs.Listing.{and-both}
+use Rattle.record.proofs.Proper.{both-passed}
+use Rattle.ring.specs.Rounds.{ringAfter}
+use Rattle.runfile.specs.RunFile.{File, given, RecordKind, start, round, plant, mayStand, countIn, limitIn, positionIn, struckIn, fewMarks, senderIn, receiverIn, recordFault, withRecord, stopped, judged}
+use Rattle.runfile.specs.Listing.{title, shown}
+use Rattle.runfile.proofs.Streaming.{start-shows, plant-shows, stop-shows}
+use Rattle.play.specs.Memory.{plantedIn}
+use Rattle.listing.specs.declared.Text.{Text}
+use Rattle.listing.specs.Texts.{bytesOf, endLine}
+use Rattle.listing.proofs.Lines.{line-is}
+use Rattle.reader.specs.declared.Took.{Took}
+use Rattle.player.specs.Keeps.{Keeps}
+use Rattle.player.specs.Leads.{ringBefore, Tells, Holds}
+use Rattle.rounds.specs.Played.{Played}
+use Rattle.reader.specs.Next.{Next}
+use Rattle.player.specs.Inner.{freshPlayer}
+use Rattle.reader.specs.Inner.{Turned}
+use Rattle.rounds.proofs.Keeping.{start-positions, start-keeps}
+use Rattle.listing.proofs.Writing.{empty-text}
+use Rattle.player.proofs.Told.{start-tells}
+
+shows-none : (l : List ℕ) (t : Text) → t .len ≡ 0 → l ≡ l ++ bytesOf t
+shows-none l t e = rw (empty-text t e) (sym (append-nil l))
+
+-- ---- the two ways of a record
+
+module _ (K : RecordKind) (F : File) (s : List ℕ) where
+  pub judged-stopped : (c : ℕ) → c ≡ recordFault K F s → (c ≡ 0 → ⊥) → judged K F s ≡ stopped F c
+  unfolding judged
+  judged-stopped zero e h = absurd (h refl)
+  judged-stopped (suc c) e h = rw (← e)
+
+  pub judged-taken : {c : ℕ} → c ≡ recordFault K F s → c ≡ 0 → judged K F s ≡ withRecord K F s
+  unfolding judged
+  judged-taken e h = rw (← e, h)
+
+-- ---- where a record may stand, and what one without a fault shows of the file
+
+module _ (F : File) (len : ℕ) where
+  pub start-place : mayStand start F len ≡ true → F .begun ≡ false
+  start-place e = not-true (F .begun) (and-both (not (F .begun)) _ (and-both (not (F .begun) && leb 6 len) _ e .0) .0)
+
+  pub round-place : mayStand round F len ≡ true → F .begun ≡ true
+  round-place e = and-both (F .begun) _ e .0
+
+  pub plant-place : mayStand plant F len ≡ true → len ≤ 146
+  plant-place e = leb-true len 146 (and-both (F .waits && leb 6 len) _ e .1)
+
+start-small : (F : File) (s : List ℕ) → recordFault start F s ≡ 0 → countIn s ≤ 32
+unfolding isCount
+start-small F s sound =
+    let count = both-passed (eqb (length s) (6 + 4 * countIn s)) (isCount (countIn s)) 12 0 sound .1 in
+    leb-true (countIn s) 32 (and-both (leb 1 (countIn s)) _ count .1)
+
+pub round-room : (F : File) (s : List ℕ) → recordFault round F s ≡ 0 → given F < 131070
+round-room F s sound = ltb-true (given F) _ (both-passed (fewMarks (F .n) (F .f) (struckIn s)) _ 13 25 sound .1)
+
+-- ---- a round record
+
+module _ {F : File} {t : Text} {positions : List ℤ} {marks : List ℕ} {lists : List (List ℤ)} (s : List ℕ) where
+  pub played-turns : F .begun ≡ true → F .waits ≡ true → Played F t positions marks lists → Turned F s t positions marks lists
+  unfolding shown ringAfter
+  played-turns begun waits P =
+      record {
+        keeps = rw waits (P .keeps);
+        shows = rw (waits, begun, P .shows) (sym (append-assoc title _ _));
+      }
+
+  pub none-turns : F .waits ≡ false → Keeps (F .n) (ringBefore F) positions marks lists → t .len ≡ 0 → Turned F s t positions marks lists
+  unfolding shown
+  none-turns waits K none = record { keeps = rw waits K; shows = rw (waits, empty-text t none) (sym (append-nil _)) }
+
+-- ---- what comes of a record
+
+either-short : (b : Bool) (x y : List ℕ) → length x ≤ 140 → length y ≤ 140 → length (cond b x y) ≤ 140
+either-short true x y h k = h
+either-short false x y h k = k
+
+module _ {F : File} {r : Took} {positions : List ℤ} {marks : List ℕ} {lists : List (List ℤ)} {bytes lengths : List ℕ} where
+  -- a fault: all is as it was
+  pub stopped-next : {c : ℕ} → Holds F positions marks lists bytes lengths → (r .player .have ≡ 0) × Tells (r .player) (stopped F c) → r .text .len ≡ 0
+      → Next F (stopped F c) r positions marks lists bytes lengths
+  stopped-next {c} H (whole, tells) none =
+      record {
+        tells = tells;
+        whole = whole;
+        holds = record { keeps = H .keeps; slots = H .slots; short = H .short };
+        shows = stop-shows F c ∙ shows-none (shown F) (r .text) none;
+        room = omega arith;
+      }
+
+  module _ (s : List ℕ) where
+    -- a round: what was planted is gone
+    pub round-next : Turned F s (r .text) positions marks lists → r .text .len ≤ 64 → ((k i : ℕ) → plantedIn bytes lengths k i ≡ [])
+        → (r .player .have ≡ 0) × Tells (r .player) (withRecord round F s)
+        → Next F (withRecord round F s) r positions marks lists bytes lengths
+    round-next P room cleared (whole, tells) =
+        record {
+          tells = tells;
+          whole = whole;
+          holds = record { keeps = λ b. P .keeps; slots = λ w k i k-below i-below. cleared k i; short = λ w k i. omega arith };
+          shows = P .shows;
+          room = room;
+        }
+
+    -- a planted record: what it plants is added
+    pub plant-next : {bytes′ lengths′ : List ℕ} → Holds F positions marks lists bytes lengths → length (drop 6 s) ≤ 140
+        → ((k i : ℕ) → k < 32 → i < 32 → length (plantedIn bytes lengths k i) ≤ 140
+        → plantedIn bytes′ lengths′ k i ≡ cond (eqb (senderIn s) k && eqb (receiverIn s) i) (drop 6 s) (plantedIn bytes lengths k i))
+        → (r .player .have ≡ 0) × Tells (r .player) (withRecord plant F s) → r .text .len ≡ 0
+        → Next F (withRecord plant F s) r positions marks lists bytes′ lengths′
+    plant-next H few new (whole, tells) none =
+        record {
+          tells = tells;
+          whole = whole;
+          holds =
+              record {
+                keeps = H .keeps;
+                slots = λ w k i a b. rw (new k i a b (rw (H .slots w k i a b) (H .short w k i)), H .slots w k i a b);
+                short = λ w k i. either-short (eqb (senderIn s) k && eqb (receiverIn s) i) (drop 6 s) _ few (H .short w k i);
+              };
+          shows = plant-shows F s ∙ shows-none (shown F) (r .text) none;
+          room = omega arith;
+        }
+
+    -- a start: the first positions
+    pub start-next : F .begun ≡ false → recordFault start F s ≡ 0 → ((j : ℕ) → j < 32 → getD positions j (pos 0) ≡ positionIn s j)
+        → r .player ≡ freshPlayer true (countIn s) (limitIn s) → bytesOf (r .text) ≡ endLine (countIn s) 0 positions 0 0 → r .text .len ≤ 64
+        → Next F (withRecord start F s) r positions marks lists bytes lengths
+    start-next begun sound first is text room =
+        let same : Each (countIn s) (λ i. getD positions i (pos 0) ≡ positionIn s i) = λ i l. first i (omega (arith, start-small F s sound)) in
+        let held = start-positions (countIn s) (limitIn s) (positionIn s) positions same in
+        record {
+          tells = rw is (start-tells F s);
+          whole = rw is refl;
+          holds =
+              record {
+                keeps = λ b. start-keeps (countIn s) (limitIn s) (positionIn s) positions same;
+                slots = λ w. absurd (true≢false (sym w));
+                short = λ w. absurd (true≢false (sym w));
+              };
+          shows =
+              start-shows F s begun ∙ ap (λ (l : List ℕ). shown F ++ l) (line-is (countIn s) 0 _ positions (λ i l q. held i l) ∙ sym text);
+          room = room;
+        }

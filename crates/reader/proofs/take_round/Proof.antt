@@ -1,0 +1,65 @@
+-- `reader::take_round` meets its contract: a fault stops the file, and else the round that waited is played and what was planted in it is cleared.
+use mathlib.Core.Path.{sym, _∙_}
+use denote.Ref.{now}
+use borrow.Author.Needs.{needs}
+use Rattle.runfile.specs.RunFile.{round, readFile}
+use Rattle.reader.proofs.Records.{judged-stopped, judged-taken, round-room, round-next}
+use Rattle.reader.proofs.take_round.Statement.{statement}
+use Rattle.reader.proofs.take_round.Tie as tie
+
+round-fault-requires : tie.Need-round-fault-requires
+round-fault-requires c κs = search needs
+
+refuse-requires : tie.Need-refuse-requires
+refuse-requires c κs = search needs
+
+returns : tie.Need-returns
+returns c =
+    let t = c .before in
+    let (next, room) = c .refuse .ensures in (
+      λ a begun T H.
+          rw (judged-stopped round (readFile a) _ _ (t .before .round-fault .ensures (readFile a) (T .n) (T .f) (T .given)) (t .if1 .taken))
+          (next (readFile a) _ _ _ _ _ T H),
+      room,
+    )
+
+play-waiting-requires : tie.Need-play-waiting-requires
+play-waiting-requires c κs = search needs
+
+clear-requires : tie.Need-clear-requires
+clear-requires c κs = search needs
+
+word-at-requires : tie.Need-word-at-requires
+word-at-requires c κs = search needs
+
+given-round-requires : tie.Need-given-round-requires
+given-round-requires c κs = search needs
+
+returns-2 : tie.Need-returns-2
+returns-2 c =
+    let l = c .before .before in
+    let k = l .before .before in
+    let t = k .before .before .before .before .before in
+    let s = now (t .before .before .before .args .bytes) in
+    let (turned, room) = k .play-waiting .ensures in
+    let (whole, tells) = c .given-round .ensures in (
+      λ a begun T H.
+          let e = t .before .round-fault .ensures (readFile a) (T .n) (T .f) (T .given) in
+          rw (judged-taken round (readFile a) s e (t .if1 .left))
+          (round-next s (turned a s begun T H) room (l .clear .ensures _)
+          (whole, tells (readFile a) s (c .before .word-at .ensures) (round-room (readFile a) s (sym e ∙ t .if1 .left)) T)),
+      room,
+    )
+
+pub take-round-spec : {M : Type 1} → statement M
+take-round-spec =
+    tie.close
+    (tie.spec
+    round-fault-requires
+    refuse-requires
+    returns
+    play-waiting-requires
+    clear-requires
+    word-at-requires
+    given-round-requires
+    returns-2)

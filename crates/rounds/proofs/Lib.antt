@@ -1,0 +1,8 @@
+-- A player that keeps positions and lists apart from the head records holds what the records hold (`Tables` to `Waiting`), and shows a line for each phase that
+-- it plays (`Shown`, `Rounds`).
+pub mod Tables
+pub mod Carried
+pub mod Keeping
+pub mod Waiting
+pub mod Shown
+pub mod Rounds

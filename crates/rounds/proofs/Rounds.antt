@@ -1,0 +1,96 @@
+-- The round that waits, played. What the player tells of the file is the stage that its round needs, and the memory holds the planted bytes and the records, so
+-- the memory keeps step with the ring; given an odd number of rounds it is a collection round, which shows nothing, else a confession round, whose line is
+-- made of the new positions.
+use mathlib.Core.Path.{_≡_, ap, sym, _∙_}
+use mathlib.Core.Bool.{true, cond}
+use mathlib.Core.List.{List, _∷_, _++_}
+use Prim.Native.Nat.{ℕ, _+_, _%_, _*_, _≤_, _<_}
+use native.Mathlib.Omega.{arith}
+use lib.ListN.{getD}
+use lib.IntN.{ℤ, pos}
+use Rattle.entries.specs.Tables.{tableOf}
+use Rattle.convergence.specs.Counting.{bit}
+use Rattle.ring.specs.Rounds.{Round, Ring, endsAfter}
+use Rattle.ring.proofs.Counts.{counted}
+use Rattle.runfile.specs.RunFile.{File}
+use Rattle.runfile.specs.Listing.{lines}
+use Rattle.runfile.proofs.Taken.{Taken}
+use Rattle.runfile.proofs.Streaming.{roundLine, lines-next}
+use Rattle.play.specs.declared.Stage.{Stage}
+use Rattle.play.specs.Memory.{heads, hears, plantedIn, listEntry, rowIn, newPosition}
+use Rattle.listing.specs.declared.Text.{Text}
+use Rattle.listing.specs.Texts.{bytesOf, endLine}
+use Rattle.listing.proofs.Lines.{line-is}
+use Rattle.player.specs.declared.Player.{Player}
+use Rattle.player.specs.Leads.{ringBefore, Tells, Holds}
+use Rattle.rounds.specs.Played.{Played}
+use Rattle.rounds.specs.Inner.{stageOf}
+use Rattle.rounds.proofs.Carried.{Plays}
+use Rattle.rounds.proofs.Keeping.{collect-keeps, confess-positions, confess-keeps}
+use Rattle.rounds.proofs.Waiting.{waiting-playable}
+use Rattle.rounds.proofs.Shown.{collection-line, confession-line, madeBy}
+use Rattle.listing.proofs.Writing.{empty-text}
+
+module _ {F : File} {p : Player} {s : Stage} {positions : List ℤ} {marks : List ℕ} {lists : List (List ℤ)} {bytes lengths : List ℕ}
+    (I : Taken F) (begun : F .begun ≡ true) (waits : F .waits ≡ true) (T : Tells p F) (H : Holds F positions marks lists bytes lengths)
+    (is : p .given ≤ 131070 → s ≡ stageOf p) where
+  abbrev R : Ring
+  R = ringBefore F
+
+  -- the round and the phase, by the number of rounds given
+  stands : (p .given + 1 ≡ 2 * R .phase + R .round) × (R .round < 2) × (p .given ≤ 131070)
+  stands = let C = counted (F .n) (F .f) (F .first) (F .played) in omega (arith, C .played, C .small, I .count, T .given, ap bit waits)
+
+  plays : Plays (F .n) (F .f) R (F .last) s (plantedIn bytes lengths)
+  plays =
+      rw (is (stands .2))
+      record {
+        count = sym (T .n);
+        limit = sym (T .f);
+        phase = omega (arith, stands);
+        before = sym (T .before);
+        struck = sym (T .struck);
+        plants = λ k i k-below i-below sent heard. H .slots waits k i (omega (arith, I .size .most)) (omega (arith, I .size .most));
+      }
+
+  abbrev linesOf : List Round → List ℕ
+  linesOf ws = lines (F .n) (endsAfter (F .n) (F .f) (F .first) ws)
+
+  shows : {text : List ℕ} → roundLine (F .n) (F .f) R (F .last) ≡ text → linesOf (F .last ∷ F .played) ≡ linesOf (F .played) ++ text
+  shows e = lines-next (F .n) (F .f) (F .first) (F .played) (F .last) ∙ ap (λ (l : List ℕ). linesOf (F .played) ++ l) e
+
+  module _ (odd : p .given % 2 ≡ 1) where
+    collection : R .round ≡ 0
+    collection = omega (arith, stands)
+
+    pub collection-played : {t : Text} {marks′ : List ℕ} {lists′ : List (List ℤ)}
+        → ((i : ℕ) → rowIn marks′ lists′ i
+        ≡ cond (hears s i) (tableOf (heads s) (listEntry s positions (plantedIn bytes lengths) i)) (rowIn marks lists i))
+        → t .len ≡ 0
+        → Played F t positions marks′ lists′
+    collection-played {t} new none =
+        record {
+          keeps = collect-keeps plays (H .keeps begun) (waiting-playable F I waits .ready) collection new;
+          shows = shows (collection-line (F .n) (F .f) R (F .last) collection ∙ sym (empty-text t none));
+          room = omega arith;
+        }
+
+  module _ (even : p .given % 2 ≡ 1 → ⊥) where
+    confession : R .round ≡ 1
+    confession = omega (arith, stands)
+
+    pub confession-played : {t : Text} {positions′ : List ℤ}
+        → ((i : ℕ) → getD positions′ i (pos 0)
+        ≡ cond (hears s i) (newPosition s marks lists (plantedIn bytes lengths) i) (getD positions i (pos 0)))
+        → bytesOf t ≡ endLine (p .n) (s .phase) positions′ (p .before) (p .struck)
+        → t .len ≤ 64
+        → Played F t positions′ marks lists
+    confession-played {t} {positions′} new text room =
+        let A = waiting-playable F I waits in
+        let held = confess-positions plays (H .keeps begun) A (I .waiting) confession positions′ new in
+        let is-line = line-is (F .n) (R .phase) (madeBy (F .n) (F .f) R (F .last) R) positions′ held in
+        record {
+          keeps = confess-keeps plays (H .keeps begun) A (I .waiting) confession positions′ new;
+          shows = shows (confession-line (F .n) (F .f) R (F .last) confession ∙ is-line ∙ cc (plays .phase));
+          room = room;
+        }

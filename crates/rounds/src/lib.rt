@@ -1,0 +1,58 @@
+// The round that waits, played on the heads' memory: when the next round record is accepted, or the file ends well.
+ghost use mathlib.Core.Bool.{true};
+ghost use mathlib.Core.List.{List};
+ghost use mathlib.Core.Path.{_≡_};
+ghost use Prim.Native.Nat.{ℕ, _+_, _/_, _≤_, _<_};
+ghost use Rattle.runfile.specs.RunFile.{given, readFile};
+ghost use Rattle.player.specs.Leads.{Tells, Holds};
+ghost use Rattle.rounds.specs.Played.{Played};
+ghost use Rattle.rounds.specs.Inner.{stageOf};
+use listing::Text;
+use play::Stage;
+use player::Player;
+
+// The phase of the round that waits.
+fn phase_of(given: u32) -> u16
+    ensures { λ r. ⌜ (given ≤ 131070 → r ≡ (given + 1) / 2) ⌝ }
+{
+    if 131070 < given {
+        return 0;
+    }
+    ((given + 1) / 2) as u16
+}
+
+// The ring in the round that waits.
+fn stage_of(p: Player) -> Stage
+    ensures { λ r. ⌜ (p .given ≤ 131070 → r ≡ stageOf p) ⌝ }
+{
+    Stage {
+        n: p.n,
+        f: p.f,
+        phase: phase_of(p.given),
+        before: p.before,
+        struck: p.struck,
+    }
+}
+
+// Plays the round that waits, and answers the line of the phase that it ends, if it ends one.
+pub fn play_round(
+    p: Player,
+    positions: &mut [i32; 32],
+    marks: &mut [u32; 32],
+    lists: &mut [[i32; 32]; 32],
+    planted: &[u8; 143360],
+    lengths: &[u8; 1024],
+) -> Text
+    ensures { λ r. ⌜ ((a : List ℕ) → readFile a .begun ≡ true → readFile a .waits ≡ true → Tells p (readFile a)
+        → Holds (readFile a) (now (positions .entry)) (now (marks .entry)) (now (lists .entry)) (now (planted .entry)) (now (lengths .entry))
+        → Played (readFile a) r (now (positions .exit)) (now (marks .exit)) (now (lists .exit))) ⌝ }
+    ensures { λ r. ⌜ r .len ≤ 64 ⌝ }
+{
+    let s = stage_of(p);
+    if p.given % 2 == 1 {
+        collection::collect(s, positions, planted, lengths, marks, lists);
+        return listing::empty();
+    }
+    confession::confess(s, marks, lists, planted, lengths, positions);
+    listing::end_line(s.phase, positions, p.n, p.before, p.struck)
+}

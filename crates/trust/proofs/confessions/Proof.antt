@@ -1,0 +1,69 @@
+-- `trust::confessions` meets its contract: after k turns the count is the sum over the first k links, and it is at most k, so that it fits.
+use mathlib.Core.Path.{_≡_, refl, ap, _∙_}
+use Prim.Native.Nat.{ℕ, _≤_, _-_}
+use native.Mathlib.Omega.{arith}
+use borrow.Author.Needs.{needs}
+use Rattle.marks.specs.Marks.{bitOf}
+use Rattle.convergence.specs.Counting.{sum, bit}
+use Rattle.convergence.proofs.Sums.{bit-le}
+use Rattle.trust.specs.Cells.{markedTo}
+use Rattle.trust.proofs.Counts.{byte-bit, sum-next, bits-le}
+use Rattle.trust.proofs.confessions.Statement.{statement}
+use Rattle.trust.proofs.confessions.Tie as tie
+
+abbrev Inv-loop : tie.InvT-loop
+Inv-loop confessed n c₀ k₀ c k = (k ≤ n) × (c ≡ markedTo confessed k)
+
+abbrev μ-loop : tie.MeasureT-loop
+μ-loop confessed n c₀ k₀ c k = n - k
+
+loop-holds : tie.Need-loop-holds Inv-loop μ-loop
+unfolding sum
+loop-holds c = (search needs, refl)
+
+marked-requires : tie.Need-marked-requires Inv-loop μ-loop
+marked-requires c κs = search needs
+
+cast-c : tie.Need-cast-c Inv-loop μ-loop
+cast-c c = search needs
+
+add-c : tie.Need-add-c Inv-loop μ-loop
+add-c c =
+    let b = c .marked .result in
+    omega (arith, byte-bit b, bit-le b, bits-le (c .before .before .loop .k) (bitOf (c .before .before .before .args .confessed)))
+
+add-k : tie.Need-add-k Inv-loop μ-loop
+add-k c = search needs
+
+loop-less : tie.Need-loop-less Inv-loop μ-loop
+loop-less c = search needs
+
+loop-again : tie.Need-loop-again Inv-loop μ-loop
+loop-again c =
+    let l = c .before .before .loop in
+    let m = c .marked in (
+      search needs,
+      sum-next (λ (k : ℕ). bit (bitOf (c .before .before .before .args .confessed) k)) (l .k) (l .inv .1) (byte-bit (m .result) ∙ ap bit (m .ensures)),
+    )
+
+returns : tie.Need-returns Inv-loop μ-loop
+returns c =
+    let l = c .before .loop in
+    let a = c .before .before .args in
+    let e : l .k ≡ a .n = omega arith in
+    l .inv .1 ∙ ap (markedTo (a .confessed)) e
+
+pub confessions-spec : {M : Type 1} → statement M
+confessions-spec =
+    tie.close
+    (tie.spec
+    Inv-loop
+    μ-loop
+    loop-holds
+    marked-requires
+    cast-c
+    add-c
+    add-k
+    loop-less
+    loop-again
+    returns)

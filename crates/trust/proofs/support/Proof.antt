@@ -1,0 +1,97 @@
+-- `trust::support` meets its contract: a link supports u by a confession, or by a list whose entry j has the cell of u. Each is counted by itself, at
+-- most 32 of each, so that the sum fits.
+use mathlib.Core.Path.{ap, _∙_}
+use mathlib.Core.Bool.{Bool}
+use Prim.Native.Nat.{ℕ, _+_}
+use native.Mathlib.Omega.{arith}
+use mir.Facts.{toZ-ofZ}
+use borrow.Author.Needs.{needs}
+use lib.Dec.{eqb}
+use lib.ListN.{getD}
+use Rattle.terms.specs.declared.Entry.{Entry}
+use Rattle.terms.specs.declared.Entry.the-variants.{Position}
+use Rattle.marks.specs.Marks.{bitOf}
+use Rattle.convergence.specs.Trust.{saysOf}
+use Rattle.trust.specs.Received.{givenBy}
+use Rattle.trust.specs.Cells.{markedTo}
+use Rattle.trust.proofs.Counts.{bits-le}
+use Rattle.trust.proofs.Cells.{holds-same, equal-held}
+use Rattle.trust.proofs.Received.{column-given, words}
+use Rattle.trust.proofs.Trusted.{support-counted}
+use Rattle.trust.proofs.support.Statement.{statement}
+use Rattle.trust.proofs.support.Tie as tie
+
+link-count-requires : tie.Need-link-count-requires
+link-count-requires c κs = search needs
+
+all-marks-requires : tie.Need-all-marks-requires
+all-marks-requires c κs = search needs
+
+column-requires : tie.Need-column-requires
+column-requires c κs = search needs
+
+confessions-requires : tie.Need-confessions-requires
+confessions-requires c κs = search needs
+
+cell-of-requires : tie.Need-cell-of-requires
+cell-of-requires c κs = search needs
+
+equal-to-requires : tie.Need-equal-to-requires
+equal-to-requires c κs = search needs
+
+-- the places of the walk, from the last call back
+module _ (c : tie.After-equal-to) where
+  abbrev confessed : tie.After-confessions
+  confessed = c .before .before .before
+
+  abbrev filled : tie.After-column
+  filled = confessed .before
+
+  abbrev given : tie.After-all-marks
+  given = filled .before .before .before .before
+
+  abbrev counted : tie.After-link-count
+  counted = given .before
+
+  abbrev start : tie.Start
+  start = counted .before
+
+add-result : tie.Need-add-result
+add-result c =
+    let m = counted c .link-count .result in
+    let x = c .before .cell-of .result in
+    let b : ℕ → Bool = λ k. eqb (getD (filled c .column .last .1 .1 .1 .1 .0) k 0) x in
+    omega (
+      arith,
+      confessed c .confessions .ensures,
+      c .equal-to .ensures,
+      bits-le m (bitOf (start c .args .links .confessed)),
+      bits-le m b,
+      counted c .link-count .ensures,
+    )
+
+returns : tie.Need-returns
+returns c =
+    let s = start c in
+    let a = s .args in
+    let m = counted c .link-count .result in
+    let E : ℕ → Entry = λ k. saysOf (a .j) (givenBy (a .links) (a .t1) k) in
+    let q = column-given (a .links) (a .t1) (given c .all-marks .result) m (a .j) (λ k l. given c .all-marks .ensures k (omega (arith, counted c .link-count .ensures))) in
+    let x = holds-same (c .before .cell-of .ensures) (ap Position (toZ-ofZ (s .fits .u))) in
+    ap (λ (k : ℕ). k + c .equal-to .result) (confessed c .confessions .ensures)
+    ∙ ap (λ (k : ℕ). markedTo (a .links .confessed) m + k)
+    (c .equal-to .ensures ∙ equal-held m (filled c .column .last .1 .1 .1 .1 .0) E x (λ k l. holds-same (filled c .column .ensures k l) (q k l)))
+    ∙ support-counted (a .links) (a .t1) (words (a .links) (s .good .1 .0)) (a .n) (a .j) (a .u) (counted c .link-count .ensures)
+
+pub support-spec : {M : Type 1} → statement M
+support-spec =
+    tie.close
+    (tie.spec
+    link-count-requires
+    all-marks-requires
+    column-requires
+    confessions-requires
+    cell-of-requires
+    equal-to-requires
+    add-result
+    returns)
