@@ -1,9 +1,9 @@
 -- The block that C keeps, as it is lent.
 use Rattle.lent.proofs.Walk.Lending.{Lending}
-use Rattle.block.specs.declared.FocusAnswer.{FocusAnswer}
-use Rattle.block.proofs.FocusHead as FocusHead
-use Rattle.block.proofs.FocusHead.Laws as FocusHead′
-use Rattle.block.proofs.FocusAnswer as FocusAnswer′
+use Rattle.layout.specs.declared.FocusAnswer.{FocusAnswer}
+use Rattle.layout.proofs.FocusHead as FocusHead
+use Rattle.layout.proofs.FocusHead.Laws as FocusHead′
+use Rattle.layout.proofs.FocusAnswer as FocusAnswer′
 
 abbrev pub blocks : Lending
 blocks = record {

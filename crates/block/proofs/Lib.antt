@@ -1,4 +1,2 @@
 pub mod Lendings
 pub mod Carried
-pub mod Filled
-pub mod Blocks
