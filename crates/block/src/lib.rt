@@ -18,7 +18,10 @@ pub fn started(c: FocusHead, n: u32, f: u32, number: u32, position: i32) -> Focu
 pub fn restarted(c: FocusHead, n: u32, f: u32, number: u32, phase: u32, round: u32) -> FocusAnswer
     ensures { λ r. ⌜ r ≡ focusAnswer c (restart (headOf c) n f number phase round) ⌝ }
 {
-    layout::answer(c, head::restart(layout::head_of(c), n, f, number, phase, round))
+    layout::answer(
+        c,
+        head::restart(layout::head_of(c), n, f, number, phase, round),
+    )
 }
 
 pub fn heard(c: FocusHead, link: u32, frame: &[u8]) -> FocusAnswer
