@@ -25,10 +25,7 @@ fn round_of(kind: u16) -> u8
 fn entries_of(frame: &[u8]) -> &[u8]
     ensures { λ r. ⌜ now r ≡ entriesField (now (frame .entry)) ⌝ }
 {
-    if frame.len() < 12 {
-        return &frame[..0];
-    }
-    &frame[12..]
+    fields::bytes_from(frame, 12)
 }
 
 // A position: 11, and what it says, the same for every count of heads.

@@ -2,7 +2,7 @@
 ghost use mathlib.Core.Path.{_≡_};
 ghost use mathlib.Core.List.{[]};
 ghost use Prim.Native.Nat.{_+_, _*_, _≤_, _<_};
-ghost use lib.ListN.{length, getD};
+ghost use lib.ListN.{length, getD, drop};
 ghost use Rattle.fields.specs.Bytes.{at2, at4, signedOf, signedAt, wordOf, put2, put4, over};
 
 // The byte at a place.
@@ -60,6 +60,16 @@ pub fn word_at(s: &[u8], at: usize) -> u32
         return word_cut(s, at);
     }
     0
+}
+
+// The bytes from a place on; none past the end.
+pub fn bytes_from(s: &[u8], at: usize) -> &[u8]
+    ensures { λ r. ⌜ now r ≡ drop at (now (s .entry)) ⌝ }
+{
+    if s.len() < at {
+        return &s[..0];
+    }
+    &s[at..]
 }
 
 // A word as a number with a sign.

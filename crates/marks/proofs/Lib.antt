@@ -1,2 +1,3 @@
--- What other crates may cite: laws of mark words.
+-- What other crates may cite: laws of mark words, and of counting by a loop.
 pub mod Marks
+pub mod Counts

@@ -2,6 +2,7 @@
 use mathlib.Core.Bool.{Bool, not, cond, _&&_}
 use Prim.Native.Nat.{ℕ, _+_, _/_, _%_, _^_}
 use lib.Dec.{eqb, ltb}
+use Rattle.convergence.specs.Counting.{sum, bit}
 
 -- whether bit j of m is set
 unfoldable pub bitOf : ℕ → ℕ → Bool
@@ -14,3 +15,7 @@ marksBelow m n = ltb m (2 ^ n)
 -- m with bit k set, where a mark word has such a bit
 unfoldable pub withMark : ℕ → ℕ → ℕ
 withMark m k = cond (ltb k 32 && not (bitOf m k)) (m + 2 ^ k) m
+
+-- how many of the first n bits are set
+abbrev pub markedTo : ℕ → ℕ → ℕ
+markedTo m n = sum n (λ k. bit (bitOf m k))

@@ -1,7 +1,7 @@
 // Mark words: a bit for each entry of a list, or for each head.
 ghost use mathlib.Core.Path.{_≡_};
 ghost use Prim.Native.Nat.{_^_, _<_};
-ghost use Rattle.marks.specs.Marks.{bitOf, marksBelow, withMark};
+ghost use Rattle.marks.specs.Marks.{bitOf, marksBelow, withMark, markedTo};
 
 // Whether bit j of a mark word is set.
 pub fn marked(m: u32, j: usize) -> bool
@@ -36,4 +36,17 @@ pub fn with_mark(m: u32, k: usize) -> u32
         return m;
     }
     m + mark(k)
+}
+
+// How many of the first n bits are set.
+pub fn marked_to(m: u32, n: usize) -> usize
+    ensures { λ r. ⌜ r ≡ markedTo m n ⌝ }
+{
+    let mut c: usize = 0;
+    let mut k: usize = 0;
+    while k < n {
+        c += marked(m, k) as usize;
+        k += 1;
+    }
+    c
 }

@@ -97,16 +97,6 @@ fn take_round(
     }
 }
 
-// The bytes that a planted record plants.
-fn frame_in(bytes: &[u8]) -> &[u8]
-    ensures { λ r. ⌜ now r ≡ drop 6 (now (bytes .entry)) ⌝ }
-{
-    if bytes.len() < 6 {
-        return &bytes[..0];
-    }
-    &bytes[6..]
-}
-
 // A planted record.
 fn take_plant(p: Player, bytes: &[u8], planted: &mut [u8; 143360], lengths: &mut [u8; 1024]) -> Took
     ensures { λ r. ⌜ ((F : File) (positions : List ℤ) (marks : List ℕ) (lists : List (List ℤ)) → length (now (bytes .entry)) ≤ 146 → Tells p F
@@ -120,7 +110,7 @@ fn take_plant(p: Player, bytes: &[u8], planted: &mut [u8; 143360], lengths: &mut
     }
     let from = fields::byte_at(bytes, 4);
     let to = fields::byte_at(bytes, 5);
-    slots::plant(planted, lengths, from, to, frame_in(bytes));
+    slots::plant(planted, lengths, from, to, fields::bytes_from(bytes, 6));
     Took {
         player: player::planted_pair(p, from, to),
         text: listing::empty(),

@@ -7,7 +7,6 @@ ghost use Prim.Native.Nat.{ℕ, _<_};
 ghost use lib.Dec.{leb};
 ghost use lib.ListN.{getD, drop};
 ghost use lib.IntN.{pos};
-ghost use Rattle.trust.specs.Cells.{markedTo};
 ghost use Rattle.ring.specs.Rounds.{Plant};
 ghost use Rattle.runfile.specs.RunFile.{File, given, recordKind, start, round, plant, mayStand, recordFault, positionIn, positionsFit, fewMarks, rises, pairFits};
 ghost use Rattle.records.specs.Pairs.{lastPair};
@@ -89,34 +88,11 @@ pub fn start_fault(bytes: &[u8]) -> u8
     0
 }
 
-// The bytes of a start record's positions; none where the record is shorter.
-fn positions_in(bytes: &[u8]) -> &[u8]
-    ensures { λ r. ⌜ now r ≡ drop 6 (now (bytes .entry)) ⌝ }
-{
-    if bytes.len() < 6 {
-        return &bytes[..0];
-    }
-    &bytes[6..]
-}
-
 // The positions of a start record.
 pub fn first_positions(bytes: &[u8]) -> [i32; 32]
     ensures { λ r. ⌜ ((j : ℕ) → j < 32 → getD r j (pos 0) ≡ positionIn (now (bytes .entry)) j) ⌝ }
 {
-    entries::numbers_at(positions_in(bytes), 32)
-}
-
-// How many of the first n heads are marked.
-fn marked_among(m: u32, n: usize) -> usize
-    ensures { λ r. ⌜ r ≡ markedTo m n ⌝ }
-{
-    let mut c: usize = 0;
-    let mut k: usize = 0;
-    while k < n {
-        c += marks::marked(m, k) as usize;
-        k += 1;
-    }
-    c
+    entries::numbers_at(fields::bytes_from(bytes, 6), 32)
 }
 
 // Whether at most f heads are marked, and none at n or above.
@@ -127,7 +103,7 @@ fn few_marks(n: u8, f: u8, m: u32) -> bool
     if !marks::marks_below(m, count) {
         return false;
     }
-    marked_among(m, count) <= f as usize
+    marks::marked_to(m, count) <= f as usize
 }
 
 // A whole round record, after a number of rounds: 14, 26.

@@ -23,7 +23,7 @@ use Rattle.convergence.proofs.Sums.{sums-le}
 use Rattle.convergence.proofs.Support.{same-position, not-null, is-same, is-other}
 use Rattle.trust.specs.Cells.{entriesOf, Holds, standsIn, decided}
 use Rattle.settle.specs.Leading.{sameNumber, isApart, agrees, alikeTo, apartFrom, agreeing, Decides}
-use Rattle.trust.proofs.Counts.{sum-next}
+use Rattle.marks.proofs.Counts.{sum-next}
 use Rattle.trust.proofs.Cells.{holds-same}
 use Rattle.trust.proofs.Search.{is-le, only-seen, none-seen}
 use Rattle.trust.proofs.Trusted.{decided-by-lists}

@@ -13,7 +13,7 @@ use Rattle.convergence.proofs.Order.{length-ordered}
 use Rattle.midpoint.specs.Answers.{padded, inserted}
 use Rattle.midpoint.proofs.Insertion.{insert-length}
 use Rattle.midpoint.proofs.Ordering.{Held, padded-insert}
-use Rattle.trust.proofs.Counts.{first-32}
+use Rattle.marks.proofs.Counts.{first-32}
 
 module _ (E : ℕ → Entry) where
   ordered-null : (j : ℕ) → E j ≡ Null → ordered (suc j) E ≡ ordered j E

@@ -14,7 +14,7 @@ use Rattle.terms.specs.declared.Entry.the-variants.{Null, Position}
 use Rattle.terms.specs.declared.Table.{Table}
 use Rattle.entries.specs.Entries.{zeros}
 use Rattle.entries.specs.Tables.{mark, number, marksOf, numbersOf, tableOf}
-use Rattle.trust.proofs.Counts.{first-32}
+use Rattle.marks.proofs.Counts.{first-32}
 
 mark-le : (e : Entry) (x : ℕ) → mark e * x ≤ x
 mark-le Null x = omega arith

@@ -62,7 +62,3 @@ agreed n need E = seen (standsIn n need E) n E
 -- the trusted entry of a head from what n links say of it, by whether its link confessed, and by how many lists have to agree
 abbrev pub decided : Bool → ℕ → ℕ → (ℕ → Entry) → Entry
 decided confessed n need E = choose confessed (eqb need 0) (agreed n need E)
-
--- how many of the first n links are marked
-abbrev pub markedTo : ℕ → ℕ → ℕ
-markedTo marks n = sum n (λ k. bit (bitOf marks k))

@@ -3,13 +3,13 @@ ghost use mathlib.Core.Path.{_≡_};
 ghost use mathlib.Core.Bool.{false};
 ghost use Prim.Native.Nat.{ℕ, _+_, _-_, _≤_, _<_, min};
 ghost use lib.ListN.{length, getD};
-ghost use Rattle.marks.specs.Marks.{bitOf};
+ghost use Rattle.marks.specs.Marks.{bitOf, markedTo};
 ghost use Rattle.entries.specs.Entries.{entryAt};
 ghost use Rattle.entries.specs.Tables.{tableOf, mark, number};
 ghost use Rattle.convergence.specs.Counting.{Each};
 ghost use Rattle.convergence.specs.Trust.{support, trusted, choose};
 ghost use Rattle.trust.specs.Received.{givenBy};
-ghost use Rattle.trust.specs.Cells.{marksGiven, marksOfLink, entriesOf, entryOf, Holds, HoldsEach, equalTo, isAnother, agreed, decided, markedTo};
+ghost use Rattle.trust.specs.Cells.{marksGiven, marksOfLink, entriesOf, entryOf, Holds, HoldsEach, equalTo, isAnother, agreed, decided};
 use terms::Entry;
 use terms::Table;
 
@@ -28,25 +28,11 @@ pub fn link_count(n: u8) -> usize
     if 32 < count { 32 } else { count }
 }
 
-// How many of the first n links confessed.
-fn confessions(confessed: u32, n: usize) -> usize
-    requires { ⌜ n ≤ 32 ⌝ }
-    ensures { λ r. ⌜ r ≡ markedTo confessed n ⌝ }
-{
-    let mut c: usize = 0;
-    let mut k: usize = 0;
-    while k < n {
-        c += marks::marked(confessed, k) as usize;
-        k += 1;
-    }
-    c
-}
-
 // How many lists have to agree on a position for it to be trusted; 0 where the confessions alone reach n - f.
 pub fn lists_needed(confessed: u32, n: u8, f: u8) -> usize
     ensures { λ r. ⌜ r ≡ n - f - markedTo confessed (min n 32) ⌝ }
 {
-    let c = confessions(confessed, link_count(n));
+    let c = marks::marked_to(confessed, link_count(n));
     if n <= f {
         return 0;
     }
@@ -211,7 +197,7 @@ pub fn support(lists: [[i32; 32]; 32], links: Links, n: u8, j: usize, u: i32) ->
     let given = all_marks(links, n);
     let mut cells = [0u64; 32];
     column(&lists, &given, count, j, &mut cells);
-    confessions(links.confessed, count) + equal_to(&cells, count, cell_of(u))
+    marks::marked_to(links.confessed, count) + equal_to(&cells, count, cell_of(u))
 }
 
 // Trusted entry j.

@@ -30,8 +30,8 @@ byte-at-requires c κs = search needs
 byte-at-requires-2 : tie.Need-byte-at-requires-2
 byte-at-requires-2 c κs = search needs
 
-frame-in-requires : tie.Need-frame-in-requires
-frame-in-requires c κs = search needs
+bytes-from-requires : tie.Need-bytes-from-requires
+bytes-from-requires c κs = search needs
 
 plant-requires : tie.Need-plant-requires
 plant-requires c κs = search needs
@@ -55,8 +55,8 @@ returns-2 c =
           let short : length (drop 6 s) ≤ 140 = omega (arith, length-drop 6 s) in
           rw (judged-taken plant F s (t .before .plant-fault .ensures F (T .n) (T .struck) (T .last)) (t .if1 .left))
           (plant-next s H short
-          (λ a b a-below b-below fits. rw (← k .byte-at .ensures, ← i .byte-at2 .ensures, ← x .frame-in .ensures)
-          (p .plant .ensures (rw (x .frame-in .ensures) short) a b a-below b-below fits))
+          (λ a b a-below b-below fits. rw (← k .byte-at .ensures, ← i .byte-at2 .ensures, ← x .bytes-from .ensures)
+          (p .plant .ensures (rw (x .bytes-from .ensures) short) a b a-below b-below fits))
           (whole, tells F s (k .byte-at .ensures) (i .byte-at2 .ensures) T)
           (c .empty .ensures)),
       omega (arith, c .empty .ensures),
@@ -71,7 +71,7 @@ take-plant-spec =
     returns
     byte-at-requires
     byte-at-requires-2
-    frame-in-requires
+    bytes-from-requires
     plant-requires
     planted-pair-requires
     empty-requires

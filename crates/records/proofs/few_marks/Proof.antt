@@ -13,14 +13,14 @@ returns : tie.Need-returns
 unfolding fewMarks
 returns c = let m = sym (c .before .marks-below .ensures) ∙ not-true _ (c .if1 .taken) in rw m
 
-marked-among-requires : tie.Need-marked-among-requires
-marked-among-requires c κs = search needs
+marked-to-requires : tie.Need-marked-to-requires
+marked-to-requires c κs = search needs
 
 returns-2 : tie.Need-returns-2
 unfolding fewMarks
 returns-2 c =
     let m = sym (c .before .before .marks-below .ensures) ∙ not-false _ (c .before .if1 .left) in
-    rw (m, c .marked-among .ensures)
+    rw (m, c .marked-to .ensures)
 
 pub few-marks-spec : {M : Type 1} → statement M
-few-marks-spec = tie.close (tie.spec marks-below-requires returns marked-among-requires returns-2)
+few-marks-spec = tie.close (tie.spec marks-below-requires returns marked-to-requires returns-2)

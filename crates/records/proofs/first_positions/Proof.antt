@@ -9,8 +9,8 @@ use Rattle.records.proofs.Positions.{position-dropped}
 use Rattle.records.proofs.first_positions.Statement.{statement}
 use Rattle.records.proofs.first_positions.Tie as tie
 
-positions-in-requires : tie.Need-positions-in-requires
-positions-in-requires c κs = search needs
+bytes-from-requires : tie.Need-bytes-from-requires
+bytes-from-requires c κs = search needs
 
 numbers-at-requires : tie.Need-numbers-at-requires
 numbers-at-requires c κs = search needs
@@ -18,7 +18,7 @@ numbers-at-requires c κs = search needs
 returns : tie.Need-returns
 returns c j l =
     let s = now (c .before .before .before .args .bytes) in
-    rw (c .numbers-at .ensures, c .before .positions-in .ensures) (numbers-read (drop 6 s) 32 j (omega arith) l ∙ position-dropped s j)
+    rw (c .numbers-at .ensures, c .before .bytes-from .ensures) (numbers-read (drop 6 s) 32 j (omega arith) l ∙ position-dropped s j)
 
 pub first-positions-spec : {M : Type 1} → statement M
-first-positions-spec = tie.close (tie.spec positions-in-requires numbers-at-requires returns)
+first-positions-spec = tie.close (tie.spec bytes-from-requires numbers-at-requires returns)

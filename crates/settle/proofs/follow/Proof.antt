@@ -11,7 +11,7 @@ use lib.ListN.{length, getD, getD-replicate}
 use Rattle.convergence.specs.Counting.{Each, sum, bit}
 use Rattle.convergence.proofs.Sums.{bit-le}
 use Rattle.settle.specs.Leading.{isApart, agrees, alikeTo, apartFrom, agreeing}
-use Rattle.trust.proofs.Counts.{byte-bit, sum-next, bits-le}
+use Rattle.marks.proofs.Counts.{byte-bit, sum-next, bits-le}
 use Rattle.settle.proofs.Leading.{agree-more, agree-skip}
 use Rattle.settle.proofs.follow.Statement.{statement}
 use Rattle.settle.proofs.follow.Tie as tie

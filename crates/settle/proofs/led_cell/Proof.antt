@@ -7,7 +7,7 @@ use borrow.Author.Needs.{needs}
 use lib.Dec.{eqb}
 use lib.ListN.{getD}
 use Rattle.settle.specs.Leading.{isApart, agrees}
-use Rattle.trust.proofs.Counts.{bits-le}
+use Rattle.marks.proofs.Counts.{bits-le}
 use Rattle.trust.proofs.Cells.{holds-null, holds-same}
 use Rattle.trust.proofs.Trusted.{decided-confessed}
 use Rattle.settle.proofs.Leading.{led-decided}

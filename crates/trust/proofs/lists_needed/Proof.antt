@@ -3,19 +3,19 @@ use mathlib.Core.Path.{_≡_, ap, _∙_}
 use Prim.Native.Nat.{min}
 use native.Mathlib.Omega.{arith}
 use borrow.Author.Needs.{needs}
-use Rattle.trust.specs.Cells.{markedTo}
+use Rattle.marks.specs.Marks.{markedTo}
 use Rattle.trust.proofs.lists_needed.Statement.{statement}
 use Rattle.trust.proofs.lists_needed.Tie as tie
 
 link-count-requires : tie.Need-link-count-requires
 link-count-requires c κs = search needs
 
-confessions-requires : tie.Need-confessions-requires
-confessions-requires c κs = search needs
+marked-to-requires : tie.Need-marked-to-requires
+marked-to-requires c κs = search needs
 
 -- the confessions are counted among as many links as there are
-counted : (c : tie.After-confessions) → c .confessions .result ≡ markedTo (c .before .before .args .confessed) (min (c .before .before .args .n) 32)
-counted c = c .confessions .ensures ∙ ap (markedTo (c .before .before .args .confessed)) (c .before .link-count .ensures)
+counted : (c : tie.After-marked-to) → c .marked-to .result ≡ markedTo (c .before .before .args .confessed) (min (c .before .before .args .n) 32)
+counted c = c .marked-to .ensures ∙ ap (markedTo (c .before .before .args .confessed)) (c .before .link-count .ensures)
 
 returns : tie.Need-returns
 returns c = search needs
@@ -40,7 +40,7 @@ lists-needed-spec =
     tie.close
     (tie.spec
     link-count-requires
-    confessions-requires
+    marked-to-requires
     returns
     sub-reach
     cast-reach

@@ -10,11 +10,10 @@ use lib.Dec.{eqb}
 use lib.ListN.{getD}
 use Rattle.terms.specs.declared.Entry.{Entry}
 use Rattle.terms.specs.declared.Entry.the-variants.{Position}
-use Rattle.marks.specs.Marks.{bitOf}
 use Rattle.convergence.specs.Trust.{saysOf}
 use Rattle.trust.specs.Received.{givenBy}
-use Rattle.trust.specs.Cells.{markedTo}
-use Rattle.trust.proofs.Counts.{bits-le}
+use Rattle.marks.specs.Marks.{bitOf, markedTo}
+use Rattle.marks.proofs.Counts.{bits-le}
 use Rattle.trust.proofs.Cells.{holds-same, equal-held}
 use Rattle.trust.proofs.Received.{column-given, words}
 use Rattle.trust.proofs.Trusted.{support-counted}
@@ -30,8 +29,8 @@ all-marks-requires c κs = search needs
 column-requires : tie.Need-column-requires
 column-requires c κs = search needs
 
-confessions-requires : tie.Need-confessions-requires
-confessions-requires c κs = search needs
+marked-to-requires : tie.Need-marked-to-requires
+marked-to-requires c κs = search needs
 
 cell-of-requires : tie.Need-cell-of-requires
 cell-of-requires c κs = search needs
@@ -41,7 +40,7 @@ equal-to-requires c κs = search needs
 
 -- the places of the walk, from the last call back
 module _ (c : tie.After-equal-to) where
-  abbrev confessed : tie.After-confessions
+  abbrev confessed : tie.After-marked-to
   confessed = c .before .before .before
 
   abbrev filled : tie.After-column
@@ -63,7 +62,7 @@ add-result c =
     let b : ℕ → Bool = λ k. eqb (getD (filled c .column .last .1 .1 .1 .1 .0) k 0) x in
     omega (
       arith,
-      confessed c .confessions .ensures,
+      confessed c .marked-to .ensures,
       c .equal-to .ensures,
       bits-le m (bitOf (start c .args .links .confessed)),
       bits-le m b,
@@ -78,7 +77,7 @@ returns c =
     let E : ℕ → Entry = λ k. saysOf (a .j) (givenBy (a .links) (a .t1) k) in
     let q = column-given (a .links) (a .t1) (given c .all-marks .result) m (a .j) (λ k l. given c .all-marks .ensures k (omega (arith, counted c .link-count .ensures))) in
     let x = holds-same (c .before .cell-of .ensures) (ap Position (toZ-ofZ (s .fits .u))) in
-    ap (λ (k : ℕ). k + c .equal-to .result) (confessed c .confessions .ensures)
+    ap (λ (k : ℕ). k + c .equal-to .result) (confessed c .marked-to .ensures)
     ∙ ap (λ (k : ℕ). markedTo (a .links .confessed) m + k)
     (c .equal-to .ensures ∙ equal-held m (filled c .column .last .1 .1 .1 .1 .0) E x (λ k l. holds-same (filled c .column .ensures k l) (q k l)))
     ∙ support-counted (a .links) (a .t1) (words (a .links) (s .good .1 .0)) (a .n) (a .j) (a .u) (counted c .link-count .ensures)
@@ -90,7 +89,7 @@ support-spec =
     link-count-requires
     all-marks-requires
     column-requires
-    confessions-requires
+    marked-to-requires
     cell-of-requires
     equal-to-requires
     add-result

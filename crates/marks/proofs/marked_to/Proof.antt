@@ -1,15 +1,14 @@
--- `records::marked_among` meets its contract: after k turns the count is the sum over the first k heads, and it is at most k, so that it fits.
+-- `marks::marked_to` meets its contract: after k turns the count is the sum over the first k bits, and it is at most k, so that it fits.
 use mathlib.Core.Path.{_≡_, refl, ap, _∙_}
 use Prim.Native.Nat.{ℕ, _≤_, _-_}
 use native.Mathlib.Omega.{arith}
 use borrow.Author.Needs.{needs}
-use Rattle.marks.specs.Marks.{bitOf}
+use Rattle.marks.specs.Marks.{bitOf, markedTo}
 use Rattle.convergence.specs.Counting.{sum, bit}
 use Rattle.convergence.proofs.Sums.{bit-le}
-use Rattle.trust.specs.Cells.{markedTo}
-use Rattle.trust.proofs.Counts.{byte-bit, sum-next, bits-le}
-use Rattle.records.proofs.marked_among.Statement.{statement}
-use Rattle.records.proofs.marked_among.Tie as tie
+use Rattle.marks.proofs.Counts.{byte-bit, sum-next, bits-le}
+use Rattle.marks.proofs.marked_to.Statement.{statement}
+use Rattle.marks.proofs.marked_to.Tie as tie
 
 abbrev Inv-loop : tie.InvT-loop
 Inv-loop m n c₀ k₀ c k = (k ≤ n) × (c ≡ markedTo m k)
@@ -30,8 +29,7 @@ cast-c c = search needs
 add-c : tie.Need-add-c Inv-loop μ-loop
 add-c c =
     let b = c .marked .result in
-    let l = c .before .before in
-    omega (arith, byte-bit b, bit-le b, bits-le (l .loop .k) (bitOf (l .before .args .m)))
+    omega (arith, byte-bit b, bit-le b, bits-le (c .before .before .loop .k) (bitOf (c .before .before .before .args .m)))
 
 add-k : tie.Need-add-k Inv-loop μ-loop
 add-k c = search needs
@@ -41,9 +39,11 @@ loop-less c = search needs
 
 loop-again : tie.Need-loop-again Inv-loop μ-loop
 loop-again c =
-    let l = c .before .before in
-    let m = c .marked in
-    (search needs, sum-next (λ (k : ℕ). bit (bitOf (l .before .args .m) k)) (l .loop .k) (l .loop .inv .1) (byte-bit (m .result) ∙ ap bit (m .ensures)))
+    let l = c .before .before .loop in
+    let m = c .marked in (
+      search needs,
+      sum-next (λ (k : ℕ). bit (bitOf (c .before .before .before .args .m) k)) (l .k) (l .inv .1) (byte-bit (m .result) ∙ ap bit (m .ensures)),
+    )
 
 returns : tie.Need-returns Inv-loop μ-loop
 returns c =
@@ -52,8 +52,8 @@ returns c =
     let e : l .k ≡ a .n = omega arith in
     l .inv .1 ∙ ap (markedTo (a .m)) e
 
-pub marked-among-spec : {M : Type 1} → statement M
-marked-among-spec =
+pub marked-to-spec : {M : Type 1} → statement M
+marked-to-spec =
     tie.close
     (tie.spec
     Inv-loop

@@ -1,4 +1,4 @@
--- Past the end of a shorter record nothing is left, and else the part is all that follows the six bytes.
+-- `fields::bytes_from` meets its contract: past the end nothing is left, and else the part is all that follows.
 use mathlib.Core.Path.{sym}
 use native.Mathlib.Nat.{le-refl, le-of-lt}
 use Prim.Native.Nat.{_-_}
@@ -6,14 +6,14 @@ use lib.ListN.{length, drop, length-drop, drop-of-length-le}
 use lib.Seq.{take-all}
 use denote.Ref.{now}
 use borrow.Author.Needs.{needs}
-use Rattle.records.proofs.positions_in.Statement.{statement}
-use Rattle.records.proofs.positions_in.Tie as tie
+use Rattle.fields.proofs.bytes_from.Statement.{statement}
+use Rattle.fields.proofs.bytes_from.Tie as tie
 
 slice-aggregate-result : tie.Need-slice-aggregate-result
 slice-aggregate-result c = search needs
 
 returns : tie.Need-returns
-returns c = sym (drop-of-length-le (now (c .before .before .args .bytes)) (le-of-lt (c .before .if1 .taken)))
+returns c = sym (drop-of-length-le (now (c .before .before .args .s)) (le-of-lt (c .before .if1 .taken)))
 
 sub-result : tie.Need-sub-result
 sub-result c = search needs
@@ -26,11 +26,12 @@ part-result-end c = search needs
 
 returns-2 : tie.Need-returns-2
 returns-2 c =
-    let s = now (c .before .before .args .bytes) in
-    take-all (length s - 6) (drop 6 s) (simp length-drop (le-refl _))
+    let s = now (c .before .before .args .s) in
+    let at = c .before .before .args .at in
+    take-all (length s - at) (drop at s) (simp length-drop (le-refl _))
 
-pub positions-in-spec : {M : Type 1} → statement M
-positions-in-spec =
+pub bytes-from-spec : {M : Type 1} → statement M
+bytes-from-spec =
     tie.close
     (tie.spec
     slice-aggregate-result
