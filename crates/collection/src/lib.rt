@@ -6,7 +6,8 @@ ghost use lib.ListN.{length, getD};
 ghost use Rattle.entries.specs.Tables.{tableOf, mark, number};
 ghost use Rattle.codec.specs.Said.{said};
 ghost use Rattle.record.specs.Record.{entryOf};
-ghost use Rattle.play.specs.Memory.{heads, hears, plantedIn, listEntry, rowIn};
+ghost use Rattle.play.specs.Memory.{heads, hears, listEntry, rowIn};
+ghost use Rattle.slots.specs.Slots.{plantedIn};
 ghost use Rattle.collection.specs.Inner.{ownEntry, sent, heard, heardFrom};
 use codec::Said;
 use play::Stage;
@@ -75,7 +76,7 @@ fn entry_heard(s: Stage, sent: Entry, planted: &[u8], lengths: &[u8], k: usize, 
     if !marks::marked(s.struck, k) {
         return sent;
     }
-    let frame = play::planted_frame(planted, lengths, k as u8, i as u8);
+    let frame = slots::planted(planted, lengths, k as u8, i as u8);
     entry_in(frame, play::head_count(s), s.phase, k as u8)
 }
 

@@ -25,9 +25,10 @@ use Rattle.trust.specs.declared.Links.{Links}
 use Rattle.trust.specs.Received.{givenBy}
 use Rattle.record.specs.Record.{givenOf}
 use Rattle.play.specs.declared.Stage.{Stage}
-use Rattle.play.specs.Memory.{heads, plantedIn, rowIn, replies, givenEntry, positionOf, newPosition}
+use Rattle.play.specs.Memory.{heads, rowIn, replies, givenEntry, positionOf, newPosition}
+use Rattle.slots.specs.Slots.{plantedIn}
 use Rattle.confession.specs.Inner.{isStruck, ownReply, replied, Received, Kept, givenAlike, Untold, givenPlanted, Unplanted, settledFrom}
-use Rattle.play.proofs.Frames.{planted-none}
+use Rattle.slots.proofs.Parts.{planted-none}
 
 -- ---- what an unstruck head replies
 

@@ -7,7 +7,8 @@ ghost use lib.ListN.{length, getD};
 ghost use lib.IntN.{pos};
 ghost use Rattle.codec.specs.Said.{said};
 ghost use Rattle.trust.specs.Received.{givenBy};
-ghost use Rattle.play.specs.Memory.{hears, plantedIn, newPosition};
+ghost use Rattle.play.specs.Memory.{hears, newPosition};
+ghost use Rattle.slots.specs.Slots.{plantedIn};
 ghost use Rattle.confession.specs.Inner.{ownReply, replied, linksWith, rowsWith, Received, Kept, givenAlike, Untold, givenPlanted, Unplanted, settledFrom};
 use codec::Said;
 use midpoint::Settled;
@@ -127,7 +128,7 @@ fn hear_planted(
     let mut k: usize = 0;
     while k < count {
         if marks::marked(s.struck, k) {
-            let frame = play::planted_frame(planted, lengths, k as u8, i as u8);
+            let frame = slots::planted(planted, lengths, k as u8, i as u8);
             links = hear(links, rows, k, frame, n, s.phase);
         }
         k += 1;

@@ -1,3 +1,2 @@
--- What hearing's functions promise besides the definitions of `record`: the frames of a round side by side, and hearing cut into the steps of the code.
-pub mod Slots
+-- Hearing cut into the steps of the code: what its private functions promise each other.
 pub mod Steps

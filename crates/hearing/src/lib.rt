@@ -4,7 +4,7 @@ ghost use mathlib.Core.Path.{_≡_};
 ghost use Prim.Native.Nat.{_<_, min};
 ghost use Rattle.codec.specs.Said.{saidOf};
 ghost use Rattle.record.specs.Calls.{withEntry, withConfession, withList, hear, hearAll};
-ghost use Rattle.hearing.specs.Slots.{slot};
+ghost use Rattle.slots.specs.Slots.{slot};
 ghost use Rattle.hearing.specs.Steps.{linkRefusal, saidOn};
 use codec::Said;
 use record::Answer;
@@ -127,47 +127,15 @@ pub fn hear(h: Head, link: u32, frame: &[u8]) -> Answer
     }
 }
 
-// How many links are heard: those from 32 on have no place in the record.
-fn link_count(n: u8) -> usize
-    ensures { λ r. ⌜ r ≡ min n 32 ⌝ }
-{
-    let count = n as usize;
-    if 32 < count { 32 } else { count }
-}
-
-// A byte as a size.
-fn wide(x: u8) -> usize
-    ensures { λ r. ⌜ r ≡ x ⌝ }
-{
-    x as usize
-}
-
-// The frame on link k: as many bytes of its slot as its length says, and are there.
-fn slot<'a, 'b>(frames: &'a [u8], lengths: &'b [u8; 32], k: usize) -> &'a [u8]
-    requires { ⌜ k < 32 ⌝ }
-    ensures { λ r. ⌜ now r ≡ slot (now (frames .entry)) (now (lengths .entry)) k ⌝ }
-{
-    let from = 140 * k;
-    if frames.len() <= from {
-        return &frames[..0];
-    }
-    let size = wide(lengths[k]);
-    if frames.len() - from <= size {
-        return &frames[from..];
-    }
-    let to = from + size;
-    &frames[from..to]
-}
-
 // Hears all links of a round: link k's frame is the first lengths[k] bytes of its slot, the 140 bytes of `frames` from 140 k on. Refused frames give nothing.
 pub fn hear_all(h: Head, frames: &[u8], lengths: &[u8; 32]) -> Head
     ensures { λ r. ⌜ r ≡ hearAll h (slot (now (frames .entry)) (now (lengths .entry))) (h .n) ⌝ }
 {
-    let count = link_count(h.n);
+    let count = trust::link_count(h.n);
     let mut next = h;
     let mut k: usize = 0;
     while k < count {
-        let frame = slot(frames, lengths, k);
+        let frame = slots::slot(frames, lengths, k as u16);
         let heard = next.heard;
         match said_on(h.ended, h.n, h.phase, h.round, heard, k as u32, frame) {
             Said::Refused(_) => {}

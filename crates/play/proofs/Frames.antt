@@ -1,5 +1,5 @@
--- Frames as the player cuts, writes and reads them. A slot that is cut short, or lies past the end, has fewer bytes; a frame of up to 32 heads has 140
--- bytes at most, so it fits a buffer of 140; and what was read, with the table beside it, is all that the frame says.
+-- Frames as the player writes and reads them. A frame of up to 32 heads has 140 bytes at most, so it fits a buffer of 140; and what was read, with the table
+-- beside it, is all that the frame says.
 use mathlib.Core.Path.{_≡_, refl, ap, sym, _∙_}
 use mathlib.Core.List.{List, [], _++_}
 use Prim.Native.Nat.{ℕ, _+_, _-_, _*_, _≤_}
@@ -14,34 +14,7 @@ use Rattle.codec.specs.Said.{Meaning, refused, collected, listed, confessed, ta
 use Rattle.codec.specs.Written.{frameOf, written, buffered}
 use Rattle.codec.proofs.Listing.{list-length}
 use Rattle.codec.proofs.OneMeaning.{meant-said}
-use Rattle.play.specs.Memory.{plantedIn}
 use Rattle.play.specs.Frames.{Front}
-
--- ---- planted bytes
-
-module _ (bytes lengths : List ℕ) (k i : ℕ) where
-  abbrev from : ℕ
-  from = 140 * (32 * k + i)
-
-  pub planted-past : length bytes ≤ from → [] ≡ plantedIn bytes lengths k i
-  unfolding plantedIn
-  planted-past h = rw (drop-of-length-le bytes h) (sym (take-nil (getD lengths (32 * k + i) 0)))
-
-  pub planted-short : {len : ℕ} → len ≡ getD lengths (32 * k + i) 0 → length bytes - from ≤ len
-      → take (length bytes - from) (drop from bytes) ≡ plantedIn bytes lengths k i
-  unfolding plantedIn
-  planted-short e h =
-      let size = length-drop from bytes in
-      take-all (length bytes - from) (drop from bytes) (omega arith) ∙ sym (take-all (getD lengths (32 * k + i) 0) (drop from bytes) (omega arith))
-
-  pub planted-whole : {len : ℕ} → len ≡ getD lengths (32 * k + i) 0 → take (from + len - from) (drop from bytes) ≡ plantedIn bytes lengths k i
-  unfolding plantedIn
-  planted-whole {len} e = let q : from + len - from ≡ getD lengths (32 * k + i) 0 = omega arith in rw q
-
--- a slot of no bytes
-pub planted-none : (bytes lengths : List ℕ) (k i : ℕ) → getD lengths (32 * k + i) 0 ≡ 0 → plantedIn bytes lengths k i ≡ []
-unfolding plantedIn
-planted-none bytes lengths k i e = rw e
 
 -- ---- written
 

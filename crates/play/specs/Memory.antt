@@ -26,10 +26,6 @@ heads s = min (s .n) 32
 abbrev pub hears : Stage → ℕ → Bool
 hears s i = ltb i (heads s) && not (bitOf (s .struck) i)
 
--- The bytes planted on the link from k to i: slot 32 k + i, of 140 bytes, cut to its length.
-unfoldable pub plantedIn : List ℕ → List ℕ → ℕ → ℕ → List ℕ
-plantedIn bytes lengths k i = take (getD lengths (32 * k + i) 0) (drop (140 * (32 * k + i)) bytes)
-
 -- What link k carries to head i in round r: what is planted there, or the frame that says m, what head k has to say.
 abbrev pub carries : Stage → (ℕ → ℕ → List ℕ) → ℕ → ℕ → Meaning → List ℕ
 carries s plant i k m = cond (bitOf (s .struck) k) (plant k i) (frameOf (heads s) k (s .phase) m)

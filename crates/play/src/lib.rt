@@ -3,7 +3,7 @@
 ghost use mathlib.Core.Path.{_≡_};
 ghost use Rattle.codec.specs.Said.{meant};
 ghost use Rattle.codec.specs.Written.{frameOf};
-ghost use Rattle.play.specs.Memory.{heads, plantedIn};
+ghost use Rattle.play.specs.Memory.{heads};
 ghost use Rattle.play.specs.Frames.{Front};
 use codec::Said;
 use codec::Written;
@@ -23,24 +23,6 @@ pub fn head_count(s: Stage) -> u8
     ensures { λ r. ⌜ r ≡ heads s ⌝ }
 {
     if s.n < 32 { s.n } else { 32 }
-}
-
-// The bytes planted on the link from k to i; none past the end.
-pub fn planted_frame<'a, 'b>(planted: &'a [u8], lengths: &'b [u8], k: u8, i: u8) -> &'a [u8]
-    ensures { λ r. ⌜ now r ≡ plantedIn (now (planted .entry)) (now (lengths .entry)) k i ⌝ }
-{
-    let slot = 32 * k as usize + i as usize;
-    let from = 140 * slot;
-    let size = planted.len();
-    if size <= from {
-        return &planted[..0];
-    }
-    let len = fields::byte_at(lengths, slot) as usize;
-    if size - from <= len {
-        return &planted[from..];
-    }
-    let to = from + len;
-    &planted[from..to]
 }
 
 // Writes the frame in which head k says `what` (a list with `table`) at the front of the buffer, and answers its length.

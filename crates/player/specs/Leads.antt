@@ -7,7 +7,7 @@ use lib.ListN.{length}
 use lib.IntN.{ℤ}
 use Rattle.ring.specs.Rounds.{Ring, planted, ringAfter}
 use Rattle.runfile.specs.RunFile.{File, given}
-use Rattle.play.specs.Memory.{plantedIn}
+use Rattle.slots.specs.Slots.{plantedIn}
 use Rattle.records.specs.Pairs.{lastPair}
 use Rattle.player.specs.declared.Player.{Player}
 use Rattle.player.specs.Keeps.{Keeps}

@@ -16,7 +16,7 @@ use Rattle.ring.specs.Rounds.{ringAfter}
 use Rattle.runfile.specs.RunFile.{File, given, RecordKind, start, round, plant, mayStand, countIn, limitIn, positionIn, struckIn, fewMarks, senderIn, receiverIn, recordFault, withRecord, stopped, judged}
 use Rattle.runfile.specs.Listing.{title, shown}
 use Rattle.runfile.proofs.Streaming.{start-shows, plant-shows, stop-shows}
-use Rattle.play.specs.Memory.{plantedIn}
+use Rattle.slots.specs.Slots.{plantedIn}
 use Rattle.listing.specs.declared.Text.{Text}
 use Rattle.listing.specs.Texts.{bytesOf, endLine}
 use Rattle.listing.proofs.Lines.{line-is}

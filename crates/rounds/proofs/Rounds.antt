@@ -17,7 +17,8 @@ use Rattle.runfile.specs.Listing.{lines}
 use Rattle.runfile.proofs.Taken.{Taken}
 use Rattle.runfile.proofs.Streaming.{roundLine, lines-next}
 use Rattle.play.specs.declared.Stage.{Stage}
-use Rattle.play.specs.Memory.{heads, hears, plantedIn, listEntry, rowIn, newPosition}
+use Rattle.play.specs.Memory.{heads, hears, listEntry, rowIn, newPosition}
+use Rattle.slots.specs.Slots.{plantedIn}
 use Rattle.listing.specs.declared.Text.{Text}
 use Rattle.listing.specs.Texts.{bytesOf, endLine}
 use Rattle.listing.proofs.Lines.{line-is}

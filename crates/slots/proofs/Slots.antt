@@ -10,7 +10,7 @@ use borrow.Author.Tests.{eqb-true, eqb-false}
 use lib.Dec.{eqb}
 use lib.ListN.{length, getD, set, take, drop, replicate, length-take, length-drop, take-append-drop, drop-of-length-le}
 use lib.Seq.{take-append-le, drop-append-le, take-append-seam, drop-at, take-length, length-take-le, drop-drop, getD-set-same, getD-set-other, paste, drop-paste}
-use Rattle.play.specs.Memory.{plantedIn}
+use Rattle.slots.specs.Slots.{slot, plantedIn}
 
 zeros : (n j : ℕ) → getD (replicate {A = ℕ} n 0) j 0 ≡ 0
 zeros zero j = refl
@@ -55,11 +55,11 @@ module _ (d l b : List ℕ) (k i : ℕ) (hd : length d ≡ 143360) (hl : length 
   after = plantedIn (paste d (140 * (32 * k + i)) b (length b)) (set l (32 * k + i) (length b)) j m
 
   there : k ≡ j → i ≡ m → after ≡ b
-  unfolding plantedIn
+  unfolding slot
   there e q = rw (← e, ← q, getD-set-same l (32 * k + i) (length b) 0 (omega arith)) (part-pasted d b (140 * (32 * k + i)) (omega arith))
 
   elsewhere : (32 * j + m ≡ 32 * k + i → ⊥) → length (plantedIn d l j m) ≤ 140 → after ≡ plantedIn d l j m
-  unfolding plantedIn
+  unfolding slot
   elsewhere other short =
       rw (getD-set-other l (32 * k + i) (32 * j + m) (length b) 0 other) (go (decLt (32 * j + m) (32 * k + i)))
     where

@@ -1,4 +1,4 @@
-// The bytes planted in the round that waits: a slot of 140 bytes and a length for each link, as a round is played from them.
+// Frames side by side: a slot of 140 bytes and a length for each. The bytes planted in a round have a slot for each link.
 ghost use mathlib.Core.Bool.{cond, _&&_};
 ghost use mathlib.Core.List.{List, []};
 ghost use mathlib.Core.Path.{_≡_};
@@ -6,7 +6,31 @@ ghost use Prim.Native.Nat.{ℕ, _+_, _*_, _≤_, _<_};
 ghost use lib.Dec.{eqb};
 ghost use lib.ListN.{length, getD, set};
 ghost use lib.Seq.{paste};
-ghost use Rattle.play.specs.Memory.{plantedIn};
+ghost use Rattle.slots.specs.Slots.{slot, plantedIn};
+
+// The bytes of slot k, as many as its length says, and are there.
+pub fn slot<'a, 'b>(bytes: &'a [u8], lengths: &'b [u8], k: u16) -> &'a [u8]
+    ensures { λ r. ⌜ now r ≡ slot (now (bytes .entry)) (now (lengths .entry)) k ⌝ }
+{
+    let from = 140 * (k as usize);
+    let size = bytes.len();
+    if size <= from {
+        return &bytes[..0];
+    }
+    let len = fields::byte_at(lengths, k as usize) as usize;
+    if size - from <= len {
+        return &bytes[from..];
+    }
+    let to = from + len;
+    &bytes[from..to]
+}
+
+// The bytes planted on the link from k to i.
+pub fn planted<'a, 'b>(bytes: &'a [u8], lengths: &'b [u8], k: u8, i: u8) -> &'a [u8]
+    ensures { λ r. ⌜ now r ≡ plantedIn (now (bytes .entry)) (now (lengths .entry)) k i ⌝ }
+{
+    slot(bytes, lengths, 32 * (k as u16) + (i as u16))
+}
 
 // Every length is 0.
 fn wipe(lengths: &mut [u8])

@@ -4,7 +4,8 @@ use mathlib.Core.Bool.{cond}
 use denote.Ref.{now}
 use borrow.Author.Needs.{needs}
 use Rattle.terms.specs.declared.Table.{Table}
-use Rattle.play.specs.Memory.{hears, plantedIn, rowIn}
+use Rattle.play.specs.Memory.{hears, rowIn}
+use Rattle.slots.specs.Slots.{plantedIn}
 use Rattle.collection.proofs.Lists.{heard-list}
 use Rattle.collection.proofs.collect.Statement.{statement}
 use Rattle.collection.proofs.collect.Tie as tie

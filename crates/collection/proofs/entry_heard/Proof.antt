@@ -17,14 +17,14 @@ returns : tie.Need-returns
 unfolding heard
 returns c = rw (sym (c .before .marked .ensures) ∙ not-true _ (c .if1 .taken))
 
-cast-planted-frame : tie.Need-cast-planted-frame
-cast-planted-frame c = search needs
+cast-planted : tie.Need-cast-planted
+cast-planted c = search needs
 
-cast-planted-frame-2 : tie.Need-cast-planted-frame-2
-cast-planted-frame-2 c = search needs
+cast-planted-2 : tie.Need-cast-planted-2
+cast-planted-2 c = search needs
 
-planted-frame-requires : tie.Need-planted-frame-requires
-planted-frame-requires c κs = search needs
+planted-requires : tie.Need-planted-requires
+planted-requires c κs = search needs
 
 head-count-requires : tie.Need-head-count-requires
 head-count-requires c κs = search needs
@@ -44,7 +44,7 @@ returns-2 c =
     let m = w .before in
     let a = m .before .before .before .args in
     rw (sym (m .marked .ensures) ∙ not-false _ (w .if1 .left))
-    (c .entry-in .ensures ∙ ap₂ (λ (n : ℕ) (s : List ℕ). entryOf (said n (a .s .phase) 0 (a .k) s)) (h .head-count .ensures) (p .planted-frame .ensures))
+    (c .entry-in .ensures ∙ ap₂ (λ (n : ℕ) (s : List ℕ). entryOf (said n (a .s .phase) 0 (a .k) s)) (h .head-count .ensures) (p .planted .ensures))
 
 pub entry-heard-spec : {M : Type 1} → statement M
 entry-heard-spec =
@@ -52,9 +52,9 @@ entry-heard-spec =
     (tie.spec
     marked-requires
     returns
-    cast-planted-frame
-    cast-planted-frame-2
-    planted-frame-requires
+    cast-planted
+    cast-planted-2
+    planted-requires
     head-count-requires
     cast-entry-in
     entry-in-requires

@@ -8,7 +8,8 @@ use borrow.Author.Needs.{needs}
 use lib.ListN.{length, length-set}
 use Rattle.marks.specs.Marks.{bitOf}
 use Rattle.entries.specs.Tables.{tableOf}
-use Rattle.play.specs.Memory.{heads, plantedIn, rowIn}
+use Rattle.play.specs.Memory.{heads, rowIn}
+use Rattle.slots.specs.Slots.{plantedIn}
 use Rattle.collection.specs.Inner.{heardFrom}
 use Rattle.play.proofs.Filling.{Filled, filled-none, filled-passed}
 use Rattle.collection.proofs.Lists.{filled-row}

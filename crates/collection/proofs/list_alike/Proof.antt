@@ -3,7 +3,8 @@ use mathlib.Core.Path.{ap, _∙_}
 use denote.Ref.{now}
 use borrow.Author.Needs.{needs}
 use Rattle.entries.specs.Tables.{tableOf}
-use Rattle.play.specs.Memory.{heads, plantedIn}
+use Rattle.play.specs.Memory.{heads}
+use Rattle.slots.specs.Slots.{plantedIn}
 use Rattle.collection.proofs.Lists.{heard-alike}
 use Rattle.collection.proofs.list_alike.Statement.{statement}
 use Rattle.collection.proofs.list_alike.Tie as tie

@@ -10,7 +10,7 @@ use Rattle.terms.specs.declared.Entry.{Entry}
 use Rattle.entries.specs.Entries.{zeros}
 use Rattle.entries.specs.Tables.{mark, number, marksOf, numbersOf}
 use Rattle.trust.proofs.Tables.{marks-next, marks-fit, numbers-next}
-use Rattle.play.specs.Memory.{plantedIn}
+use Rattle.slots.specs.Slots.{plantedIn}
 use Rattle.collection.specs.Inner.{heardFrom}
 use Rattle.collection.proofs.Lists.{table-filled}
 use Rattle.collection.proofs.list_for.Statement.{statement}

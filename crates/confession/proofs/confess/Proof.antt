@@ -6,7 +6,8 @@ use denote.Ref.{now}
 use borrow.Author.Needs.{needs}
 use lib.ListN.{getD}
 use lib.IntN.{ℤ, pos}
-use Rattle.play.specs.Memory.{hears, plantedIn}
+use Rattle.play.specs.Memory.{hears}
+use Rattle.slots.specs.Slots.{plantedIn}
 use Rattle.confession.proofs.Settling.{alike-untold, new-settled}
 use Rattle.confession.proofs.confess.Statement.{statement}
 use Rattle.confession.proofs.confess.Tie as tie

@@ -10,7 +10,8 @@ use borrow.Author.Needs.{needs}
 use lib.ListN.{length, getD, length-set}
 use lib.IntN.{pos}
 use Rattle.marks.specs.Marks.{bitOf}
-use Rattle.play.specs.Memory.{heads, plantedIn}
+use Rattle.play.specs.Memory.{heads}
+use Rattle.slots.specs.Slots.{plantedIn}
 use Rattle.confession.specs.Inner.{Kept, givenPlanted, settledFrom}
 use Rattle.play.proofs.Filling.{Filled, filled-none, filled-passed, filled-set}
 use Rattle.confession.proofs.Settling.{untold-kept, planted-kept}

@@ -14,7 +14,8 @@ use Rattle.convergence.specs.Trust.{Given, nothing}
 use Rattle.codec.specs.Said.{said}
 use Rattle.trust.specs.Received.{givenBy}
 use Rattle.record.specs.Record.{givenOf}
-use Rattle.play.specs.Memory.{heads, plantedIn}
+use Rattle.play.specs.Memory.{heads}
+use Rattle.slots.specs.Slots.{plantedIn}
 use Rattle.confession.specs.Inner.{Received, givenPlanted}
 use Rattle.play.proofs.Filling.{filledTo}
 use Rattle.confession.proofs.Received.{rows-kept, received-start, received-passed, received-heard}
@@ -44,14 +45,14 @@ loop-holds c =
 marked-requires : tie.Need-marked-requires Inv-loop μ-loop
 marked-requires c κs = search needs
 
-cast-planted-frame : tie.Need-cast-planted-frame Inv-loop μ-loop
-cast-planted-frame c = search needs
+cast-planted : tie.Need-cast-planted Inv-loop μ-loop
+cast-planted c = search needs
 
-cast-planted-frame-2 : tie.Need-cast-planted-frame-2 Inv-loop μ-loop
-cast-planted-frame-2 c = search needs
+cast-planted-2 : tie.Need-cast-planted-2 Inv-loop μ-loop
+cast-planted-2 c = search needs
 
-planted-frame-requires : tie.Need-planted-frame-requires Inv-loop μ-loop
-planted-frame-requires c κs = search needs
+planted-requires : tie.Need-planted-requires Inv-loop μ-loop
+planted-requires c κs = search needs
 
 hear-requires : tie.Need-hear-requires Inv-loop μ-loop
 hear-requires c κs = search needs
@@ -103,9 +104,9 @@ hear-planted-spec =
     cast-count
     loop-holds
     marked-requires
-    cast-planted-frame
-    cast-planted-frame-2
-    planted-frame-requires
+    cast-planted
+    cast-planted-2
+    planted-requires
     hear-requires
     add-k
     loop-less

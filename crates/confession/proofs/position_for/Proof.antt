@@ -4,7 +4,7 @@ use mathlib.Core.Path.{refl, _∙_}
 use mir.Facts.{toZ-ofZ}
 use denote.Ref.{now}
 use borrow.Author.Needs.{needs}
-use Rattle.play.specs.Memory.{plantedIn}
+use Rattle.slots.specs.Slots.{plantedIn}
 use Rattle.confession.specs.Inner.{givenPlanted}
 use Rattle.confession.proofs.Settling.{settled-received, alike-settled}
 use Rattle.confession.proofs.position_for.Statement.{statement}

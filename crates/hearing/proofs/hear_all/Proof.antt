@@ -13,7 +13,7 @@ use Rattle.record.specs.declared.Head.{Head}
 use Rattle.record.specs.declared.Answer.{Answer}
 use Rattle.record.specs.Calls.{hear, hearAll}
 use Rattle.record.proofs.Hearing.{Kept, keptOf, all-keep}
-use Rattle.hearing.specs.Slots.{slot}
+use Rattle.slots.specs.Slots.{slot}
 use Rattle.hearing.specs.Steps.{saidOn}
 use Rattle.hearing.proofs.Held.{full}
 use Rattle.hearing.proofs.AllLinks.{first-32, next-link}
@@ -33,6 +33,9 @@ link-count-requires c κs = search needs
 loop-holds : tie.Need-loop-holds Inv-loop μ-loop
 unfolding hearAll
 loop-holds c = (search needs, refl)
+
+cast-slot : tie.Need-cast-slot Inv-loop μ-loop
+cast-slot c = search needs
 
 slot-requires : tie.Need-slot-requires Inv-loop μ-loop
 slot-requires c κs = search needs
@@ -67,8 +70,8 @@ table-in-requires c κs = search needs
 with-list-requires : tie.Need-with-list-requires Inv-loop μ-loop
 with-list-requires c κs = search needs
 
-mul-t24 : tie.Need-mul-t24 Inv-loop μ-loop
-mul-t24 c = search needs
+mul-t27 : tie.Need-mul-t27 Inv-loop μ-loop
+mul-t27 c = search needs
 
 element-set-from-next : tie.Need-element-set-from-next Inv-loop μ-loop
 element-set-from-next c = search needs
@@ -91,7 +94,7 @@ loop-less c = search needs
 -- where a link has spoken: what was heard so far kept what the link spoke to
 module _ (c : tie.After-said-on Inv-loop μ-loop) where
   abbrev here : tie.At-loop Inv-loop μ-loop
-  here = c .before .before .before
+  here = c .before .before .before .before
 
   abbrev first : tie.Start Inv-loop μ-loop
   first = here .before .before .before
@@ -150,6 +153,7 @@ hear-all-spec =
     μ-loop
     link-count-requires
     loop-holds
+    cast-slot
     slot-requires
     cast-said-on
     said-on-requires
@@ -161,7 +165,7 @@ hear-all-spec =
     with-mark-requires-2
     table-in-requires
     with-list-requires
-    mul-t24
+    mul-t27
     element-set-from-next
     enum-told-3
     with-mark-requires-3

@@ -1,7 +1,7 @@
 -- `slots::clear` meets its contract: of a slot whose length is 0 nothing is planted.
 use Prim.Native.Nat.{_+_, _*_}
 use borrow.Author.Needs.{needs}
-use Rattle.play.proofs.Frames.{planted-none}
+use Rattle.slots.proofs.Parts.{planted-none}
 use Rattle.slots.proofs.clear.Statement.{statement}
 use Rattle.slots.proofs.clear.Tie as tie
 

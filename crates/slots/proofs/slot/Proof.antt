@@ -1,16 +1,10 @@
--- `play::planted_frame` meets its contract: a slot past the end is empty, one that the bytes cut short is what is left of them, and any other is whole.
+-- `slots::slot` meets its contract: a slot past the end is empty, one that the bytes cut short is what is left of them, and any other is whole.
 use native.Mathlib.Omega.{arith}
 use denote.Ref.{now}
 use borrow.Author.Needs.{needs}
-use Rattle.play.proofs.Frames.{planted-past, planted-short, planted-whole}
-use Rattle.play.proofs.planted_frame.Statement.{statement}
-use Rattle.play.proofs.planted_frame.Tie as tie
-
-mul-slot : tie.Need-mul-slot
-mul-slot c = search needs
-
-add-slot : tie.Need-add-slot
-add-slot c = search needs
+use Rattle.slots.proofs.Parts.{slot-past, slot-short, slot-whole}
+use Rattle.slots.proofs.slot.Statement.{statement}
+use Rattle.slots.proofs.slot.Tie as tie
 
 mul-from : tie.Need-mul-from
 mul-from c = search needs
@@ -21,7 +15,7 @@ slice-aggregate-result c = search needs
 returns : tie.Need-returns
 returns c =
     let a = c .before .before .before .before .args in
-    planted-past (now (a .planted)) (now (a .lengths)) (a .k) (a .i) (search needs)
+    slot-past (now (a .bytes)) (now (a .lengths)) (a .k) (search needs)
 
 byte-at-requires : tie.Need-byte-at-requires
 byte-at-requires c κs = search needs
@@ -44,7 +38,7 @@ part-result-end c = search needs
 returns-2 : tie.Need-returns-2
 returns-2 c =
     let a = c .before .before .before .before .before .before .args in
-    planted-short (now (a .planted)) (now (a .lengths)) (a .k) (a .i) (c .before .before .byte-at .ensures) (omega arith)
+    slot-short (now (a .bytes)) (now (a .lengths)) (a .k) (c .before .before .byte-at .ensures) (omega arith)
 
 add-to : tie.Need-add-to
 add-to c = search needs
@@ -61,14 +55,12 @@ part-result-end-2 c = search needs
 returns-3 : tie.Need-returns-3
 returns-3 c =
     let a = c .before .before .before .before .before .before .args in
-    planted-whole (now (a .planted)) (now (a .lengths)) (a .k) (a .i) (c .before .before .byte-at .ensures)
+    slot-whole (now (a .bytes)) (now (a .lengths)) (a .k) (c .before .before .byte-at .ensures)
 
-pub planted-frame-spec : {M : Type 1} → statement M
-planted-frame-spec =
+pub slot-spec : {M : Type 1} → statement M
+slot-spec =
     tie.close
     (tie.spec
-    mul-slot
-    add-slot
     mul-from
     slice-aggregate-result
     returns
