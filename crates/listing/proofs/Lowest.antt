@@ -57,9 +57,20 @@ module _ (struck : ℕ) (ps : List ℤ) {j : ℕ} {low high : Entry} (f : Found 
 
 -- ---- of two phase ends that say the same of each head
 
-pub found-same : (e e′ : End) (n : ℕ) → Each n (λ j. soundAt e j ≡ soundAt e′ j) → Found n e′ (lowest n e) (highest n e)
+found-same : (e e′ : End) (n : ℕ) → Each n (λ j. soundAt e j ≡ soundAt e′ j) → Found n e′ (lowest n e) (highest n e)
 unfolding lowest highest
 found-same e e′ zero h = record { is-low = refl; is-high = refl }
 found-same e e′ (suc n) h =
     let f = found-same e e′ n (each-less h) in
     record { is-low = cc (each-last h); is-high = cc (each-last h) }
+
+sound-same : (b : Bool) (x y : Entry) → (b ≡ false → x ≡ y) → cond b Null x ≡ cond b Null y
+sound-same true x y h = refl
+sound-same false x y h = h refl
+
+-- an array that holds the positions of the heads that are not struck
+pub found-held : (n struck : ℕ) (at : ℕ → Entry) (positions : List ℤ)
+    → Each n (λ i. bitOf struck i ≡ false → at i ≡ Position (getD positions i (pos 0)))
+    → let e : End = record { struck = bitOf struck; at = at } in Found n (endIn struck positions) (lowest n e) (highest n e)
+unfolding endIn
+found-held n struck at positions h = found-same _ (endIn struck positions) n (λ i l. sound-same (bitOf struck i) _ _ (h i l))

@@ -13,7 +13,6 @@ use Rattle.terms.specs.Refusals as refusal
 use Rattle.runfile.specs.RunFile.{File, unread, lengthOf, kindOf, judged, stopped, withPart, feed, readFile}
 use Rattle.runfile.specs.Listing.{shown}
 use Rattle.runfile.proofs.Streaming.{feed-append, part-shows}
-use Rattle.runfile.proofs.Demand3.{every-file}
 use Rattle.runfile.proofs.Whole.{stands, Cut, Heads, heads-take, heads-stand, stands-long, feed-cut, feed-refused, feed-whole, feed-stopped, judged-empty, kept, kept-on}
 use Rattle.listing.specs.declared.Text.{Text}
 use Rattle.listing.specs.Texts.{bytesOf}
@@ -22,10 +21,17 @@ use Rattle.reader.specs.declared.Took.{Took}
 use Rattle.player.specs.Leads.{Tells, Holds}
 use Rattle.reader.specs.Next.{Next}
 use Rattle.listing.proofs.Writing.{empty-text}
+use Rattle.rounds.proofs.Converging.{held-converges}
 use Rattle.reader.proofs.Records.{stopped-next}
 use Rattle.piece.specs.declared.Fed.{Fed}
 use Rattle.piece.specs.Leads.{Leads, Follows}
 use Rattle.piece.specs.Inner.{Missing, Whole, Headed, Quiet, Taken, Used}
+
+-- where a and the bytes after it lead, and with what they show, demand 3 is kept
+pub shows-there : {a xs : List ℕ} {p : Player} {text carry : List ℕ} {positions : List ℤ} {marks : List ℕ} {lists : List (List ℤ)} {planted lengths : List ℕ}
+    → Leads (a ++ xs) p carry positions marks lists planted lengths → shown (readFile (a ++ xs)) ≡ shown (readFile a) ++ text
+    → Follows a xs p text carry positions marks lists planted lengths
+shows-there {a} {xs} L s = record { leads = L; shows = s; demand3 = held-converges false (a ++ xs) (L .holds .keeps) }
 
 -- the bytes make G of the file, and the player q stands there
 follows : {a xs : List ℕ} {p : Player} {text carry : List ℕ} {positions : List ℤ} {marks : List ℕ} {lists : List (List ℤ)} {planted lengths : List ℕ}
@@ -34,11 +40,7 @@ follows : {a xs : List ℕ} {p : Player} {text carry : List ℕ} {positions : Li
     → Follows a xs p text carry positions marks lists planted lengths
 follows {a} {xs} q G e f t part h m s =
     let is : readFile (a ++ xs) ≡ G = feed-append unread a xs ∙ f in
-    record {
-      leads = record { tells = rw (e, is) t; part = rw (e, is) part; have = rw (e, is) h; holds = rw is m };
-      shows = rw is s;
-      demand3 = every-file (a ++ xs);
-    }
+    shows-there (record { tells = rw (e, is) t; part = rw (e, is) part; have = rw (e, is) h; holds = rw is m }) (rw is s)
 
 pub used-as : {a : List ℕ} {p : Player} {text carry : List ℕ} {positions : List ℤ} {marks : List ℕ} {lists : List (List ℤ)} {planted lengths : List ℕ}
     {m n : ℕ} (rest : List ℕ) → m ≡ n → Follows a (take n rest) p text carry positions marks lists planted lengths

@@ -1,2 +1,3 @@
 pub mod Played
+pub mod Converged
 pub mod Inner

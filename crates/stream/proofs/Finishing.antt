@@ -1,5 +1,5 @@
 -- The end of the file: by the player's numbers it ends as the definition says, and what is left to show is the last round's line, where it is played, and
--- the verdict.
+-- the verdict. The memory then holds what the rounds played leave, which keeps demand 3.
 use mathlib.Core.Path.{_≡_, refl, ap, sym, _∙_}
 use mathlib.Core.Bool.{Bool, true, false, cond, _&&_, true≢false}
 use mathlib.Core.List.{List, [], _∷_, _++_, append-assoc}
@@ -11,17 +11,18 @@ use lib.IntN.{ℤ}
 use borrow.Author.Tests.{eqb-true, eqb-false, eq-eqb, ne-eqb}
 use Rattle.terms.specs.Refusals as refusal
 use Rattle.terms.specs.Refusals.{check}
-use Rattle.ring.specs.Rounds.{Round, endsAfter}
+use Rattle.ring.specs.Rounds.{Round, ringAfter, endsAfter}
 use Rattle.runfile.specs.RunFile.{File, isEmpty, thenPlayed, readFile, ending, roundsPlayed, endsPlayed}
 use Rattle.runfile.specs.Listing.{title, lines, verdict, shown, listingOf}
-use Rattle.runfile.proofs.Demand3.{every-file}
 use Rattle.listing.specs.declared.Text.{Text}
 use Rattle.listing.specs.Texts.{bytesOf}
 use Rattle.player.specs.declared.Player.{Player}
+use Rattle.player.specs.Keeps.{Keeps}
 use Rattle.rounds.specs.Played.{Played}
 use Rattle.piece.specs.Leads.{Leads}
 use Rattle.stream.specs.Ends.{Ends}
 use Rattle.stream.specs.Inner.{endingOf}
+use Rattle.rounds.proofs.Converging.{held-converges}
 use Rattle.piece.proofs.Feeding.{unshown}
 
 empty-length : (l : List ℕ) → isEmpty l ≡ eqb (length l) 0
@@ -53,32 +54,30 @@ module _ {a : List ℕ} {p : Player} {carry : List ℕ} {positions : List ℤ} {
   unfolding ending endingOf
   ends-by = rw (empty-length (F .part), ← L .have, L .tells .fault, L .tells .begun, L .tells .given)
 
-  ends : {line v : Text} → title ++ lines (F .n) (endsPlayed F) ≡ shown F ++ bytesOf line → bytesOf v ≡ verdict (endingOf p)
-      → Ends a (record { line = line; verdict = v })
-  unfolding listingOf
-  ends l v = record { shows = rw (l, v, ends-by); demand3 = every-file a }
+  -- the rounds ws are played in all, and the memory holds what they leave
+  ends : {line v : Text} {positions′ : List ℤ} {marks′ : List ℕ} {lists′ : List (List ℤ)} (ws : List Round) → roundsPlayed F ≡ ws
+      → title ++ lines (F .n) (cond (F .begun) (endsAfter (F .n) (F .f) (F .first) ws) []) ≡ shown F ++ bytesOf line → bytesOf v ≡ verdict (endingOf p)
+      → (F .begun ≡ true → Keeps (F .n) (ringAfter (F .n) (F .f) (F .first) ws) positions′ marks′ lists′)
+      → Ends a (record { line = line; verdict = v }) positions′
+  unfolding listingOf endsPlayed roundsPlayed
+  ends ws e l v K = record { shows = rw (e, l, v, ends-by); demand3 = held-converges (eqb (ending F) 0) a (rw (← e) at K) }
 
   -- the round that waits is played
   pub ends-played : {line v : Text} {positions′ : List ℤ} {marks′ : List ℕ} {lists′ : List (List ℤ)} {n : ℕ} → n ≡ endingOf p → n ≡ 0 → p .waits ≡ true
-      → bytesOf v ≡ verdict n → (F .begun ≡ true → F .waits ≡ true → Played F line positions′ marks′ lists′) → Ends a (record { line = line; verdict = v })
-  unfolding shown endsPlayed roundsPlayed
+      → bytesOf v ≡ verdict n → (F .begun ≡ true → F .waits ≡ true → Played F line positions′ marks′ lists′)
+      → Ends a (record { line = line; verdict = v }) positions′
+  unfolding shown roundsPlayed ringAfter
   ends-played {line} {n} e z w v P =
       let begun = L .tells .begun ∙ begun-by p (sym e ∙ z) in
       let waits = L .tells .waits ∙ w in
-      ends (go (F .begun) (eqb (ending F) 0) (F .waits) begun (eq-eqb (ending F) 0 (ends-by ∙ sym e ∙ z)) waits (P begun waits .shows)) (v ∙ ap verdict e)
-    where
-      go : (b ok w : Bool) → b ≡ true → ok ≡ true → w ≡ true
-          → lines (F .n) (endsAfter (F .n) (F .f) (F .first) (F .last ∷ F .played)) ≡ lines (F .n) (endsAfter (F .n) (F .f) (F .first) (F .played)) ++ bytesOf line
-          → title ++ lines (F .n) (cond b (endsAfter (F .n) (F .f) (F .first) (cond ok (thenPlayed w (F .played) (F .last)) (F .played))) [])
-          ≡ title ++ lines (F .n) (cond b (endsAfter (F .n) (F .f) (F .first) (F .played)) []) ++ bytesOf line
-      go b ok w p q r shows = rw (p, q, r, shows) (sym (append-assoc title _ (bytesOf line)))
+      let played = P begun waits in
+      ends (F .last ∷ F .played) (rw (eq-eqb (ending F) 0 (ends-by ∙ sym e ∙ z), waits)) (rw (begun, played .shows) (sym (append-assoc title _ (bytesOf line))))
+      (v ∙ ap verdict e) (λ b. played .keeps)
 
   -- no round is played
   pub ends-unplayed : {line v : Text} {n : ℕ} → n ≡ endingOf p → (n ≡ 0 → p .waits ≡ false) → bytesOf v ≡ verdict n → line .len ≡ 0
-      → Ends a (record { line = line; verdict = v })
-  unfolding shown endsPlayed roundsPlayed
+      → Ends a (record { line = line; verdict = v }) positions
+  unfolding shown roundsPlayed
   ends-unplayed {line} {n} e none v empty =
       let same = unplayed (eqb (ending F) 0) (F .waits) (F .played) (F .last) (λ t. L .tells .waits ∙ none (e ∙ sym ends-by ∙ eqb-true (ending F) 0 t)) in
-      ends
-      (unshown line (ap (λ (ws : List Round). title ++ lines (F .n) (cond (F .begun) (endsAfter (F .n) (F .f) (F .first) ws) [])) same) empty)
-      (v ∙ ap verdict e)
+      ends (F .played) same (unshown line refl empty) (v ∙ ap verdict e) (L .holds .keeps)

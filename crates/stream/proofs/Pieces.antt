@@ -9,14 +9,13 @@ use lib.Seq.{take-add, take-all}
 use lib.IntN.{ℤ}
 use Rattle.runfile.specs.RunFile.{readFile}
 use Rattle.runfile.specs.Listing.{shown}
-use Rattle.runfile.proofs.Demand3.{every-file}
 use Rattle.listing.specs.Texts.{bytesOf}
 use Rattle.player.specs.declared.Player.{Player}
 use Rattle.listing.proofs.Writing.{empty-text}
 use Rattle.piece.specs.declared.Fed.{Fed}
 use Rattle.piece.specs.Leads.{Leads, Follows}
 use Rattle.piece.specs.Inner.{Quiet}
-use Rattle.piece.proofs.Feeding.{used-as}
+use Rattle.piece.proofs.Feeding.{shows-there, used-as}
 
 -- the bytes from `at` on, as the code has them
 abbrev pub rest : ℕ → List ℕ → List ℕ
@@ -51,9 +50,7 @@ module _ {bytes : List ℕ} {p : Player} {carry₀ : List ℕ} {positions₀ : L
   at-first =
       record {
         within = omega arith;
-        follows =
-            λ a L.
-            record { leads = rw (append-nil a) L; shows = rw (append-nil a) (sym (append-nil (shown (readFile a)))); demand3 = every-file (a ++ take 0 bytes) };
+        follows = λ a L. shows-there (rw (append-nil a) L) (rw (append-nil a) (sym (append-nil (shown (readFile a)))));
       }
 
   module _ {q : Player} {carry : List ℕ} {positions : List ℤ} {marks : List ℕ} {lists : List (List ℤ)} {planted lengths : List ℕ} {at : ℕ} {text : List ℕ}
@@ -72,11 +69,8 @@ module _ {bytes : List ℕ} {p : Player} {carry₀ : List ℕ} {positions₀ : L
               let before = R .follows a L in
               let f = S (a ++ take at bytes) (before .leads) in
               let is = joined a at used bytes in
-              record {
-                leads = rw (← is) (f .leads);
-                shows = rw (← is) (f .shows ∙ ap (λ (l : List ℕ). l ++ text′) (before .shows) ∙ append-assoc (shown (readFile a)) text text′);
-                demand3 = every-file (a ++ take (at + used) bytes);
-              };
+              shows-there (rw (← is) (f .leads))
+              (rw (← is) (f .shows ∙ ap (λ (l : List ℕ). l ++ text′) (before .shows) ∙ append-assoc (shown (readFile a)) text text′));
         }
 
     pub text-as : {s : List ℕ} → s ≡ text

@@ -83,7 +83,7 @@ pub fn finish(
     ensures { λ r. ⌜ (r .line .len ≤ 64) × (r .verdict .len ≤ 64) ⌝ }
     ensures { λ r. ⌜ ((a carry : List ℕ)
         → Leads a p carry (now (positions .entry)) (now (marks .entry)) (now (lists .entry)) (now (planted .entry)) (now (lengths .entry))
-        → Ends a r) ⌝ }
+        → Ends a r (now (positions .exit))) ⌝ }
 {
     let number = ending(p);
     let verdict = listing::verdict_line(number);
