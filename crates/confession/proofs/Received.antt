@@ -16,9 +16,9 @@ use Rattle.marks.proofs.Marks.{bit-none, with-same, with-other}
 use Rattle.convergence.specs.Trust as trust
 use Rattle.convergence.specs.Trust.{Given, nothing, gave, hasConfessed}
 use Rattle.codec.specs.Said.{Meaning, refused, collected, listed, confessed}
-use Rattle.trust.specs.declared.Links.{Links}
-use Rattle.trust.specs.Received.{givenBy}
-use Rattle.trust.proofs.Received.{confessed-given}
+use Rattle.cells.specs.declared.Links.{Links}
+use Rattle.cells.specs.Received.{givenBy}
+use Rattle.cells.proofs.Received.{confessed-given}
 use Rattle.record.specs.Record.{givenOf}
 use Rattle.confession.specs.Inner.{linksWith, rowsWith, Received}
 use Rattle.play.proofs.Filling.{filledTo, filled-none, filled-passed, filled-stored, filled-yet}

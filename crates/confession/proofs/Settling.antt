@@ -21,8 +21,8 @@ use Rattle.codec.specs.declared.Said.{Said}
 use Rattle.codec.specs.Said.{listed, confessed, said, meant}
 use Rattle.codec.specs.Written.{frameOf}
 use Rattle.codec.proofs.OneMeaning.{nothing-said}
-use Rattle.trust.specs.declared.Links.{Links}
-use Rattle.trust.specs.Received.{givenBy}
+use Rattle.cells.specs.declared.Links.{Links}
+use Rattle.cells.specs.Received.{givenBy}
 use Rattle.record.specs.Record.{givenOf}
 use Rattle.play.specs.declared.Stage.{Stage}
 use Rattle.play.specs.Memory.{heads, rowIn, replies, givenEntry, positionOf, newPosition}

@@ -12,8 +12,8 @@ use Rattle.codec.specs.declared.Said.{Said}
 use Rattle.codec.specs.Said.{Meaning, refused, collected, listed, confessed, said}
 use Rattle.codec.specs.Written.{frameOf}
 use Rattle.midpoint.specs.Answers.{settling}
-use Rattle.trust.specs.declared.Links.{Links}
-use Rattle.trust.specs.Received.{givenBy}
+use Rattle.cells.specs.declared.Links.{Links}
+use Rattle.cells.specs.Received.{givenBy}
 use Rattle.record.specs.Record.{givenOf}
 use Rattle.record.specs.Calls.{withConfession, withList}
 use Rattle.play.specs.declared.Stage.{Stage}

@@ -6,15 +6,15 @@ ghost use Prim.Native.Nat.{ℕ, _<_};
 ghost use lib.ListN.{length, getD};
 ghost use lib.IntN.{pos};
 ghost use Rattle.codec.specs.Said.{said};
-ghost use Rattle.trust.specs.Received.{givenBy};
+ghost use Rattle.cells.specs.Received.{givenBy};
 ghost use Rattle.play.specs.Memory.{hears, newPosition};
 ghost use Rattle.slots.specs.Slots.{plantedIn};
 ghost use Rattle.confession.specs.Inner.{ownReply, replied, linksWith, rowsWith, Received, Kept, givenAlike, Untold, givenPlanted, Unplanted, settledFrom};
+use cells::Links;
 use codec::Said;
 use midpoint::Settled;
 use play::Stage;
 use terms::Table;
-use trust::Links;
 
 // Hears a confession frame on link k: a list goes to its row.
 fn hear(

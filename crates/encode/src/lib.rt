@@ -18,10 +18,10 @@ fn put_header(size: u16, kind: u16, sender: u8, phase: u16, buffer: &mut [u8])
     requires { ⌜ 7 ≤ length (now buffer) ⌝ }
     ensures { λ _. ⌜ now (buffer .exit) ≡ header size kind sender phase (drop 7 (now (buffer .entry))) ⌝ }
 {
-    fields::put_half(buffer, 0, size);
-    fields::put_half(buffer, 2, kind);
+    stores::put_half(buffer, 0, size);
+    stores::put_half(buffer, 2, kind);
     buffer[4] = sender;
-    fields::put_half(buffer, 5, phase);
+    stores::put_half(buffer, 5, phase);
 }
 
 // A frame of the common fields alone.
@@ -45,7 +45,7 @@ fn write_position(v: i32, sender: u8, phase: u16, buffer: &mut [u8]) -> Written
         return Written::Refused(refusal::BUFFER);
     }
     put_header(11, frames::POSITION, sender, phase, buffer);
-    fields::put_word(buffer, 7, fields::unsigned(v));
+    stores::put_word(buffer, 7, stores::unsigned(v));
     Written::Length(11)
 }
 
@@ -54,7 +54,7 @@ fn entry_word(entries: &[i32], j: usize) -> u32
     ensures { λ r. ⌜ r ≡ wordOf (getD (now (entries .entry)) j (pos 0)) ⌝ }
 {
     if j < entries.len() {
-        fields::unsigned(entries[j])
+        stores::unsigned(entries[j])
     } else {
         0
     }
@@ -67,7 +67,7 @@ fn put_entries(entries: &[i32], n: u8, buffer: &mut [u8])
     let count = n as usize;
     let mut j: usize = 0;
     while j < count {
-        fields::put_word(buffer, 12 + 4 * j, entry_word(entries, j));
+        stores::put_word(buffer, 12 + 4 * j, entry_word(entries, j));
         j += 1;
     }
 }
@@ -90,7 +90,7 @@ fn write_list(
     }
     put_header(size, frames::LIST, sender, phase, buffer);
     buffer[7] = n;
-    fields::put_word(buffer, 8, marks);
+    stores::put_word(buffer, 8, marks);
     put_entries(entries, n, buffer);
     Written::Length(size as usize)
 }

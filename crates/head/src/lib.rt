@@ -5,6 +5,7 @@ ghost use Rattle.terms.specs.Refusals.{check};
 ghost use Rattle.record.specs.Record.{noEntries, opened, rows};
 ghost use Rattle.record.specs.Calls.{start, restart, writeAnswer, writeBuffer, closedCollection, closedPhase, closeIn, close};
 ghost use Rattle.head.specs.Steps.{checkMember, isTime, saidBy};
+use cells::Links;
 use codec::Said;
 use codec::Written;
 use midpoint::Settled;
@@ -16,7 +17,6 @@ use record::Row;
 use terms::Entry;
 use terms::Table;
 use terms::refusal;
-use trust::Links;
 
 // A table of nulls.
 fn no_entries() -> Table

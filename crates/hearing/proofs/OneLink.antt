@@ -18,7 +18,7 @@ use Rattle.codec.specs.declared.Said.{Said}
 use Rattle.codec.specs.Said.{Meaning, refused, collected, listed, confessed, refusalOf, tableIn, meaning, unlessRefused, said, saidOf, meant}
 use Rattle.codec.specs.Proper.{Accepted}
 use Rattle.codec.proofs.OneMeaning.{meant-said}
-use Rattle.trust.specs.declared.Links.{Links}
+use Rattle.cells.specs.declared.Links.{Links}
 use Rattle.record.specs.declared.Row.{Row}
 use Rattle.record.specs.declared.Head.{Head}
 use Rattle.record.specs.declared.Answer.{Answer}

@@ -6,6 +6,7 @@ ghost use Rattle.codec.specs.Said.{saidOf};
 ghost use Rattle.record.specs.Calls.{withEntry, withConfession, withList, hear, hearAll};
 ghost use Rattle.slots.specs.Slots.{slot};
 ghost use Rattle.hearing.specs.Steps.{linkRefusal, saidOn};
+use cells::Links;
 use codec::Said;
 use record::Answer;
 use record::Head;
@@ -13,7 +14,6 @@ use record::Row;
 use terms::Entry;
 use terms::Table;
 use terms::refusal;
-use trust::Links;
 
 // Refusals 26, 3 and 21 of a link.
 fn link_refusal(ended: bool, n: u8, heard: u32, link: u32) -> u8
@@ -131,7 +131,7 @@ pub fn hear(h: Head, link: u32, frame: &[u8]) -> Answer
 pub fn hear_all(h: Head, frames: &[u8], lengths: &[u8; 32]) -> Head
     ensures { λ r. ⌜ r ≡ hearAll h (slot (now (frames .entry)) (now (lengths .entry))) (h .n) ⌝ }
 {
-    let count = trust::link_count(h.n);
+    let count = cells::link_count(h.n);
     let mut next = h;
     let mut k: usize = 0;
     while k < count {

@@ -4,12 +4,12 @@ ghost use mathlib.Core.List.{map};
 ghost use lib.IntN.{pos};
 ghost use Rattle.lent.specs.Answers.{heldNumber, heldOr};
 ghost use Rattle.layout.specs.Blocks.{entryIn, rowOf, listOf, headOf, focusOf, focusAnswer};
+use cells::Links;
 use record::Answer;
 use record::Head;
 use record::Row;
 use terms::Entry;
 use terms::Table;
-use trust::Links;
 
 // The numbers of a received list.
 #[repr(C)]

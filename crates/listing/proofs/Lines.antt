@@ -13,10 +13,12 @@ use Rattle.convergence.specs.Counting.{Each}
 use Rattle.convergence.specs.Phases.{apart, spread}
 use Rattle.ring.specs.Rounds.{PhaseEnd}
 use Rattle.runfile.specs.Listing.{decimal, textOf, line}
-use Rattle.listing.specs.Texts.{fields, endIn, endLine}
-use Rattle.listing.specs.Inner.{Found, spelled}
+use Rattle.listing.specs.Texts.{fields, endLine}
+use Rattle.spread.specs.Held.{endIn}
+use Rattle.spread.specs.Inner.{Found}
+use Rattle.listing.specs.Inner.{spelled}
 use Rattle.listing.proofs.Digits.{spelled-hex}
-use Rattle.listing.proofs.Lowest.{found-held}
+use Rattle.spread.proofs.Lowest.{found-held}
 
 pub fields-are : (p collect confess : ℕ) (ps : List ℤ) {n : ℕ} {low high : Entry} {wide : ℕ} → Found n (endIn confess ps) low high → wide ≡ apart low high
     → (decimal p ++ (32 ∷ []))

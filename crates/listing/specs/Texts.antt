@@ -1,13 +1,13 @@
--- The texts of the listing as the code makes them, and a phase end as the player holds it.
+-- The texts of the listing as the code makes them.
 use mathlib.Core.List.{List, [], _∷_, _++_}
 use Prim.Native.Nat.{ℕ}
-use lib.ListN.{getD, take}
-use lib.IntN.{ℤ, pos}
+use lib.ListN.{take}
+use lib.IntN.{ℤ}
 use Rattle.terms.specs.declared.Entry.{Entry}
-use Rattle.marks.specs.Marks.{bitOf}
-use Rattle.convergence.specs.Phases.{End, lowest, highest, spread}
+use Rattle.convergence.specs.Phases.{lowest, highest, spread}
 use Rattle.runfile.specs.Listing.{decimal, textOf, hex, spaced}
 use Rattle.listing.specs.declared.Text.{Text}
+use Rattle.spread.specs.Held.{endIn}
 
 -- the bytes of a text
 abbrev pub bytesOf : Text → List ℕ
@@ -23,11 +23,7 @@ fields p low high wide collect confess =
     (spaced (hex 8 collect)
     (hex 8 confess ++ (10 ∷ []))))))
 
--- a phase end: the mark word of the heads struck in its confession round, and the positions of the others
-unfoldable pub endIn : ℕ → List ℤ → End
-endIn struck positions = record { struck = bitOf struck; at = λ i. Entry.Position (getD positions i (pos 0)) }
-
--- its line
+-- the line of a phase end as the player holds it
 unfoldable pub endLine : ℕ → ℕ → List ℤ → ℕ → ℕ → List ℕ
 endLine n p positions collect confess =
     fields p (lowest n (endIn confess positions)) (highest n (endIn confess positions)) (spread n (endIn confess positions)) collect confess

@@ -2,24 +2,16 @@
 ghost use mathlib.Core.Path.{_≡_};
 ghost use mathlib.Core.List.{_∷_, [], _++_};
 ghost use Prim.Native.Nat.{_+_, _≤_, _<_};
-ghost use lib.ListN.{length, getD};
-ghost use lib.IntN.{pos};
-ghost use Rattle.convergence.specs.Phases.{join, apart};
+ghost use lib.ListN.{length};
 ghost use Rattle.runfile.specs.Listing.{size, decimal, whole, textOf, hexDigit, title, verdict};
-ghost use Rattle.listing.specs.Texts.{bytesOf, endIn, endLine};
-ghost use Rattle.listing.specs.Inner.{Longer, spelled, heightOf, outward, Found};
+ghost use Rattle.listing.specs.Texts.{bytesOf, endLine};
+ghost use Rattle.listing.specs.Inner.{Longer, spelled};
 use terms::Entry;
 
 // A text of up to 64 bytes: the first len of bytes.
 pub struct Text {
     pub len: usize,
     pub bytes: [u8; 64],
-}
-
-// The lowest and the highest position.
-struct Ends {
-    low: Entry,
-    high: Entry,
 }
 
 // The empty text.
@@ -100,24 +92,12 @@ fn put_number(t: Text, x: u32, after: u8) -> Text
     put_digits(t, 10, size_of(x), x, after)
 }
 
-// How far v lies above the lowest number of 32 bits.
-fn height(v: i32) -> u32
-    ensures { λ r. ⌜ r ≡ heightOf v ⌝ }
-{
-    let w = fields::unsigned(v);
-    if w < 2147483648 {
-        w + 2147483648
-    } else {
-        w - 2147483648
-    }
-}
-
 // A text with a position after it, and a space.
 fn put_position(t: Text, v: i32) -> Text
     requires { ⌜ t .len + 12 ≤ 64 ⌝ }
     ensures { λ r. ⌜ Longer t (whole v ++ (32 ∷ [])) 12 r ⌝ }
 {
-    let h = height(v);
+    let h = spread::height(v);
     if h < 2147483648 {
         put_number(put(t, b"-"), 2147483648 - h, b' ')
     } else {
@@ -156,72 +136,17 @@ pub fn verdict_line(number: u8) -> Text
     }
 }
 
-// The position of head j; 0 past the last.
-fn position_at(positions: &[i32], j: usize) -> i32
-    ensures { λ r. ⌜ r ≡ getD (now (positions .entry)) j (pos 0) ⌝ }
-{
-    if j < positions.len() { positions[j] } else { 0 }
-}
-
-// Of v and an entry's position, the lower one, or the higher.
-fn outer(v: i32, e: Entry, high: bool) -> Entry
-    ensures { λ r. ⌜ r ≡ join (outward high) (Entry.Position v) e ⌝ }
-{
-    let Entry::Position(w) = e else {
-        return Entry::Position(v);
-    };
-    if (v <= w) == high {
-        Entry::Position(w)
-    } else {
-        Entry::Position(v)
-    }
-}
-
-// The lowest and the highest position of the first n heads that the mark word leaves.
-fn ends_of(positions: &[i32; 32], struck: u32, n: u8) -> Ends
-    ensures { λ r. ⌜ Found n (endIn struck (now (positions .entry))) (r .low) (r .high) ⌝ }
-{
-    let count = n as usize;
-    let mut low = Entry::Null;
-    let mut high = Entry::Null;
-    let mut j: usize = 0;
-    while j < count {
-        if !marks::marked(struck, j) {
-            let v = position_at(positions, j);
-            low = outer(v, low, false);
-            high = outer(v, high, true);
-        }
-        j += 1;
-    }
-    Ends { low, high }
-}
-
-// How far apart two entries are; 0 where one is null.
-fn spread_of(low: Entry, high: Entry) -> u32
-    ensures { λ r. ⌜ r ≡ apart low high ⌝ }
-{
-    let Entry::Position(a) = low else {
-        return 0;
-    };
-    let Entry::Position(b) = high else {
-        return 0;
-    };
-    let x = height(a);
-    let y = height(b);
-    if x <= y { y - x } else { x - y }
-}
-
 // The line of a phase end: the positions of n heads, and the mark words of its two rounds.
 pub fn end_line(phase: u16, positions: &[i32; 32], n: u8, collect: u32, confess: u32) -> Text
     ensures { λ r. ⌜ bytesOf r ≡ endLine n phase (now (positions .entry)) collect confess ⌝ }
     ensures { λ r. ⌜ r .len ≤ 64 ⌝ }
 {
-    let e = ends_of(positions, confess, n);
+    let e = spread::ends_of(positions, confess, n);
     let low = e.low;
     let high = e.high;
     let t = put_number(empty(), phase as u32, b' ');
     let t = put_entry(put_entry(t, low), high);
-    let t = put_number(t, spread_of(low, high), b' ');
+    let t = put_number(t, spread::spread_of(low, high), b' ');
     let t = put_digits(t, 16, 8, collect, b' ');
     put_digits(t, 16, 8, confess, b'\n')
 }

@@ -1,5 +1,3 @@
--- What other crates may cite: one position put among others, the positions of a table in order, and settling from these.
-pub mod Insertion
-pub mod Ordering
+-- What other crates may cite: settling from positions in order, and the checks of the midpoint call.
 pub mod Middle
 pub mod Checks

@@ -15,8 +15,9 @@ use Rattle.terms.specs.declared.Entry.{Entry}
 use Rattle.convergence.specs.Settling.{nulls, trim, ordered, lowKept, highKept, middle, enough}
 use Rattle.convergence.proofs.Order.{length-ordered}
 use Rattle.midpoint.specs.declared.Settled.{Settled}
-use Rattle.midpoint.specs.Answers.{settling, orderOf, inOrder, settlingFrom}
-use Rattle.midpoint.proofs.Ordering.{padded-front}
+use Rattle.midpoint.specs.Answers.{settling, settlingFrom}
+use Rattle.order.specs.Orders.{orderOf, inOrder}
+use Rattle.order.proofs.Ordering.{padded-front}
 
 pub settling-from : (r n f : ℕ) (E : ℕ → Entry) → settling r n f E ≡ settlingFrom r n f (ordered n E)
 unfolding settling settlingFrom enough

@@ -43,7 +43,7 @@ fn trim_line(f: u8)
 
 fn put_entry(bytes: &mut [u8; 32], j: usize, v: i32) {
     if j < 8 {
-        fields::put_word(bytes, 4 * j, fields::unsigned(v));
+        stores::put_word(bytes, 4 * j, stores::unsigned(v));
     }
 }
 

@@ -6,8 +6,8 @@ use crate::halves;
 use crate::midpoints;
 use crate::print;
 use crate::wrong;
+use cells::Links;
 use midpoint::Settled;
-use trust::Links;
 
 // n, f, marks of the links that confessed, marks of those that gave the list, marks of its entries, the list
 struct Round(u8, u8, u32, u32, u32, [i32; 8]);

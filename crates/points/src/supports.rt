@@ -8,7 +8,7 @@ use crate::wrong;
 use Beside::Nulls;
 use Beside::Silence;
 use Beside::Support;
-use trust::Links;
+use cells::Links;
 
 // What is to stand beside our answer: the support of two positions, or what a wrong reading gives.
 enum Beside {

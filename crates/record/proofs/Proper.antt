@@ -26,7 +26,7 @@ use Rattle.convergence.proofs.Support.{not-null}
 use Rattle.codec.specs.Said.{collected}
 use Rattle.codec.specs.Proper.{ProperTable, Proper}
 use Rattle.codec.proofs.Listing.{and-both, numbers-none}
-use Rattle.trust.specs.declared.Links.{Links}
+use Rattle.cells.specs.declared.Links.{Links}
 use Rattle.record.specs.declared.Row.{Row}
 use Rattle.record.specs.declared.Head.{Head}
 use Rattle.record.specs.Record.{noEntries, noLinks, noLists, opened, rows}

@@ -23,7 +23,7 @@ use Rattle.convergence.proofs.Sums.{each-last, each-less}
 use Rattle.convergence.proofs.Support.{not-null, trusted-in-range}
 use Rattle.codec.specs.Proper.{ProperTable}
 use Rattle.codec.proofs.Listing.{and-both}
-use Rattle.trust.specs.Received.{givenBy}
+use Rattle.cells.specs.Received.{givenBy}
 use Rattle.record.specs.declared.Head.{Head}
 use Rattle.record.specs.Record.{given, trustedBy}
 use Rattle.record.proofs.Proper.{listFrom, ProperHead}

@@ -23,8 +23,8 @@ use Rattle.convergence.specs.Trust as Trust
 use Rattle.codec.specs.Said.{Meaning, refused, collected, listed, confessed, said}
 use Rattle.codec.specs.Proper.{ProperTable, Proper}
 use Rattle.codec.proofs.OneMeaning.{said-proper}
-use Rattle.trust.specs.declared.Links.{Links}
-use Rattle.trust.specs.Received.{givenBy}
+use Rattle.cells.specs.declared.Links.{Links}
+use Rattle.cells.specs.Received.{givenBy}
 use Rattle.record.specs.declared.Row.{Row}
 use Rattle.record.specs.declared.Head.{Head}
 use Rattle.record.specs.Record.{rows, given, entryOf, givenOf}

@@ -21,7 +21,7 @@ use Rattle.midpoint.specs.declared.Settled.the-variants as settled
 use Rattle.codec.specs.Said.{Meaning, refused, collected, listed, confessed, refusalOf, said}
 use Rattle.codec.specs.Written.{frameOf, written, buffered}
 use Rattle.codec.specs.declared.Written.{Written}
-use Rattle.trust.specs.declared.Links.{Links}
+use Rattle.cells.specs.declared.Links.{Links}
 use Rattle.record.specs.declared.Row.{Row}
 use Rattle.record.specs.declared.Head.{Head}
 use Rattle.record.specs.declared.Answer.{Answer}

@@ -11,8 +11,8 @@ use Rattle.entries.specs.Tables.{tableAt}
 use Rattle.convergence.specs.Trust as Trust
 use Rattle.convergence.specs.Trust.{Given, trusted}
 use Rattle.codec.specs.Said.{Meaning, refused, collected, listed, confessed}
-use Rattle.trust.specs.declared.Links.{Links}
-use Rattle.trust.specs.Received.{givenBy}
+use Rattle.cells.specs.declared.Links.{Links}
+use Rattle.cells.specs.Received.{givenBy}
 use Rattle.record.specs.declared.Row.{Row}
 use Rattle.record.specs.declared.Head.{Head}
 

@@ -1,9 +1,9 @@
 // The head's record and what the calls on it answer. No functions: specs/Calls.antt says what each call makes of the record.
 
+use cells::Links;
 use midpoint::Kept;
 use terms::Entry;
 use terms::Table;
-use trust::Links;
 
 // The numbers of a received list.
 pub struct Row {

@@ -15,8 +15,8 @@ use Rattle.ring.proofs.OnePhase.{endAt}
 use Rattle.runfile.specs.RunFile.{readFile}
 use Rattle.runfile.proofs.Taken.{taken}
 use Rattle.runfile.proofs.Demand3.{playedWith, played-converges}
-use Rattle.listing.specs.Texts.{endIn}
-use Rattle.listing.proofs.Lowest.{found-held}
+use Rattle.spread.specs.Held.{endIn}
+use Rattle.spread.proofs.Lowest.{found-held}
 use Rattle.player.specs.Keeps.{Keeps}
 use Rattle.rounds.specs.Converged.{Converged, ConvergedIn}
 

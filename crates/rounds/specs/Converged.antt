@@ -10,7 +10,7 @@ use Rattle.convergence.specs.Demand3.{Demand3}
 use Rattle.ring.specs.Rounds.{Round, endOf, ringAfter, endsAfter}
 use Rattle.ring.specs.Converges.{noEnd}
 use Rattle.runfile.specs.RunFile.{File}
-use Rattle.listing.specs.Texts.{endIn}
+use Rattle.spread.specs.Held.{endIn}
 
 abbrev pub Converged : ℕ → ℕ → (ℕ → ℤ) → List Round → List ℤ → Type 0
 Converged n f v ws positions =

@@ -16,7 +16,7 @@ use Rattle.frames.specs.Check.{checkFrame}
 use Rattle.codec.specs.Said.{refusalOf, tableIn, said}
 use Rattle.codec.specs.Written.{entryBytes}
 use Rattle.midpoint.specs.Answers.{settling}
-use Rattle.trust.specs.Received.{givenBy}
+use Rattle.cells.specs.Received.{givenBy}
 use Rattle.record.specs.Record.{noEntries, noLinks, noLists}
 use Rattle.record.specs.Calls.{started, restarted, hearRefusal, hear, hearAll, spoken, closedCollection, closedPhase, close}
 use Rattle.ring.specs.Rounds.{lost, openedAt, carried, closedAt, afterRound, firstHeads, ringAfter, endsAfter}

@@ -21,10 +21,10 @@ use Rattle.convergence.specs.Counting.{Each, sum, bit}
 use Rattle.convergence.specs.Trust.{is, choose}
 use Rattle.convergence.proofs.Sums.{sums-le}
 use Rattle.convergence.proofs.Support.{same-position, not-null, is-same, is-other}
-use Rattle.trust.specs.Cells.{entriesOf, Holds, standsIn, decided}
+use Rattle.cells.specs.Cells.{entriesOf, Holds, standsIn, decided}
 use Rattle.settle.specs.Leading.{sameNumber, isApart, agrees, alikeTo, apartFrom, agreeing, Decides}
 use Rattle.marks.proofs.Counts.{sum-next}
-use Rattle.trust.proofs.Cells.{holds-same}
+use Rattle.cells.proofs.Cells.{holds-same}
 use Rattle.trust.proofs.Search.{is-le, only-seen, none-seen}
 use Rattle.trust.proofs.Trusted.{decided-by-lists}
 

@@ -10,9 +10,9 @@ use Rattle.terms.specs.declared.Entry.{Entry}
 use Rattle.terms.specs.declared.Entry.the-variants.{Null, Position}
 use Rattle.convergence.specs.Settling.{insert, ordered}
 use Rattle.convergence.proofs.Order.{length-ordered}
-use Rattle.midpoint.specs.Answers.{padded, inserted}
-use Rattle.midpoint.proofs.Insertion.{insert-length}
-use Rattle.midpoint.proofs.Ordering.{Held, padded-insert}
+use Rattle.order.specs.Orders.{padded, inserted}
+use Rattle.order.proofs.Insertion.{insert-length}
+use Rattle.order.proofs.Ordering.{Held, padded-insert}
 use Rattle.marks.proofs.Counts.{first-32}
 
 module _ (E : ℕ → Entry) where

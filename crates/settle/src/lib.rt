@@ -6,13 +6,13 @@ ghost use lib.ListN.{length, getD};
 ghost use Rattle.marks.specs.Marks.{bitOf};
 ghost use Rattle.convergence.specs.Counting.{Each, bit};
 ghost use Rattle.convergence.specs.Trust.{trusted};
-ghost use Rattle.trust.specs.Received.{givenBy};
+ghost use Rattle.cells.specs.Received.{givenBy};
 ghost use Rattle.settle.specs.Leading.{sameNumber, isApart, alikeTo, apartFrom, agreeing, Follows, Decides};
-ghost use Rattle.trust.specs.Cells.{entriesOf, Holds, decided};
+ghost use Rattle.cells.specs.Cells.{entriesOf, Holds, decided};
 ghost use Rattle.midpoint.specs.Answers.{settling};
-use midpoint::Order;
+use cells::Links;
+use order::Order;
 use terms::Entry;
-use trust::Links;
 
 // How n lists stand to the list of one link, the lead: how many have its mark word, how many another one that is not 0, and for each entry how many of the
 // first have its number.
@@ -100,7 +100,7 @@ fn led_cell(
     if confesses {
         return 0;
     }
-    let x = trust::entry_cell(marks[lead], &lists[lead], j);
+    let x = cells::entry_cell(marks[lead], &lists[lead], j);
     if decides(x, need, alike, apart, same) {
         return x;
     }
@@ -119,9 +119,9 @@ fn settle_after(
     requires { ⌜ lead < 32 ⌝ }
     ensures { λ r. ⌜ r ≡ settling 0 n f (trusted n f (givenBy links (now (lists .entry)))) ⌝ }
 {
-    let need = trust::lists_needed(links.confessed, n, f);
-    let count = trust::link_count(n);
-    let given = trust::all_marks(links, n);
+    let need = cells::lists_needed(links.confessed, n, f);
+    let count = cells::link_count(n);
+    let given = cells::all_marks(links, n);
     let following = follow(lists, &given, count, lead);
     let alike = following.alike;
     let apart = following.apart;
@@ -143,7 +143,7 @@ fn settle_after(
             same[j] as usize,
         );
         if x != 0 {
-            midpoint::insert(&mut positions, len, trust::number_of(x));
+            order::insert(&mut positions, len, cells::number_of(x));
             len += 1;
         }
         j += 1;

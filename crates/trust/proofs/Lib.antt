@@ -1,7 +1,4 @@
--- Laws of the crate: cells of entries, what the links gave, the search of a column, and how these make the support and the trusted entries.
-pub mod Tests
-pub mod Cells
-pub mod Received
+-- Laws of the crate: the search of a column, and how the support and the trusted entries are made of what the links gave.
 pub mod Search
 pub mod Trusted
 pub mod Tables

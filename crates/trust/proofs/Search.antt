@@ -20,8 +20,8 @@ use Rattle.fields.specs.Bytes.{signedOf}
 use Rattle.convergence.specs.Counting.{sum, bit}
 use Rattle.convergence.specs.Trust.{is, Seen, none, one, many, pick, see, seeEntry, seen, choose}
 use Rattle.convergence.proofs.Sums.{bit-le}
-use Rattle.trust.specs.Cells.{entryOf, Holds, HoldsEach, equalTo, isAnother, standsIn}
-use Rattle.trust.proofs.Cells.{same-word, equal-held}
+use Rattle.cells.specs.Cells.{entryOf, Holds, HoldsEach, equalTo, isAnother, standsIn}
+use Rattle.cells.proofs.Cells.{same-word, equal-held}
 
 -- what was seen, from the cell found
 abbrev pub seenOf : ℕ → Seen

@@ -16,13 +16,13 @@ use Rattle.convergence.specs.Counting.{Each, sum, bit}
 use Rattle.convergence.specs.Trust.{Given, nothing, confessed, gave, is, supports, support, hasConfessed, confessions, saysOf, none, seen, choose, trusted}
 use Rattle.marks.proofs.Marks.{bit-above}
 use Rattle.convergence.proofs.Sums.{sums-le, sum-same}
-use Rattle.trust.specs.declared.Links.{Links}
-use Rattle.trust.specs.Received.{givenBy}
-use Rattle.trust.specs.Cells.{marksOfLink, entriesOf, Holds, standsIn, agreed, decided}
+use Rattle.cells.specs.declared.Links.{Links}
+use Rattle.cells.specs.Received.{givenBy}
+use Rattle.cells.specs.Cells.{marksOfLink, entriesOf, Holds, standsIn, agreed, decided}
 use Rattle.marks.proofs.Counts.{first-32}
-use Rattle.trust.proofs.Tests.{leb-rest, none-left}
-use Rattle.trust.proofs.Cells.{holds-same}
-use Rattle.trust.proofs.Received.{confessed-given, column-given, Words, given-past, says-past}
+use Rattle.cells.proofs.Tests.{leb-rest, none-left}
+use Rattle.cells.proofs.Cells.{holds-same}
+use Rattle.cells.proofs.Received.{confessed-given, column-given, Words, given-past, says-past}
 
 -- ---- confessions and lists
 

@@ -1,89 +1,17 @@
 // From what the links gave in a confession round to the trusted entries: support, and the one position that enough links support.
 ghost use mathlib.Core.Path.{_≡_};
 ghost use mathlib.Core.Bool.{false};
-ghost use Prim.Native.Nat.{ℕ, _+_, _-_, _≤_, _<_, min};
-ghost use lib.ListN.{length, getD};
-ghost use Rattle.marks.specs.Marks.{bitOf, markedTo};
-ghost use Rattle.entries.specs.Entries.{entryAt};
-ghost use Rattle.entries.specs.Tables.{tableOf, mark, number};
+ghost use Prim.Native.Nat.{ℕ, _+_, _-_, _≤_, _<_};
+ghost use lib.ListN.{length};
+ghost use Rattle.marks.specs.Marks.{bitOf};
+ghost use Rattle.entries.specs.Tables.{tableOf};
 ghost use Rattle.convergence.specs.Counting.{Each};
 ghost use Rattle.convergence.specs.Trust.{support, trusted, choose};
-ghost use Rattle.trust.specs.Received.{givenBy};
-ghost use Rattle.trust.specs.Cells.{marksGiven, marksOfLink, entriesOf, entryOf, Holds, HoldsEach, equalTo, isAnother, agreed, decided};
+ghost use Rattle.cells.specs.Received.{givenBy};
+ghost use Rattle.cells.specs.Cells.{entriesOf, Holds, HoldsEach, equalTo, isAnother, agreed, decided};
+use cells::Links;
 use terms::Entry;
 use terms::Table;
-
-// Which links confessed, which gave a list, and the mark words of the lists, which stand beside this.
-pub struct Links {
-    pub confessed: u32,
-    pub listed: u32,
-    pub marks: [u32; 32],
-}
-
-// How many links are looked at: those from 32 on gave nothing.
-pub fn link_count(n: u8) -> usize
-    ensures { λ r. ⌜ r ≡ min n 32 ⌝ }
-{
-    let count = n as usize;
-    if 32 < count { 32 } else { count }
-}
-
-// How many lists have to agree on a position for it to be trusted; 0 where the confessions alone reach n - f.
-pub fn lists_needed(confessed: u32, n: u8, f: u8) -> usize
-    ensures { λ r. ⌜ r ≡ n - f - markedTo confessed (min n 32) ⌝ }
-{
-    let c = marks::marked_to(confessed, link_count(n));
-    if n <= f {
-        return 0;
-    }
-    let reach = (n - f) as usize;
-    if reach <= c { 0 } else { reach - c }
-}
-
-// The cell of a position: one more than its word. The cell of a null entry is 0.
-fn cell_of(v: i32) -> u64
-    ensures { λ r. ⌜ Holds r (Entry.Position v) ⌝ }
-{
-    1 + fields::unsigned(v) as u64
-}
-
-// The mark word of what a link gave: that of its list, or 0.
-fn marks_given(confessed: bool, listed: bool, m: u32) -> u32
-    ensures { λ r. ⌜ r ≡ marksGiven confessed listed m ⌝ }
-{
-    if confessed {
-        return 0;
-    }
-    if listed { m } else { 0 }
-}
-
-// The mark words of what the first n links gave.
-pub fn all_marks(links: Links, n: u8) -> [u32; 32]
-    ensures { λ r. ⌜ Each (min n 32) (λ k. getD r k 0 ≡ marksOfLink links k) ⌝ }
-{
-    let count = link_count(n);
-    let mut marks = [0u32; 32];
-    let mut k: usize = 0;
-    while k < count {
-        let confessed = marks::marked(links.confessed, k);
-        let listed = marks::marked(links.listed, k);
-        marks[k] = marks_given(confessed, listed, links.marks[k]);
-        k += 1;
-    }
-    marks
-}
-
-// The cell of entry j of a list with the mark word m.
-pub fn entry_cell(m: u32, list: &[i32; 32], j: usize) -> u64
-    ensures { λ r. ⌜ Holds r (entryAt m (now (list .entry)) j) ⌝ }
-{
-    if marks::marked(m, j) {
-        if j < 32 {
-            return cell_of(list[j]);
-        }
-    }
-    0
-}
 
 // The cells of entry j of the first n lists.
 fn column(lists: &[[i32; 32]; 32], marks: &[u32; 32], n: usize, j: usize, cells: &mut [u64; 32])
@@ -92,7 +20,7 @@ fn column(lists: &[[i32; 32]; 32], marks: &[u32; 32], n: usize, j: usize, cells:
 {
     let mut k: usize = 0;
     while k < n {
-        cells[k] = entry_cell(marks[k], &lists[k], j);
+        cells[k] = cells::entry_cell(marks[k], &lists[k], j);
         k += 1;
     }
 }
@@ -171,63 +99,45 @@ pub fn trusted_cell(
     only(&cells, n, need)
 }
 
-// The mark of the entry that a cell holds.
-fn mark_of(x: u64) -> u32
-    ensures { λ r. ⌜ r ≡ mark (entryOf x) ⌝ }
-{
-    if x == 0 { 0 } else { 1 }
-}
-
-// The number of the entry that a cell holds.
-pub fn number_of(x: u64) -> i32
-    ensures { λ r. ⌜ (x ≤ 4294967296 → r ≡ number (entryOf x)) ⌝ }
-{
-    if x == 0 {
-        0
-    } else {
-        fields::signed(((x - 1) % 4294967296) as u32)
-    }
-}
-
 // The support of the position u for head j among n links.
 pub fn support(lists: [[i32; 32]; 32], links: Links, n: u8, j: usize, u: i32) -> usize
     ensures { λ r. ⌜ r ≡ support n (givenBy links lists) j u ⌝ }
 {
-    let count = link_count(n);
-    let given = all_marks(links, n);
+    let count = cells::link_count(n);
+    let given = cells::all_marks(links, n);
     let mut cells = [0u64; 32];
     column(&lists, &given, count, j, &mut cells);
-    marks::marked_to(links.confessed, count) + equal_to(&cells, count, cell_of(u))
+    marks::marked_to(links.confessed, count) + equal_to(&cells, count, cells::cell_of(u))
 }
 
 // Trusted entry j.
 pub fn trusted_entry(lists: [[i32; 32]; 32], links: Links, n: u8, f: u8, j: usize) -> Entry
     ensures { λ r. ⌜ r ≡ trusted n f (givenBy links lists) j ⌝ }
 {
-    let need = lists_needed(links.confessed, n, f);
-    let count = link_count(n);
-    let given = all_marks(links, n);
+    let need = cells::lists_needed(links.confessed, n, f);
+    let count = cells::link_count(n);
+    let given = cells::all_marks(links, n);
     let x = trusted_cell(&lists, &given, links.confessed, count, need, j);
     if x == 0 {
         return Entry::Null;
     }
-    Entry::Position(number_of(x))
+    Entry::Position(cells::number_of(x))
 }
 
 // The trusted entries of heads 0 .. n - 1.
 pub fn trusted_table(lists: [[i32; 32]; 32], links: Links, n: u8, f: u8) -> Table
     ensures { λ r. ⌜ r ≡ tableOf n (trusted n f (givenBy links lists)) ⌝ }
 {
-    let need = lists_needed(links.confessed, n, f);
-    let count = link_count(n);
-    let given = all_marks(links, n);
+    let need = cells::lists_needed(links.confessed, n, f);
+    let count = cells::link_count(n);
+    let given = cells::all_marks(links, n);
     let mut marks: u32 = 0;
     let mut entries = [0i32; 32];
     let mut j: usize = 0;
     while j < count {
         let x = trusted_cell(&lists, &given, links.confessed, count, need, j);
-        marks += mark_of(x) << j;
-        entries[j] = number_of(x);
+        marks += cells::mark_of(x) << j;
+        entries[j] = cells::number_of(x);
         j += 1;
     }
     Table { marks, entries }

@@ -12,7 +12,7 @@ use borrow.Author.Tests.{lt-ltb}
 use Rattle.marks.specs.Marks.{bitOf}
 use Rattle.convergence.specs.Trust.{Given, nothing}
 use Rattle.codec.specs.Said.{said}
-use Rattle.trust.specs.Received.{givenBy}
+use Rattle.cells.specs.Received.{givenBy}
 use Rattle.record.specs.Record.{givenOf}
 use Rattle.play.specs.Memory.{heads}
 use Rattle.slots.specs.Slots.{plantedIn}

@@ -3,7 +3,7 @@ use mathlib.Core.Path.{sym, _∙_}
 use denote.Ref.{now}
 use mir.Facts.{toZ-ofZ}
 use borrow.Author.Needs.{needs}
-use Rattle.trust.specs.Received.{givenBy}
+use Rattle.cells.specs.Received.{givenBy}
 use Rattle.confession.proofs.Settling.{settled-is}
 use Rattle.confession.proofs.settled.Statement.{statement}
 use Rattle.confession.proofs.settled.Tie as tie

@@ -9,7 +9,7 @@ use Rattle.convergence.specs.Phases.{rounding}
 use Rattle.convergence.specs.Trust.{trusted}
 use Rattle.midpoint.specs.Answers.{settling}
 use Rattle.midpoint.specs.declared.Settled.{Settled}
-use Rattle.trust.specs.Received.{givenBy}
+use Rattle.cells.specs.Received.{givenBy}
 use Rattle.record.specs.declared.Head.{Head}
 use Rattle.record.specs.Record.{rows, trustedBy}
 use borrow.Author.Needs.{needs}

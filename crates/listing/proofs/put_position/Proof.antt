@@ -1,14 +1,31 @@
 -- `listing::put_position` meets its contract: below zero a minus sign, and what the height lacks of 2^31; else what it has above.
 use mathlib.Core.Path.{_≡_, ap}
 use mathlib.Core.List.{List, [], _∷_, _++_}
-use Prim.Native.Nat.{ℕ}
+use Prim.Native.Nat.{ℕ, suc, _-_, _≤_, _<_}
 use native.Mathlib.Omega.{arith}
+use lib.IntN.{ℤ, pos, negsuc}
+use mir.Syntax.{w32}
+use mir.Val.{SFits}
 use borrow.Author.Needs.{needs}
-use Rattle.listing.specs.Inner.{heightOf}
-use Rattle.listing.proofs.Heights.{height-read, whole-below, whole-above}
+use Rattle.runfile.specs.Listing.{decimal, whole}
+use Rattle.spread.specs.Inner.{heightOf}
+use Rattle.spread.proofs.Heights.{height-read}
 use Rattle.listing.proofs.Writing.{longer-then, longer-as}
 use Rattle.listing.proofs.put_position.Statement.{statement}
 use Rattle.listing.proofs.put_position.Tie as tie
+
+-- a number is below zero where its height is below 2^31
+whole-below : (v : ℤ) {h : ℕ} → SFits w32 v → h ≡ heightOf v → h < 2147483648 → 45 ∷ decimal (2147483648 - h) ≡ whole v
+unfolding heightOf
+whole-below (pos n) f e l = absurd (omega arith)
+whole-below (negsuc n) {h} f e l =
+    let k : 2147483648 - h ≡ suc n = omega (arith, f .sfits) in
+    ap (λ (x : ℕ). 45 ∷ decimal x) k
+
+whole-above : (v : ℤ) {h : ℕ} → h ≡ heightOf v → 2147483648 ≤ h → decimal (h - 2147483648) ≡ whole v
+unfolding heightOf
+whole-above (pos n) {h} e l = let k : h - 2147483648 ≡ n = omega arith in ap decimal k
+whole-above (negsuc n) e l = absurd (omega arith)
 
 height-requires : tie.Need-height-requires
 height-requires c κs = search needs

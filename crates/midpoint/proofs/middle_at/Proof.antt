@@ -6,8 +6,9 @@ use borrow.Author.Needs.{needs}
 use lib.IntN.{ℤ}
 use Rattle.convergence.specs.Settling.{ordered}
 use Rattle.entries.specs.Entries.{entryAt, numbers}
-use Rattle.midpoint.specs.declared.Order.{Order}
-use Rattle.midpoint.specs.Answers.{settling, orderOf, inOrder, settlingFrom}
+use Rattle.order.specs.declared.Order.{Order}
+use Rattle.midpoint.specs.Answers.{settling, settlingFrom}
+use Rattle.order.specs.Orders.{orderOf, inOrder}
 use Rattle.midpoint.specs.Call.{entriesOf}
 use Rattle.midpoint.proofs.Middle.{settling-in-order}
 use Rattle.midpoint.proofs.middle_at.Statement.{statement}

@@ -17,7 +17,7 @@ use Rattle.convergence.specs.Counting.{Each, bit}
 use Rattle.convergence.proofs.Sums.{bit-le}
 use Rattle.settle.specs.Leading.{sameNumber}
 use Rattle.marks.proofs.Counts.{byte-bit}
-use Rattle.trust.proofs.Cells.{same-bits, each-stored}
+use Rattle.cells.proofs.Cells.{same-bits, each-stored}
 use Rattle.settle.proofs.add_same.Statement.{statement}
 use Rattle.settle.proofs.add_same.Tie as tie
 

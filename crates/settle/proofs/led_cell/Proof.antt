@@ -8,7 +8,7 @@ use lib.Dec.{eqb}
 use lib.ListN.{getD}
 use Rattle.settle.specs.Leading.{isApart, agrees}
 use Rattle.marks.proofs.Counts.{bits-le}
-use Rattle.trust.proofs.Cells.{holds-null, holds-same}
+use Rattle.cells.proofs.Cells.{holds-null, holds-same}
 use Rattle.trust.proofs.Trusted.{decided-confessed}
 use Rattle.settle.proofs.Leading.{led-decided}
 use Rattle.settle.proofs.led_cell.Statement.{statement}

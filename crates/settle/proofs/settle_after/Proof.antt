@@ -10,15 +10,16 @@ use Rattle.terms.specs.declared.Entry.{Entry}
 use Rattle.terms.specs.declared.Entry.the-variants.{Position}
 use Rattle.convergence.specs.Settling.{ordered}
 use Rattle.convergence.specs.Trust.{trusted}
-use Rattle.midpoint.specs.Answers.{orderOf, inOrder, settlingFrom}
-use Rattle.midpoint.specs.declared.Order.{Order}
-use Rattle.midpoint.proofs.Insertion.{inserted-read}
-use Rattle.midpoint.proofs.Ordering.{Held, held-order}
+use Rattle.order.specs.Orders.{orderOf, inOrder}
+use Rattle.midpoint.specs.Answers.{settlingFrom}
+use Rattle.order.specs.declared.Order.{Order}
+use Rattle.order.proofs.Insertion.{inserted-read}
+use Rattle.order.proofs.Ordering.{Held, held-order}
 use Rattle.midpoint.proofs.Middle.{settling-in-order}
-use Rattle.trust.specs.Received.{givenBy}
-use Rattle.trust.specs.Cells.{entryOf, Holds}
-use Rattle.trust.proofs.Cells.{cell-position}
-use Rattle.trust.proofs.Received.{words}
+use Rattle.cells.specs.Received.{givenBy}
+use Rattle.cells.specs.Cells.{entryOf, Holds}
+use Rattle.cells.proofs.Cells.{cell-position}
+use Rattle.cells.proofs.Received.{words}
 use Rattle.trust.proofs.Trusted.{trusted-held, trusted-past}
 use Rattle.settle.proofs.Settling.{none-held, len-below, null-held, position-held, ordered-first-32}
 use Rattle.settle.proofs.settle_after.Statement.{statement}

@@ -5,8 +5,8 @@ use native.Mathlib.Omega.{arith}
 use denote.Ref.{now}
 use borrow.Author.Needs.{needs}
 use lib.ListN.{length, length-set}
-use Rattle.trust.specs.Cells.{Holds, HoldsEach, entriesOf}
-use Rattle.trust.proofs.Cells.{each-stored}
+use Rattle.cells.specs.Cells.{Holds, HoldsEach, entriesOf}
+use Rattle.cells.proofs.Cells.{each-stored}
 use Rattle.trust.proofs.column.Statement.{statement}
 use Rattle.trust.proofs.column.Tie as tie
 

@@ -9,7 +9,7 @@ use lib.Dec.{eqb}
 use lib.ListN.{getD}
 use Rattle.convergence.specs.Counting.{sum, bit}
 use Rattle.convergence.proofs.Sums.{bit-le}
-use Rattle.trust.specs.Cells.{equalTo}
+use Rattle.cells.specs.Cells.{equalTo}
 use Rattle.marks.proofs.Counts.{byte-bit, sum-next, bits-le}
 use Rattle.trust.proofs.equal_to.Statement.{statement}
 use Rattle.trust.proofs.equal_to.Tie as tie

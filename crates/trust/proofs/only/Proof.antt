@@ -11,8 +11,8 @@ use borrow.Author.Needs.{needs}
 use lib.ListN.{getD}
 use Rattle.terms.specs.declared.Entry.{Entry}
 use Rattle.convergence.specs.Trust.{many, seen, choose}
-use Rattle.trust.specs.Cells.{HoldsEach, standsIn}
-use Rattle.trust.proofs.Cells.{holds-null, holds-same}
+use Rattle.cells.specs.Cells.{HoldsEach, standsIn}
+use Rattle.cells.proofs.Cells.{holds-null, holds-same}
 use Rattle.trust.proofs.Search.{seenOf, turn-finds, turn-finds-second, turn-passes, many-stays, seen-early, chosen-of}
 use Rattle.trust.proofs.only.Statement.{statement}
 use Rattle.trust.proofs.only.Tie as tie

@@ -11,11 +11,11 @@ use lib.ListN.{getD}
 use Rattle.terms.specs.declared.Entry.{Entry}
 use Rattle.terms.specs.declared.Entry.the-variants.{Position}
 use Rattle.convergence.specs.Trust.{saysOf}
-use Rattle.trust.specs.Received.{givenBy}
+use Rattle.cells.specs.Received.{givenBy}
 use Rattle.marks.specs.Marks.{bitOf, markedTo}
 use Rattle.marks.proofs.Counts.{bits-le}
-use Rattle.trust.proofs.Cells.{holds-same, equal-held}
-use Rattle.trust.proofs.Received.{column-given, words}
+use Rattle.cells.proofs.Cells.{holds-same, equal-held}
+use Rattle.cells.proofs.Received.{column-given, words}
 use Rattle.trust.proofs.Trusted.{support-counted}
 use Rattle.trust.proofs.support.Statement.{statement}
 use Rattle.trust.proofs.support.Tie as tie

@@ -2,7 +2,7 @@
 use mathlib.Core.Path.{sym, _∙_}
 use native.Mathlib.Omega.{arith}
 use borrow.Author.Needs.{needs}
-use Rattle.trust.proofs.Cells.{holds-null, holds-same}
+use Rattle.cells.proofs.Cells.{holds-null, holds-same}
 use Rattle.trust.proofs.Trusted.{decided-confessed, decided-by-all, decided-by-lists}
 use Rattle.trust.proofs.trusted_cell.Statement.{statement}
 use Rattle.trust.proofs.trusted_cell.Tie as tie

@@ -5,10 +5,10 @@ use mir.Facts.{toZ-ofZ}
 use borrow.Author.Needs.{needs}
 use Rattle.terms.specs.declared.Entry.the-variants.{Position}
 use Rattle.convergence.specs.Trust.{trusted}
-use Rattle.trust.specs.Received.{givenBy}
-use Rattle.trust.specs.Cells.{entryOf, Holds}
-use Rattle.trust.proofs.Cells.{cell-position}
-use Rattle.trust.proofs.Received.{words}
+use Rattle.cells.specs.Received.{givenBy}
+use Rattle.cells.specs.Cells.{entryOf, Holds}
+use Rattle.cells.proofs.Cells.{cell-position}
+use Rattle.cells.proofs.Received.{words}
 use Rattle.trust.proofs.Trusted.{trusted-held}
 use Rattle.trust.proofs.trusted_entry.Statement.{statement}
 use Rattle.trust.proofs.trusted_entry.Tie as tie

@@ -9,9 +9,9 @@ use Rattle.terms.specs.declared.Entry.{Entry}
 use Rattle.entries.specs.Entries.{zeros}
 use Rattle.entries.specs.Tables.{mark, number, marksOf, numbersOf}
 use Rattle.convergence.specs.Trust.{trusted}
-use Rattle.trust.specs.Received.{givenBy}
-use Rattle.trust.specs.Cells.{Holds}
-use Rattle.trust.proofs.Received.{words}
+use Rattle.cells.specs.Received.{givenBy}
+use Rattle.cells.specs.Cells.{Holds}
+use Rattle.cells.proofs.Received.{words}
 use Rattle.trust.proofs.Trusted.{trusted-held, trusted-past}
 use Rattle.trust.proofs.Tables.{marks-next, marks-fit, numbers-next, table-first-32}
 use Rattle.trust.proofs.trusted_table.Statement.{statement}

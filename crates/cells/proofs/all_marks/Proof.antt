@@ -1,0 +1,86 @@
+-- `cells::all_marks` meets its contract: after k turns the first k words are those of the first k links. A turn stores one word and leaves the others.
+use mathlib.Core.Path.{_≡_, refl, ap₂, _∙_}
+use mathlib.Core.Bool.{Bool}
+use Prim.Native.Nat.{_-_, _≤_}
+use native.Mathlib.Omega.{arith}
+use borrow.Author.Needs.{needs}
+use lib.ListN.{length, getD, length-set}
+use Rattle.convergence.specs.Counting.{Each}
+use Rattle.cells.specs.Cells.{marksGiven, marksOfLink}
+use Rattle.cells.proofs.Cells.{each-stored}
+use Rattle.cells.proofs.all_marks.Statement.{statement}
+use Rattle.cells.proofs.all_marks.Tie as tie
+
+abbrev Inv-loop : tie.InvT-loop
+Inv-loop n links count marks₀ k₀ marks k = (k ≤ count) × (length marks ≡ 32) × Each k (λ i. getD marks i 0 ≡ marksOfLink links i)
+
+abbrev μ-loop : tie.MeasureT-loop
+μ-loop n links count marks₀ k₀ marks k = count - k
+
+link-count-requires : tie.Need-link-count-requires Inv-loop μ-loop
+link-count-requires c κs = search needs
+
+loop-holds : tie.Need-loop-holds Inv-loop μ-loop
+loop-holds c = (search needs, refl, λ i l. absurd (omega arith))
+
+marked-requires : tie.Need-marked-requires Inv-loop μ-loop
+marked-requires c κs = search needs
+
+marked-requires-2 : tie.Need-marked-requires-2 Inv-loop μ-loop
+marked-requires-2 c κs = search needs
+
+mul-marks-given : tie.Need-mul-marks-given Inv-loop μ-loop
+mul-marks-given c = search needs
+
+element-copy-out-marks-given : tie.Need-element-copy-out-marks-given Inv-loop μ-loop
+element-copy-out-marks-given c = search needs
+
+marks-given-requires : tie.Need-marks-given-requires Inv-loop μ-loop
+marks-given-requires c κs = search needs
+
+mul-marks : tie.Need-mul-marks Inv-loop μ-loop
+mul-marks c = search needs
+
+array-write-marks : tie.Need-array-write-marks Inv-loop μ-loop
+array-write-marks c = search needs
+
+add-k : tie.Need-add-k Inv-loop μ-loop
+add-k c = search needs
+
+loop-less : tie.Need-loop-less Inv-loop μ-loop
+loop-less c = search needs
+
+loop-again : tie.Need-loop-again Inv-loop μ-loop
+loop-again c =
+    let d = c .before .before in
+    let l = d .before .before .before .loop in
+    let g = d .before .before .before .before .before .args .t1 in
+    let m = getD (g .marks) (l .k) 0 in (
+      search needs,
+      simp length-set (l .inv .1),
+      each-stored (l .marks) (l .k) (c .marks-given .result) (λ i x. x ≡ marksOfLink g i) (omega arith) (l .inv .2)
+          (c .marks-given .ensures ∙ ap₂ (λ (a b : Bool). marksGiven a b m) (d .before .marked .ensures) (d .marked2 .ensures)),
+    )
+
+returns : tie.Need-returns Inv-loop μ-loop
+returns c = λ i h. c .before .loop .inv .2 i (omega (arith, c .before .before .link-count .ensures))
+
+pub all-marks-spec : {M : Type 1} → statement M
+all-marks-spec =
+    tie.close
+    (tie.spec
+    Inv-loop
+    μ-loop
+    link-count-requires
+    loop-holds
+    marked-requires
+    marked-requires-2
+    mul-marks-given
+    element-copy-out-marks-given
+    marks-given-requires
+    mul-marks
+    array-write-marks
+    add-k
+    loop-less
+    loop-again
+    returns)

@@ -1,0 +1,3 @@
+-- What the links gave, and how the search for the trusted entries holds it.
+pub mod Received
+pub mod Cells
