@@ -1,5 +1,5 @@
 -- The block that C keeps, as it is lent.
-use Rattle.lent.proofs.Walk.Lending.{Lending}
+use Rattle.walk.proofs.Lending.{Lending}
 use Rattle.layout.specs.declared.FocusAnswer.{FocusAnswer}
 use Rattle.layout.proofs.FocusHead as FocusHead
 use Rattle.layout.proofs.FocusHead.Laws as FocusHead′

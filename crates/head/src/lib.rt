@@ -1,17 +1,14 @@
-// The head's calls on its record, by value, other than hearing: start, restart, write, close. Each promise is one equation with a definition of record's
+// The head's calls on its record, by value, other than hearing and closing: start, restart, write. Each promise is one equation with a definition of record's
 // specs/Calls.antt; a refusal gives its number and leaves the record as it was.
 ghost use mathlib.Core.Path.{_≡_};
 ghost use Rattle.terms.specs.Refusals.{check};
-ghost use Rattle.record.specs.Record.{noEntries, opened, rows};
-ghost use Rattle.record.specs.Calls.{start, restart, writeAnswer, writeBuffer, closedCollection, closedPhase, closeIn, close};
+ghost use Rattle.record.specs.Record.{noEntries, opened};
+ghost use Rattle.record.specs.Calls.{start, restart, writeAnswer, writeBuffer};
 ghost use Rattle.head.specs.Steps.{checkMember, isTime, saidBy};
 use cells::Links;
 use codec::Said;
 use codec::Written;
-use midpoint::Settled;
 use record::Answer;
-use record::Closed;
-use record::Closing;
 use record::Head;
 use record::Row;
 use terms::Entry;
@@ -19,7 +16,7 @@ use terms::Table;
 use terms::refusal;
 
 // A table of nulls.
-fn no_entries() -> Table
+pub fn no_entries() -> Table
     ensures { λ r. ⌜ r ≡ noEntries ⌝ }
 {
     let entries = [0i32; 32]; // a null entry holds 0
@@ -27,7 +24,7 @@ fn no_entries() -> Table
 }
 
 // The record with nothing heard. Start, restart and closing make a record here and nowhere else.
-fn opened(
+pub fn opened(
     n: u8,
     f: u8,
     number: u8,
@@ -180,82 +177,4 @@ pub fn write(h: Head, buffer: &mut [u8]) -> Written
         h.phase,
         buffer,
     )
-}
-
-// The lists received, without their marks, as settling takes them.
-fn laid_out(lists: [Row; 32]) -> [[i32; 32]; 32]
-    ensures { λ r. ⌜ r ≡ rows lists ⌝ }
-{
-    let zeros = [0i32; 32];
-    let mut out = [zeros; 32];
-    let mut k: usize = 0;
-    while k < 32 {
-        let row = lists[k];
-        let entries = row.entries;
-        out[k] = entries;
-        k += 1;
-    }
-    out
-}
-
-// The collection round is closed: the list stands.
-fn closed_collection(h: Head) -> Head
-    ensures { λ r. ⌜ r ≡ closedCollection h ⌝ }
-{
-    let position = h.position;
-    let list = h.list;
-    opened(h.n, h.f, h.number, h.phase, 1, false, false, position, list)
-}
-
-// The phase has ended with a position; after phase 65,535 phase and round stay, and the head has ended.
-fn closed_phase(h: Head, position: i32) -> Head
-    ensures { λ r. ⌜ r ≡ closedPhase h position ⌝ }
-{
-    let at = Entry::Position(position);
-    let list = no_entries();
-    if h.phase == 65535 {
-        return opened(h.n, h.f, h.number, h.phase, 1, false, true, at, list);
-    }
-    opened(h.n, h.f, h.number, h.phase + 1, 0, false, false, at, list)
-}
-
-// Closes a confession round.
-fn close_confession(h: Head) -> Closing
-    ensures { λ r. ⌜ r ≡ closeIn 1 h ⌝ }
-{
-    let lists = h.lists;
-    let links = h.links;
-    match settle::settle(laid_out(lists), links, h.n, h.f) {
-        Settled::Refused(refused) => Closing {
-            closed: Closed::Refused(refused),
-            head: h,
-        },
-        Settled::New(kept) => {
-            let head = closed_phase(h, kept.position);
-            Closing {
-                closed: Closed::Settled(kept),
-                head,
-            }
-        }
-    }
-}
-
-// Closes the round.
-pub fn close(h: Head) -> Closing
-    ensures { λ r. ⌜ r ≡ close h ⌝ }
-{
-    if h.ended {
-        return Closing {
-            closed: Closed::Refused(refusal::ENDED),
-            head: h,
-        };
-    }
-    if h.round == 0 {
-        let head = closed_collection(h);
-        return Closing {
-            closed: Closed::Listed,
-            head,
-        };
-    }
-    close_confession(h)
 }

@@ -3,7 +3,7 @@ use Rattle.record.specs.declared.Answer.{Answer}
 use Rattle.record.proofs.Head as Head
 use Rattle.record.proofs.Head.Laws as Head′
 use Rattle.record.proofs.Answer as Answer′
-use Rattle.lent.proofs.Walk.Lending.{Lending}
+use Rattle.walk.proofs.Lending.{Lending}
 
 abbrev pub heads : Lending
 heads = record {

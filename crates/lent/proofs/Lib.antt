@@ -1,4 +1,3 @@
--- What other crates may cite: the walks of thin functions over a lent record.
-pub mod Walk
+-- What other crates may cite: the record as it is lent.
 pub mod Lendings
 pub mod Given

@@ -40,7 +40,7 @@ pub fn hear(h: &mut Head, link: u32, frame: &[u8]) -> u8
 pub fn closed(h: Head) -> Answer
     ensures { λ r. ⌜ r ≡ closedAnswer (close h) ⌝ }
 {
-    let out = head::close(h);
+    let out = closing::close(h);
     let c = out.closed;
     let g = out.head;
     match c {

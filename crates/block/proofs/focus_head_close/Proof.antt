@@ -11,7 +11,7 @@ use Rattle.record.specs.Calls.{close}
 use Rattle.layout.specs.declared.FocusAnswer.{FocusAnswer}
 use Rattle.lent.specs.Answers.{closedAnswer}
 use Rattle.layout.specs.Blocks.{headOf, focusAnswer}
-use Rattle.lent.proofs.Walk.ChangeMeets.{changes}
+use Rattle.walk.proofs.ChangeMeets.{changes}
 use Rattle.block.proofs.Lendings.{blocks}
 use Rattle.block.proofs.closed as core
 use Rattle.block.proofs.closed.Symbol as core-def

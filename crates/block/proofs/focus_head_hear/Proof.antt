@@ -13,8 +13,8 @@ use denote.Triple.Spec.{tripleOf}
 use Rattle.record.specs.Calls.{hear}
 use Rattle.layout.specs.declared.FocusAnswer.{FocusAnswer}
 use Rattle.layout.specs.Blocks.{headOf, focusAnswer}
-use Rattle.lent.proofs.Walk.ChangeMeets.{changes}
-use Rattle.lent.proofs.Walk.Params.{word, bytes}
+use Rattle.walk.proofs.ChangeMeets.{changes}
+use Rattle.walk.proofs.Params.{word, bytes}
 use Rattle.block.proofs.Lendings.{blocks}
 use Rattle.block.proofs.heard as core
 use Rattle.block.proofs.heard.Symbol as core-def

@@ -5,7 +5,7 @@ use contract.Monad.{factI}
 use contract.Running.{givenOf}
 use Rattle.lent.specs.Answers.{heldNumber, heldOr}
 use Rattle.layout.specs.Blocks.{headOf}
-use Rattle.lent.proofs.Walk.ReadMeets.{reads-number}
+use Rattle.walk.proofs.ReadMeets.{reads-number}
 use Rattle.block.proofs.Lendings.{blocks}
 use Rattle.block.proofs.held as core
 use Rattle.block.proofs.held.Symbol as core-def

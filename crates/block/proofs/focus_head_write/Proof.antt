@@ -6,7 +6,7 @@ use contract.Running.{givenOf}
 use Rattle.record.specs.Calls.{writeAnswer, writeBuffer}
 use Rattle.lent.specs.Answers.{writtenNumber, writtenOr}
 use Rattle.layout.specs.Blocks.{headOf}
-use Rattle.lent.proofs.Walk.ReadMeets.{reads-bytes}
+use Rattle.walk.proofs.ReadMeets.{reads-bytes}
 use Rattle.block.proofs.Lendings.{blocks}
 use Rattle.block.proofs.written as core
 use Rattle.block.proofs.written.Symbol as core-def

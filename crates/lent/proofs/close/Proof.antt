@@ -10,7 +10,7 @@ use denote.Triple.Spec.{tripleOf}
 use Rattle.record.specs.Calls.{close}
 use Rattle.record.specs.declared.Answer.{Answer}
 use Rattle.lent.specs.Answers.{closedAnswer}
-use Rattle.lent.proofs.Walk.ChangeMeets.{changes}
+use Rattle.walk.proofs.ChangeMeets.{changes}
 use Rattle.lent.proofs.Lendings.{heads}
 use Rattle.lent.proofs.closed as core
 use Rattle.lent.proofs.closed.Symbol as core-def

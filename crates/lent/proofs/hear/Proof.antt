@@ -12,8 +12,8 @@ use denote.Triple.Clauses.{lasts}
 use denote.Triple.Spec.{tripleOf}
 use Rattle.record.specs.Calls.{hear}
 use Rattle.record.specs.declared.Answer.{Answer}
-use Rattle.lent.proofs.Walk.ChangeMeets.{changes}
-use Rattle.lent.proofs.Walk.Params.{word, bytes}
+use Rattle.walk.proofs.ChangeMeets.{changes}
+use Rattle.walk.proofs.Params.{word, bytes}
 use Rattle.lent.proofs.Lendings.{heads}
 use Rattle.hearing.proofs.hear as core
 use Rattle.hearing.proofs.hear.Symbol as core-def

@@ -4,7 +4,7 @@ use base.Logic.{emp, id⊢}
 use contract.Monad.{factI}
 use contract.Running.{givenOf}
 use Rattle.lent.specs.Answers.{heldNumber, heldOr}
-use Rattle.lent.proofs.Walk.ReadMeets.{reads-number}
+use Rattle.walk.proofs.ReadMeets.{reads-number}
 use Rattle.lent.proofs.Lendings.{heads}
 use Rattle.lent.proofs.held as core
 use Rattle.lent.proofs.held.Symbol as core-def

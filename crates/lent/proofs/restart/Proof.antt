@@ -11,8 +11,8 @@ use denote.Triple.Clauses.{lasts}
 use denote.Triple.Spec.{tripleOf}
 use Rattle.record.specs.Calls.{restart}
 use Rattle.record.specs.declared.Answer.{Answer}
-use Rattle.lent.proofs.Walk.ChangeMeets.{changes}
-use Rattle.lent.proofs.Walk.Params.{word}
+use Rattle.walk.proofs.ChangeMeets.{changes}
+use Rattle.walk.proofs.Params.{word}
 use Rattle.lent.proofs.Lendings.{heads}
 use Rattle.head.proofs.restart as core
 use Rattle.head.proofs.restart.Symbol as core-def

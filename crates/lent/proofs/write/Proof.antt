@@ -5,7 +5,7 @@ use contract.Monad.{factI}
 use contract.Running.{givenOf}
 use Rattle.record.specs.Calls.{writeAnswer, writeBuffer}
 use Rattle.lent.specs.Answers.{writtenNumber, writtenOr}
-use Rattle.lent.proofs.Walk.ReadMeets.{reads-bytes}
+use Rattle.walk.proofs.ReadMeets.{reads-bytes}
 use Rattle.lent.proofs.Lendings.{heads}
 use Rattle.lent.proofs.written as core
 use Rattle.lent.proofs.written.Symbol as core-def

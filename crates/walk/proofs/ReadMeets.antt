@@ -28,9 +28,9 @@ use denote.Triple.Entry.{Args}
 use denote.Triple.Clauses.{Ended, Clauses, Lasts, atExit, closing, lasts}
 use denote.Triple.Spec.{Meets, tripleOf}
 use denote.Triple.Walked.{Stays, stay-none-ref, gave-ref, gave-slice, goes-none-ref, goes-gave-ref, goes-gave-slice, ends-at, walked, walk-meets}
-use Rattle.lent.proofs.Walk.Lending.{Lending, R, val}
-use Rattle.lent.proofs.Walk.Read.{reader, reads, writer, writes}
-use Rattle.lent.proofs.Walk.Routine.{of-routine}
+use Rattle.walk.proofs.Lending.{Lending, R, val}
+use Rattle.walk.proofs.Read.{reader, reads, writer, writes}
+use Rattle.walk.proofs.Routines.{of-routine}
 
 -- ---- with a number lent beside the record
 

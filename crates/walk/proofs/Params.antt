@@ -6,7 +6,7 @@ use denote.Builtin.{u8, u32, i32}
 use denote.Plain.{uint-vals, uint-tells, uint-lawful, uint-copy}
 use denote.Signed.{sint-vals, sint-tells, sint-lawful, sint-copy}
 use denote.Slice.{ShrSlice, slice-vals, shr-slice-tells, shr-slice-lawful, shr-slice-copy}
-use Rattle.lent.proofs.Walk.ChangeMeets.{Copied}
+use Rattle.walk.proofs.ChangeMeets.{Copied}
 
 abbrev pub word : Copied u32
 word = record {

@@ -31,8 +31,8 @@ use denote.Struct.Steps.{spelt}
 use denote.Struct.Laws as LL
 use denote.Triple.Statement.{Contract, Triple}
 use denote.Triple.Call.{calls-from}
-use Rattle.lent.proofs.Walk.Lending.{Lending, R, Answer, S, τR, τS, answer-laws, val, out, next-is, number-is}
-use Rattle.lent.proofs.Walk.Locals.{Blocks, localsOf, envOf, after, getD-after, copies, found, allocates, fills, empties, operands}
+use Rattle.walk.proofs.Lending.{Lending, R, Answer, S, τR, τS, answer-laws, val, out, next-is, number-is}
+use Rattle.walk.proofs.Locals.{Blocks, localsOf, envOf, after, getD-after, copies, found, allocates, fills, empties, operands}
 
 module _ (L : Lending) where
   -- the function's MIR, from its own head f, the function g that it calls and the types of its parameters. The answer and the copy of the record come after those

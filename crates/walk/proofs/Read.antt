@@ -26,7 +26,7 @@ use denote.Struct.Steps.{spelt}
 use denote.Struct.Laws as LL
 use denote.Triple.Statement.{Contract, Triple}
 use denote.Triple.Call.{calls-from}
-use Rattle.lent.proofs.Walk.Lending.{Lending, R, τR, val}
+use Rattle.walk.proofs.Lending.{Lending, R, τR, val}
 
 module _ (L : Lending) where
   -- the MIR of such a function with one number lent to it, from its own head f, the function g that it calls and the number's type

@@ -11,8 +11,8 @@ use lib.IntN.{ℤ}
 use Rattle.record.specs.declared.Row.{Row}
 use Rattle.record.specs.Record.{rows}
 use borrow.Author.Needs.{needs}
-use Rattle.head.proofs.laid_out.Statement.{statement}
-use Rattle.head.proofs.laid_out.Tie as tie
+use Rattle.closing.proofs.laid_out.Statement.{statement}
+use Rattle.closing.proofs.laid_out.Tie as tie
 
 -- one row more
 row-more : (l : List Row) (out : List (List ℤ)) (k : ℕ) → k < length out → ((i : ℕ) → i < k → getD out i [] ≡ getD (rows l) i [])

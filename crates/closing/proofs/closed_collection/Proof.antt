@@ -1,8 +1,8 @@
 -- The record is opened with the fields that the definition gives.
 use borrow.Author.Needs.{needs}
 use Rattle.record.specs.Calls.{closedCollection}
-use Rattle.head.proofs.closed_collection.Statement.{statement}
-use Rattle.head.proofs.closed_collection.Tie as tie
+use Rattle.closing.proofs.closed_collection.Statement.{statement}
+use Rattle.closing.proofs.closed_collection.Tie as tie
 
 opened-requires : tie.Need-opened-requires
 opened-requires c κs = search needs

@@ -29,9 +29,9 @@ use denote.Triple.Entry.{Args}
 use denote.Triple.Clauses.{Ended, Clauses, atExit, closing}
 use denote.Triple.Spec.{Meets, tripleOf}
 use denote.Triple.Walked.{Stays, fitsOf, hasOf, stay-ref, stay-none, AllGo, goes-ref, goes-none, walkOf, ends-at, walked, walk-meets}
-use Rattle.lent.proofs.Walk.Lending.{Lending, R, S, val}
-use Rattle.lent.proofs.Walk.Change.{thin, walk}
-use Rattle.lent.proofs.Walk.Routine.{of-routine}
+use Rattle.walk.proofs.Lending.{Lending, R, S, val}
+use Rattle.walk.proofs.Change.{thin, walk}
+use Rattle.walk.proofs.Routines.{of-routine}
 
 -- a type of one machine value whose values can be copied
 pub record Copied (T : RattleType) : Type 2 where

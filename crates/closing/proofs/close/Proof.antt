@@ -8,9 +8,9 @@ use Rattle.record.specs.declared.Head.{Head}
 use Rattle.record.specs.Calls.{closeIn, close}
 use Rattle.record.proofs.Stops.{ended-closes}
 use Rattle.record.proofs.RoundEnd.{closes-collection}
 use Rattle.head.proofs.Answers.{runs-on}
-use Rattle.head.proofs.close.Statement.{statement}
-use Rattle.head.proofs.close.Tie as tie
+use Rattle.closing.proofs.close.Statement.{statement}
+use Rattle.closing.proofs.close.Tie as tie
 
 -- any round but 0 is a confession round
 closes-confession : (h : Head) → h .ended ≡ false → h .round ≢ 0 → closeIn 1 h ≡ close h

@@ -10,8 +10,8 @@ use borrow.Author.Tests.{le-leb, lt-leb}
 use Rattle.terms.specs.declared.Entry.{Entry}
 use Rattle.record.specs.Record.{noEntries, opened}
 use Rattle.record.specs.Calls.{closedPhase}
-use Rattle.head.proofs.closed_phase.Statement.{statement}
-use Rattle.head.proofs.closed_phase.Tie as tie
+use Rattle.closing.proofs.closed_phase.Statement.{statement}
+use Rattle.closing.proofs.closed_phase.Tie as tie
 
 no-entries-requires : tie.Need-no-entries-requires
 no-entries-requires c κs = search needs

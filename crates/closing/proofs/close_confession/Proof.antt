@@ -13,8 +13,8 @@ use Rattle.cells.specs.Received.{givenBy}
 use Rattle.record.specs.declared.Head.{Head}
 use Rattle.record.specs.Record.{rows, trustedBy}
 use borrow.Author.Needs.{needs}
-use Rattle.head.proofs.close_confession.Statement.{statement}
-use Rattle.head.proofs.close_confession.Tie as tie
+use Rattle.closing.proofs.close_confession.Statement.{statement}
+use Rattle.closing.proofs.close_confession.Tie as tie
 
 settles : (h : Head) {lists : List (List ℤ)} {a : Settled} → lists ≡ rows (h .lists)
     → a ≡ settling 0 (h .n) (h .f) (trusted (h .n) (h .f) (givenBy (h .links) lists))
