@@ -1,6 +1,6 @@
 -- The list that a head fills: what head i hears of head k is what is planted, or what head k sent; and two tables of n entries are the same where their
 -- entries below n are.
-use mathlib.Core.Path.{_≡_, refl, ap₂, _∙_, fun-ext}
+use mathlib.Core.Path.{_≡_, refl, ap, ap₂, _∙_}
 use mathlib.Core.Bool.{Bool, true, false, cond}
 use mathlib.Core.List.{List, []}
 use Prim.Native.Nat.{ℕ, zero, suc, _+_, _<_}
@@ -11,15 +11,15 @@ use borrow.Author.Tests.{lt-ltb}
 use Rattle.terms.specs.declared.Entry.{Entry}
 use Rattle.terms.specs.declared.Table.{Table}
 use Rattle.marks.specs.Marks.{bitOf}
-use Rattle.marks.proofs.Marks.{bit-none}
 use Rattle.entries.specs.Tables.{marksOf, numbersOf, tableOf}
 use Rattle.convergence.specs.Counting.{Each}
 use Rattle.convergence.proofs.Sums.{each-last, each-less}
-use Rattle.codec.specs.Said.{collected, said}
+use Rattle.codec.specs.Said.{Meaning, collected, said}
 use Rattle.codec.specs.Written.{frameOf}
+use Rattle.codec.proofs.Senders.{said-alike}
 use Rattle.record.specs.Record.{entryOf}
 use Rattle.play.specs.declared.Stage.{Stage}
-use Rattle.play.specs.Memory.{heads, hears, listEntry, rowIn}
+use Rattle.play.specs.Memory.{heads, hears, ToldAlike, sends, listEntry, rowIn}
 use Rattle.collection.specs.Inner.{ownEntry, sent, heard, heardFrom}
 use Rattle.play.proofs.Filling.{Filled, filled-stored}
 
@@ -66,10 +66,23 @@ module _ (s : Stage) (positions : List ℤ) (plant : ℕ → ℕ → List ℕ) (
   pub heard-list : tableOf (heads s) (heardFrom s entries plant i) ≡ tableOf (heads s) (listEntry s positions plant i)
   heard-list = table-same (heads s) _ _ heard-entry
 
--- where no head is struck, nothing planted is heard
-pub heard-alike : (s : Stage) (entries : List Entry) (plant : ℕ → ℕ → List ℕ) (i j : ℕ) → s .struck ≡ 0 → heardFrom s entries plant i ≡ heardFrom s entries plant j
+-- heads told alike fill the same list
+pub told-list : (s : Stage) (entries : List Entry) (plant : ℕ → ℕ → List ℕ) (i m : ℕ) → ToldAlike s plant i m
+    → tableOf (heads s) (heardFrom s entries plant m) ≡ tableOf (heads s) (heardFrom s entries plant i)
 unfolding heard
-heard-alike s entries plant i j e = fun-ext (λ k. rw (e, bit-none k))
+told-list s entries plant i m h = table-same (heads s) _ _ (λ k l. go k (bitOf (s .struck) k) (h k l))
+  where
+    go : (k : ℕ) (b : Bool) → (b ≡ true → plant k i ≡ plant k m)
+        → cond b (entryOf (said (heads s) (s .phase) 0 k (plant k m))) (getD entries k Entry.Null) ≡ cond b (entryOf (said (heads s) (s .phase) 0 k (plant k i))) (getD entries k Entry.Null)
+    go k true e = rw (e refl)
+    go k false e = refl
+
+-- heads that send the same are heard the same
+pub sent-alike : (s : Stage) (positions : List ℤ) (k m : ℕ) → sends s positions k ≡ sends s positions m → sent s positions k ≡ sent s positions m
+unfolding sent
+sent-alike s positions k m e =
+    ap (λ (x : Meaning). entryOf (said (heads s) (s .phase) 0 k (frameOf (heads s) k (s .phase) x))) e
+    ∙ ap entryOf (said-alike (heads s) (s .phase) 0 k m (sends s positions m))
 
 -- ---- the memory
 

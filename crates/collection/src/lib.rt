@@ -6,7 +6,7 @@ ghost use lib.ListN.{length, getD};
 ghost use Rattle.entries.specs.Tables.{tableOf, mark, number};
 ghost use Rattle.codec.specs.Said.{said};
 ghost use Rattle.record.specs.Record.{entryOf};
-ghost use Rattle.play.specs.Memory.{heads, hears, listEntry, rowIn};
+ghost use Rattle.play.specs.Memory.{heads, hears, sends, listEntry, rowIn};
 ghost use Rattle.slots.specs.Slots.{plantedIn};
 ghost use Rattle.collection.specs.Inner.{ownEntry, sent, heard, heardFrom};
 use codec::Said;
@@ -51,17 +51,47 @@ fn entry_sent(s: Stage, positions: &[i32; 32], k: usize) -> Entry
     entry_in(&buffer[..len], n, s.phase, k as u8)
 }
 
+// Whether heads i and m send the same position.
+fn sends_alike(s: Stage, positions: &[i32; 32], i: usize, m: usize) -> bool
+    requires { ⌜ (i < 32) × (m < 32) ⌝ }
+    ensures { λ r. ⌜ (r ≡ true → sends s (now (positions .entry)) i ≡ sends s (now (positions .entry)) m) ⌝ }
+{
+    if marks::marked(s.before, i) {
+        return false;
+    }
+    if marks::marked(s.before, m) {
+        return false;
+    }
+    positions[i] == positions[m]
+}
+
+// What is heard of head k, after `told` was heard of head `last`, or first where that is 32: heads that send the same are heard the same.
+fn entry_after(s: Stage, positions: &[i32; 32], k: usize, last: usize, told: Entry) -> Entry
+    requires { ⌜ (k < 32) × (last < 32 → told ≡ sent s (now positions) last) ⌝ }
+    ensures { λ r. ⌜ r ≡ sent s (now (positions .entry)) k ⌝ }
+{
+    if last < 32 {
+        if sends_alike(s, positions, k, last) {
+            return told;
+        }
+    }
+    entry_sent(s, positions, k)
+}
+
 // What each unstruck head hears of the unstruck heads.
 fn entries_sent(s: Stage, positions: &[i32; 32]) -> [Entry; 32]
     ensures { λ r. ⌜ ((k : ℕ) → hears s k ≡ true → getD r k Entry.Null ≡ sent s (now (positions .entry)) k) ⌝ }
 {
     let n = play::head_count(s) as usize;
     let mut entries = [Entry::Null; 32];
+    let mut told = Entry::Null;
+    let mut last: usize = 32;
     let mut k: usize = 0;
     while k < n {
         if !marks::marked(s.struck, k) {
-            let e = entry_sent(s, positions, k);
-            entries[k] = e;
+            told = entry_after(s, positions, k, last, told);
+            last = k;
+            entries[k] = told;
         }
         k += 1;
     }
@@ -118,31 +148,23 @@ fn list_for(s: Stage, sent: [Entry; 32], planted: &[u8], lengths: &[u8], i: usiz
     Table { marks, entries }
 }
 
-// The list that all heads fill alike, where none is struck. Where one is, nothing is promised of it.
-fn list_alike(s: Stage, sent: [Entry; 32], planted: &[u8], lengths: &[u8]) -> Table
-    ensures { λ r. ⌜ (s .struck ≡ 0 → (i : ℕ) → r ≡ tableOf (heads s) (heardFrom s sent (plantedIn (now (planted .entry)) (now (lengths .entry))) i)) ⌝ }
-{
-    if s.struck == 0 {
-        return list_for(s, sent, planted, lengths, 0);
-    }
-    let entries = [0i32; 32];
-    Table { marks: 0, entries }
-}
-
-// The list of head i, beside the one that all fill alike where none is struck.
-fn list_of(
+// The list of head i, after head `last` filled the list `told`, or first where that is 32: heads that are told alike fill the same.
+fn list_after(
     s: Stage,
-    alike: Table,
     sent: [Entry; 32],
     planted: &[u8],
     lengths: &[u8],
     i: usize,
+    last: usize,
+    told: Table,
 ) -> Table
-    requires { ⌜ (i < 32) × (s .struck ≡ 0 → (j : ℕ) → alike ≡ tableOf (heads s) (heardFrom s sent (plantedIn (now planted) (now lengths)) j)) ⌝ }
+    requires { ⌜ (i < 32) × (last < 32 → told ≡ tableOf (heads s) (heardFrom s sent (plantedIn (now planted) (now lengths)) last)) ⌝ }
     ensures { λ r. ⌜ r ≡ tableOf (heads s) (heardFrom s sent (plantedIn (now (planted .entry)) (now (lengths .entry))) i) ⌝ }
 {
-    if s.struck == 0 {
-        return alike;
+    if last < 32 {
+        if play::is_told_alike(s, planted, lengths, i, last) {
+            return told;
+        }
     }
     list_for(s, sent, planted, lengths, i)
 }
@@ -163,11 +185,17 @@ fn fill_lists(
         (rowIn (now (marks .entry)) (now (lists .entry)) i)) ⌝ }
 {
     let n = play::head_count(s) as usize;
-    let alike = list_alike(s, sent, planted, lengths);
+    let none = [0i32; 32];
+    let mut list = Table {
+        marks: 0,
+        entries: none,
+    };
+    let mut last: usize = 32;
     let mut i: usize = 0;
     while i < n {
         if !marks::marked(s.struck, i) {
-            let list = list_of(s, alike, sent, planted, lengths, i);
+            list = list_after(s, sent, planted, lengths, i, last, list);
+            last = i;
             let entries = list.entries;
             marks[i] = list.marks;
             lists[i] = entries;

@@ -7,10 +7,12 @@ use mathlib.Core.List.{List, []}
 use Prim.Native.Nat.{ℕ, _+_, _<_}
 use native.Mathlib.Omega.{arith}
 use native.Mathlib.Decide.{ℕ-discrete}
-use lib.ListN.{length, set, replicate, length-set}
+use lib.ListN.{length, getD, set, replicate, length-set}
 use lib.Seq.{getD-set-same, getD-set-other}
 use lib.IntN.{ℤ}
 use Rattle.terms.specs.declared.Entry.{Entry}
+use Rattle.terms.specs.declared.Table.{Table}
+use Rattle.entries.specs.Tables.{tableAt}
 use Rattle.marks.specs.Marks.{bitOf}
 use Rattle.marks.proofs.Marks.{bit-none, with-same, with-other}
 use Rattle.convergence.specs.Trust as trust
@@ -20,7 +22,7 @@ use Rattle.cells.specs.declared.Links.{Links}
 use Rattle.cells.specs.Received.{givenBy}
 use Rattle.cells.proofs.Received.{confessed-given}
 use Rattle.record.specs.Record.{givenOf}
-use Rattle.confession.specs.Inner.{linksWith, rowsWith, Received}
+use Rattle.confession.specs.Inner.{linksWith, rowsWith, heardOn, Received}
 use Rattle.play.proofs.Filling.{filledTo, filled-none, filled-passed, filled-stored, filled-yet}
 
 -- ---- one link
@@ -76,6 +78,16 @@ module _ (g : Links) (rows : List (List ℤ)) (k : ℕ) where
       go : (j : ℕ) → Dec (j ≡ k) → givenBy g (set rows k (t .entries)) j ≡ givenBy g rows j
       go j (yes q) = rw q (unread (bitOf (g .confessed) k) (bitOf (g .listed) k) _ _ e)
       go j (no d) = rw (getD-set-other rows k j (t .entries) [] d)
+
+-- what was heard on a link gives what the link gave
+pub heard-given : (g : Links) (rows : List (List ℤ)) (k : ℕ) → givenOf (heardOn g rows k) ≡ givenBy g rows k
+unfolding givenBy
+heard-given g rows k = go (bitOf (g .confessed) k) (bitOf (g .listed) k) (record { marks = getD (g .marks) k 0; entries = getD rows k [] })
+  where
+    go : (a b : Bool) (t : Table) → givenOf (cond a confessed (cond b (listed t) (refused 0))) ≡ cond a trust.confessed (cond b (gave (tableAt t)) nothing)
+    go true b t = refl
+    go false true t = refl
+    go false false t = refl
 
 -- ---- link by link
 

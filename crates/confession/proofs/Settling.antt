@@ -1,11 +1,10 @@
--- What a head settles in a confession round. It depends on what links 0 .. n - 1 give alone. A struck head to which nothing is planted gives nothing, since
--- the empty frame is refused; so a head to which none plants settles from what the unstruck heads give alike.
+-- What a head settles in a confession round. It depends on what links 0 .. n - 1 give alone. The unstruck heads give all alike; so heads to which the struck
+-- ones plant the same settle the same.
 use mathlib.Core.Path.{_≡_, refl, ap, sym, _∙_, fun-ext}
 use mathlib.Core.Bool.{Bool, true, false, not, cond, _&&_, true≢false}
 use mathlib.Core.List.{List}
-use Prim.Native.Nat.{ℕ, _+_, _*_, _<_}
+use Prim.Native.Nat.{ℕ, _<_}
 use lib.Dec.{ltb}
-use lib.ListN.{getD}
 use lib.IntN.{ℤ}
 use borrow.Author.Tests.{lt-ltb}
 use Rattle.terms.specs.declared.Entry.{Entry}
@@ -18,17 +17,15 @@ use Rattle.midpoint.specs.Answers.{settling, settlingFrom}
 use Rattle.midpoint.specs.declared.Settled.{Settled}
 use Rattle.midpoint.proofs.Middle.{settling-from}
 use Rattle.codec.specs.declared.Said.{Said}
-use Rattle.codec.specs.Said.{listed, confessed, said, meant}
+use Rattle.codec.specs.Said.{Meaning, listed, confessed, said, meant}
 use Rattle.codec.specs.Written.{frameOf}
-use Rattle.codec.proofs.OneMeaning.{nothing-said}
+use Rattle.codec.proofs.Senders.{said-alike}
 use Rattle.cells.specs.declared.Links.{Links}
 use Rattle.cells.specs.Received.{givenBy}
 use Rattle.record.specs.Record.{givenOf}
 use Rattle.play.specs.declared.Stage.{Stage}
-use Rattle.play.specs.Memory.{heads, rowIn, replies, givenEntry, positionOf, newPosition}
-use Rattle.slots.specs.Slots.{plantedIn}
-use Rattle.confession.specs.Inner.{isStruck, ownReply, replied, Received, Kept, givenAlike, Untold, givenPlanted, Unplanted, settledFrom}
-use Rattle.slots.proofs.Parts.{planted-none}
+use Rattle.play.specs.Memory.{heads, ToldAlike, rowIn, replies, givenEntry, positionOf, newPosition}
+use Rattle.confession.specs.Inner.{isStruck, ownReply, replied, Received, Kept, givenAlike, Untold, givenPlanted, settledFrom}
 
 -- ---- what an unstruck head replies
 
@@ -41,6 +38,13 @@ pub replied-is : (s : Stage) (marks : List ℕ) (lists : List (List ℤ)) (k : �
     → bytes ≡ frameOf (heads s) k (s .phase) (meant x (rowIn marks lists k)) → said n (s .phase) 1 k bytes ≡ replied s marks lists k
 unfolding replied
 replied-is s marks lists k p q f = rw (f, q, p, reply-is (bitOf (s .before) k) (rowIn marks lists k))
+
+-- heads that reply the same are heard the same
+pub replied-alike : (s : Stage) (marks : List ℕ) (lists : List (List ℤ)) (k m : ℕ) → replies s marks lists k ≡ replies s marks lists m
+    → replied s marks lists k ≡ replied s marks lists m
+unfolding replied
+replied-alike s marks lists k m e =
+    ap (λ (x : Meaning). said (heads s) (s .phase) 1 k (frameOf (heads s) k (s .phase) x)) e ∙ said-alike (heads s) (s .phase) 1 k m (replies s marks lists m)
 
 -- ---- what is settled
 
@@ -72,15 +76,19 @@ module _ (s : Stage) (g : Links) (rows rows′ : List (List ℤ)) (h : Kept g ro
   planted-kept plant i =
       ap {B = ℕ → Given} (λ (G : ℕ → Given). λ k. cond (isStruck s k) (givenOf (said (heads s) (s .phase) 1 k (plant k i))) (G k)) (h .gives)
 
-module _ (s : Stage) (g : Links) (rows : List (List ℤ)) (u : Untold s g rows) (bytes lengths : List ℕ) (i : ℕ) where
-  pub alike-settled : Unplanted s lengths i → settledFrom s (givenBy g rows) ≡ settledFrom s (givenPlanted s g rows (plantedIn bytes lengths) i)
-  unfolding givenPlanted
-  alike-settled h = ap (settledFrom s) (fun-ext (λ k. go k (isStruck s k) (u .untold k) (h k)))
-    where
-      go : (k : ℕ) (b : Bool) → (b ≡ true → givenBy g rows k ≡ nothing) → (b ≡ true → getD lengths (32 * k + i) 0 ≡ 0)
-          → givenBy g rows k ≡ cond b (givenOf (said (heads s) (s .phase) 1 k (plantedIn bytes lengths k i))) (givenBy g rows k)
-      go k true p q = p refl ∙ rw (planted-none bytes lengths k i (q refl), nothing-said (heads s) (s .phase) 1 k)
-      go k false p q = refl
+-- heads told alike settle the same
+pub told-settled : (s : Stage) (g : Links) (rows : List (List ℤ)) (plant : ℕ → ℕ → List ℕ) (i m : ℕ) → ToldAlike s plant i m
+    → settledFrom s (givenPlanted s g rows plant m) ≡ settledFrom s (givenPlanted s g rows plant i)
+unfolding givenPlanted
+told-settled s g rows plant i m h = settled-same s _ _ go
+  where
+    go : (k : ℕ) → k < heads s → givenPlanted s g rows plant m k ≡ givenPlanted s g rows plant i k
+    go k l = rw (lt-ltb k (heads s) l) (pick (bitOf (s .struck) k) (h k l))
+      where
+        pick : (b : Bool) → (b ≡ true → plant k i ≡ plant k m)
+            → cond b (givenOf (said (heads s) (s .phase) 1 k (plant k m))) (givenBy g rows k) ≡ cond b (givenOf (said (heads s) (s .phase) 1 k (plant k i))) (givenBy g rows k)
+        pick true e = rw (e refl)
+        pick false e = refl
 
 -- the links and the rows hold what the unstruck heads give alike
 module _ (s : Stage) (marks : List ℕ) (lists : List (List ℤ)) (g : Links) (rows : List (List ℤ)) (h : Received g rows (givenAlike s marks lists)) where

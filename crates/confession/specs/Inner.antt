@@ -1,8 +1,8 @@
 -- What the private functions promise each other. Readers of the public promises do not need this file.
 use mathlib.Core.Path.{_≡_}
 use mathlib.Core.Bool.{Bool, true, cond, _&&_}
-use mathlib.Core.List.{List}
-use Prim.Native.Nat.{ℕ, _+_, _*_}
+use mathlib.Core.List.{List, []}
+use Prim.Native.Nat.{ℕ}
 use lib.Dec.{ltb}
 use lib.ListN.{length, getD, set}
 use lib.IntN.{ℤ}
@@ -44,6 +44,19 @@ rowsWith rows k (collected e) = rows
 rowsWith rows k (listed t) = set rows k (t .entries)
 rowsWith rows k confessed = rows
 
+-- what was heard on link k, as the links and the rows hold it
+abbrev pub heardOn : Links → List (List ℤ) → ℕ → Meaning
+heardOn g rows k =
+    cond (bitOf (g .confessed) k) confessed
+    (cond (bitOf (g .listed) k) (listed (record { marks = getD (g .marks) k 0; entries = getD rows k [] })) (refused 0))
+
+-- on link k something is heard that gives G
+pub record Heard (g : Links) (rows : List (List ℤ)) (k : ℕ) (G : Given) (g′ : Links) (rows′ : List (List ℤ)) : Type 0 where
+  pub says : Meaning
+  pub gives : givenOf says ≡ G
+  pub to-links : g′ ≡ linksWith g k says
+  pub to-rows : rows′ ≡ rowsWith rows k says
+
 -- the links and the rows hold G
 pub record Received (g : Links) (rows : List (List ℤ)) (G : ℕ → Given) : Type 0 where
   pub marks-long : length (g .marks) ≡ 32
@@ -68,10 +81,6 @@ pub record Untold (s : Stage) (g : Links) (rows : List (List ℤ)) : Type 0 wher
 -- what link k gives head i: what is planted, or what it gave
 unfoldable pub givenPlanted : Stage → Links → List (List ℤ) → (ℕ → ℕ → List ℕ) → ℕ → ℕ → Given
 givenPlanted s g rows plant i k = cond (isStruck s k) (givenOf (said (heads s) (s .phase) 1 k (plant k i))) (givenBy g rows k)
-
--- nothing is planted to head i
-abbrev pub Unplanted : Stage → List ℕ → ℕ → Type 0
-Unplanted s lengths i = (k : ℕ) → isStruck s k ≡ true → getD lengths (32 * k + i) 0 ≡ 0
 
 -- the position that a head settles, from what its links give
 unfoldable pub settledFrom : Stage → (ℕ → Given) → ℤ

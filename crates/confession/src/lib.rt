@@ -1,15 +1,16 @@
 // A confession round of a whole ring, played on the heads' memory: each head that is not struck settles by the same functions that the head's calls are made
 // of. What all unstruck heads say is read once.
-ghost use mathlib.Core.Bool.{true, false, cond};
+ghost use mathlib.Core.Bool.{true, cond};
 ghost use mathlib.Core.Path.{_≡_};
 ghost use Prim.Native.Nat.{ℕ, _<_};
 ghost use lib.ListN.{length, getD};
 ghost use lib.IntN.{pos};
 ghost use Rattle.codec.specs.Said.{said};
 ghost use Rattle.cells.specs.Received.{givenBy};
-ghost use Rattle.play.specs.Memory.{hears, newPosition};
+ghost use Rattle.record.specs.Record.{givenOf};
+ghost use Rattle.play.specs.Memory.{hears, replies, newPosition};
 ghost use Rattle.slots.specs.Slots.{plantedIn};
-ghost use Rattle.confession.specs.Inner.{ownReply, replied, linksWith, rowsWith, Received, Kept, givenAlike, Untold, givenPlanted, Unplanted, settledFrom};
+ghost use Rattle.confession.specs.Inner.{ownReply, replied, linksWith, rowsWith, heardOn, Heard, Received, Kept, givenAlike, Untold, givenPlanted, settledFrom};
 use cells::Links;
 use codec::Said;
 use midpoint::Settled;
@@ -82,6 +83,83 @@ fn hear_reply(
     hear(links, rows, k, &buffer[..len], n, s.phase)
 }
 
+// Whether two lists have the same numbers. All are looked at, without a branch, so that many are compared at once.
+fn is_same_row(a: &[i32], b: &[i32]) -> bool
+    ensures { λ r. ⌜ (r ≡ true → now (a .entry) ≡ now (b .entry)) ⌝ }
+{
+    let len = a.len();
+    if b.len() != len {
+        return false;
+    }
+    let mut same = true;
+    let mut j: usize = 0;
+    while j < len {
+        if a[j] != b[j] {
+            same = false;
+        }
+        j += 1;
+    }
+    same
+}
+
+// Whether heads k and m reply the same list.
+fn replies_alike(s: Stage, marks: &[u32; 32], lists: &[[i32; 32]; 32], k: usize, m: usize) -> bool
+    requires { ⌜ (k < 32) × (m < 32) ⌝ }
+    ensures { λ r. ⌜ (r ≡ true → replies s (now (marks .entry)) (now (lists .entry)) k ≡ replies s (now (marks .entry)) (now (lists .entry)) m) ⌝ }
+{
+    if marks::marked(s.before, k) {
+        return false;
+    }
+    if marks::marked(s.before, m) {
+        return false;
+    }
+    if marks[k] != marks[m] {
+        return false;
+    }
+    is_same_row(&lists[k], &lists[m])
+}
+
+// Hears on link k what was heard on link m.
+fn hear_again(links: Links, rows: &mut [[i32; 32]; 32], k: usize, m: usize) -> Links
+    requires { ⌜ (k < 32) × (m < 32) ⌝ }
+    ensures links { λ r. ⌜ r ≡ linksWith links k (heardOn links (now (rows .entry)) m) ⌝ }
+    ensures rows { λ r. ⌜ now (rows .exit) ≡ rowsWith (now (rows .entry)) k (heardOn links (now (rows .entry)) m) ⌝ }
+{
+    let mut out = links;
+    if marks::marked(links.confessed, m) {
+        out.confessed = marks::with_mark(links.confessed, k);
+        return out;
+    }
+    if marks::marked(links.listed, m) {
+        let entries = rows[m];
+        rows[k] = entries;
+        out.marks[k] = links.marks[m];
+        out.listed = marks::with_mark(links.listed, k);
+    }
+    out
+}
+
+// Hears what head k replies, after head `last`, or first where that is 32: where both reply the same list, what was heard of the one is heard of the other.
+fn hear_after(
+    s: Stage,
+    marks: &[u32; 32],
+    lists: &[[i32; 32]; 32],
+    k: usize,
+    links: Links,
+    rows: &mut [[i32; 32]; 32],
+    last: usize,
+) -> Links
+    requires { ⌜ (k < 32) × (last < 32 → givenBy links (now rows) last ≡ givenOf (replied s (now marks) (now lists) last)) ⌝ }
+    ensures { λ r. ⌜ Heard links (now (rows .entry)) k (givenOf (replied s (now (marks .entry)) (now (lists .entry)) k)) r (now (rows .exit)) ⌝ }
+{
+    if last < 32 {
+        if replies_alike(s, marks, lists, k, last) {
+            return hear_again(links, rows, k, last);
+        }
+    }
+    hear_reply(s, marks, lists, k, links, rows)
+}
+
 // Hears what the unstruck heads reply to each of them.
 fn hear_replies(
     s: Stage,
@@ -99,10 +177,12 @@ fn hear_replies(
         listed: 0,
         marks: words,
     };
+    let mut last: usize = 32;
     let mut k: usize = 0;
     while k < n {
         if !marks::marked(s.struck, k) {
-            links = hear_reply(s, marks, lists, k, links, rows);
+            links = hear_after(s, marks, lists, k, links, rows, last);
+            last = k;
         }
         k += 1;
     }
@@ -136,25 +216,6 @@ fn hear_planted(
     links
 }
 
-// Whether anything is planted from the struck heads to head i.
-fn is_planted(s: Stage, lengths: &[u8], i: usize) -> bool
-    requires { ⌜ i < 32 ⌝ }
-    ensures { λ r. ⌜ (r ≡ false → Unplanted s (now (lengths .entry)) i) ⌝ }
-{
-    if s.struck == 0 {
-        return false;
-    }
-    let n = play::head_count(s) as usize;
-    let mut k: usize = 0;
-    while k < n {
-        if marks::marked(s.struck, k) && fields::byte_at(lengths, 32 * k + i) != 0 {
-            return true;
-        }
-        k += 1;
-    }
-    false
-}
-
 // The lowest link that gave a list; 0 where none did.
 fn first_listed(m: u32) -> usize
     ensures { λ r. ⌜ r < 32 ⌝ }
@@ -174,7 +235,7 @@ fn settled(s: Stage, rows: &[[i32; 32]; 32], links: Links, lead: usize) -> i32
     }
 }
 
-// The new position of head i. Heads to which nothing is planted all settle the same.
+// The new position of head i.
 fn position_for(
     s: Stage,
     planted: &[u8],
@@ -183,17 +244,38 @@ fn position_for(
     base: Links,
     rows: &mut [[i32; 32]; 32],
     lead: usize,
-    alike: i32,
 ) -> i32
-    requires { ⌜ (i < 32) × Untold s base (now rows) × (lead < 32) × (alike ≡ settledFrom s (givenBy base (now rows))) ⌝ }
+    requires { ⌜ (i < 32) × Untold s base (now rows) × (lead < 32) ⌝ }
     ensures position { λ r. ⌜ r ≡ settledFrom s (givenPlanted s base (now (rows .entry)) (plantedIn (now (planted .entry)) (now (lengths .entry))) i) ⌝ }
     ensures kept { λ r. ⌜ Kept base (now (rows .entry)) (now (rows .exit)) ⌝ }
 {
-    if is_planted(s, lengths, i) {
-        let links = hear_planted(s, planted, lengths, i, base, rows);
-        return settled(s, rows, links, lead);
+    let links = hear_planted(s, planted, lengths, i, base, rows);
+    settled(s, rows, links, lead)
+}
+
+// The same, after another head settled the position `told`: where both are told alike, both settle it. `last` is that head, or 32 before the first.
+fn position_after(
+    s: Stage,
+    planted: &[u8],
+    lengths: &[u8],
+    i: usize,
+    base: Links,
+    rows: &mut [[i32; 32]; 32],
+    lead: usize,
+    last: usize,
+    told: i32,
+) -> i32
+    requires { ⌜ (i < 32) × Untold s base (now rows) × (lead < 32)
+        × (last < 32 → told ≡ settledFrom s (givenPlanted s base (now rows) (plantedIn (now planted) (now lengths)) last)) ⌝ }
+    ensures position { λ r. ⌜ r ≡ settledFrom s (givenPlanted s base (now (rows .entry)) (plantedIn (now (planted .entry)) (now (lengths .entry))) i) ⌝ }
+    ensures kept { λ r. ⌜ Kept base (now (rows .entry)) (now (rows .exit)) ⌝ }
+{
+    if last < 32 {
+        if play::is_told_alike(s, planted, lengths, i, last) {
+            return told;
+        }
     }
-    alike
+    position_for(s, planted, lengths, i, base, rows, lead)
 }
 
 // Stores the new position of each unstruck head.
@@ -213,12 +295,14 @@ fn fill_positions(
 {
     let n = play::head_count(s) as usize;
     let lead = first_listed(base.listed);
-    let alike = settled(s, rows, base, lead);
+    let mut last: usize = 32;
+    let mut told: i32 = 0;
     let mut i: usize = 0;
     while i < n {
         if !marks::marked(s.struck, i) {
-            let v = position_for(s, planted, lengths, i, base, rows, lead, alike);
-            positions[i] = v;
+            told = position_after(s, planted, lengths, i, base, rows, lead, last, told);
+            last = i;
+            positions[i] = told;
         }
         i += 1;
     }

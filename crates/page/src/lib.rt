@@ -3,9 +3,9 @@
 ghost use mathlib.Core.List.{List, [], _++_};
 ghost use mathlib.Core.Path.{_≡_};
 ghost use Prim.Native.Nat.{ℕ, _+_, _≤_, _<_};
-ghost use lib.IntN.{ℤ};
 ghost use lib.ListN.{length, take};
 ghost use Rattle.listing.specs.Texts.{bytesOf};
+ghost use Rattle.player.specs.Memory.{Memory, before, after};
 ghost use Rattle.piece.specs.Leads.{Leads, Follows};
 use listing::Text;
 use player::Player;
@@ -19,8 +19,7 @@ pub struct Filled {
 
 // Before the first byte, with any memory.
 pub fn begin() -> Player
-    ensures { λ r. ⌜ ((carry : List ℕ) (positions : List ℤ) (marks : List ℕ) (lists : List (List ℤ)) (planted lengths : List ℕ)
-        → Leads [] r carry positions marks lists planted lengths) ⌝ }
+    ensures { λ r. ⌜ ((carry : List ℕ) (M : Memory) → Leads [] r carry M) ⌝ }
 {
     player::unread()
 }
@@ -53,9 +52,9 @@ pub fn fill(
     lengths: &mut [u8; 1024],
 ) -> Filled
     ensures { λ r. ⌜ (r .used ≤ length (now (bytes .entry))) × (0 < length (now (bytes .entry)) → 0 < r .used) × (r .len ≤ 4096) ⌝ }
-    ensures { λ r. ⌜ ((a : List ℕ)
-        → Leads a p (now (carry .entry)) (now (positions .entry)) (now (marks .entry)) (now (lists .entry)) (now (planted .entry)) (now (lengths .entry))
-        → Follows a (take (r .used) (now (bytes .entry))) (r .player) (take (r .len) (now (page .exit))) (now (carry .exit)) (now (positions .exit)) (now (marks .exit)) (now (lists .exit)) (now (planted .exit)) (now (lengths .exit))) ⌝ }
+    ensures { λ r. ⌜ ((a : List ℕ) → Leads a p (now (carry .entry)) (before positions marks lists planted lengths)
+        → Follows a (take (r .used) (now (bytes .entry))) p (before positions marks lists planted lengths)
+        (r .player) (take (r .len) (now (page .exit))) (now (carry .exit)) (after positions marks lists planted lengths)) ⌝ }
 {
     let mut player = p;
     let mut used: usize = 0;

@@ -7,52 +7,71 @@ use native.Mathlib.Omega.{arith}
 use native.Mathlib.Decide.{decLe}
 use lib.ListN.{length, take, length-append}
 use lib.Seq.{length-take-le}
-use lib.IntN.{ℤ}
 use borrow.Author.Needs.{needs}
 use Rattle.terms.specs.Refusals as refusal
-use Rattle.runfile.specs.RunFile.{File, unread, lengthOf, kindOf, judged, stopped, withPart, feed, readFile}
+use Rattle.runfile.specs.RunFile.{File, unread, plant, lengthOf, kindOf, judged, stopped, withPart, feed, readFile, accepted}
 use Rattle.runfile.specs.Listing.{shown}
-use Rattle.runfile.proofs.Streaming.{feed-append, part-shows}
+use Rattle.runfile.proofs.Streaming.{feed-append, part-shows, stop-shows}
 use Rattle.runfile.proofs.Whole.{stands, Cut, Heads, heads-take, heads-stand, stands-long, feed-cut, feed-refused, feed-whole, feed-stopped, judged-empty, kept, kept-on}
+use Rattle.runfile.proofs.Bytes.{cost, none-accepted}
 use Rattle.listing.specs.declared.Text.{Text}
 use Rattle.listing.specs.Texts.{bytesOf}
 use Rattle.player.specs.declared.Player.{Player}
 use Rattle.reader.specs.declared.Took.{Took}
-use Rattle.player.specs.Leads.{Tells, Holds}
-use Rattle.reader.specs.Next.{Next}
+use Rattle.player.specs.Memory.{Memory}
+use Rattle.player.specs.Leads.{Tells, Holds, halted}
+use Rattle.reader.specs.Next.{Next, NextQuiet}
 use Rattle.listing.proofs.Writing.{empty-text}
 use Rattle.rounds.proofs.Converging.{held-converges}
-use Rattle.reader.proofs.Records.{stopped-next}
+use Rattle.reader.proofs.Records.{stopped-next, plant-place}
 use Rattle.piece.specs.declared.Fed.{Fed}
-use Rattle.piece.specs.Leads.{Leads, Follows}
-use Rattle.piece.specs.Inner.{Missing, Whole, Headed, Quiet, Taken, Used}
+use Rattle.piece.specs.Leads.{Leads, Follows, GrownTo, Steps}
+use Rattle.piece.specs.Inner.{Missing, Whole, Plants, Headed, Quiet, Taken, Used}
+use Rattle.piece.proofs.Growing.{grown-none, judged-grown}
+
+-- from the player p and the memory M: no record was accepted by which F became G, so that the memory M′ is the same, and the player q but for part and fault
+abbrev pub Idle : File → File → Player → Memory → Player → Memory → Type 0
+Idle F G p M q M′ = accepted G ≡ accepted F → (M′ ≡ M) × (q ≡ halted p (q .have) (q .fault))
 
 -- where a and the bytes after it lead, and with what they show, demand 3 is kept
-pub shows-there : {a xs : List ℕ} {p : Player} {text carry : List ℕ} {positions : List ℤ} {marks : List ℕ} {lists : List (List ℤ)} {planted lengths : List ℕ}
-    → Leads (a ++ xs) p carry positions marks lists planted lengths → shown (readFile (a ++ xs)) ≡ shown (readFile a) ++ text
-    → Follows a xs p text carry positions marks lists planted lengths
-shows-there {a} {xs} L s = record { leads = L; shows = s; demand3 = held-converges false (a ++ xs) (L .holds .keeps) }
+pub shows-there : {a xs : List ℕ} {p q : Player} {text carry : List ℕ} {M M′ : Memory}
+    → Leads (a ++ xs) q carry M′ → shown (readFile (a ++ xs)) ≡ shown (readFile a) ++ text → Idle (readFile a) (readFile (a ++ xs)) p M q M′
+    → Follows a xs p M q text carry M′
+shows-there {a} {xs} L s i = record { leads = L; shows = s; idle = i; demand3 = held-converges false (a ++ xs) (L .holds .keeps) }
 
 -- the bytes make G of the file, and the player q stands there
-follows : {a xs : List ℕ} {p : Player} {text carry : List ℕ} {positions : List ℤ} {marks : List ℕ} {lists : List (List ℤ)} {planted lengths : List ℕ}
-    (q : Player) (G : File) → p ≡ q → feed (readFile a) xs ≡ G → Tells q G → G .part ≡ take (q .have) carry → q .have ≡ length (G .part)
-    → Holds G positions marks lists planted lengths → shown G ≡ shown (readFile a) ++ text
-    → Follows a xs p text carry positions marks lists planted lengths
-follows {a} {xs} q G e f t part h m s =
+follows : {a xs : List ℕ} {p r : Player} {text carry : List ℕ} {M M′ : Memory}
+    (q : Player) (G : File) → r ≡ q → feed (readFile a) xs ≡ G → Tells q G → G .part ≡ take (q .have) carry → q .have ≡ length (G .part)
+    → Holds G M′ → shown G ≡ shown (readFile a) ++ text → Idle (readFile a) G p M q M′ → GrownTo (readFile a) G text
+    → Steps a xs p M r text carry M′
+follows {a} {xs} q G e f t part h m s i g =
     let is : readFile (a ++ xs) ≡ G = feed-append unread a xs ∙ f in
-    shows-there (record { tells = rw (e, is) t; part = rw (e, is) part; have = rw (e, is) h; holds = rw is m }) (rw is s)
+    record {
+      follows = shows-there (record { tells = rw (e, is) t; part = rw (e, is) part; have = rw (e, is) h; holds = rw is m }) (rw is s) (rw (e, is) i);
+      grown = rw is g;
+    }
 
-pub used-as : {a : List ℕ} {p : Player} {text carry : List ℕ} {positions : List ℤ} {marks : List ℕ} {lists : List (List ℤ)} {planted lengths : List ℕ}
-    {m n : ℕ} (rest : List ℕ) → m ≡ n → Follows a (take n rest) p text carry positions marks lists planted lengths
-    → Follows a (take m rest) p text carry positions marks lists planted lengths
+pub used-as : {a : List ℕ} {p q : Player} {text carry : List ℕ} {M M′ : Memory} {m n : ℕ} (rest : List ℕ) → m ≡ n
+    → Steps a (take n rest) p M q text carry M′ → Steps a (take m rest) p M q text carry M′
 used-as rest e f = rw e f
 
 -- what `reader::take_record` promises of a record b
-abbrev Judges : Player → List ℕ → Took → List ℤ → List ℕ → List (List ℤ) → List ℕ → List ℕ
-    → List ℤ → List ℕ → List (List ℤ) → List ℕ → List ℕ → Type 0
-Judges p b t positions marks lists planted lengths positions′ marks′ lists′ planted′ lengths′ =
-    (a : List ℕ) → Tells p (readFile a) → Holds (readFile a) positions marks lists planted lengths → stands (readFile a) b ≡ true → length b ≡ lengthOf b
-    → Next (readFile a) (judged (kindOf b) (readFile a) b) t positions′ marks′ lists′ planted′ lengths′
+abbrev Judges : Player → List ℕ → Took → Memory → Memory → Type 0
+Judges p b t M M′ =
+    (a : List ℕ) → Tells p (readFile a) → Holds (readFile a) M → stands (readFile a) b ≡ true → length b ≡ lengthOf b
+    → Next (readFile a) (judged (kindOf b) (readFile a) b) p M t M′
+
+-- what `reader::pass_plant` promises of a record b
+abbrev JudgesPlant : Player → List ℕ → Player → Memory → Memory → Type 0
+JudgesPlant p b q M M′ = (F : File) → length b ≤ 146 → Tells p F → Holds F M → NextQuiet F (judged plant F b) p M q M′
+
+-- bytes that are not there
+pub none-there : {a : List ℕ} {p : Player} {carry : List ℕ} {M : Memory} → Leads a p carry M → Steps a [] p M p [] carry M
+none-there {a} L =
+    record {
+      follows = shows-there (rw (append-nil a) L) (rw (append-nil a) (sym (append-nil (shown (readFile a))))) (λ e. (refl, refl));
+      grown = rw (append-nil a) (grown-none (readFile a) (readFile a) refl refl (sym (append-nil (shown (readFile a)))));
+    }
 
 -- an empty text shows nothing
 pub unshown : {x y : List ℕ} (t : Text) → x ≡ y → t .len ≡ 0 → x ≡ y ++ bytesOf t
@@ -85,8 +104,11 @@ uses-one W u T h =
 pub uses-all : {q : Player} {rest : List ℕ} {r : Fed} → Quiet q (length rest) r → Used rest r
 uses-all Q = record { within = omega (arith, Q .used); some = λ h. omega (arith, Q .used); room = omega (arith, Q .none) }
 
-module _ {a : List ℕ} {p : Player} {before : List ℕ} {positions : List ℤ} {marks : List ℕ} {lists : List (List ℤ)} {planted lengths : List ℕ}
-    (L : Leads a p before positions marks lists planted lengths) where
+-- a player that is halted at once is the same but for part and fault
+halts : (p : Player) {q : Player} {h c : ℕ} → q ≡ halted p h c → q ≡ halted p (q .have) (q .fault)
+halts p e = rw e refl
+
+module _ {a : List ℕ} {p : Player} {before : List ℕ} {M : Memory} (L : Leads a p before M) where
   abbrev F : File
   F = readFile a
 
@@ -97,36 +119,54 @@ module _ {a : List ℕ} {p : Player} {before : List ℕ} {positions : List ℤ} 
       omega (arith, L .have, stands-long (kindOf (F .part)) F (lengthOf (F .part)) may .1)
 
   -- after a fault nothing is read
-  pub rests : {xs : List ℕ} {n : ℕ} {r : Fed} → (p .fault ≡ 0 → ⊥) → Quiet p n r → Follows a xs (r .player) (bytesOf (r .text)) before positions marks lists planted lengths
+  pub rests : {xs : List ℕ} {n : ℕ} {r : Fed} → (p .fault ≡ 0 → ⊥) → Quiet p n r → Steps a xs p M (r .player) (bytesOf (r .text)) before M
   rests {xs} {r} fault Q =
-      follows p F (Q .player) (feed-stopped F xs (λ z. fault (sym (L .tells .fault) ∙ z))) (L .tells) (L .part) (L .have) (L .holds) (unshown (r .text) refl (Q .none))
+      let s : shown F ≡ shown F ++ bytesOf (r .text) = unshown (r .text) refl (Q .none) in
+      follows p F (Q .player) (feed-stopped F xs (λ z. fault (sym (L .tells .fault) ∙ z))) (L .tells) (L .part) (L .have) (L .holds) s
+      (λ e. (refl, refl)) (grown-none F F refl refl s)
 
   -- what a record makes of it
-  becomes : {r : Fed} {t : Took} {used : ℕ} {carry : List ℕ} {positions′ : List ℤ} {marks′ : List ℕ} {lists′ : List (List ℤ)} {planted′ lengths′ : List ℕ}
-      (rest : List ℕ) (G : File) → feed F (take used rest) ≡ G → G .part ≡ [] → Taken t used r → Next F G t positions′ marks′ lists′ planted′ lengths′
-      → Follows a (take (r .used) rest) (r .player) (bytesOf (r .text)) carry positions′ marks′ lists′ planted′ lengths′
-  becomes {t} rest G is none T n =
+  becomes : {r : Fed} {t : Took} {used : ℕ} {carry : List ℕ} {M′ : Memory} (rest : List ℕ) (G : File) → feed F (take used rest) ≡ G → G .part ≡ []
+      → Taken t used r → Next F G p M t M′ → (accepted G ≡ accepted F → G .fault ≡ 0 → ⊥) → GrownTo F G (bytesOf (t .text))
+      → Steps a (take (r .used) rest) p M (r .player) (bytesOf (r .text)) carry M′
+  becomes {t} rest G is none T n fault g =
       used-as rest (T .used)
-      (follows (t .player) G (T .player) is (n .tells) (rw (none, n .whole)) (n .whole ∙ ap length (sym none)) (n .holds) (rw (T .text) (n .shows)))
+      (follows (t .player) G (T .player) is (n .tells) (rw (none, n .whole)) (n .whole ∙ ap length (sym none)) (n .holds) (rw (T .text) (n .shows))
+      (λ e. let (same, q) = n .refused (fault e) in (same, halts p q)) (rw (T .text) g))
 
-  module _ {r : Fed} {t : Took} {used : ℕ} {b carry : List ℕ} {positions′ : List ℤ} {marks′ : List ℕ} {lists′ : List (List ℤ)} {planted′ lengths′ : List ℕ}
-      (rest : List ℕ) (ok : p .fault ≡ 0) (T : Taken t used r)
-      (N : Judges p b t positions marks lists planted lengths positions′ marks′ lists′ planted′ lengths′) where
+  module _ {r : Fed} {t : Took} {used : ℕ} {b carry : List ℕ} {M′ : Memory} (rest : List ℕ) (ok : p .fault ≡ 0) (T : Taken t used r) (N : Judges p b t M M′) where
     -- a whole record b is taken
     takes : F .part ++ take used rest ≡ b → 0 < length (take used rest) → stands F b ≡ true → length b ≡ lengthOf b
-        → Follows a (take (r .used) rest) (r .player) (bytesOf (r .text)) carry positions′ marks′ lists′ planted′ lengths′
+        → Steps a (take (r .used) rest) p M (r .player) (bytesOf (r .text)) carry M′
     takes is some may all =
+        let n = N a (L .tells) (L .holds) may all in
         becomes rest (judged (kindOf b) F b) (rw (← is) (feed-whole F (L .tells .fault ∙ ok) (take used rest) some (rw is may) (rw is all)))
-        (judged-empty (kindOf b) F b) T (N a (L .tells) (L .holds) may all)
+        (judged-empty (kindOf b) F b) T n
+        (none-accepted (kindOf b) F b (lengthOf b) may (cost a .begun)) (judged-grown F b (kindOf b) (lengthOf b) may (n .shows))
 
     -- it stands in the piece
-    pub stands-there : Whole p rest → used ≡ lengthOf rest → b ≡ take used rest → Follows a (take (r .used) rest) (r .player) (bytesOf (r .text)) carry positions′ marks′ lists′ planted′ lengths′
+    pub stands-there : Whole p rest → used ≡ lengthOf rest → b ≡ take used rest → Steps a (take (r .used) rest) p M (r .player) (bytesOf (r .text)) carry M′
     stands-there W u e =
         let none : F .part ≡ [] = L .part ∙ ap (λ (n : ℕ). take n before) (W .fresh) in
         let same : Heads b rest = rw (← e) at (heads-take used rest (omega (arith, W .long))) in
         let long = length-take-le used rest (omega (arith, W .within)) in
         takes (ap (λ (l : List ℕ). l ++ take used rest) none ∙ sym e) (omega (arith, W .long)) (heads-stand F same ∙ W .tells F (L .tells))
         (ap length e ∙ long ∙ u ∙ sym (same .long))
+
+  -- a planted record that stands in the piece
+  pub plant-there : {q : Player} {used : ℕ} {b : List ℕ} {M′ : Memory} (rest : List ℕ) → Plants p rest → used ≡ lengthOf rest → b ≡ take used rest
+      → JudgesPlant p b q M M′ → Steps a (take used rest) p M q [] before M′
+  plant-there {q} {used} {b} {M′} rest P u e N =
+      let t : Text = record { len = 0; bytes = [] } in
+      let W = P .whole in
+      let same : Heads b rest = rw (← e) at (heads-take used rest (omega (arith, W .long))) in
+      let kind : kindOf b ≡ plant = same .kind ∙ P .kind in
+      let f =
+      stands-there {r = record { player = q; used = used; text = t }} {t = record { player = q; text = t }} {carry = before} {M′ = M′} rest (P .sound)
+      (record { player = refl; used = refl; text = refl })
+      (λ a′ T H may whole. rw kind (N (readFile a′) (omega (arith, plant-place (readFile a′) (lengthOf b) (rw kind at may))) T H t refl))
+      W u e in
+      rw (empty-text t refl) at f
 
   module _ {rest carry : List ℕ} {want used : ℕ} (G : Gathered (p .have) before rest carry want used) (ok : p .fault ≡ 0) where
     abbrev s : List ℕ
@@ -146,24 +186,26 @@ module _ {a : List ℕ} {p : Player} {before : List ℕ} {positions : List ℤ} 
         (may, G .missing .rest h (omega (arith, L .have)) ∙ long)
 
     -- still cut
-    stays : {r : Fed} {q : Player} → Cut F s (length s) → q .have ≡ length s → Tells q (withPart F s) → Quiet q used r
-        → Follows a (take (r .used) rest) (r .player) (bytesOf (r .text)) carry positions marks lists planted lengths
-    stays {r} {q} cut h t Q =
+    stays : {r : Fed} {q : Player} {m : ℕ} → Cut F s (length s) → m ≡ length s → q ≡ halted p m (p .fault) → Tells q (withPart F s) → Quiet q used r
+        → Steps a (take (r .used) rest) p M (r .player) (bytesOf (r .text)) carry M
+    stays {r} {q} cut long is t Q =
+        let h : q .have ≡ length s = ap (λ (x : Player). x .have) is ∙ long in
+        let text = unshown (r .text) (part-shows F s) (Q .none) in
         used-as rest (Q .used)
         (follows q (withPart F s) (Q .player) (feed-cut F (L .tells .fault ∙ ok) (take used rest) cut)
-        t (rw (h, s-long) (sym s-there)) h (search (needs, L .holds)) (unshown (r .text) (part-shows F s) (Q .none)))
+        t (rw (h, s-long) (sym s-there)) h (search (needs, L .holds)) text (λ e. (refl, halts p is)) (grown-none F (withPart F s) refl (part-shows F s) text))
 
-    pub grows : {r : Fed} {q : Player} → used < want → (q .have ≡ p .have + used) × ((F : File) (s : List ℕ) → Tells p F → Tells q (withPart F s))
-        → Quiet q used r → Follows a (take (r .used) rest) (r .player) (bytesOf (r .text)) carry positions marks lists planted lengths
-    grows few (h, t) Q = stays (go (decLe 4 (p .have))) (h ∙ sym s-long) (t F s (L .tells)) Q
+    pub grows : {r : Fed} {q : Player} → used < want → (q ≡ halted p (p .have + used) (p .fault)) × ((F : File) (s : List ℕ) → Tells p F → Tells q (withPart F s))
+        → Quiet q used r → Steps a (take (r .used) rest) p M (r .player) (bytesOf (r .text)) carry M
+    grows few (is, t) Q = stays (go (decLe 4 (p .have))) (sym s-long) is (t F s (L .tells)) Q
       where
         go : Dec (4 ≤ p .have) → Cut F s (length s)
         go (yes k) l = (due k .0, omega (arith, s-long, due k .1))
         go (no k) l = absurd (omega (arith, s-long, G .missing .header (omega arith)))
 
     -- the header is there
-    pub heads : {r : Fed} {q : Player} → p .have < 4 → want ≤ used → ((F : File) (s : List ℕ) → Tells p F → Headed (stands F carry) F s q)
-        → Quiet q used r → Follows a (take (r .used) rest) (r .player) (bytesOf (r .text)) carry positions marks lists planted lengths
+    pub heads : {r : Fed} {q : Player} → p .have < 4 → want ≤ used → ((F : File) (s : List ℕ) → Tells p F → Headed (stands F carry) F s p q)
+        → Quiet q used r → Steps a (take (r .used) rest) p M (r .player) (bytesOf (r .text)) carry M
     heads {r} {q} few full H Q = go (stands F s) refl (rw (← same) at (H F s (L .tells)))
       where
         four : p .have + used ≡ 4
@@ -172,19 +214,19 @@ module _ {a : List ℕ} {p : Player} {before : List ℕ} {positions : List ℤ} 
         same : stands F s ≡ stands F carry
         same = heads-stand F (rw s-there at (heads-take (p .have + used) carry (omega (arith, four))))
 
-        go : (b : Bool) → stands F s ≡ b → Headed b F s q → Follows a (take (r .used) rest) (r .player) (bytesOf (r .text)) carry positions marks lists planted lengths
-        go true may (h, t) =
-            stays (λ k. (may, omega (arith, s-long, four, stands-long (kindOf s) F (lengthOf s) may .0))) (omega (arith, h, s-long, four)) t Q
-        go false no-place (h, t) =
+        go : (b : Bool) → stands F s ≡ b → Headed b F s p q → Steps a (take (r .used) rest) p M (r .player) (bytesOf (r .text)) carry M
+        go true may (is, t) =
+            stays (λ k. (may, omega (arith, s-long, four, stands-long (kindOf s) F (lengthOf s) may .0))) (omega (arith, s-long, four)) is t Q
+        go false no-place (is, t) =
             let some : 0 < length (take used rest) = omega (arith, four, length-take-le used rest (G .within)) in
+            let n = stopped-next {F = F} {p = p} {M = M} {r = record { player = q; text = r .text }} (L .holds) (is, t) (Q .none) in
             becomes rest (stopped F refusal.run-record) (feed-refused F (L .tells .fault ∙ ok) (take used rest) some (s-long ∙ four) no-place) refl
-            (record { player = Q .player; used = Q .used; text = refl }) (stopped-next {r = record { player = q; text = r .text }} (L .holds) (h, t) (Q .none))
+            (record { player = Q .player; used = Q .used; text = refl }) n (λ e z. omega arith)
+            (grown-none F (stopped F refusal.run-record) refl (stop-shows F refusal.run-record) (n .shows))
 
     -- the record is there
-    pub ends : {r : Fed} {t : Took} {b : List ℕ} {positions′ : List ℤ} {marks′ : List ℕ} {lists′ : List (List ℤ)} {planted′ lengths′ : List ℕ}
-        → 4 ≤ p .have → want ≤ used → b ≡ take (p .have + used) carry → Taken t used r
-        → Judges p b t positions marks lists planted lengths positions′ marks′ lists′ planted′ lengths′
-        → Follows a (take (r .used) rest) (r .player) (bytesOf (r .text)) carry positions′ marks′ lists′ planted′ lengths′
+    pub ends : {r : Fed} {t : Took} {b : List ℕ} {M′ : Memory} → 4 ≤ p .have → want ≤ used → b ≡ take (p .have + used) carry → Taken t used r
+        → Judges p b t M M′ → Steps a (take (r .used) rest) p M (r .player) (bytesOf (r .text)) carry M′
     ends {b} h full e T N =
         let is : s ≡ b = sym (e ∙ s-there) in
         let (may, all) = due h in

@@ -1,18 +1,19 @@
 -- What the private functions promise each other. Readers of the public promises do not need this file.
 use mathlib.Core.Path.{_≡_}
 use mathlib.Core.Bool.{Bool, true, false}
-use mathlib.Core.List.{List}
+use mathlib.Core.List.{List, []}
 use Prim.Native.Nat.{ℕ, _+_, _≤_, _<_}
 use lib.ListN.{length, take}
-use lib.IntN.{ℤ}
 use Rattle.terms.specs.Refusals as refusal
-use Rattle.runfile.specs.RunFile.{File, lengthOf, kindOf, mayStand, stopped, withPart}
+use Rattle.runfile.specs.RunFile.{File, plant, lengthOf, kindOf, mayStand, stopped, withPart}
 use Rattle.listing.specs.Texts.{bytesOf}
 use Rattle.player.specs.declared.Player.{Player}
 use Rattle.reader.specs.declared.Took.{Took}
-use Rattle.player.specs.Leads.{Tells}
+use Rattle.player.specs.Memory.{Memory, withSlots}
+use Rattle.player.specs.Leads.{Tells, halted}
 use Rattle.piece.specs.declared.Fed.{Fed}
-use Rattle.piece.specs.Leads.{Leads, Follows}
+use Rattle.piece.specs.declared.Passed.{Passed}
+use Rattle.piece.specs.Leads.{Leads, Steps}
 
 -- r bytes are missing: to the end of the header, or to the end of the record
 pub record Missing (have : ℕ) (carry : List ℕ) (r : ℕ) : Type 0 where
@@ -32,10 +33,16 @@ pub record Whole (p : Player) (s : List ℕ) : Type 0 where
   pub long : 6 ≤ lengthOf s
   pub tells : (F : File) → Tells p F → mayStand (kindOf s) F (lengthOf s) ≡ true
 
--- the player r with a header, by whether it may stand
-abbrev pub Headed : Bool → File → List ℕ → Player → Type 0
-Headed true F s r = (r .have ≡ 4) × Tells r (withPart F s)
-Headed false F s r = (r .have ≡ 0) × Tells r (stopped F refusal.run-record)
+-- a piece begins with a whole planted record that may stand
+pub record Plants (p : Player) (s : List ℕ) : Type 0 where
+  pub whole : Whole p s
+  pub kind : kindOf s ≡ plant
+  pub sound : p .fault ≡ 0
+
+-- the player r that p becomes with a header, by whether it may stand
+abbrev pub Headed : Bool → File → List ℕ → Player → Player → Type 0
+Headed true F s p r = (r ≡ halted p 4 (p .fault)) × Tells r (withPart F s)
+Headed false F s p r = (r ≡ halted p 0 refusal.run-record) × Tells r (stopped F refusal.run-record)
 
 -- a step that shows nothing
 pub record Quiet (q : Player) (n : ℕ) (r : Fed) : Type 0 where
@@ -56,9 +63,12 @@ pub record Used (bytes : List ℕ) (r : Fed) : Type 0 where
   pub room : r .text .len ≤ 64
 
 -- as much of the bytes as is used is read: from the memory before to that after
-abbrev pub Reads : Player → List ℕ → Fed
-    → List ℕ → List ℤ → List ℕ → List (List ℤ) → List ℕ → List ℕ
-    → List ℕ → List ℤ → List ℕ → List (List ℤ) → List ℕ → List ℕ → Type 0
-Reads p bytes r carry positions marks lists planted lengths carry′ positions′ marks′ lists′ planted′ lengths′ =
-    (a : List ℕ) → Leads a p carry positions marks lists planted lengths
-    → Follows a (take (r .used) bytes) (r .player) (bytesOf (r .text)) carry′ positions′ marks′ lists′ planted′ lengths′
+abbrev pub Reads : Player → List ℕ → Fed → List ℕ → Memory → List ℕ → Memory → Type 0
+Reads p bytes r carry M carry′ M′ =
+    (a : List ℕ) → Leads a p carry M → Steps a (take (r .used) bytes) p M (r .player) (bytesOf (r .text)) carry′ M′
+
+-- the same of bytes that show nothing and change what is planted alone
+abbrev pub Passes : Player → List ℕ → Passed → List ℕ → List ℕ → List ℕ → List ℕ → Type 0
+Passes p bytes r planted lengths planted′ lengths′ =
+    (a carry : List ℕ) (M : Memory) → Leads a p carry (withSlots M planted lengths)
+    → Steps a (take (r .used) bytes) p (withSlots M planted lengths) (r .player) [] carry (withSlots M planted′ lengths′)

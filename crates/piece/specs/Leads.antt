@@ -1,25 +1,46 @@
 -- The player's promise: where the bytes a lead, and fed b after them, it stands where a ++ b leads. Each piece shows the text by which the listing grows, and
--- the positions then held keep demand 3 with every phase end that the listing shows.
-use mathlib.Core.List.{List, _++_}
+-- the positions then held keep demand 3 with every phase end that the listing shows. Where no record was accepted, as where one is refused, the memory is as it
+-- was; the bytes of a record that is cut are scratch.
+use mathlib.Core.List.{List, [], _∷_, _++_}
 use mathlib.Core.Path.{_≡_}
 use Prim.Native.Nat.{ℕ}
 use lib.ListN.{length, take}
-use lib.IntN.{ℤ}
-use Rattle.runfile.specs.RunFile.{readFile}
-use Rattle.runfile.specs.Listing.{shown}
+use Rattle.ring.specs.Rounds.{Ring, PhaseEnd}
+use Rattle.runfile.specs.RunFile.{File, readFile, accepted, endsSoFar}
+use Rattle.runfile.specs.Listing.{line, shown}
 use Rattle.player.specs.declared.Player.{Player}
-use Rattle.player.specs.Leads.{Tells, Holds}
+use Rattle.player.specs.Memory.{Memory}
+use Rattle.player.specs.Leads.{ringBefore, Tells, Holds, halted}
 use Rattle.rounds.specs.Converged.{ConvergedIn}
 
--- the player, and the memory lent to it, stand where the bytes a lead
-pub record Leads (a : List ℕ) (p : Player) (carry : List ℕ) (positions : List ℤ) (marks : List ℕ) (lists : List (List ℤ)) (planted lengths : List ℕ) : Type 0 where
+-- the player, with the bytes of a record that is cut, and the memory lent to it, stand where the bytes a lead
+pub record Leads (a : List ℕ) (p : Player) (carry : List ℕ) (M : Memory) : Type 0 where
   pub tells : Tells p (readFile a)
   pub part : readFile a .part ≡ take (p .have) carry
   pub have : p .have ≡ length (readFile a .part)
-  pub holds : Holds (readFile a) positions marks lists planted lengths
+  pub holds : Holds (readFile a) M
 
--- fed b after a, it shows a text
-pub record Follows (a b : List ℕ) (p : Player) (text : List ℕ) (carry : List ℕ) (positions : List ℤ) (marks : List ℕ) (lists : List (List ℤ)) (planted lengths : List ℕ) : Type 0 where
-  pub leads : Leads (a ++ b) p carry positions marks lists planted lengths
+-- fed b after a, it shows a text: from the player p and the memory M to the player q and the memory M′
+pub record Follows (a b : List ℕ) (p : Player) (M : Memory) (q : Player) (text carry : List ℕ) (M′ : Memory) : Type 0 where
+  pub leads : Leads (a ++ b) q carry M′
   pub shows : shown (readFile (a ++ b)) ≡ shown (readFile a) ++ text
-  pub demand3 : ConvergedIn (readFile (a ++ b)) (readFile (a ++ b) .played) positions
+  pub idle : accepted (readFile (a ++ b)) ≡ accepted (readFile a) → (M′ ≡ M) × (q ≡ halted p (q .have) (q .fault))
+  pub demand3 : ConvergedIn (readFile (a ++ b)) (readFile (a ++ b) .played) (M′ .positions)
+
+-- the phase end at which a ring stands after a confession round; collect: the heads struck in the round before that
+abbrev pub endHere : ℕ → Ring → PhaseEnd
+endHere collect R = record { collect = collect; confess = R .before; heads = R .heads }
+
+-- the phase ends es of n heads become es′: no end more was played, and nothing is shown; or one, at which the ring R then stands, and its line is shown
+pub data Grown (n : ℕ) (es es′ : List PhaseEnd) (R : Ring) (text : List ℕ) : Type 0 where
+  none : es′ ≡ es → text ≡ [] → Grown n es es′ R text
+  one : (collect : ℕ) → R .round ≡ 0 → es′ ≡ endHere collect R ∷ es → text ≡ line n (length es) (endHere collect R) → Grown n es es′ R text
+
+-- as the file F becomes G
+abbrev pub GrownTo : File → File → List ℕ → Type 0
+GrownTo F G text = Grown (G .n) (endsSoFar F) (endsSoFar G) (ringBefore G) text
+
+-- and one phase end was played at most
+pub record Steps (a b : List ℕ) (p : Player) (M : Memory) (q : Player) (text carry : List ℕ) (M′ : Memory) : Type 0 where
+  pub follows : Follows a b p M q text carry M′
+  pub grown : GrownTo (readFile a) (readFile (a ++ b)) text

@@ -6,8 +6,9 @@ ghost use mathlib.Core.Path.{_≡_};
 ghost use Prim.Native.Nat.{ℕ, _+_, _≤_, _<_, min};
 ghost use lib.ListN.{length, take};
 ghost use Rattle.runfile.specs.RunFile.{File, lengthOf, kindOf, mayStand, withPart};
-ghost use Rattle.player.specs.Leads.{Tells};
-ghost use Rattle.piece.specs.Inner.{Missing, Stood, Whole, Headed, Quiet, Taken, Used, Reads};
+ghost use Rattle.player.specs.Memory.{before, after};
+ghost use Rattle.player.specs.Leads.{Tells, halted};
+ghost use Rattle.piece.specs.Inner.{Missing, Stood, Whole, Plants, Headed, Quiet, Taken, Used, Reads, Passes};
 use listing::Text;
 use player::Player;
 use reader::Took;
@@ -79,7 +80,7 @@ fn is_whole(p: Player, bytes: &[u8]) -> bool
 
 // The player with more of a record that is not whole.
 fn holding(p: Player, have: usize) -> Player
-    ensures { λ r. ⌜ (r .have ≡ have) × ((F : File) (s : List ℕ) → Tells p F → Tells r (withPart F s)) ⌝ }
+    ensures { λ r. ⌜ (r ≡ halted p have (p .fault)) × ((F : File) (s : List ℕ) → Tells p F → Tells r (withPart F s)) ⌝ }
 {
     let mut out = p;
     out.have = have;
@@ -88,7 +89,7 @@ fn holding(p: Player, have: usize) -> Player
 
 // The player with a record's header.
 fn headed(p: Player, bytes: &[u8]) -> Player
-    ensures { λ r. ⌜ ((F : File) (s : List ℕ) → Tells p F → Headed (mayStand (kindOf (now (bytes .entry))) F (lengthOf (now (bytes .entry)))) F s r) ⌝ }
+    ensures { λ r. ⌜ ((F : File) (s : List ℕ) → Tells p F → Headed (mayStand (kindOf (now (bytes .entry))) F (lengthOf (now (bytes .entry)))) F s p r) ⌝ }
 {
     if stands(p, bytes) {
         return holding(p, 4);
@@ -138,8 +139,8 @@ fn take_part(
     requires { ⌜ p .fault ≡ 0 ⌝ }
     ensures { λ r. ⌜ Used (now (rest .entry)) r ⌝ }
     ensures { λ r. ⌜ Reads p (now (rest .entry)) r
-        (now (carry .entry)) (now (positions .entry)) (now (marks .entry)) (now (lists .entry)) (now (planted .entry)) (now (lengths .entry))
-        (now (carry .exit)) (now (positions .exit)) (now (marks .exit)) (now (lists .exit)) (now (planted .exit)) (now (lengths .exit)) ⌝ }
+        (now (carry .entry)) (before positions marks lists planted lengths)
+        (now (carry .exit)) (after positions marks lists planted lengths) ⌝ }
 {
     let have = p.have;
     if 1026 <= have {
@@ -160,6 +161,45 @@ fn take_part(
     taken(t, used)
 }
 
+// Planted records passed: the player after them, and how many bytes they take.
+pub struct Passed {
+    pub player: Player,
+    pub used: usize,
+}
+
+// Whether a piece begins with a whole planted record that may stand.
+fn is_plant(p: Player, bytes: &[u8]) -> bool
+    ensures { λ r. ⌜ (r ≡ true → Plants p (now (bytes .entry))) ⌝ }
+{
+    let fault = p.fault;
+    if fault != 0 {
+        return false;
+    }
+    if fields::half_at(bytes, 2) != records::PLANT {
+        return false;
+    }
+    is_whole(p, bytes)
+}
+
+// Takes the planted record at the front of a piece, if a whole one stands there. It shows nothing, so no text goes with it.
+pub fn pass_plant(
+    p: Player,
+    rest: &[u8],
+    planted: &mut [u8; 143360],
+    lengths: &mut [u8; 1024],
+) -> Passed
+    ensures { λ r. ⌜ r .used ≤ length (now (rest .entry)) ⌝ }
+    ensures { λ r. ⌜ Passes p (now (rest .entry)) r (now (planted .entry)) (now (lengths .entry)) (now (planted .exit)) (now (lengths .exit)) ⌝ }
+{
+    if !is_plant(p, rest) {
+        return Passed { player: p, used: 0 };
+    }
+    let used = fields::half_at(rest, 0) as usize;
+    let whole = front(rest, used);
+    let player = reader::pass_plant(p, whole, planted, lengths);
+    Passed { player, used }
+}
+
 // One step: a whole record, or bytes of one that is cut. After a fault nothing is read.
 pub fn advance(
     p: Player,
@@ -173,8 +213,8 @@ pub fn advance(
 ) -> Fed
     ensures { λ r. ⌜ Used (now (rest .entry)) r ⌝ }
     ensures { λ r. ⌜ Reads p (now (rest .entry)) r
-        (now (carry .entry)) (now (positions .entry)) (now (marks .entry)) (now (lists .entry)) (now (planted .entry)) (now (lengths .entry))
-        (now (carry .exit)) (now (positions .exit)) (now (marks .exit)) (now (lists .exit)) (now (planted .exit)) (now (lengths .exit)) ⌝ }
+        (now (carry .entry)) (before positions marks lists planted lengths)
+        (now (carry .exit)) (after positions marks lists planted lengths) ⌝ }
 {
     if p.fault != 0 {
         return quiet(p, rest.len());

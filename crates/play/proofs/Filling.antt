@@ -39,6 +39,10 @@ module _ {A : Type 0} (picked : ℕ → Bool) (new old : ℕ → A) where
         (λ q. rw (q, e, lt-ltb i (i + 1) (omega arith)) stored)
         (λ d. rw (test-other i j d) (kept j d ∙ h j))
 
+    -- what a picked head below i holds
+    pub filled-had : (j : ℕ) → j < i → picked j ≡ true → held j ≡ new j
+    filled-had j l e = rw (lt-ltb j i l, e) at (h j)
+
     -- what head i holds before it is filled
     pub filled-yet : held i ≡ old i
     filled-yet = rw (le-ltb i i (omega arith)) at (h i)

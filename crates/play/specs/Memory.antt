@@ -1,8 +1,9 @@
 -- A round played on the heads' memory, which a player keeps apart from the records: the positions at the last phase end, and after a collection round
 -- the list of each head. Each definition says what the head records would hear and make of it.
+use mathlib.Core.Path.{_≡_}
 use mathlib.Core.Bool.{Bool, true, false, not, cond, _&&_}
 use mathlib.Core.List.{List, []}
-use Prim.Native.Nat.{ℕ, _+_, _*_, min}
+use Prim.Native.Nat.{ℕ, _+_, _*_, _<_, min}
 use lib.Dec.{ltb}
 use lib.ListN.{getD, take, drop}
 use lib.IntN.{ℤ, pos}
@@ -29,6 +30,10 @@ hears s i = ltb i (heads s) && not (bitOf (s .struck) i)
 -- What link k carries to head i in round r: what is planted there, or the frame that says m, what head k has to say.
 abbrev pub carries : Stage → (ℕ → ℕ → List ℕ) → ℕ → ℕ → Meaning → List ℕ
 carries s plant i k m = cond (bitOf (s .struck) k) (plant k i) (frameOf (heads s) k (s .phase) m)
+
+-- the same is planted from each struck head to heads i and m
+abbrev pub ToldAlike : Stage → (ℕ → ℕ → List ℕ) → ℕ → ℕ → Type 0
+ToldAlike s plant i m = (k : ℕ) → k < heads s → bitOf (s .struck) k ≡ true → plant k i ≡ plant k m
 
 -- ---- collection
 

@@ -1,9 +1,12 @@
 // A round of a whole ring, played on the heads' memory: what each head says is written as its frame and heard as a frame, planted bytes are heard as they are.
 // `collection` and `confession` play the two rounds; here is what both need.
+ghost use mathlib.Core.Bool.{true};
 ghost use mathlib.Core.Path.{_≡_};
+ghost use Prim.Native.Nat.{_<_};
+ghost use Rattle.slots.specs.Slots.{plantedIn};
 ghost use Rattle.codec.specs.Said.{meant};
 ghost use Rattle.codec.specs.Written.{frameOf};
-ghost use Rattle.play.specs.Memory.{heads};
+ghost use Rattle.play.specs.Memory.{heads, ToldAlike};
 ghost use Rattle.play.specs.Frames.{Front};
 use codec::Said;
 use codec::Written;
@@ -33,4 +36,35 @@ pub fn write_frame(what: Said, table: Table, s: Stage, k: u8, buffer: &mut [u8; 
         Written::Length(len) => len,
         Written::Refused(_) => 0,
     }
+}
+
+// Whether the same is planted from each struck head to heads i and m: what the one hears of them, the other does too.
+fn hears_alike(s: Stage, planted: &[u8], lengths: &[u8], i: usize, m: usize) -> bool
+    requires { ⌜ (i < 32) × (m < 32) ⌝ }
+    ensures { λ r. ⌜ (r ≡ true → ToldAlike s (plantedIn (now (planted .entry)) (now (lengths .entry))) i m) ⌝ }
+{
+    if s.struck == 0 {
+        return true;
+    }
+    let n = head_count(s) as usize;
+    let mut k: usize = 0;
+    while k < n {
+        if marks::marked(s.struck, k)
+            && !slots::is_alike(planted, lengths, k as u8, i as u8, m as u8)
+        {
+            return false;
+        }
+        k += 1;
+    }
+    true
+}
+
+// The same of any two numbers: from 32 on there is no head, and the answer is no.
+pub fn is_told_alike(s: Stage, planted: &[u8], lengths: &[u8], i: usize, m: usize) -> bool
+    ensures { λ r. ⌜ (r ≡ true → ToldAlike s (plantedIn (now (planted .entry)) (now (lengths .entry))) i m) ⌝ }
+{
+    if i < 32 && m < 32 {
+        return hears_alike(s, planted, lengths, i, m);
+    }
+    false
 }

@@ -1,7 +1,6 @@
--- Which records the player's memory stands for. Between rounds a record of an unstruck head is settled by its position, in a collection round, and by its
--- list, in a confession round (where no call reads the position); all else of it is as `opened` makes it.
+-- Which records the player's memory stands for. Of an unstruck head it holds the position that its record holds, in every round, and in a confession round its
+-- list; all else of the record is as `opened` makes it.
 use mathlib.Core.Bool.{false}
-use mathlib.Core.List.{List}
 use mathlib.Core.Path.{_≡_}
 use Prim.Native.Nat.{ℕ}
 use lib.ListN.{getD}
@@ -11,7 +10,10 @@ use Rattle.marks.specs.Marks.{bitOf}
 use Rattle.convergence.specs.Counting.{Each}
 use Rattle.ring.specs.Rounds.{Ring}
 use Rattle.play.specs.Memory.{rowIn}
+use Rattle.player.specs.Memory.{Memory}
 
-pub record Keeps (n : ℕ) (R : Ring) (positions : List ℤ) (marks : List ℕ) (lists : List (List ℤ)) : Type 0 where
-  pub collection : R .round ≡ 0 → Each n (λ i. bitOf (R .before) i ≡ false → R .heads i .position ≡ Entry.Position (getD positions i (pos 0)))
-  pub confession : R .round ≡ 1 → Each n (λ i. bitOf (R .before) i ≡ false → R .heads i .list ≡ rowIn marks lists i)
+-- of the heads that were not struck in the round before: a collection round finds each with a position; a head healed in it has none in the confession round
+pub record Keeps (n : ℕ) (R : Ring) (M : Memory) : Type 0 where
+  pub collection : R .round ≡ 0 → Each n (λ i. bitOf (R .before) i ≡ false → R .heads i .position ≡ Entry.Position (getD (M .positions) i (pos 0)))
+  pub confession : R .round ≡ 1 → Each n (λ i. bitOf (R .before) i ≡ false → R .heads i .list ≡ rowIn (M .marks) (M .lists) i)
+  pub always : Each n (λ i. bitOf (R .before) i ≡ false → (v : ℤ) → R .heads i .position ≡ Entry.Position v → getD (M .positions) i (pos 0) ≡ v)

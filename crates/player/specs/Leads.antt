@@ -1,15 +1,14 @@
 -- What the player and the memory lent to it hold of the file read so far.
 use mathlib.Core.Bool.{true}
-use mathlib.Core.List.{List}
 use mathlib.Core.Path.{_≡_}
 use Prim.Native.Nat.{ℕ, _≤_, _<_}
 use lib.ListN.{length}
-use lib.IntN.{ℤ}
 use Rattle.ring.specs.Rounds.{Ring, planted, ringAfter}
 use Rattle.runfile.specs.RunFile.{File, given}
 use Rattle.slots.specs.Slots.{plantedIn}
 use Rattle.records.specs.Pairs.{lastPair}
 use Rattle.player.specs.declared.Player.{Player}
+use Rattle.player.specs.Memory.{Memory}
 use Rattle.player.specs.Keeps.{Keeps}
 
 -- the ring when the rounds before the one that waits are played
@@ -29,7 +28,23 @@ pub record Tells (p : Player) (F : File) : Type 0 where
   pub fault : F .fault ≡ p .fault
 
 -- the memory holds what the records of the heads hold, and what is planted in the round that waits
-pub record Holds (F : File) (positions : List ℤ) (marks : List ℕ) (lists : List (List ℤ)) (bytes lengths : List ℕ) : Type 0 where
-  pub keeps : F .begun ≡ true → Keeps (F .n) (ringBefore F) positions marks lists
-  pub slots : F .waits ≡ true → (k i : ℕ) → k < 32 → i < 32 → plantedIn bytes lengths k i ≡ planted (F .last .plants) k i
+pub record Holds (F : File) (M : Memory) : Type 0 where
+  pub keeps : F .begun ≡ true → Keeps (F .n) (ringBefore F) M
+  pub slots : F .waits ≡ true → (k i : ℕ) → k < 32 → i < 32 → plantedIn (M .planted) (M .lengths) k i ≡ planted (F .last .plants) k i
   pub short : F .waits ≡ true → (k i : ℕ) → length (planted (F .last .plants) k i) ≤ 140
+
+-- the player p, but for how many bytes of a record it has, and for its fault
+abbrev pub halted : Player → ℕ → ℕ → Player
+halted p have fault =
+    record {
+      begun = p .begun;
+      n = p .n;
+      f = p .f;
+      given = p .given;
+      waits = p .waits;
+      before = p .before;
+      struck = p .struck;
+      last = p .last;
+      have = have;
+      fault = fault;
+    }

@@ -1,3 +1,4 @@
+pub mod Memory
 pub mod Keeps
 pub mod Leads
 pub mod Inner

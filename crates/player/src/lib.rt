@@ -5,7 +5,7 @@ ghost use mathlib.Core.Path.{_≡_};
 ghost use Prim.Native.Nat.{ℕ, _+_, _<_};
 ghost use Rattle.runfile.specs.RunFile.{File, given, readFile, round, plant, struckIn, senderIn, receiverIn, withRecord, stopped};
 ghost use Rattle.records.specs.Pairs.{lastPair};
-ghost use Rattle.player.specs.Leads.{Tells};
+ghost use Rattle.player.specs.Leads.{Tells, halted};
 ghost use Rattle.player.specs.Inner.{freshPlayer};
 use records::Pair;
 
@@ -61,7 +61,7 @@ pub fn unread() -> Player
 
 // The player at a fault, which ends the file.
 pub fn stop(p: Player, number: u8) -> Player
-    ensures { λ r. ⌜ (r .have ≡ 0) × ((F : File) → Tells p F → Tells r (stopped F number)) ⌝ }
+    ensures { λ r. ⌜ (r ≡ halted p 0 number) × ((F : File) → Tells p F → Tells r (stopped F number)) ⌝ }
 {
     let mut out = p;
     out.have = 0;

@@ -6,13 +6,13 @@ use Prim.Native.Nat.{ℕ, zero, suc, _+_, _*_, _≤_, _<_}
 use native.Mathlib.Omega.{arith}
 use lib.Dec.{eqb, leb}
 use lib.ListN.{length, getD, drop}
-use lib.IntN.{ℤ, pos}
+use lib.IntN.{pos}
 use borrow.Author.Tests.{leb-true, ltb-true, not-true}
 use Rattle.terms.specs.Sizes.{isCount}
 use Rattle.convergence.specs.Counting.{Each}
 use Rattle.codec.proofs.Listing.{and-both}
 use Rattle.record.proofs.Proper.{both-passed}
-use Rattle.ring.specs.Rounds.{ringAfter}
+use Rattle.ring.specs.Rounds.{Ring, ringAfter}
 use Rattle.runfile.specs.RunFile.{File, given, RecordKind, start, round, plant, mayStand, countIn, limitIn, positionIn, struckIn, fewMarks, senderIn, receiverIn, recordFault, withRecord, stopped, judged}
 use Rattle.runfile.specs.Listing.{title, shown}
 use Rattle.runfile.proofs.Streaming.{start-shows, plant-shows, stop-shows}
@@ -21,8 +21,10 @@ use Rattle.listing.specs.declared.Text.{Text}
 use Rattle.listing.specs.Texts.{bytesOf, endLine}
 use Rattle.listing.proofs.Lines.{line-is}
 use Rattle.reader.specs.declared.Took.{Took}
+use Rattle.player.specs.declared.Player.{Player}
+use Rattle.player.specs.Memory.{Memory, withSlots}
 use Rattle.player.specs.Keeps.{Keeps}
-use Rattle.player.specs.Leads.{ringBefore, Tells, Holds}
+use Rattle.player.specs.Leads.{ringBefore, Tells, Holds, halted}
 use Rattle.rounds.specs.Played.{Played}
 use Rattle.reader.specs.Next.{Next}
 use Rattle.player.specs.Inner.{freshPlayer}
@@ -69,8 +71,8 @@ round-room F s sound = ltb-true (given F) _ (both-passed (fewMarks (F .n) (F .f)
 
 -- ---- a round record
 
-module _ {F : File} {t : Text} {positions : List ℤ} {marks : List ℕ} {lists : List (List ℤ)} (s : List ℕ) where
-  pub played-turns : F .begun ≡ true → F .waits ≡ true → Played F t positions marks lists → Turned F s t positions marks lists
+module _ {F : File} {t : Text} {M : Memory} (s : List ℕ) where
+  pub played-turns : F .begun ≡ true → F .waits ≡ true → Played F t M → Turned F s t M
   unfolding shown ringAfter
   played-turns begun waits P =
       record {
@@ -78,80 +80,87 @@ module _ {F : File} {t : Text} {positions : List ℤ} {marks : List ℕ} {lists 
         shows = rw (waits, begun, P .shows) (sym (append-assoc title _ _));
       }
 
-  pub none-turns : F .waits ≡ false → Keeps (F .n) (ringBefore F) positions marks lists → t .len ≡ 0 → Turned F s t positions marks lists
+  pub none-turns : F .waits ≡ false → Keeps (F .n) (ringBefore F) M → t .len ≡ 0 → Turned F s t M
   unfolding shown
   none-turns waits K none = record { keeps = rw waits K; shows = rw (waits, empty-text t none) (sym (append-nil _)) }
 
 -- ---- what comes of a record
 
+-- which records the memory stands for is not settled by what is planted
+same-keeps : {n : ℕ} {R : Ring} {M : Memory} {bytes lengths : List ℕ} → Keeps n R M → Keeps n R (withSlots M bytes lengths)
+same-keeps K = record { collection = K .collection; confession = K .confession; always = K .always }
+
 either-short : (b : Bool) (x y : List ℕ) → length x ≤ 140 → length y ≤ 140 → length (cond b x y) ≤ 140
 either-short true x y h k = h
 either-short false x y h k = k
 
-module _ {F : File} {r : Took} {positions : List ℤ} {marks : List ℕ} {lists : List (List ℤ)} {bytes lengths : List ℕ} where
+module _ {F : File} {p : Player} {M : Memory} {r : Took} where
   -- a fault: all is as it was
-  pub stopped-next : {c : ℕ} → Holds F positions marks lists bytes lengths → (r .player .have ≡ 0) × Tells (r .player) (stopped F c) → r .text .len ≡ 0
-      → Next F (stopped F c) r positions marks lists bytes lengths
-  stopped-next {c} H (whole, tells) none =
+  pub stopped-next : {c : ℕ} → Holds F M → (r .player ≡ halted p 0 c) × Tells (r .player) (stopped F c) → r .text .len ≡ 0 → Next F (stopped F c) p M r M
+  stopped-next {c} H (is, tells) none =
       record {
         tells = tells;
-        whole = whole;
+        whole = rw is refl;
         holds = record { keeps = H .keeps; slots = H .slots; short = H .short };
+        refused = λ h. (refl, is);
         shows = stop-shows F c ∙ shows-none (shown F) (r .text) none;
         room = omega arith;
       }
 
   module _ (s : List ℕ) where
     -- a round: what was planted is gone
-    pub round-next : Turned F s (r .text) positions marks lists → r .text .len ≤ 64 → ((k i : ℕ) → plantedIn bytes lengths k i ≡ [])
+    pub round-next : {M′ : Memory} {bytes lengths : List ℕ} → Turned F s (r .text) M′ → r .text .len ≤ 64 → ((k i : ℕ) → plantedIn bytes lengths k i ≡ [])
         → (r .player .have ≡ 0) × Tells (r .player) (withRecord round F s)
-        → Next F (withRecord round F s) r positions marks lists bytes lengths
+        → Next F (withRecord round F s) p M r (withSlots M′ bytes lengths)
     round-next P room cleared (whole, tells) =
         record {
           tells = tells;
           whole = whole;
-          holds = record { keeps = λ b. P .keeps; slots = λ w k i k-below i-below. cleared k i; short = λ w k i. omega arith };
+          holds = record { keeps = λ b. same-keeps (P .keeps); slots = λ w k i k-below i-below. cleared k i; short = λ w k i. omega arith };
+          refused = λ h. absurd (h refl);
           shows = P .shows;
           room = room;
         }
 
     -- a planted record: what it plants is added
-    pub plant-next : {bytes′ lengths′ : List ℕ} → Holds F positions marks lists bytes lengths → length (drop 6 s) ≤ 140
-        → ((k i : ℕ) → k < 32 → i < 32 → length (plantedIn bytes lengths k i) ≤ 140
-        → plantedIn bytes′ lengths′ k i ≡ cond (eqb (senderIn s) k && eqb (receiverIn s) i) (drop 6 s) (plantedIn bytes lengths k i))
+    pub plant-next : {bytes lengths : List ℕ} → Holds F M → length (drop 6 s) ≤ 140
+        → ((k i : ℕ) → k < 32 → i < 32 → length (plantedIn (M .planted) (M .lengths) k i) ≤ 140
+        → plantedIn bytes lengths k i ≡ cond (eqb (senderIn s) k && eqb (receiverIn s) i) (drop 6 s) (plantedIn (M .planted) (M .lengths) k i))
         → (r .player .have ≡ 0) × Tells (r .player) (withRecord plant F s) → r .text .len ≡ 0
-        → Next F (withRecord plant F s) r positions marks lists bytes′ lengths′
+        → Next F (withRecord plant F s) p M r (withSlots M bytes lengths)
     plant-next H few new (whole, tells) none =
         record {
           tells = tells;
           whole = whole;
           holds =
               record {
-                keeps = H .keeps;
+                keeps = λ b. same-keeps (H .keeps b);
                 slots = λ w k i a b. rw (new k i a b (rw (H .slots w k i a b) (H .short w k i)), H .slots w k i a b);
                 short = λ w k i. either-short (eqb (senderIn s) k && eqb (receiverIn s) i) (drop 6 s) _ few (H .short w k i);
               };
+          refused = λ h. absurd (h refl);
           shows = plant-shows F s ∙ shows-none (shown F) (r .text) none;
           room = omega arith;
         }
 
     -- a start: the first positions
-    pub start-next : F .begun ≡ false → recordFault start F s ≡ 0 → ((j : ℕ) → j < 32 → getD positions j (pos 0) ≡ positionIn s j)
-        → r .player ≡ freshPlayer true (countIn s) (limitIn s) → bytesOf (r .text) ≡ endLine (countIn s) 0 positions 0 0 → r .text .len ≤ 64
-        → Next F (withRecord start F s) r positions marks lists bytes lengths
-    start-next begun sound first is text room =
-        let same : Each (countIn s) (λ i. getD positions i (pos 0) ≡ positionIn s i) = λ i l. first i (omega (arith, start-small F s sound)) in
-        let held = start-positions (countIn s) (limitIn s) (positionIn s) positions same in
+    pub start-next : {M′ : Memory} → F .begun ≡ false → recordFault start F s ≡ 0 → ((j : ℕ) → j < 32 → getD (M′ .positions) j (pos 0) ≡ positionIn s j)
+        → r .player ≡ freshPlayer true (countIn s) (limitIn s) → bytesOf (r .text) ≡ endLine (countIn s) 0 (M′ .positions) 0 0 → r .text .len ≤ 64
+        → Next F (withRecord start F s) p M r M′
+    start-next {M′} begun sound first is text room =
+        let same : Each (countIn s) (λ i. getD (M′ .positions) i (pos 0) ≡ positionIn s i) = λ i l. first i (omega (arith, start-small F s sound)) in
+        let held = start-positions (countIn s) (limitIn s) (positionIn s) M′ same in
         record {
           tells = rw is (start-tells F s);
           whole = rw is refl;
           holds =
               record {
-                keeps = λ b. start-keeps (countIn s) (limitIn s) (positionIn s) positions same;
+                keeps = λ b. start-keeps (countIn s) (limitIn s) (positionIn s) M′ same;
                 slots = λ w. absurd (true≢false (sym w));
                 short = λ w. absurd (true≢false (sym w));
               };
+          refused = λ h. absurd (h refl);
           shows =
-              start-shows F s begun ∙ ap (λ (l : List ℕ). shown F ++ l) (line-is (countIn s) 0 _ positions (λ i l q. held i l) ∙ sym text);
+              start-shows F s begun ∙ ap (λ (l : List ℕ). shown F ++ l) (line-is (countIn s) 0 _ (M′ .positions) (λ i l q. held i l) ∙ sym text);
           room = room;
         }

@@ -4,10 +4,10 @@ ghost use mathlib.Core.List.{List};
 ghost use mathlib.Core.Path.{_≡_};
 ghost use Prim.Native.Nat.{ℕ, _≤_, _<_};
 ghost use lib.ListN.{length, drop};
-ghost use lib.IntN.{ℤ};
 ghost use Rattle.runfile.specs.RunFile.{File, given, readFile, start, round, plant, kindOf, lengthOf, mayStand, judged, stopped};
+ghost use Rattle.player.specs.Memory.{Memory, before, after, withPositions, withSlots};
 ghost use Rattle.player.specs.Leads.{Tells, Holds};
-ghost use Rattle.reader.specs.Next.{Next};
+ghost use Rattle.reader.specs.Next.{Next, NextQuiet};
 ghost use Rattle.reader.specs.Inner.{Turned};
 use listing::Text;
 use player::Player;
@@ -21,8 +21,7 @@ pub struct Took {
 
 // A record with a fault: the file stops, and nothing is shown.
 fn refuse(p: Player, number: u8) -> Took
-    ensures { λ r. ⌜ ((F : File) (positions : List ℤ) (marks : List ℕ) (lists : List (List ℤ)) (planted lengths : List ℕ) → Tells p F
-        → Holds F positions marks lists planted lengths → Next F (stopped F number) r positions marks lists planted lengths) ⌝ }
+    ensures { λ r. ⌜ ((F : File) (M : Memory) → Tells p F → Holds F M → Next F (stopped F number) p M r M) ⌝ }
     ensures { λ r. ⌜ r .text .len ≤ 64 ⌝ }
 {
     Took {
@@ -33,14 +32,13 @@ fn refuse(p: Player, number: u8) -> Took
 
 // A start record.
 fn take_start(p: Player, bytes: &[u8], positions: &mut [i32; 32]) -> Took
-    ensures { λ r. ⌜ ((F : File) (marks : List ℕ) (lists : List (List ℤ)) (planted lengths : List ℕ) → F .begun ≡ false → Tells p F
-        → Holds F (now (positions .entry)) marks lists planted lengths
-        → Next F (judged start F (now (bytes .entry))) r (now (positions .exit)) marks lists planted lengths) ⌝ }
+    ensures { λ r. ⌜ ((F : File) (M : Memory) → F .begun ≡ false → Tells p F → Holds F (withPositions M (now (positions .entry)))
+        → Next F (judged start F (now (bytes .entry))) p (withPositions M (now (positions .entry))) r (withPositions M (now (positions .exit)))) ⌝ }
     ensures { λ r. ⌜ r .text .len ≤ 64 ⌝ }
 {
-    let fault = records::start_fault(bytes);
-    if fault != 0 {
-        return refuse(p, fault);
+    let number = records::start_fault(bytes);
+    if number != 0 {
+        return refuse(p, number);
     }
     let n = fields::byte_at(bytes, 4);
     *positions = records::first_positions(bytes);
@@ -60,8 +58,8 @@ fn play_waiting(
     lengths: &[u8; 1024],
 ) -> Text
     ensures { λ r. ⌜ ((a s : List ℕ) → readFile a .begun ≡ true → Tells p (readFile a)
-        → Holds (readFile a) (now (positions .entry)) (now (marks .entry)) (now (lists .entry)) (now (planted .entry)) (now (lengths .entry))
-        → Turned (readFile a) s r (now (positions .exit)) (now (marks .exit)) (now (lists .exit))) ⌝ }
+        → Holds (readFile a) (before positions marks lists planted lengths)
+        → Turned (readFile a) s r (after positions marks lists planted lengths)) ⌝ }
     ensures { λ r. ⌜ r .len ≤ 64 ⌝ }
 {
     if !p.waits {
@@ -81,8 +79,8 @@ fn take_round(
     lengths: &mut [u8; 1024],
 ) -> Took
     ensures { λ r. ⌜ ((a : List ℕ) → readFile a .begun ≡ true → Tells p (readFile a)
-        → Holds (readFile a) (now (positions .entry)) (now (marks .entry)) (now (lists .entry)) (now (planted .entry)) (now (lengths .entry))
-        → Next (readFile a) (judged round (readFile a) (now (bytes .entry))) r (now (positions .exit)) (now (marks .exit)) (now (lists .exit)) (now (planted .entry)) (now (lengths .exit))) ⌝ }
+        → Holds (readFile a) (before positions marks lists planted lengths)
+        → Next (readFile a) (judged round (readFile a) (now (bytes .entry))) p (before positions marks lists planted lengths) r (after positions marks lists planted lengths)) ⌝ }
     ensures { λ r. ⌜ r .text .len ≤ 64 ⌝ }
 {
     let fault = records::round_fault(bytes, p.n, p.f, p.given);
@@ -97,22 +95,34 @@ fn take_round(
     }
 }
 
-// A planted record.
-fn take_plant(p: Player, bytes: &[u8], planted: &mut [u8; 143360], lengths: &mut [u8; 1024]) -> Took
-    ensures { λ r. ⌜ ((F : File) (positions : List ℤ) (marks : List ℕ) (lists : List (List ℤ)) → length (now (bytes .entry)) ≤ 146 → Tells p F
-        → Holds F positions marks lists (now (planted .entry)) (now (lengths .entry))
-        → Next F (judged plant F (now (bytes .entry))) r positions marks lists (now (planted .exit)) (now (lengths .exit))) ⌝ }
-    ensures { λ r. ⌜ r .text .len ≤ 64 ⌝ }
+// The player after a planted record, which shows nothing.
+pub fn pass_plant(
+    p: Player,
+    bytes: &[u8],
+    planted: &mut [u8; 143360],
+    lengths: &mut [u8; 1024],
+) -> Player
+    ensures { λ r. ⌜ ((F : File) (M : Memory) → length (now (bytes .entry)) ≤ 146 → Tells p F → Holds F (withSlots M (now (planted .entry)) (now (lengths .entry)))
+        → NextQuiet F (judged plant F (now (bytes .entry))) p (withSlots M (now (planted .entry)) (now (lengths .entry))) r (withSlots M (now (planted .exit)) (now (lengths .exit)))) ⌝ }
 {
     let fault = records::plant_fault(bytes, p.n, p.struck, p.last);
     if fault != 0 {
-        return refuse(p, fault);
+        return player::stop(p, fault);
     }
     let from = fields::byte_at(bytes, 4);
     let to = fields::byte_at(bytes, 5);
     slots::plant(planted, lengths, from, to, fields::bytes_from(bytes, 6));
+    player::planted_pair(p, from, to)
+}
+
+// A planted record.
+fn take_plant(p: Player, bytes: &[u8], planted: &mut [u8; 143360], lengths: &mut [u8; 1024]) -> Took
+    ensures { λ r. ⌜ ((F : File) (M : Memory) → length (now (bytes .entry)) ≤ 146 → Tells p F → Holds F (withSlots M (now (planted .entry)) (now (lengths .entry)))
+        → Next F (judged plant F (now (bytes .entry))) p (withSlots M (now (planted .entry)) (now (lengths .entry))) r (withSlots M (now (planted .exit)) (now (lengths .exit)))) ⌝ }
+    ensures { λ r. ⌜ r .text .len ≤ 64 ⌝ }
+{
     Took {
-        player: player::planted_pair(p, from, to),
+        player: pass_plant(p, bytes, planted, lengths),
         text: listing::empty(),
     }
 }
@@ -128,10 +138,11 @@ pub fn take_record(
     lengths: &mut [u8; 1024],
 ) -> Took
     ensures { λ r. ⌜ ((a : List ℕ) → Tells p (readFile a)
-        → Holds (readFile a) (now (positions .entry)) (now (marks .entry)) (now (lists .entry)) (now (planted .entry)) (now (lengths .entry))
+        → Holds (readFile a) (before positions marks lists planted lengths)
         → mayStand (kindOf (now (bytes .entry))) (readFile a) (lengthOf (now (bytes .entry))) ≡ true
         → length (now (bytes .entry)) ≡ lengthOf (now (bytes .entry))
-        → Next (readFile a) (judged (kindOf (now (bytes .entry))) (readFile a) (now (bytes .entry))) r (now (positions .exit)) (now (marks .exit)) (now (lists .exit)) (now (planted .exit)) (now (lengths .exit))) ⌝ }
+        → Next (readFile a) (judged (kindOf (now (bytes .entry))) (readFile a) (now (bytes .entry)))
+        p (before positions marks lists planted lengths) r (after positions marks lists planted lengths)) ⌝ }
     ensures { λ r. ⌜ r .text .len ≤ 64 ⌝ }
 {
     match fields::half_at(bytes, 2) {

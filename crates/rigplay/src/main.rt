@@ -4,6 +4,7 @@ ghost use mathlib.Core.Bool.{true};
 ghost use mathlib.Core.List.{List, _++_};
 ghost use mathlib.Core.Path.{_≡_};
 ghost use Prim.Native.Nat.{ℕ};
+ghost use Rattle.player.specs.Memory.{before, after};
 ghost use Rattle.piece.specs.Leads.{Leads};
 use libc::STDIN_FILENO;
 use libc::STDOUT_FILENO;
@@ -51,10 +52,8 @@ fn play_piece(
     planted: &mut [u8; 143360],
     lengths: &mut [u8; 1024],
 ) -> Wrote
-    ensures { λ r. ⌜ ((a : List ℕ)
-        → Leads a p (now (carry .entry)) (now (positions .entry)) (now (marks .entry)) (now (lists .entry)) (now (planted .entry)) (now (lengths .entry))
-        → r .all ≡ true
-        → Leads (a ++ now (bytes .entry)) (r .player) (now (carry .exit)) (now (positions .exit)) (now (marks .exit)) (now (lists .exit)) (now (planted .exit)) (now (lengths .exit))) ⌝ }
+    ensures { λ r. ⌜ ((a : List ℕ) → Leads a p (now (carry .entry)) (before positions marks lists planted lengths) → r .all ≡ true
+        → Leads (a ++ now (bytes .entry)) (r .player) (now (carry .exit)) (after positions marks lists planted lengths)) ⌝ }
 {
     let mut page = io::buffer();
     let mut player = p;

@@ -17,6 +17,7 @@ use Rattle.runfile.proofs.Taken.{taken}
 use Rattle.runfile.proofs.Demand3.{playedWith, played-converges}
 use Rattle.spread.specs.Held.{endIn}
 use Rattle.spread.proofs.Lowest.{found-held}
+use Rattle.player.specs.Memory.{Memory}
 use Rattle.player.specs.Keeps.{Keeps}
 use Rattle.rounds.specs.Converged.{Converged, ConvergedIn}
 
@@ -35,17 +36,15 @@ module _ (n f : ℕ) (v : ℕ → ℤ) where
       go (suc r) c = refl
 
   -- any two ends of the ring keep demand 3, and the memory keeps step with it
-  pub converged : (ws : List Round) {positions : List ℤ} {marks : List ℕ} {lists : List (List ℤ)} → AnyTwo n f (endsAfter n f v ws)
-      → Keeps n (ringAfter n f v ws) positions marks lists → Converged n f v ws positions
+  pub converged : (ws : List Round) {M : Memory} → AnyTwo n f (endsAfter n f v ws) → Keeps n (ringAfter n f v ws) M → Converged n f v ws (M .positions)
   unfolding endIn spread
-  converged ws {positions} A K c k l =
+  converged ws {M} A K c k l =
       let R = ringAfter n f v ws in
       let D = rw (zero-add, latest ws c) at (A 0 k (rw zero-add l)) in
-      let same = found-held n (R .before) (λ i. R .heads i .position) positions (K .collection c) in
+      let same = found-held n (R .before) (λ i. R .heads i .position) (M .positions) (K .collection c) in
       record { range = λ i l q. rw (← K .collection c i l q) (D .range i l q); halving = λ h. rw (← same .is-low, ← same .is-high) (D .halving h) }
 
 -- of the file read, when its rounds are played, with the one that waits or without it
-pub held-converges : (b : Bool) (a : List ℕ) {positions : List ℤ} {marks : List ℕ} {lists : List (List ℤ)} → let F = readFile a in
-    (F .begun ≡ true → Keeps (F .n) (ringAfter (F .n) (F .f) (F .first) (playedWith b F)) positions marks lists)
-    → ConvergedIn F (playedWith b F) positions
+pub held-converges : (b : Bool) (a : List ℕ) {M : Memory} → let F = readFile a in
+    (F .begun ≡ true → Keeps (F .n) (ringAfter (F .n) (F .f) (F .first) (playedWith b F)) M) → ConvergedIn F (playedWith b F) (M .positions)
 held-converges b a K begun = let F = readFile a in converged (F .n) (F .f) (F .first) (playedWith b F) (played-converges F (taken a begun) b) (K begun)

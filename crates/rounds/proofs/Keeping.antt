@@ -1,5 +1,6 @@
 -- The memory keeps step with the ring. Before a round it settles what each record that is neither struck nor healed has to say, so that each unstruck
--- head hears the same in both, and makes the same of it: in collection its list, in confession its new position, since no closing is refused.
+-- head hears the same in both, and makes the same of it: in collection its list, its position left as it is, in confession its new position, since no closing is
+-- refused.
 use mathlib.Core.Path.{_≡_, refl, ap, ap₂, sym, subst, _∙_}
 use mathlib.Core.Bool.{Bool, true, false, cond}
 use mathlib.Core.List.{List, []}
@@ -20,7 +21,7 @@ use Rattle.codec.specs.Proper.{ProperTable}
 use Rattle.midpoint.specs.Answers.{settling}
 use Rattle.record.specs.declared.Head.{Head}
 use Rattle.record.specs.Record.{given, entryOf, givenOf}
-use Rattle.record.specs.Calls.{started, closedCollection, spoken}
+use Rattle.record.specs.Calls.{started, restarted, closedCollection, spoken}
 use Rattle.record.proofs.Hearing.{Kept}
 use Rattle.ring.specs.Rounds.{Round, Ring, openedAt, afterRound, firstHeads, ringAfter}
 use Rattle.ring.proofs.OneRound.{RingReady, says-entry, says-list, heardAt, opened-same, opened-in, heard-proper, heard-is, heard-given, heard-list}
@@ -28,20 +29,33 @@ use Rattle.ring.proofs.Closings.{collection-closed, confession-settles, after-c
 use Rattle.ring.proofs.Demand3.{Playable}
 use Rattle.play.specs.declared.Stage.{Stage}
 use Rattle.play.specs.Memory.{heads, hears, sends, listEntry, rowIn, replies, givenEntry, positionOf, newPosition}
+use Rattle.player.specs.Memory.{Memory}
 use Rattle.player.specs.Keeps.{Keeps}
 use Rattle.rounds.proofs.Tables.{table-same, table-of-entries}
 use Rattle.rounds.proofs.Carried.{Plays, heads-are, hears-unstruck, said-same}
 
+-- a record holds one position at most
+one-position : {e : Entry} {u v : ℤ} → e ≡ Entry.Position u → e ≡ Entry.Position v → u ≡ v
+one-position p q = cc
+
+no-position : {A : Type 0} {v : ℤ} → Entry.Null ≡ Entry.Position v → A
+no-position p = let z : _≡_ {A = ℕ} 0 1 = cc in absurd (omega arith)
+
 -- ---- the start, with the positions of the start record
 
-module _ (n f : ℕ) (v : ℕ → ℤ) (positions : List ℤ) (same : Each n (λ i. getD positions i (pos 0) ≡ v i)) where
-  pub start-positions : Each n (λ i. firstHeads n f v i .position ≡ Entry.Position (getD positions i (pos 0)))
+module _ (n f : ℕ) (v : ℕ → ℤ) (M : Memory) (same : Each n (λ i. getD (M .positions) i (pos 0) ≡ v i)) where
+  pub start-positions : Each n (λ i. firstHeads n f v i .position ≡ Entry.Position (getD (M .positions) i (pos 0)))
   unfolding firstHeads started
   start-positions i l = ap Entry.Position (sym (same i l))
 
-  pub start-keeps : {marks : List ℕ} {lists : List (List ℤ)} → Keeps n (ringAfter n f v []) positions marks lists
+  pub start-keeps : Keeps n (ringAfter n f v []) M
   unfolding ringAfter
-  start-keeps = record { collection = λ r i l q. start-positions i l; confession = λ r. absurd (omega arith) }
+  start-keeps =
+      record {
+        collection = λ r i l q. start-positions i l;
+        confession = λ r. absurd (omega arith);
+        always = λ i l q v e. one-position (start-positions i l) e;
+      }
 
 -- the new position, where enough entries are trusted
 settles-midpoint : (n f : ℕ) (E : ℕ → Entry) → enough n f E ≡ true → positionOf (settling 0 n f E) ≡ midpoint 0 n f E
@@ -49,7 +63,16 @@ unfolding settling midpoint
 settles-midpoint n f E e = rw e
 
 module _ {n f : ℕ} {R : Ring} {w : Round} {s : Stage} {plant : ℕ → ℕ → List ℕ} (P : Plays n f R w s plant)
-    {positions : List ℤ} {marks : List ℕ} {lists : List (List ℤ)} (K : Keeps n R positions marks lists) where
+    {M : Memory} (K : Keeps n R M) where
+  abbrev positions : List ℤ
+  positions = M .positions
+
+  abbrev marks : List ℕ
+  marks = M .marks
+
+  abbrev lists : List (List ℤ)
+  lists = M .lists
+
   -- ---- a collection round
 
   module _ (S : RingReady n f R) (collection : R .round ≡ 0) where
@@ -81,15 +104,27 @@ module _ {n f : ℕ} {R : Ring} {w : Round} {s : Stage} {plant : ℕ → ℕ →
       unfolding afterRound closedCollection
       list-kept = ap (λ (h : Head). h .list) (collection-closed n f R w S i l q collection) ∙ heard-table
 
-    pub collect-keeps : {positions′ : List ℤ} {marks′ : List ℕ} {lists′ : List (List ℤ)}
-        → ((i : ℕ) → rowIn marks′ lists′ i ≡ cond (hears s i) (tableOf (heads s) (listEntry s positions plant i)) (rowIn marks lists i))
-        → Keeps n (afterRound n f R w) positions′ marks′ lists′
+      -- its position, which a head that is healed in this round does not have
+      position-stays : (v : ℤ) → afterRound n f R w .heads i .position ≡ Entry.Position v → getD positions i (pos 0) ≡ v
+      unfolding afterRound closedCollection openedAt restarted
+      position-stays v e =
+          go (bitOf (R .before) i) refl
+          (sym (ap (λ (h : Head). h .position) (collection-closed n f R w S i l q collection) ∙ ap (λ (x : Kept). x .position) (heard-is n f R w S i l q)) ∙ e)
+        where
+          go : (b : Bool) → bitOf (R .before) i ≡ b → openedAt n f R w i .position ≡ Entry.Position v → getD positions i (pos 0) ≡ v
+          go true b e = no-position (rw (q, b) at e)
+          go false b e = K .always i l b v (rw (opened-same n f R w i q b) at e)
+
+    pub collect-keeps : {M′ : Memory} → M′ .positions ≡ positions
+        → ((i : ℕ) → rowIn (M′ .marks) (M′ .lists) i ≡ cond (hears s i) (tableOf (heads s) (listEntry s positions plant i)) (rowIn marks lists i))
+        → Keeps n (afterRound n f R w) M′
     unfolding afterRound
-    collect-keeps new =
+    collect-keeps same new =
         let next = after-collection n f R w S collection .1 in
         record {
           collection = λ r. absurd (omega arith);
           confession = λ r i l q. list-kept i l q ∙ sym (new i ∙ rw (hears-unstruck P S i l q));
+          always = λ i l q v e. rw same (position-stays i l q v e);
         }
 
   -- ---- a confession round
@@ -139,14 +174,18 @@ module _ {n f : ℕ} {R : Ring} {w : Round} {s : Stage} {plant : ℕ → ℕ →
       position-kept =
           confession-settles n f R w S i l q confession calm ∙ ap Entry.Position (midpoint-same 0 n f _ _ trust-same ∙ sym new-position)
 
-    module _ (positions′ : List ℤ)
-        (new : (i : ℕ) → getD positions′ i (pos 0) ≡ cond (hears s i) (newPosition s marks lists plant i) (getD positions i (pos 0))) where
+    module _ (M′ : Memory)
+        (new : (i : ℕ) → getD (M′ .positions) i (pos 0) ≡ cond (hears s i) (newPosition s marks lists plant i) (getD positions i (pos 0))) where
       -- in phase 65,535 too, where the ring ends
-      pub confess-positions : Each n (λ i. bitOf (w .struck) i ≡ false → afterRound n f R w .heads i .position ≡ Entry.Position (getD positions′ i (pos 0)))
+      pub confess-positions : Each n (λ i. bitOf (w .struck) i ≡ false → afterRound n f R w .heads i .position ≡ Entry.Position (getD (M′ .positions) i (pos 0)))
       confess-positions i l q = position-kept i l q ∙ ap Entry.Position (sym (new i ∙ rw (hears-unstruck P S i l q)))
 
-      pub confess-keeps : {marks′ : List ℕ} {lists′ : List (List ℤ)} → Keeps n (afterRound n f R w) positions′ marks′ lists′
+      pub confess-keeps : Keeps n (afterRound n f R w) M′
       unfolding afterRound
       confess-keeps =
           let next = after-confession n f R w S confession .1 in
-          record { collection = λ r. confess-positions; confession = λ r. absurd (omega arith) }
+          record {
+            collection = λ r. confess-positions;
+            confession = λ r. absurd (omega arith);
+            always = λ i l q v e. one-position (confess-positions i l q) e;
+          }

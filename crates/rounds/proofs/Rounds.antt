@@ -7,7 +7,7 @@ use mathlib.Core.List.{List, _∷_, _++_}
 use Prim.Native.Nat.{ℕ, _+_, _%_, _*_, _≤_, _<_}
 use native.Mathlib.Omega.{arith}
 use lib.ListN.{getD}
-use lib.IntN.{ℤ, pos}
+use lib.IntN.{pos}
 use Rattle.entries.specs.Tables.{tableOf}
 use Rattle.convergence.specs.Counting.{bit}
 use Rattle.ring.specs.Rounds.{Round, Ring, endsAfter}
@@ -23,6 +23,7 @@ use Rattle.listing.specs.declared.Text.{Text}
 use Rattle.listing.specs.Texts.{bytesOf, endLine}
 use Rattle.listing.proofs.Lines.{line-is}
 use Rattle.player.specs.declared.Player.{Player}
+use Rattle.player.specs.Memory.{Memory}
 use Rattle.player.specs.Leads.{ringBefore, Tells, Holds}
 use Rattle.rounds.specs.Played.{Played}
 use Rattle.rounds.specs.Inner.{stageOf}
@@ -32,8 +33,8 @@ use Rattle.rounds.proofs.Waiting.{waiting-playable}
 use Rattle.rounds.proofs.Shown.{collection-line, confession-line, madeBy}
 use Rattle.listing.proofs.Writing.{empty-text}
 
-module _ {F : File} {p : Player} {s : Stage} {positions : List ℤ} {marks : List ℕ} {lists : List (List ℤ)} {bytes lengths : List ℕ}
-    (I : Taken F) (begun : F .begun ≡ true) (waits : F .waits ≡ true) (T : Tells p F) (H : Holds F positions marks lists bytes lengths)
+module _ {F : File} {p : Player} {s : Stage} {M : Memory}
+    (I : Taken F) (begun : F .begun ≡ true) (waits : F .waits ≡ true) (T : Tells p F) (H : Holds F M)
     (is : p .given ≤ 131070 → s ≡ stageOf p) where
   abbrev R : Ring
   R = ringBefore F
@@ -42,7 +43,10 @@ module _ {F : File} {p : Player} {s : Stage} {positions : List ℤ} {marks : Lis
   stands : (p .given + 1 ≡ 2 * R .phase + R .round) × (R .round < 2) × (p .given ≤ 131070)
   stands = let C = counted (F .n) (F .f) (F .first) (F .played) in omega (arith, C .played, C .small, I .count, T .given, ap bit waits)
 
-  plays : Plays (F .n) (F .f) R (F .last) s (plantedIn bytes lengths)
+  abbrev plant : ℕ → ℕ → List ℕ
+  plant = plantedIn (M .planted) (M .lengths)
+
+  plays : Plays (F .n) (F .f) R (F .last) s plant
   plays =
       rw (is (stands .2))
       record {
@@ -64,14 +68,14 @@ module _ {F : File} {p : Player} {s : Stage} {positions : List ℤ} {marks : Lis
     collection : R .round ≡ 0
     collection = omega (arith, stands)
 
-    pub collection-played : {t : Text} {marks′ : List ℕ} {lists′ : List (List ℤ)}
-        → ((i : ℕ) → rowIn marks′ lists′ i
-        ≡ cond (hears s i) (tableOf (heads s) (listEntry s positions (plantedIn bytes lengths) i)) (rowIn marks lists i))
+    pub collection-played : {t : Text} {M′ : Memory} → M′ .positions ≡ M .positions
+        → ((i : ℕ) → rowIn (M′ .marks) (M′ .lists) i
+        ≡ cond (hears s i) (tableOf (heads s) (listEntry s (M .positions) plant i)) (rowIn (M .marks) (M .lists) i))
         → t .len ≡ 0
-        → Played F t positions marks′ lists′
-    collection-played {t} new none =
+        → Played F t M′
+    collection-played {t} same new none =
         record {
-          keeps = collect-keeps plays (H .keeps begun) (waiting-playable F I waits .ready) collection new;
+          keeps = collect-keeps plays (H .keeps begun) (waiting-playable F I waits .ready) collection same new;
           shows = shows (collection-line (F .n) (F .f) R (F .last) collection ∙ sym (empty-text t none));
           room = omega arith;
         }
@@ -80,18 +84,18 @@ module _ {F : File} {p : Player} {s : Stage} {positions : List ℤ} {marks : Lis
     confession : R .round ≡ 1
     confession = omega (arith, stands)
 
-    pub confession-played : {t : Text} {positions′ : List ℤ}
-        → ((i : ℕ) → getD positions′ i (pos 0)
-        ≡ cond (hears s i) (newPosition s marks lists (plantedIn bytes lengths) i) (getD positions i (pos 0)))
-        → bytesOf t ≡ endLine (p .n) (s .phase) positions′ (p .before) (p .struck)
+    pub confession-played : {t : Text} {M′ : Memory}
+        → ((i : ℕ) → getD (M′ .positions) i (pos 0)
+        ≡ cond (hears s i) (newPosition s (M .marks) (M .lists) plant i) (getD (M .positions) i (pos 0)))
+        → bytesOf t ≡ endLine (p .n) (s .phase) (M′ .positions) (p .before) (p .struck)
         → t .len ≤ 64
-        → Played F t positions′ marks lists
-    confession-played {t} {positions′} new text room =
+        → Played F t M′
+    confession-played {t} {M′} new text room =
         let A = waiting-playable F I waits in
-        let held = confess-positions plays (H .keeps begun) A (I .waiting) confession positions′ new in
-        let is-line = line-is (F .n) (R .phase) (madeBy (F .n) (F .f) R (F .last) R) positions′ held in
+        let held = confess-positions plays (H .keeps begun) A (I .waiting) confession M′ new in
+        let is-line = line-is (F .n) (R .phase) (madeBy (F .n) (F .f) R (F .last) R) (M′ .positions) held in
         record {
-          keeps = confess-keeps plays (H .keeps begun) A (I .waiting) confession positions′ new;
+          keeps = confess-keeps plays (H .keeps begun) A (I .waiting) confession M′ new;
           shows = shows (confession-line (F .n) (F .f) R (F .last) confession ∙ is-line ∙ cc (plays .phase));
           room = room;
         }

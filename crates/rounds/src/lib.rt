@@ -4,6 +4,7 @@ ghost use mathlib.Core.List.{List};
 ghost use mathlib.Core.Path.{_≡_};
 ghost use Prim.Native.Nat.{ℕ, _+_, _/_, _≤_, _<_};
 ghost use Rattle.runfile.specs.RunFile.{given, readFile};
+ghost use Rattle.player.specs.Memory.{before, after};
 ghost use Rattle.player.specs.Leads.{Tells, Holds};
 ghost use Rattle.rounds.specs.Played.{Played};
 ghost use Rattle.rounds.specs.Inner.{stageOf};
@@ -44,8 +45,8 @@ pub fn play_round(
     lengths: &[u8; 1024],
 ) -> Text
     ensures { λ r. ⌜ ((a : List ℕ) → readFile a .begun ≡ true → readFile a .waits ≡ true → Tells p (readFile a)
-        → Holds (readFile a) (now (positions .entry)) (now (marks .entry)) (now (lists .entry)) (now (planted .entry)) (now (lengths .entry))
-        → Played (readFile a) r (now (positions .exit)) (now (marks .exit)) (now (lists .exit))) ⌝ }
+        → Holds (readFile a) (before positions marks lists planted lengths)
+        → Played (readFile a) r (after positions marks lists planted lengths)) ⌝ }
     ensures { λ r. ⌜ r .len ≤ 64 ⌝ }
 {
     let s = stage_of(p);

@@ -3,4 +3,5 @@ pub mod Taken
 pub mod Demand3
 pub mod Streaming
 pub mod Whole
+pub mod Bytes
 pub mod Example

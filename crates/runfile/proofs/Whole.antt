@@ -202,7 +202,7 @@ module _ (F : File) (kept : Kept F) (x : ℕ) where
           let may : stands F s ≡ true = not-false (stands F s) (rw (eq-eqb (length s) 4 (omega (arith, one))) at place) in
           (may, omega (arith, one, stands-long (kindOf s) F (lengthOf s) may .0))
 
-  kept-read : Kept (readOn F (F .part ++ (x ∷ [])))
+  pub kept-read : Kept (readOn F (F .part ++ (x ∷ [])))
   unfolding readOn
   kept-read = go (ltb (length s) 4) (eqb (length s) 4 && not (stands F s)) (eqb (length s) (lengthOf s)) refl refl refl
     where

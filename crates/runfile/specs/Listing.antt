@@ -1,5 +1,5 @@
 -- The listing: a function of the phase ends played and of how the file ended. Bytes are ASCII.
-use mathlib.Core.Bool.{Bool, cond}
+use mathlib.Core.Bool.{cond}
 use mathlib.Core.List.{List, [], _∷_, _++_}
 use Prim.Native.Nat.{ℕ, zero, suc, _+_, _/_, _%_}
 use lib.Dec.{ltb}
@@ -7,8 +7,8 @@ use lib.ListN.{length}
 use lib.IntN.{ℤ, pos, negsuc}
 use Rattle.terms.specs.declared.Entry.{Entry}
 use Rattle.convergence.specs.Phases.{lowest, highest, spread}
-use Rattle.ring.specs.Rounds.{PhaseEnd, endOf, endsAfter}
-use Rattle.runfile.specs.RunFile.{File, readFile, ending, endsPlayed}
+use Rattle.ring.specs.Rounds.{PhaseEnd, endOf}
+use Rattle.runfile.specs.RunFile.{File, readFile, endsSoFar, ending, endsPlayed}
 
 -- ---- numbers
 
@@ -77,7 +77,7 @@ verdict (suc c) = 114 ∷ 101 ∷ 102 ∷ 117 ∷ 115 ∷ 101 ∷ 100 ∷ 32 ∷
 
 -- what has been printed when the bytes so far are read: the lines of the rounds that were played, the waiting round not
 unfoldable pub shown : File → List ℕ
-shown F = title ++ lines (F .n) (cond (F .begun) (endsAfter (F .n) (F .f) (F .first) (F .played)) [])
+shown F = title ++ lines (F .n) (endsSoFar F)
 
 -- what is printed in all
 unfoldable pub listingOf : File → List ℕ

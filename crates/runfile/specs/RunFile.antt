@@ -232,6 +232,14 @@ feed F (x ∷ xs) = feed (step F x) xs
 abbrev pub readFile : List ℕ → File
 readFile s = feed unread s
 
+-- how many records were accepted: the start, and of each round its own and what is planted in it
+unfoldable pub recordsOf : List Round → ℕ
+recordsOf [] = 0
+recordsOf (w ∷ ws) = suc (length (w .plants) + recordsOf ws)
+
+unfoldable pub accepted : File → ℕ
+accepted F = cond (F .begun) (suc (recordsOf (thenPlayed (F .waits) (F .played) (F .last)))) 0
+
 -- ---- the end
 
 abbrev pub isEmpty : List ℕ → Bool
@@ -241,6 +249,10 @@ isEmpty (x ∷ xs) = false
 -- the first fault, or 13: no start, a record cut short, or inside a phase; 0 where the file is played to its end
 unfoldable pub ending : File → ℕ
 ending F = check (eqb (F .fault) 0) (F .fault) (check (F .begun && isEmpty (F .part) && eqb (given F % 2) 0) refusal.run-record 0)
+
+-- the phase ends played when the bytes so far are read, the latest first; none before an accepted start
+abbrev pub endsSoFar : File → List PhaseEnd
+endsSoFar F = cond (F .begun) (endsAfter (F .n) (F .f) (F .first) (F .played)) []
 
 -- the waiting round is played where the file ends without fault
 unfoldable pub roundsPlayed : File → List Round

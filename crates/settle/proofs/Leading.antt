@@ -13,7 +13,7 @@ use borrow.Author.Tests.{eq-eqb, ne-eqb, le-leb, lt-leb, leb-true}
 use Rattle.terms.specs.Positions.{eqZ}
 use Rattle.terms.specs.declared.Entry.{Entry}
 use Rattle.terms.specs.declared.Entry.the-variants.{Null, Position}
-use Rattle.terms.proofs.Whole.{eqZ→eq}
+use Rattle.terms.proofs.Whole.{eqZ→eq, eqZ-refl}
 use Rattle.marks.specs.Marks.{bitOf}
 use Rattle.entries.specs.Entries.{entryAt}
 use Rattle.marks.proofs.Marks.{bit-none}
@@ -22,9 +22,9 @@ use Rattle.convergence.specs.Trust.{is, choose}
 use Rattle.convergence.proofs.Sums.{sums-le}
 use Rattle.convergence.proofs.Support.{same-position, not-null, is-same, is-other}
 use Rattle.cells.specs.Cells.{entriesOf, Holds, standsIn, decided}
-use Rattle.settle.specs.Leading.{sameNumber, isApart, agrees, alikeTo, apartFrom, agreeing, Decides}
+use Rattle.settle.specs.Leading.{sameNumber, isApart, agrees, alikeTo, apartFrom, agreeing, Decides, Lacks}
 use Rattle.marks.proofs.Counts.{sum-next}
-use Rattle.cells.proofs.Cells.{holds-same}
+use Rattle.cells.proofs.Cells.{holds-null, holds-same}
 use Rattle.trust.proofs.Search.{is-le, only-seen, none-seen}
 use Rattle.trust.proofs.Trusted.{decided-by-lists}
 
@@ -61,6 +61,26 @@ module _ (j m v : ℕ) (a b : ℤ) where
       go true false z h n = omega (arith, is-le w (said j m a))
       go false t true h n = rw (n tt) (omega arith)
       go false t false h n = omega (arith, is-le w (said j m a))
+
+  -- with the lead's marks, the position that it says is its number
+  number-same : {u : ℤ} (s : Bool) → cond s (Position a) Null ≡ Position u → cond s (Position b) Null ≡ Position u → a ≡ b
+  number-same true p q = sym (same-position (sym p) (sym q))
+  number-same false p q = absurd (not-null refl p)
+
+  agree-says : {u : ℤ} → said j v b ≡ Position u → T (eqb m v) → said j m a ≡ Position u → T (eqZ a b)
+  agree-says {u} e p q =
+      let z : a ≡ b = number-same (bitOf v j) (rw (eqb→eq m v p) at q) e in
+      rw z (eqZ-refl b)
+
+  -- the lead says u: it stands in those that agree with it, and in some that have other marks
+  more-is : {u : ℤ} → said j v b ≡ Position u → is u (said j m a) ≤ bit same + bit (isApart m v)
+  more-is {u} e = go (eqb m v) (eqZ a b) (eqb m 0) (agree-says e) unmarked-says
+    where
+      go : (s t z : Bool) → (T s → said j m a ≡ Position u → T t) → (T z → said j m a ≡ Null) → is u (said j m a) ≤ bit (s && t) + bit (not s && not z)
+      go true true z h n = omega (arith, is-le u (said j m a))
+      go true false z h n = omega (arith, is-other u (said j m a) (h tt))
+      go false t true h n = rw (n tt) (omega arith)
+      go false t false h n = omega (arith, is-le u (said j m a))
 
   -- the lead says nothing: so do those that have its marks
   null-says : said j v b ≡ Null → T (eqb m v) → said j m a ≡ Null
@@ -154,6 +174,23 @@ module _ (n need : ℕ) (marks : List ℕ) (lists : List (List ℤ)) (lead j : �
         go w t (yes z) = z
         go w t (no z) = absurd (omega (arith, leb-true need (count w) t, other-le w z))
 
+    more-le : count u ≤ agreeing n marks lists lead j + apartFrom n marks lead
+    more-le =
+        omega (
+          arith,
+          sums-le n ((λ k. is u (E k)) ∷ []) (agree ∷ aparts ∷ []) (λ k l. omega (arith, rw (says k l) at (more-is j (m k) (m lead) (a k) (a lead) (sym leads ∙ e)))),
+        )
+
+    led-lacking : agreeing n marks lists lead j + apartFrom n marks lead < need
+        → alikeTo n marks lead + apartFrom n marks lead < agreeing n marks lists lead j + need → decided false n need E ≡ Null
+    led-lacking p q =
+        decided-by-lists n need E refl (λ z. omega arith)
+        ∙ ap (choose false false) (none-seen (standsIn n need E) E (λ w. lt-leb need (count w) (few w (ℤ-discrete w u))) n)
+      where
+        few : (w : ℤ) → Dec (w ≡ u) → count w < need
+        few w (yes z) = rw z (omega (arith, more-le))
+        few w (no z) = omega (arith, other-le w z)
+
   led-null : entriesOf marks lists j lead ≡ Null → apartFrom n marks lead < need → decided false n need E ≡ Null
   led-null e q =
       decided-by-lists n need E refl (λ z. omega arith)
@@ -170,3 +207,10 @@ module _ (n need : ℕ) (marks : List ℕ) (lists : List (List ℤ)) (lead j : �
       holds-same h (sym (h .entry) ∙ sym (led-null (sym (h .entry)) (omega arith)) ∙ sym (ap (λ (b : Bool). decided b n need E) z))
   led-decided {x = suc w} z p q r h d =
       holds-same h (sym (h .entry) ∙ sym (led-position (sym (h .entry)) (omega (arith, d .0)) (omega (arith, d .1))) ∙ sym (ap (λ (b : Bool). decided b n need E) z))
+
+  -- the cell x of the lead shows that the lists decide on none
+  pub led-lacks : {x alike apart same : ℕ} {b : Bool} → b ≡ false → alike ≡ alikeTo n marks lead → apart ≡ apartFrom n marks lead → same ≡ agreeing n marks lists lead j
+      → Holds x (entriesOf marks lists j lead) → Lacks x need alike apart same → Holds 0 (decided b n need E)
+  led-lacks {x = zero} z p q r h d = absurd (omega (arith, d .0))
+  led-lacks {x = suc w} z p q r h d =
+      holds-same holds-null (sym (led-lacking (sym (h .entry)) (omega (arith, d .1)) (omega (arith, d .2))) ∙ sym (ap (λ (b : Bool). decided b n need E) z))

@@ -43,3 +43,7 @@ pub record Follows (n : ℕ) (marks : List ℕ) (lists : List (List ℤ)) (lead 
 abbrev pub Decides : ℕ → ℕ → ℕ → ℕ → ℕ → Type 0
 Decides zero need alike apart same = apart < need
 Decides (suc w) need alike apart same = (need ≤ same) × (alike + apart < same + need)
+
+-- The cell x of the lead is a position, and no position is decided on: those that may hold it are too few, and so are those that may hold another.
+abbrev pub Lacks : ℕ → ℕ → ℕ → ℕ → ℕ → Type 0
+Lacks x need alike apart same = (0 < x) × (same + apart < need) × (alike + apart < same + need)

@@ -7,7 +7,7 @@ ghost use Rattle.marks.specs.Marks.{bitOf};
 ghost use Rattle.convergence.specs.Counting.{Each, bit};
 ghost use Rattle.convergence.specs.Trust.{trusted};
 ghost use Rattle.cells.specs.Received.{givenBy};
-ghost use Rattle.settle.specs.Leading.{sameNumber, isApart, alikeTo, apartFrom, agreeing, Follows, Decides};
+ghost use Rattle.settle.specs.Leading.{sameNumber, isApart, alikeTo, apartFrom, agreeing, Follows, Decides, Lacks};
 ghost use Rattle.cells.specs.Cells.{entriesOf, Holds, decided};
 ghost use Rattle.midpoint.specs.Answers.{settling};
 use cells::Links;
@@ -80,6 +80,20 @@ fn decides(x: u64, need: usize, alike: usize, apart: usize, same: usize) -> bool
     alike + apart < same + need
 }
 
+// Whether there is no trusted position, by the cell x of the lead's list: the lists that may hold it are too few, and so are those that may hold another.
+fn lacks(x: u64, need: usize, alike: usize, apart: usize, same: usize) -> bool
+    requires { ⌜ (need ≤ 255) × (alike ≤ 32) × (apart ≤ 32) × (same ≤ 32) ⌝ }
+    ensures { λ r. ⌜ (r ≡ true → Lacks x need alike apart same) ⌝ }
+{
+    if x == 0 {
+        return false;
+    }
+    if need <= same + apart {
+        return false;
+    }
+    apart + alike < same + need
+}
+
 // The cell of trusted entry j as `trusted_cell` has it, from the lead's list alone where that decides.
 fn led_cell(
     lists: &[[i32; 32]; 32],
@@ -103,6 +117,9 @@ fn led_cell(
     let x = cells::entry_cell(marks[lead], &lists[lead], j);
     if decides(x, need, alike, apart, same) {
         return x;
+    }
+    if lacks(x, need, alike, apart, same) {
+        return 0;
     }
     trust::trusted_cell(lists, marks, confessed, n, need, j)
 }

@@ -27,7 +27,7 @@ pub fn height(v: i32) -> u32
 }
 
 // The position of head j; 0 past the last.
-fn position_at(positions: &[i32], j: usize) -> i32
+pub fn position_at(positions: &[i32], j: usize) -> i32
     ensures { λ r. ⌜ r ≡ getD (now (positions .entry)) j (pos 0) ⌝ }
 {
     if j < positions.len() { positions[j] } else { 0 }

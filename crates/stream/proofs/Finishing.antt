@@ -7,19 +7,21 @@ use Prim.Native.Nat.{ℕ, suc, _%_}
 use native.Mathlib.Omega.{arith}
 use lib.Dec.{eqb}
 use lib.ListN.{length}
-use lib.IntN.{ℤ}
 use borrow.Author.Tests.{eqb-true, eqb-false, eq-eqb, ne-eqb}
 use Rattle.terms.specs.Refusals as refusal
 use Rattle.terms.specs.Refusals.{check}
 use Rattle.ring.specs.Rounds.{Round, ringAfter, endsAfter}
-use Rattle.runfile.specs.RunFile.{File, isEmpty, thenPlayed, readFile, ending, roundsPlayed, endsPlayed}
+use Rattle.runfile.specs.RunFile.{File, isEmpty, thenPlayed, readFile, endsSoFar, ending, roundsPlayed, endsPlayed}
 use Rattle.runfile.specs.Listing.{title, lines, verdict, shown, listingOf}
 use Rattle.listing.specs.declared.Text.{Text}
 use Rattle.listing.specs.Texts.{bytesOf}
 use Rattle.player.specs.declared.Player.{Player}
+use Rattle.player.specs.Memory.{Memory}
 use Rattle.player.specs.Keeps.{Keeps}
 use Rattle.rounds.specs.Played.{Played}
-use Rattle.piece.specs.Leads.{Leads}
+use Rattle.piece.specs.Leads.{Leads, Grown, none}
+use Rattle.piece.proofs.Growing.{next-grown}
+use Rattle.listing.proofs.Writing.{empty-text}
 use Rattle.stream.specs.Ends.{Ends}
 use Rattle.stream.specs.Inner.{endingOf}
 use Rattle.rounds.proofs.Converging.{held-converges}
@@ -45,8 +47,7 @@ unplayed true true ws x h = absurd (true≢false (h refl))
 unplayed true false ws x h = refl
 unplayed false w ws x h = refl
 
-module _ {a : List ℕ} {p : Player} {carry : List ℕ} {positions : List ℤ} {marks : List ℕ} {lists : List (List ℤ)} {planted lengths : List ℕ}
-    (L : Leads a p carry positions marks lists planted lengths) where
+module _ {a : List ℕ} {p : Player} {carry : List ℕ} {M : Memory} (L : Leads a p carry M) where
   abbrev F : File
   F = readFile a
 
@@ -55,29 +56,41 @@ module _ {a : List ℕ} {p : Player} {carry : List ℕ} {positions : List ℤ} {
   ends-by = rw (empty-length (F .part), ← L .have, L .tells .fault, L .tells .begun, L .tells .given)
 
   -- the rounds ws are played in all, and the memory holds what they leave
-  ends : {line v : Text} {positions′ : List ℤ} {marks′ : List ℕ} {lists′ : List (List ℤ)} (ws : List Round) → roundsPlayed F ≡ ws
-      → title ++ lines (F .n) (cond (F .begun) (endsAfter (F .n) (F .f) (F .first) ws) []) ≡ shown F ++ bytesOf line → bytesOf v ≡ verdict (endingOf p)
-      → (F .begun ≡ true → Keeps (F .n) (ringAfter (F .n) (F .f) (F .first) ws) positions′ marks′ lists′)
-      → Ends a (record { line = line; verdict = v }) positions′
+  ends : {n : ℕ} {line v : Text} {M′ : Memory} (ws : List Round) → roundsPlayed F ≡ ws
+      → title ++ lines (F .n) (cond (F .begun) (endsAfter (F .n) (F .f) (F .first) ws) []) ≡ shown F ++ bytesOf line
+      → n ≡ endingOf p → bytesOf v ≡ verdict n
+      → (F .begun ≡ true → Keeps (F .n) (ringAfter (F .n) (F .f) (F .first) ws) M′)
+      → (ws ≡ F .played → M′ ≡ M)
+      → Grown (F .n) (endsSoFar F) (cond (F .begun) (endsAfter (F .n) (F .f) (F .first) ws) []) (ringAfter (F .n) (F .f) (F .first) ws) (bytesOf line)
+      → Ends a M (record { number = n; line = line; verdict = v }) M′
   unfolding listingOf endsPlayed roundsPlayed
-  ends ws e l v K = record { shows = rw (e, l, v, ends-by); demand3 = held-converges (eqb (ending F) 0) a (rw (← e) at K) }
+  ends ws e l i v K U G =
+      record {
+        number = i ∙ sym ends-by;
+        shows = rw (e, l, v, i, ends-by);
+        held = rw (← e) at K;
+        unplayed = rw (← e) at U;
+        grown = rw (← e) at G;
+        demand3 = held-converges (eqb (ending F) 0) a (rw (← e) at K);
+      }
 
   -- the round that waits is played
-  pub ends-played : {line v : Text} {positions′ : List ℤ} {marks′ : List ℕ} {lists′ : List (List ℤ)} {n : ℕ} → n ≡ endingOf p → n ≡ 0 → p .waits ≡ true
-      → bytesOf v ≡ verdict n → (F .begun ≡ true → F .waits ≡ true → Played F line positions′ marks′ lists′)
-      → Ends a (record { line = line; verdict = v }) positions′
+  pub ends-played : {line v : Text} {M′ : Memory} {n : ℕ} → n ≡ endingOf p → n ≡ 0 → p .waits ≡ true
+      → bytesOf v ≡ verdict n → (F .begun ≡ true → F .waits ≡ true → Played F line M′)
+      → Ends a M (record { number = n; line = line; verdict = v }) M′
   unfolding shown roundsPlayed ringAfter
   ends-played {line} {n} e z w v P =
       let begun = L .tells .begun ∙ begun-by p (sym e ∙ z) in
       let waits = L .tells .waits ∙ w in
       let played = P begun waits in
       ends (F .last ∷ F .played) (rw (eq-eqb (ending F) 0 (ends-by ∙ sym e ∙ z), waits)) (rw (begun, played .shows) (sym (append-assoc title _ (bytesOf line))))
-      (v ∙ ap verdict e) (λ b. played .keeps)
+      e v (λ b. played .keeps) (λ same. absurd (omega (arith, ap length same)))
+      (rw begun (next-grown (F .n) (F .f) (F .first) (F .played) (F .last) (played .shows)))
 
   -- no round is played
   pub ends-unplayed : {line v : Text} {n : ℕ} → n ≡ endingOf p → (n ≡ 0 → p .waits ≡ false) → bytesOf v ≡ verdict n → line .len ≡ 0
-      → Ends a (record { line = line; verdict = v }) positions
+      → Ends a M (record { number = n; line = line; verdict = v }) M
   unfolding shown roundsPlayed
-  ends-unplayed {line} {n} e none v empty =
-      let same = unplayed (eqb (ending F) 0) (F .waits) (F .played) (F .last) (λ t. L .tells .waits ∙ none (e ∙ sym ends-by ∙ eqb-true (ending F) 0 t)) in
-      ends (F .played) same (unshown line refl empty) (v ∙ ap verdict e) (L .holds .keeps)
+  ends-unplayed {line} {n} e idle v empty =
+      let same = unplayed (eqb (ending F) 0) (F .waits) (F .played) (F .last) (λ t. L .tells .waits ∙ idle (e ∙ sym ends-by ∙ eqb-true (ending F) 0 t)) in
+      ends (F .played) same (unshown line refl empty) e v (L .holds .keeps) (λ same. refl) (none refl (empty-text line empty))

@@ -1,2 +1,3 @@
 pub mod Pieces
 pub mod Finishing
+pub mod Cutting

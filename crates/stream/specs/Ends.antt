@@ -1,15 +1,28 @@
--- The end of the file: the text at the end makes the listing whole, and the positions then held keep demand 3 with every phase end in it.
+-- The end of the file: the text at the end makes the listing whole, the memory stands for the ring that the rounds played leave, and the positions then held keep
+-- demand 3 with every phase end in it.
+use mathlib.Core.Bool.{true}
 use mathlib.Core.List.{List, _++_}
 use mathlib.Core.Path.{_≡_}
 use Prim.Native.Nat.{ℕ}
-use lib.IntN.{ℤ}
-use Rattle.runfile.specs.RunFile.{readFile, roundsPlayed}
+use Rattle.ring.specs.Rounds.{Ring, ringAfter}
+use Rattle.runfile.specs.RunFile.{File, readFile, endsSoFar, ending, roundsPlayed, endsPlayed}
 use Rattle.runfile.specs.Listing.{shown, listing}
 use Rattle.listing.specs.Texts.{bytesOf}
+use Rattle.player.specs.Memory.{Memory}
+use Rattle.player.specs.Keeps.{Keeps}
 use Rattle.rounds.specs.Converged.{ConvergedIn}
+use Rattle.piece.specs.Leads.{Grown}
 use Rattle.stream.specs.declared.Finale.{Finale}
 
--- the file ends after a
-pub record Ends (a : List ℕ) (r : Finale) (positions : List ℤ) : Type 0 where
+-- the ring when all rounds that are played are played
+abbrev pub ringAtEnd : File → Ring
+ringAtEnd F = ringAfter (F .n) (F .f) (F .first) (roundsPlayed F)
+
+-- the file ends after a: from the memory M to the memory M′, which is the same where no round was left to play
+pub record Ends (a : List ℕ) (M : Memory) (r : Finale) (M′ : Memory) : Type 0 where
+  pub number : r .number ≡ ending (readFile a)
   pub shows : listing a ≡ shown (readFile a) ++ bytesOf (r .line) ++ bytesOf (r .verdict)
-  pub demand3 : ConvergedIn (readFile a) (roundsPlayed (readFile a)) positions
+  pub held : readFile a .begun ≡ true → Keeps (readFile a .n) (ringAtEnd (readFile a)) M′
+  pub unplayed : roundsPlayed (readFile a) ≡ readFile a .played → M′ ≡ M
+  pub grown : Grown (readFile a .n) (endsSoFar (readFile a)) (endsPlayed (readFile a)) (ringAtEnd (readFile a)) (bytesOf (r .line))
+  pub demand3 : ConvergedIn (readFile a) (roundsPlayed (readFile a)) (M′ .positions)

@@ -4,18 +4,79 @@ ghost use mathlib.Core.Path.{_≡_};
 ghost use Prim.Native.Nat.{ℕ, _+_, _≤_, _<_};
 ghost use lib.ListN.{length, take};
 ghost use Rattle.listing.specs.Texts.{bytesOf};
-ghost use Rattle.piece.specs.Leads.{Leads, Follows};
+ghost use Rattle.player.specs.Memory.{before, after};
+ghost use Rattle.piece.specs.Leads.{Leads, Steps};
+ghost use Rattle.piece.specs.Inner.{Used, Reads, Passes};
 ghost use Rattle.stream.specs.Ends.{Ends};
 ghost use Rattle.stream.specs.Inner.{endingOf};
 use listing::Text;
 use piece::Fed;
+use piece::Passed;
 use player::Player;
 use terms::refusal;
 
-// The last line of a phase, if the end of the file plays one, and the last line of all.
+// How the file ends, the last line of a phase, if its end plays one, and the last line of all.
 pub struct Finale {
+    pub number: u8,
     pub line: Text,
     pub verdict: Text,
+}
+
+// Takes the planted records at the front of a piece, as many as stand there one after the other. They show nothing.
+fn pass_plants(
+    p: Player,
+    bytes: &[u8],
+    planted: &mut [u8; 143360],
+    lengths: &mut [u8; 1024],
+) -> Passed
+    ensures { λ r. ⌜ r .used ≤ length (now (bytes .entry)) ⌝ }
+    ensures { λ r. ⌜ Passes p (now (bytes .entry)) r (now (planted .entry)) (now (lengths .entry)) (now (planted .exit)) (now (lengths .exit)) ⌝ }
+{
+    let mut player = p;
+    let mut used: usize = 0;
+    while used < bytes.len() {
+        let one = piece::pass_plant(player, &bytes[used..], planted, lengths);
+        player = one.player;
+        if one.used == 0 {
+            return Passed { player, used };
+        }
+        used += one.used;
+    }
+    Passed { player, used }
+}
+
+// One step: planted records, or else what `piece::advance` takes.
+fn step(
+    p: Player,
+    bytes: &[u8],
+    carry: &mut [u8; 1026],
+    positions: &mut [i32; 32],
+    marks: &mut [u32; 32],
+    lists: &mut [[i32; 32]; 32],
+    planted: &mut [u8; 143360],
+    lengths: &mut [u8; 1024],
+) -> Fed
+    ensures { λ r. ⌜ Used (now (bytes .entry)) r ⌝ }
+    ensures { λ r. ⌜ Reads p (now (bytes .entry)) r
+        (now (carry .entry)) (before positions marks lists planted lengths)
+        (now (carry .exit)) (after positions marks lists planted lengths) ⌝ }
+{
+    let passed = pass_plants(p, bytes, planted, lengths);
+    let player = passed.player;
+    let used = passed.used;
+    if used != 0 {
+        return piece::quiet(player, used);
+    }
+    piece::advance(
+        player,
+        bytes,
+        carry,
+        positions,
+        marks,
+        lists,
+        planted,
+        lengths,
+    )
 }
 
 // Takes bytes up to the first that show a line, or all of them.
@@ -30,14 +91,14 @@ pub fn feed(
     lengths: &mut [u8; 1024],
 ) -> Fed
     ensures { λ r. ⌜ (r .used ≤ length (now (bytes .entry))) × (0 < length (now (bytes .entry)) → 0 < r .used) × (r .text .len ≤ 64) ⌝ }
-    ensures { λ r. ⌜ ((a : List ℕ)
-        → Leads a p (now (carry .entry)) (now (positions .entry)) (now (marks .entry)) (now (lists .entry)) (now (planted .entry)) (now (lengths .entry))
-        → Follows a (take (r .used) (now (bytes .entry))) (r .player) (bytesOf (r .text)) (now (carry .exit)) (now (positions .exit)) (now (marks .exit)) (now (lists .exit)) (now (planted .exit)) (now (lengths .exit))) ⌝ }
+    ensures { λ r. ⌜ ((a : List ℕ) → Leads a p (now (carry .entry)) (before positions marks lists planted lengths)
+        → Steps a (take (r .used) (now (bytes .entry))) p (before positions marks lists planted lengths)
+        (r .player) (bytesOf (r .text)) (now (carry .exit)) (after positions marks lists planted lengths)) ⌝ }
 {
     let mut player = p;
     let mut used: usize = 0;
     while used < bytes.len() {
-        let step = piece::advance(
+        let fed = step(
             player,
             &bytes[used..],
             carry,
@@ -47,9 +108,9 @@ pub fn feed(
             planted,
             lengths,
         );
-        player = step.player;
-        used += step.used;
-        let text = step.text;
+        player = fed.player;
+        used += fed.used;
+        let text = fed.text;
         if text.len != 0 {
             return Fed { player, used, text };
         }
@@ -81,17 +142,21 @@ pub fn finish(
     lengths: &[u8; 1024],
 ) -> Finale
     ensures { λ r. ⌜ (r .line .len ≤ 64) × (r .verdict .len ≤ 64) ⌝ }
-    ensures { λ r. ⌜ ((a carry : List ℕ)
-        → Leads a p carry (now (positions .entry)) (now (marks .entry)) (now (lists .entry)) (now (planted .entry)) (now (lengths .entry))
-        → Ends a r (now (positions .exit))) ⌝ }
+    ensures { λ r. ⌜ ((a carry : List ℕ) → Leads a p carry (before positions marks lists planted lengths)
+        → Ends a (before positions marks lists planted lengths) r (after positions marks lists planted lengths)) ⌝ }
 {
     let number = ending(p);
     let verdict = listing::verdict_line(number);
     if number == 0 && p.waits {
         let line = rounds::play_round(p, positions, marks, lists, planted, lengths);
-        return Finale { line, verdict };
+        return Finale {
+            number,
+            line,
+            verdict,
+        };
     }
     Finale {
+        number,
         line: listing::empty(),
         verdict,
     }

@@ -1,8 +1,8 @@
--- `collection::entries_sent` meets its contract: before head k, the unstruck heads below k have the entry that is heard of them.
+-- `collection::entries_sent` meets its contract: before head k, the unstruck heads below k have the entry that is heard of them, and `told` is that of `last`.
 use mathlib.Core.Path.{_≡_, refl, ap, sym, _∙_}
 use mathlib.Core.Logic.{⊎-elim}
 use mathlib.Core.Bool.{not}
-use Prim.Native.Nat.{_-_, _≤_}
+use Prim.Native.Nat.{_-_, _≤_, _<_}
 use native.Mathlib.Omega.{arith}
 use borrow.Author.Needs.{needs}
 use lib.ListN.{length, getD, length-set}
@@ -15,12 +15,13 @@ use Rattle.collection.proofs.entries_sent.Statement.{statement}
 use Rattle.collection.proofs.entries_sent.Tie as tie
 
 abbrev Inv-loop : tie.InvT-loop
-Inv-loop s positions n entries₀ k₀ entries k =
+Inv-loop s positions n entries₀ told₀ last₀ k₀ entries told last k =
     (k ≤ n) × (length entries ≡ 32)
     × Filled (λ j. not (bitOf (s .struck) j)) (sent s positions) (λ j. getD entries₀ j Entry.Null) k (λ j. getD entries j Entry.Null)
+    × (last < 32 → told ≡ sent s positions last)
 
 abbrev μ-loop : tie.MeasureT-loop
-μ-loop s positions n entries₀ k₀ entries k = n - k
+μ-loop s positions n entries₀ told₀ last₀ k₀ entries told last k = n - k
 
 head-count-requires : tie.Need-head-count-requires Inv-loop μ-loop
 head-count-requires c κs = search needs
@@ -29,13 +30,13 @@ cast-n : tie.Need-cast-n Inv-loop μ-loop
 cast-n c = search needs
 
 loop-holds : tie.Need-loop-holds Inv-loop μ-loop
-loop-holds c = (search needs, refl, filled-none _ _ _)
+loop-holds c = (search needs, refl, filled-none _ _ _, λ l. absurd (omega arith))
 
 marked-requires : tie.Need-marked-requires Inv-loop μ-loop
 marked-requires c κs = search needs
 
-entry-sent-requires : tie.Need-entry-sent-requires Inv-loop μ-loop
-entry-sent-requires c κs = search needs
+entry-after-requires : tie.Need-entry-after-requires Inv-loop μ-loop
+entry-after-requires c κs = (search needs, c .before .before .before .loop .inv .3)
 
 mul-entries : tie.Need-mul-entries Inv-loop μ-loop
 mul-entries c = search needs
@@ -60,8 +61,9 @@ loop-again c =
       search needs,
       rw (w .2) (simp length-set (l .inv .1)),
       rw (w .2) (filled-set _ _ _ (l .entries) Entry.Null (l .k) (l .inv .2) (omega (arith, m .before .before .before .head-count .ensures)) (b ∙ w .0 .taken) (w .1 .ensures)),
+      rw (w .3, w .4) (λ small. w .1 .ensures),
     ))
-    (λ w. (search needs, rw (w .1) (l .inv .1), rw (w .1) (filled-passed _ _ _ (l .k) (l .inv .2) (b ∙ w .0 .left))))
+    (λ w. (search needs, rw (w .1) (l .inv .1), rw (w .1) (filled-passed _ _ _ (l .k) (l .inv .2) (b ∙ w .0 .left)), rw (w .2, w .3) (l .inv .3)))
     (c .if1 .came)
 
 returns : tie.Need-returns Inv-loop μ-loop
@@ -80,7 +82,7 @@ entries-sent-spec =
     cast-n
     loop-holds
     marked-requires
-    entry-sent-requires
+    entry-after-requires
     mul-entries
     array-set-from-entries
     add-k

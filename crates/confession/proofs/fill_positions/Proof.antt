@@ -1,9 +1,12 @@
--- `confession::fill_positions` meets its contract: before head i, the unstruck heads below i have their new position, and all others the one they had.
+-- `confession::fill_positions` meets its contract: before head i, the unstruck heads below i have their new position, and all others the one they had; and
+-- `told` is what the last of the first settled.
 use mathlib.Core.Path.{_≡_, refl, ap, sym, _∙_}
 use mathlib.Core.Logic.{⊎-elim}
 use mathlib.Core.Bool.{not}
-use Prim.Native.Nat.{_-_, _≤_}
+use Prim.Native.Nat.{_-_, _≤_, _<_}
 use native.Mathlib.Omega.{arith}
+use mir.Syntax.{w32}
+use mir.Val.{toZ}
 use mir.Facts.{toZ-ofZ}
 use denote.Ref.{now}
 use borrow.Author.Needs.{needs}
@@ -19,14 +22,15 @@ use Rattle.confession.proofs.fill_positions.Statement.{statement}
 use Rattle.confession.proofs.fill_positions.Tie as tie
 
 abbrev Inv-loop : tie.InvT-loop
-Inv-loop s planted lengths base rows₀ positions₀ n lead alike i₀ rows positions i =
+Inv-loop s planted lengths base rows₀ positions₀ n lead last₀ told₀ i₀ rows positions last told i =
     (i ≤ n) × (length positions ≡ 32)
     × Filled (λ j. not (bitOf (s .struck) j)) (λ j. settledFrom s (givenPlanted s base rows₀ (plantedIn planted lengths) j))
     (λ j. getD positions₀ j (pos 0)) i (λ j. getD positions j (pos 0))
     × Kept base rows₀ rows
+    × (last < 32 → toZ w32 told ≡ settledFrom s (givenPlanted s base rows₀ (plantedIn planted lengths) last))
 
 abbrev μ-loop : tie.MeasureT-loop
-μ-loop s planted lengths base rows₀ positions₀ n lead alike i₀ rows positions i = n - i
+μ-loop s planted lengths base rows₀ positions₀ n lead last₀ told₀ i₀ rows positions last told i = n - i
 
 head-count-requires : tie.Need-head-count-requires Inv-loop μ-loop
 head-count-requires c κs = search needs
@@ -37,36 +41,33 @@ cast-n c = search needs
 first-listed-requires : tie.Need-first-listed-requires Inv-loop μ-loop
 first-listed-requires c κs = search needs
 
-settled-requires : tie.Need-settled-requires Inv-loop μ-loop
-settled-requires c κs = search needs
-
 loop-holds : tie.Need-loop-holds Inv-loop μ-loop
 loop-holds c =
-    let s = c .before .before .before .before .before .before in
-    (search needs, search needs, filled-none _ _ _, record { long = s .pre .0 .rows-long; gives = refl })
+    let s = c .before .before .before .before in
+    (search needs, search needs, filled-none _ _ _, record { long = s .pre .0 .rows-long; gives = refl }, λ l. absurd (omega arith))
 
 marked-requires : tie.Need-marked-requires Inv-loop μ-loop
 marked-requires c κs = search needs
 
-position-for-requires : tie.Need-position-for-requires Inv-loop μ-loop
-position-for-requires c κs =
+position-after-requires : tie.Need-position-after-requires Inv-loop μ-loop
+position-after-requires c κs =
     let h = c .before .before .before .before in
-    let k = h .loop .inv .3 in
-    let t = h .before in
-    let f = t .before .before in
+    let i = h .loop .inv in
+    let k = i .3 in
+    let f = h .before in
     let s = f .before .before .before .before in
     let a = s .args in (
       search needs,
       untold-kept (a .s) (a .base) (now (a .rows)) (h .loop .rows) k (s .pre .0),
       f .first-listed .ensures,
-      toZ-ofZ (record { sfits = t .settled .ok }) ∙ t .settled .ensures ∙ ap (settledFrom (a .s)) (sym (k .gives)),
+      λ l. i .4 l ∙ ap (settledFrom (a .s)) (sym (planted-kept (a .s) (a .base) (now (a .rows)) (h .loop .rows) k (plantedIn (now (a .planted)) (now (a .lengths))) (h .loop .last))),
     )
 
-mul-v : tie.Need-mul-v Inv-loop μ-loop
-mul-v c = search needs
+mul-told : tie.Need-mul-told Inv-loop μ-loop
+mul-told c = search needs
 
-slice-set-from-v : tie.Need-slice-set-from-v Inv-loop μ-loop
-slice-set-from-v c = search needs
+slice-set-from-told : tie.Need-slice-set-from-told Inv-loop μ-loop
+slice-set-from-told c = search needs
 
 add-i : tie.Need-add-i Inv-loop μ-loop
 add-i c = search needs
@@ -79,19 +80,26 @@ loop-again c =
     let m = c .before in
     let l = m .before .before .loop in
     let b = ap not (sym (m .marked .ensures)) in
-    let n = m .before .before .before .before .before .before in
+    let n = m .before .before .before .before in
     let a = n .before .before .before .args in
     let h = n .head-count .ensures in
     ⊎-elim
-    (λ w. (
+    (λ w.
+    let e = toZ-ofZ (record { sfits = w .2 .ok }) ∙ w .2 .ensures .0
+    ∙ ap (settledFrom (a .s)) (planted-kept (a .s) (a .base) (now (a .rows)) (l .rows) (l .inv .3) (plantedIn (now (a .planted)) (now (a .lengths))) (l .i)) in (
       search needs,
       rw (w .4) (simp length-set (l .inv .1)),
-      rw (w .4) (filled-set _ _ _ (l .positions) (pos 0) (l .i) (l .inv .2) (omega arith) (b ∙ w .0 .taken)
-          (toZ-ofZ (record { sfits = w .2 .ok }) ∙ w .2 .ensures .0
-          ∙ ap (settledFrom (a .s)) (planted-kept (a .s) (a .base) (now (a .rows)) (l .rows) (l .inv .3) (plantedIn (now (a .planted)) (now (a .lengths))) (l .i)))),
+      rw (w .4) (filled-set _ _ _ (l .positions) (pos 0) (l .i) (l .inv .2) (omega arith) (b ∙ w .0 .taken) e),
       rw (w .3) (record { long = w .2 .ensures .1 .long; gives = w .2 .ensures .1 .gives ∙ l .inv .3 .gives }),
+      rw (w .5, w .6) (λ small. e),
     ))
-    (λ w. (search needs, rw (w .2) (l .inv .1), rw (w .2) (filled-passed _ _ _ (l .i) (l .inv .2) (b ∙ w .0 .left)), rw (w .1) (l .inv .3)))
+    (λ w. (
+      search needs,
+      rw (w .2) (l .inv .1),
+      rw (w .2) (filled-passed _ _ _ (l .i) (l .inv .2) (b ∙ w .0 .left)),
+      rw (w .1) (l .inv .3),
+      rw (w .3, w .4) (l .inv .4),
+    ))
     (c .if1 .came)
 
 same-length : tie.Need-same-length Inv-loop μ-loop
@@ -100,7 +108,7 @@ same-length c = search needs
 returns : tie.Need-returns Inv-loop μ-loop
 returns c =
     let l = c .before .loop in
-    let e : l .i ≡ heads (c .before .before .before .before .before .before .before .before .args .s) = omega (arith, c .before .before .before .before .before .head-count .ensures) in
+    let e : l .i ≡ heads (c .before .before .before .before .before .before .args .s) = omega (arith, c .before .before .before .head-count .ensures) in
     rw e at (l .inv .2)
 
 pub fill-positions-spec : {M : Type 1} → statement M
@@ -112,12 +120,11 @@ fill-positions-spec =
     head-count-requires
     cast-n
     first-listed-requires
-    settled-requires
     loop-holds
     marked-requires
-    position-for-requires
-    mul-v
-    slice-set-from-v
+    position-after-requires
+    mul-told
+    slice-set-from-told
     add-i
     loop-less
     loop-again

@@ -1,8 +1,9 @@
--- `confession::hear_replies` meets its contract: before head k, the unstruck heads below k gave what they reply, and all others nothing.
+-- `confession::hear_replies` meets its contract: before head k, the unstruck heads below k gave what they reply, and all others nothing; and `last` is one of
+-- the first, if any.
 use mathlib.Core.Path.{_≡_, refl, ap, sym, _∙_}
 use mathlib.Core.Logic.{⊎-elim}
-use mathlib.Core.Bool.{not}
-use Prim.Native.Nat.{_-_, _≤_}
+use mathlib.Core.Bool.{true, not}
+use Prim.Native.Nat.{_-_, _≤_, _<_}
 use native.Mathlib.Omega.{arith}
 use denote.Ref.{now}
 use borrow.Author.Needs.{needs}
@@ -11,17 +12,18 @@ use Rattle.convergence.specs.Trust.{nothing}
 use Rattle.record.specs.Record.{givenOf}
 use Rattle.play.specs.Memory.{heads}
 use Rattle.confession.specs.Inner.{replied, Received, givenAlike}
-use Rattle.play.proofs.Filling.{filledTo}
+use Rattle.play.proofs.Filling.{filledTo, filled-had}
 use Rattle.confession.proofs.Received.{received-none, received-start, received-passed, received-heard}
 use Rattle.confession.proofs.hear_replies.Statement.{statement}
 use Rattle.confession.proofs.hear_replies.Tie as tie
 
 abbrev Inv-loop : tie.InvT-loop
-Inv-loop s marks lists rows₀ n links₀ k₀ rows links k =
+Inv-loop s marks lists rows₀ n links₀ last₀ k₀ rows links last k =
     (k ≤ n) × Received links rows (filledTo (λ j. not (bitOf (s .struck) j)) (λ j. givenOf (replied s marks lists j)) (λ j. nothing) k)
+    × (last < 32 → (last < k) × (not (bitOf (s .struck) last) ≡ true))
 
 abbrev μ-loop : tie.MeasureT-loop
-μ-loop s marks lists rows₀ n links₀ k₀ rows links k = n - k
+μ-loop s marks lists rows₀ n links₀ last₀ k₀ rows links last k = n - k
 
 head-count-requires : tie.Need-head-count-requires Inv-loop μ-loop
 head-count-requires c κs = search needs
@@ -30,13 +32,15 @@ cast-n : tie.Need-cast-n Inv-loop μ-loop
 cast-n c = search needs
 
 loop-holds : tie.Need-loop-holds Inv-loop μ-loop
-loop-holds c = (search needs, received-start _ _ _ _ _ (received-none _ (c .before .pre)))
+loop-holds c = (search needs, received-start _ _ _ _ _ (received-none _ (c .before .pre)), λ l. absurd (omega arith))
 
 marked-requires : tie.Need-marked-requires Inv-loop μ-loop
 marked-requires c κs = search needs
 
-hear-reply-requires : tie.Need-hear-reply-requires Inv-loop μ-loop
-hear-reply-requires c κs = search needs
+hear-after-requires : tie.Need-hear-after-requires Inv-loop μ-loop
+hear-after-requires c κs =
+    let l = c .before .before .before .before .loop in
+    (search needs, λ small. let i = l .inv .2 small in filled-had _ _ _ (l .k) (l .inv .1 .gives) (l .last) (i .0) (i .1))
 
 add-k : tie.Need-add-k Inv-loop μ-loop
 add-k c = search needs
@@ -48,16 +52,20 @@ loop-again : tie.Need-loop-again Inv-loop μ-loop
 loop-again c =
     let m = c .before in
     let l = m .before .before .loop in
-    let a = m .before .before .before .before .args in
     let b = ap not (sym (m .marked .ensures)) in
     let h = m .before .before .before .head-count .ensures in
     ⊎-elim
+    (λ w.
+    let e = w .2 .ensures in (
+      search needs,
+      rw (w .3, w .4) (received-heard _ _ _ (l .links) (l .rows) (l .k) (l .inv .1) (e .says) (omega arith) refl (b ∙ w .0 .taken) (e .gives) (e .to-links) (e .to-rows)),
+      rw (w .5) (λ small. (omega arith, b ∙ w .0 .taken)),
+    ))
     (λ w. (
       search needs,
-      rw (w .3, w .4) (received-heard _ _ _ (l .links) (l .rows) (l .k) (l .inv .1) (replied (a .s) (now (a .marks)) (now (a .lists)) (l .k)) (omega arith) refl (b ∙ w .0 .taken) refl
-          (w .2 .ensures .0) (w .2 .ensures .1)),
+      rw (w .1, w .2) (received-passed _ _ _ (l .links) (l .rows) (l .k) (l .inv .1) (b ∙ w .0 .left)),
+      rw (w .3) (λ small. let i = l .inv .2 small in (omega (arith, i .0), i .1)),
     ))
-    (λ w. (search needs, rw (w .1, w .2) (received-passed _ _ _ (l .links) (l .rows) (l .k) (l .inv .1) (b ∙ w .0 .left))))
     (c .if1 .came)
 
 returns : tie.Need-returns Inv-loop μ-loop
@@ -77,7 +85,7 @@ hear-replies-spec =
     cast-n
     loop-holds
     marked-requires
-    hear-reply-requires
+    hear-after-requires
     add-k
     loop-less
     loop-again

@@ -11,7 +11,7 @@ unread-requires c κs = search needs
 
 returns : tie.Need-returns
 unfolding unread feed
-returns c carry positions marks lists planted lengths =
+returns c carry M =
     let e = c .unread .ensures in
     record {
       tells = e .0;

@@ -11,7 +11,11 @@ use Rattle.page.proofs.fill.Tie as tie
 
 abbrev Inv-loop : tie.InvT-loop
 Inv-loop bytes page₀ carry₀ positions₀ marks₀ lists₀ planted₀ lengths₀ player₀ used₀ len₀ page carry positions marks lists planted lengths player used len =
-    Reached bytes player₀ carry₀ positions₀ marks₀ lists₀ planted₀ lengths₀ player carry positions marks lists planted lengths used (take len page)
+    Reached bytes player₀
+    carry₀ (record { positions = positions₀; marks = marks₀; lists = lists₀; planted = planted₀; lengths = lengths₀ })
+    player
+    carry (record { positions = positions; marks = marks; lists = lists; planted = planted; lengths = lengths })
+    used (take len page)
     × (len ≤ 4096) × (0 < len → 0 < used)
 
 abbrev μ-loop : tie.MeasureT-loop

@@ -13,8 +13,8 @@ empty-requires c κs = search needs
 
 returns : tie.Need-returns
 returns c =
-    let (whole, tells) = c .before .stop .ensures in
-    (λ F positions marks lists planted lengths T H. stopped-next H (whole, tells F T) (c .empty .ensures), omega (arith, c .empty .ensures))
+    let (is, tells) = c .before .stop .ensures in
+    (λ F M T H. stopped-next H (is, tells F T) (c .empty .ensures), omega (arith, c .empty .ensures))
 
 pub refuse-spec : {M : Type 1} → statement M
 refuse-spec = tie.close (tie.spec stop-requires empty-requires returns)

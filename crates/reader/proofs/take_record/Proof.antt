@@ -6,6 +6,7 @@ use borrow.Author.Needs.{needs}
 use borrow.Author.Tests.{ne-eqb}
 use denote.Ref.{now}
 use Rattle.runfile.specs.RunFile.{readFile, start, round, plant, other, recordKind, kindOf, lengthOf}
+use Rattle.player.specs.Memory.{Memory}
 use Rattle.reader.proofs.Records.{start-place, round-place, plant-place}
 use Rattle.reader.proofs.take_record.Statement.{statement}
 use Rattle.reader.proofs.take_record.Tie as tie
@@ -25,13 +26,25 @@ take-plant-requires c κs = search needs
 refuse-requires : tie.Need-refuse-requires
 refuse-requires c κs = search needs
 
+-- the memory as it was lent
+abbrev lent : tie.After-half-at → Memory
+lent h =
+    let a = h .before .before .args in
+    record {
+      positions = now (a .positions);
+      marks = now (a .marks);
+      lists = now (a .lists);
+      planted = now (a .planted);
+      lengths = now (a .lengths);
+    }
+
 returns : tie.Need-returns
 returns c =
     let m = c .before .before in
     let s = now (m .before .before .before .args .bytes) in
     let kind : kindOf s ≡ start = ap recordKind (sym (m .before .half-at .ensures) ∙ m .match .keys1) in
     let (next, room) = c .take-start .ensures in
-    (λ a T H may whole. rw kind (next (readFile a) _ _ _ _ (start-place (readFile a) (lengthOf s) (rw kind at may)) T H), room)
+    (λ a T H may whole. rw kind (next (readFile a) (lent (m .before)) (start-place (readFile a) (lengthOf s) (rw kind at may)) T H), room)
 
 returns-2 : tie.Need-returns-2
 returns-2 c =
@@ -47,7 +60,7 @@ returns-3 c =
     let s = now (m .before .before .before .args .bytes) in
     let kind : kindOf s ≡ plant = ap recordKind (sym (m .before .half-at .ensures) ∙ m .match .keys3) in
     let (next, room) = c .take-plant .ensures in
-    (λ a T H may whole. rw kind (next (readFile a) _ _ _ (omega (arith, plant-place (readFile a) (lengthOf s) (rw kind at may))) T H), room)
+    (λ a T H may whole. rw kind (next (readFile a) (lent (m .before)) (omega (arith, plant-place (readFile a) (lengthOf s) (rw kind at may))) T H), room)
 
 returns-4 : tie.Need-returns-4
 returns-4 c =

@@ -19,7 +19,7 @@ returns c =
     let (next, room) = c .refuse .ensures in (
       λ a begun T H.
           rw (judged-stopped round (readFile a) _ _ (t .before .round-fault .ensures (readFile a) (T .n) (T .f) (T .given)) (t .if1 .taken))
-          (next (readFile a) _ _ _ _ _ T H),
+          (next (readFile a) _ T H),
       room,
     )
 

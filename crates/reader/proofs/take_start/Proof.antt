@@ -21,8 +21,8 @@ returns : tie.Need-returns
 returns c =
     let t = c .before in
     let (next, room) = c .refuse .ensures in (
-      λ F marks lists planted lengths begun T H.
-          rw (judged-stopped start F _ _ (t .before .start-fault .ensures F) (t .if1 .taken)) (next F _ marks lists planted lengths T H),
+      λ F M begun T H.
+          rw (judged-stopped start F _ _ (t .before .start-fault .ensures F) (t .if1 .taken)) (next F _ T H),
       room,
     )
 
@@ -50,7 +50,7 @@ returns-2 c =
     let t = n .before in
     let s = now (t .before .before .before .args .bytes) in
     let (text, room) = c .end-line .ensures in (
-      λ F marks lists planted lengths begun T H.
+      λ F M begun T H.
           let e = t .before .start-fault .ensures F in
           rw (judged-taken start F s e (t .if1 .left))
           (start-next s begun (sym e ∙ t .if1 .left) (d .first-positions .ensures)

@@ -16,7 +16,8 @@ use Rattle.rigplay.proofs.play_piece.Tie as tie
 abbrev Inv-loop : tie.InvT-loop
 Inv-loop bytes carry₀ positions₀ marks₀ lists₀ planted₀ lengths₀ page₀ player₀ at₀ carry positions marks lists planted lengths page player at =
     (at ≤ length bytes)
-    × ((a : List ℕ) → Leads a player₀ carry₀ positions₀ marks₀ lists₀ planted₀ lengths₀ → Leads (a ++ take at bytes) player carry positions marks lists planted lengths)
+    × ((a : List ℕ) → Leads a player₀ carry₀ (record { positions = positions₀; marks = marks₀; lists = lists₀; planted = planted₀; lengths = lengths₀ })
+    → Leads (a ++ take at bytes) player carry (record { positions = positions; marks = marks; lists = lists; planted = planted; lengths = lengths }))
 
 abbrev μ-loop : tie.MeasureT-loop
 μ-loop bytes carry₀ positions₀ marks₀ lists₀ planted₀ lengths₀ page₀ player₀ at₀ carry positions marks lists planted lengths page player at = length bytes - at

@@ -1,4 +1,5 @@
 -- `rounds::play_round` meets its contract: the stage is that of the round that waits, and an odd number of rounds given says which of the two rounds it is.
+use mathlib.Core.Path.{refl}
 use native.Mathlib.Omega.{arith}
 use borrow.Author.Needs.{needs}
 use Rattle.runfile.proofs.Taken.{taken}
@@ -20,7 +21,7 @@ returns c =
     let k = c .before in
     let t = k .before .before .before .before .before .before in (
       λ a begun waits T H.
-          collection-played (taken a begun) begun waits T H (t .before .before .stage-of .ensures) (t .if1 .taken) (k .collect .ensures) (c .empty .ensures),
+          collection-played (taken a begun) begun waits T H (t .before .before .stage-of .ensures) (t .if1 .taken) refl (k .collect .ensures) (c .empty .ensures),
       omega (arith, c .empty .ensures),
     )
 

@@ -10,11 +10,12 @@ use Rattle.terms.specs.declared.Entry.{Entry}
 use Rattle.terms.specs.declared.Entry.the-variants.{Position}
 use Rattle.convergence.specs.Settling.{ordered}
 use Rattle.convergence.specs.Trust.{trusted}
+use Rattle.convergence.proofs.Order.{in-order}
 use Rattle.order.specs.Orders.{orderOf, inOrder}
 use Rattle.midpoint.specs.Answers.{settlingFrom}
 use Rattle.order.specs.declared.Order.{Order}
-use Rattle.order.proofs.Insertion.{inserted-read}
-use Rattle.order.proofs.Ordering.{Held, held-order}
+use Rattle.order.proofs.Insertion.{put-read, behind-inserts}
+use Rattle.order.proofs.Ordering.{Held, held-order, held-in-order}
 use Rattle.midpoint.proofs.Middle.{settling-in-order}
 use Rattle.cells.specs.Received.{givenBy}
 use Rattle.cells.specs.Cells.{entryOf, Holds}
@@ -115,7 +116,7 @@ loop-again c =
       search needs,
       rw (w .4, w .5) (position-held (entries t) (l .j) (l .inv .1) h
           (sym e ∙ sym (cell-position (t .led-cell .result) (w .0 .taken)) ∙ ap Position (sym (w .2 .ensures (held t .within))))
-          (w .3 .ensures ∙ inserted-read _ _ (record { sfits = w .2 .ok }))),
+          (w .3 .ensures ∙ put-read _ _ (record { sfits = w .2 .ok }) ∙ behind-inserts _ _ _ (held-in-order (l .inv .1) (in-order (l .j) (entries t))))),
     ))
     (λ w. (search needs, rw (w .1, w .2) (null-held (entries t) (l .j) (l .inv .1) (sym e ∙ ap entryOf (w .0 .left)))))
     (c .if1 .came)

@@ -1,47 +1,49 @@
 -- `stream::feed` meets its contract: at the head of the loop the bytes before `used` have shown nothing, and the player stands where they lead.
-use mathlib.Core.Path.{sym}
-use mathlib.Core.List.{[]}
 use Prim.Native.Nat.{_+_, _-_, _≤_, _<_}
 use native.Mathlib.Omega.{arith}
 use lib.ListN.{length}
 use denote.Ref.{now}
 use borrow.Author.Needs.{needs}
 use Rattle.listing.proofs.Writing.{empty-text}
-use Rattle.stream.proofs.Pieces.{Reached, at-first, at-last, moved, one-more, text-as}
+use Rattle.stream.proofs.Pieces.{Still, moved, still-first, last-step, still-more, at-last}
 use Rattle.stream.proofs.feed.Statement.{statement}
 use Rattle.stream.proofs.feed.Tie as tie
 
 abbrev Inv-loop : tie.InvT-loop
 Inv-loop bytes carry₀ positions₀ marks₀ lists₀ planted₀ lengths₀ player₀ used₀ carry positions marks lists planted lengths player used =
-    Reached bytes player₀ carry₀ positions₀ marks₀ lists₀ planted₀ lengths₀ player carry positions marks lists planted lengths used []
+    Still bytes player₀
+    carry₀ (record { positions = positions₀; marks = marks₀; lists = lists₀; planted = planted₀; lengths = lengths₀ })
+    player
+    carry (record { positions = positions; marks = marks; lists = lists; planted = planted; lengths = lengths })
+    used
 
 abbrev μ-loop : tie.MeasureT-loop
 μ-loop bytes carry₀ positions₀ marks₀ lists₀ planted₀ lengths₀ player₀ used₀ carry positions marks lists planted lengths player used = length bytes - used
 
 loop-holds : tie.Need-loop-holds Inv-loop μ-loop
-loop-holds c = at-first
+loop-holds c = still-first
 
-sub-advance : tie.Need-sub-advance Inv-loop μ-loop
-sub-advance c = search needs
+sub-step : tie.Need-sub-step Inv-loop μ-loop
+sub-step c = search needs
 
-part-advance-start : tie.Need-part-advance-start Inv-loop μ-loop
-part-advance-start c = search needs
+part-step-start : tie.Need-part-step-start Inv-loop μ-loop
+part-step-start c = search needs
 
-part-advance-end : tie.Need-part-advance-end Inv-loop μ-loop
-part-advance-end c = search needs
+part-step-end : tie.Need-part-step-end Inv-loop μ-loop
+part-step-end c = search needs
 
-advance-requires : tie.Need-advance-requires Inv-loop μ-loop
-advance-requires c κs = search needs
+step-requires : tie.Need-step-requires Inv-loop μ-loop
+step-requires c κs = search needs
 
 -- the step from `used`
-moves : (c : tie.After-advance Inv-loop μ-loop) →
+moves : (c : tie.After-step Inv-loop μ-loop) →
     let l = c .before .before .before .before .before .before .before .before .before in
-    (l .loop .used + c .advance .result .used ≤ length (now (l .before .before .args .bytes))) × (0 < c .advance .result .used)
+    (l .loop .used + c .step .result .used ≤ length (now (l .before .before .args .bytes))) × (0 < c .step .result .used)
 moves c =
     let i = c .before .before .before .before .before .before .before .before in
     let l = i .before in
-    let U = c .advance .ensures .0 in
-    moved (l .loop .used) (c .advance .result .used) (now (l .before .before .args .bytes)) (i .loop-test .taken) (U .within) (U .some)
+    let U = c .step .ensures .0 in
+    moved (l .loop .used) (c .step .result .used) (now (l .before .before .args .bytes)) (i .loop-test .taken) (U .within) (U .some)
 
 add-used : tie.Need-add-used Inv-loop μ-loop
 add-used c =
@@ -54,8 +56,8 @@ returns c =
     let v = c .before .before .before .before .before in
     let l = v .before .before .before .before .before .before .before .before .before .loop in
     let m = moves v in
-    let e = v .advance .ensures in
-    ((m .0, λ h. omega arith, e .0 .room), λ a L. one-more (l .inv) (v .advance .result .used) (m .0) (e .1) .follows a L)
+    let e = v .step .ensures in
+    ((m .0, λ h. omega arith, e .0 .room), λ a L. last-step (l .inv) (v .step .result .used) (m .0) (e .1) a L)
 
 loop-less : tie.Need-loop-less Inv-loop μ-loop
 loop-less c = let m = moves (c .before .before .before .before .before) in omega arith
@@ -64,8 +66,8 @@ loop-again : tie.Need-loop-again Inv-loop μ-loop
 loop-again c =
     let v = c .before .before .before .before .before in
     let l = v .before .before .before .before .before .before .before .before .before .loop in
-    let r = v .advance .result in
-    text-as (one-more (l .inv) (r .used) (moves v .0) (v .advance .ensures .1)) (sym (empty-text (r .text) (c .if1 .left)))
+    let r = v .step .result in
+    still-more (l .inv) (r .used) (moves v .0) (empty-text (r .text) (c .if1 .left)) (v .step .ensures .1)
 
 quiet-requires : tie.Need-quiet-requires Inv-loop μ-loop
 quiet-requires c κs = search needs
@@ -74,7 +76,7 @@ returns-2 : tie.Need-returns-2 Inv-loop μ-loop
 returns-2 c =
     let Q = c .quiet .ensures in
     let R = c .before .before .loop .inv in
-    ((omega (arith, Q .used, R .within), λ h. omega (arith, Q .used), omega (arith, Q .none)), λ a L. at-last R Q a L)
+    ((omega (arith, Q .used, R .reached .within), λ h. omega (arith, Q .used), omega (arith, Q .none)), λ a L. at-last R Q a L)
 
 pub feed-spec : {M : Type 1} → statement M
 feed-spec =
@@ -83,10 +85,10 @@ feed-spec =
     Inv-loop
     μ-loop
     loop-holds
-    sub-advance
-    part-advance-start
-    part-advance-end
-    advance-requires
+    sub-step
+    part-step-start
+    part-step-end
+    step-requires
     add-used
     returns
     loop-less
