@@ -1,9 +1,9 @@
 -- An answer as C gets it: 0 or the refusal's number, and beside it the result in memory that the caller lends, which a refusal leaves as it was.
 use Prim.Native.Nat.{ℕ}
 use lib.IntN.{ℤ}
-use Rattle.midpoint.specs.declared.Kept.{Kept}
-use Rattle.midpoint.specs.declared.Settled.{Settled}
-use Rattle.midpoint.specs.declared.Settled.the-variants.{Refused, New}
+use Rattle.settle_midpoint.specs.declared.Kept.{Kept}
+use Rattle.settle_midpoint.specs.declared.Settled.{Settled}
+use Rattle.settle_midpoint.specs.declared.Settled.the-variants.{Refused, New}
 use Rattle.steps.specs.declared.scale.Scaled.{Scaled}
 use Rattle.steps.specs.declared.scale.Scaled.the-variants as scale
 

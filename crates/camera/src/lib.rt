@@ -1,11 +1,11 @@
 // What the camera's C firmware calls: the frame check, the midpoint and the scale, on plain numbers and byte slices. host/include/focus.h declares them.
 // Each returns 0 or the refusal's number; a result goes to memory that the caller lends, which a refusal leaves as it was.
 ghost use mathlib.Core.Path.{_≡_};
-ghost use Rattle.frames.specs.Check.{frameRefusal};
-ghost use Rattle.midpoint.specs.Call.{midpointCall};
+ghost use Rattle.frame_check.specs.Check.{frameRefusal};
+ghost use Rattle.settle_midpoint.specs.Call.{midpointCall};
 ghost use Rattle.steps.specs.Scale.{scaled};
 ghost use Rattle.camera.specs.Out.{settledNumber, settledOr, scaledNumber, scaledOr};
-use midpoint::Settled;
+use settle_midpoint::Settled;
 use steps::scale::Scaled;
 
 // The frame check: 0, 6, 7 or 8. The rest of an accepted frame starts at its byte 7.
@@ -13,7 +13,7 @@ use steps::scale::Scaled;
 pub extern "C" fn focus_frame_check(frame: &[u8]) -> u8
     ensures { λ r. ⌜ r ≡ frameRefusal (now (frame .entry)) ⌝ }
 {
-    frames::frame_refusal(frame)
+    frame_check::frame_refusal(frame)
 }
 
 // The midpoint of a trusted table: 0 and the new position, or 1, 2, 8, 10, 11, 25.
@@ -28,7 +28,7 @@ pub extern "C" fn focus_midpoint(
     ensures number { λ r. ⌜ r ≡ settledNumber (midpointCall n f marks (now (entries .entry))) ⌝ }
     ensures result { λ r. ⌜ now (position .exit) ≡ settledOr (midpointCall n f marks (now (entries .entry))) (now (position .entry)) ⌝ }
 {
-    let answer = midpoint::midpoint(n, f, marks, entries);
+    let answer = settle_midpoint::midpoint(n, f, marks, entries);
     match answer {
         Settled::Refused(number) => number,
         Settled::New(kept) => {

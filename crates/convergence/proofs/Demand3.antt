@@ -12,13 +12,13 @@ use Rattle.terms.specs.declared.Entry.the-variants.{Position}
 use Rattle.convergence.specs.Counting.{AtMost}
 use Rattle.convergence.specs.Settling.{nulls, trim, midpoint, enough, settled}
 use Rattle.convergence.specs.Trust.{trusted}
-use Rattle.convergence.specs.Phases.{End, start, Faults, soundAt, givenTo, after, rounding, endOf}
-use Rattle.convergence.specs.Demand3.{Accepted, Halves, Within, Converges}
+use Rattle.convergence.specs.Phases.{End, start, Faults, soundAt, givenTo, after, rounding, endAfter}
+use Rattle.convergence.specs.Demand3.{AcceptedSize, Halves, FewStruck, Converges}
 use Rattle.convergence.proofs.Sums.{sum-none}
 use Rattle.convergence.proofs.Support.{same-position}
 use Rattle.convergence.proofs.OnePhase.{Facts, Between, Limits, few-nulls, some-kept, range, closer}
 use Rattle.convergence.proofs.Links.{facts, two-faced}
-use Rattle.convergence.proofs.Ends.{number, Holds, Inside, held-position, held-between, sound-holds, Nearer, Run, few-at, holds-at, any-two}
+use Rattle.convergence.proofs.Ends.{number, AllHold, Inside, held-position, held-between, sound-holds, Nearer, Run, few-at, holds-at, any-two}
 
 -- ---- one phase of a ring
 
@@ -34,7 +34,7 @@ module _ (n f : ℕ) (e : End) (F : Faults) (L : Limits n f (F .collect) (F .con
   abbrev before : ℕ → ℤ
   before j = number (e .at j)
 
-  module _ (H : Holds n e) (i : ℕ) where
+  module _ (H : AllHold n e) (i : ℕ) where
     known : Facts n (F .collect) (F .confess) (e .struck) before (table i)
     known = facts n f e F before L H i
 
@@ -49,7 +49,7 @@ module _ (n f : ℕ) (e : End) (F : Faults) (L : Limits n f (F .collect) (F .con
     settles r a s = same-position (settled-is r n f (table i) few-nulls-in-phase) (sound-holds (F .confess i) (settled r n f (table i)) a s)
 
   module _ (m M : ℤ) (I : Inside n e m M) where
-    holds-inside : Holds n e
+    holds-inside : AllHold n e
     holds-inside j l s = held-position (Position m) (Position M) (e .at j) (I j l s)
 
     before-inside : Between n (e .struck) before m M
@@ -78,16 +78,16 @@ pub rounding-le : (p : ℕ) → rounding p ≤ 1
 unfolding rounding
 rounding-le p = omega arith
 
-module _ (n f : ℕ) (size : Accepted n f) (v : ℕ → ℤ) (F : ℕ → Faults) (within : Within n f F) where
+module _ (n f : ℕ) (size : AcceptedSize n f) (v : ℕ → ℤ) (F : ℕ → Faults) (within : FewStruck n f F) where
   abbrev end : ℕ → End
-  end = endOf n f v F
+  end = endAfter n f v F
 
   -- the phase after end p is within the limits
   limits : (p : ℕ) → AtMost f n (end p .struck) → Limits n f (F (suc p) .collect) (F (suc p) .confess) (end p .struck)
   limits p few = record { size = size; few-c = within (suc p) .0; few-d = within (suc p) .1; few-p = few }
 
   run : (K : ℕ) → Run n f K (Halves n f) (λ p. n) end
-  unfolding endOf start
+  unfolding endAfter start
   run K =
       record {
         large = omega arith;

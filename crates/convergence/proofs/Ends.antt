@@ -98,8 +98,8 @@ number Null = pos 0
 number (Position u) = u
 
 -- each sound head or listener among 0 .. n - 1 holds a position
-abbrev pub Holds : ℕ → End → Type 0
-Holds n e = Each n (λ i. e .struck i ≡ false → e .at i ≡ Position (number (e .at i)))
+abbrev pub AllHold : ℕ → End → Type 0
+AllHold n e = Each n (λ i. e .struck i ≡ false → e .at i ≡ Position (number (e .at i)))
 
 -- and it lies between m and M
 abbrev pub Inside : ℕ → End → ℤ → ℤ → Type 0
@@ -130,7 +130,7 @@ record Bounds (n : ℕ) (e : End) : Type 0 where
   inside : Inside n e low high
 
 -- N heads and listeners, where at most f of the first n are struck, and f is below n: not all are
-bounds : (n N f : ℕ) (e : End) → AtMost f n (e .struck) → f < n → n ≤ N → Holds N e → Bounds N e
+bounds : (n N f : ℕ) (e : End) → AtMost f n (e .struck) → f < n → n ≤ N → AllHold N e → Bounds N e
 bounds n N f e few large more H = go (lowest N e) refl (best-lowest N e) (highest N e) refl (best-highest N e)
   where
     struck-of : (b : Bool) (x : Entry) → (b ≡ false → x ≡ Position (number x)) → cond b Null x ≡ Null → 1 ≤ bit b
@@ -181,7 +181,7 @@ pub record Run (n f K : ℕ) (Q : Type 0) (N : ℕ → ℕ) (E : ℕ → End) : 
   pub large : f < n
   pub more : (p : ℕ) → n ≤ N p
   pub few : AtMost f n (E 0 .struck)
-  pub holds : Holds (N 0) (E 0)
+  pub holds : AllHold (N 0) (E 0)
   pub step : (p : ℕ) → p < K → AtMost f n (E p .struck) → Nearer n (N (suc p)) f Q (E p) (E (suc p))
 
 module _ {n f K : ℕ} {Q : Type 0} {N : ℕ → ℕ} {E : ℕ → End} (R : Run n f K Q N E) where
@@ -195,7 +195,7 @@ module _ {n f K : ℕ} {Q : Type 0} {N : ℕ → ℕ} {E : ℕ → End} (R : Run
   heads-inside : (p : ℕ) (m M : ℤ) → Inside (N p) (E p) m M → Inside n (E p) m M
   heads-inside p m M I j l = I j (omega (arith, R .more p))
 
-  pub holds-at : (p : ℕ) → p ≤ K → Holds (N p) (E p)
+  pub holds-at : (p : ℕ) → p ≤ K → AllHold (N p) (E p)
   holds-at zero h = R .holds
   holds-at (suc p) h =
       let B = bounds n (N p) f (E p) (few-at p (omega arith)) (R .large) (R .more p) (holds-at p (omega arith)) in

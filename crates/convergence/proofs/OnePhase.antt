@@ -17,9 +17,9 @@ use Rattle.terms.specs.declared.Entry.the-variants.{Null, Position}
 use Rattle.terms.proofs.Whole.{arithZ, not-le, decLeZ, half-between, half-closer}
 use Rattle.convergence.specs.Counting.{Each, sum, bit, AtMost}
 use Rattle.convergence.specs.Settling.{isNull, nulls, trim, ordered, lowKept, highKept, middle, midpoint}
-use Rattle.convergence.specs.Demand3.{Accepted, Halves}
+use Rattle.convergence.specs.Demand3.{AcceptedSize, Halves}
 use Rattle.convergence.proofs.Sums.{sums-le, sum-one, sum-none, bit-le}
-use Rattle.convergence.proofs.Order.{passes, gt-fails, Kept, kept-counts}
+use Rattle.convergence.proofs.Order.{passes, gt-fails, KeptRange, kept-counts}
 
 -- What is known of a trusted entry of head j, by whether j was struck in this collection round (c), in this confession round (d) and in the
 -- confession round of the phase before (p), with v the position of j at the phase's start, if it was sound.
@@ -142,7 +142,7 @@ trimmed f z h = by-cases (decLe z f) (λ k. rw le-leb (omega arith)) (λ k. let 
 
 -- the ring is within its limits
 pub record Limits (n f : ℕ) (c d p : ℕ → Bool) : Type 0 where
-  pub size : Accepted n f
+  pub size : AcceptedSize n f
   pub few-c : AtMost f n c
   pub few-d : AtMost f n d
   pub few-p : AtMost f n p
@@ -183,7 +183,7 @@ module _ (n f : ℕ) (c d p : ℕ → Bool) (v : ℕ → ℤ) (L : Limits n f c 
     pub some-kept : 2 * trim f (nulls n E) + nulls n E < n
     some-kept = omega (arith, the-trim .small, the-trim .fourfold)
 
-    the-kept : Kept n (trim f (nulls n E)) E (low n f E) (high n f E)
+    the-kept : KeptRange n (trim f (nulls n E)) E (low n f E) (high n f E)
     the-kept = kept-counts n (trim f (nulls n E)) E some-kept
 
     -- a liar chose no more entries than are dropped at either end

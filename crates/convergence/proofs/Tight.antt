@@ -17,8 +17,8 @@ use Rattle.terms.specs.declared.Entry.the-variants.{Null, Position}
 use Rattle.convergence.specs.Counting.{sum, AtMost}
 use Rattle.convergence.specs.Settling.{nulls, trim, insert, ordered, lowKept, highKept, middle, midpoint, enough, settled}
 use Rattle.convergence.specs.Trust.{nothing, confessed, gave, support, confessions, seen, trusted}
-use Rattle.convergence.specs.Phases.{End, start, Faults, listOf, givenTo, after, rounding, endOf, lowest, highest, spread}
-use Rattle.convergence.specs.Demand3.{halved, Accepted, Halves, Within}
+use Rattle.convergence.specs.Phases.{End, start, Faults, listOf, givenTo, after, rounding, endAfter, lowest, highest, spread}
+use Rattle.convergence.specs.Demand3.{halved, AcceptedSize, Halves, FewStruck}
 use Rattle.convergence.proofs.Demand3.{converges}
 
 -- document 01, "Points on the ring": halving promised, and not
@@ -52,7 +52,7 @@ apiece =
     (λ k i. eqb (k + 2) i)
 
 pub record EightTwo : Type 0 where
-  pub accepted : Accepted 8 2
+  pub accepted : AcceptedSize 8 2
   pub few : AtMost 2 8 (healed .struck) × AtMost 2 8 (apiece .collect) × AtMost 2 8 (apiece .confess)
   pub at-six : ordered 8 (trusted 8 2 (givenTo healed apiece 6)) ≡ pos 0 ∷ pos 0 ∷ pos 2 ∷ []
   pub at-seven : ordered 8 (trusted 8 2 (givenTo healed apiece 7)) ≡ pos 0 ∷ pos 2 ∷ pos 2 ∷ []
@@ -96,7 +96,7 @@ module _ (f x a s : ℕ) where
   -- with n heads the size is accepted and below the bound, at most f heads are struck in each round, and the spread stays 2
   abbrev Stays : ℕ → Type 0
   Stays n =
-      Accepted n f × (Halves n f → ⊥) × AtMost f n (lying .collect) × AtMost f n (lying .confess) × (spread n (start holding) ≡ 2)
+      AcceptedSize n f × (Halves n f → ⊥) × AtMost f n (lying .collect) × AtMost f n (lying .confess) × (spread n (start holding) ≡ 2)
       × (spread n (after 0 n f (start holding) lying) ≡ 2)
 
 stay : Stays 2 0 1 6 8 × Stays 4 0 1 11 15 × Stays 5 1 2 14 19 × Stays 6 0 1 16 22 × Stays 7 1 2 19 26 × Stays 8 0 1 21 29 × Stays 8 2 3 22 30
@@ -115,16 +115,16 @@ stay = (
 pub record NotHalved (n f : ℕ) : Type 0 where
   pub v : ℕ → ℤ
   pub F : ℕ → Faults
-  pub within : Within n f F
-  pub first : spread n (endOf n f v F 0) ≡ 2
-  pub later : spread n (endOf n f v F 1) ≡ 2
+  pub within : FewStruck n f F
+  pub first : spread n (endAfter n f v F 0) ≡ 2
+  pub later : spread n (endAfter n f v F 1) ≡ 2
 
 not-halved : (n f m g x a s : ℕ) → n ≡ m → f ≡ g → Stays g x a s m → NotHalved n f
-unfolding endOf rounding
+unfolding endAfter rounding
 not-halved n f m g x a s p q h =
     rw (p, q) (record { v = holding g x a s; F = λ p. lying g x a s; within = λ p. (h .2, h .3); first = h .4; later = h .5 })
 
-pub tight : (n f : ℕ) → n ≤ 32 → Accepted n f → (Halves n f → ⊥) → NotHalved n f
+pub tight : (n f : ℕ) → n ≤ 32 → AcceptedSize n f → (Halves n f → ⊥) → NotHalved n f
 tight n f most size below =
     by-cases (decLe f 2) (λ h. not-halved n f 8 2 0 1 6 (omega arith) (omega arith) (stay .0))
     (λ k2. by-cases (decLe f 3) (λ h. let l : 12 ≤ n = omega arith in absurd (omega arith))
@@ -137,9 +137,9 @@ tight n f most size below =
 
 -- every run of this size halves the spread
 abbrev pub AllHalve : ℕ → ℕ → Type 0
-AllHalve n f = (v : ℕ → ℤ) (F : ℕ → Faults) → Within n f F → (p k : ℕ) → spread n (endOf n f v F (p + k)) ≤ halved k (spread n (endOf n f v F p))
+AllHalve n f = (v : ℕ → ℤ) (F : ℕ → Faults) → FewStruck n f F → (p k : ℕ) → spread n (endAfter n f v F (p + k)) ≤ halved k (spread n (endAfter n f v F p))
 
-pub halves-exactly : (n f : ℕ) → n ≤ 32 → Accepted n f → AllHalve n f ↔ Halves n f
+pub halves-exactly : (n f : ℕ) → n ≤ 32 → AcceptedSize n f → AllHalve n f ↔ Halves n f
 unfolding halved
 halves-exactly n f most size = (λ all. go all (decLe (11 * f + 3) (3 * n)), λ h v F within p k. converges n f size v F within p k .halving h)
   where

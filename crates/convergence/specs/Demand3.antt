@@ -8,7 +8,7 @@ use lib.Signed.{_≤ℤ_}
 use Rattle.terms.specs.declared.Entry.{Entry}
 use Rattle.terms.specs.declared.Entry.the-variants.{Null, Position}
 use Rattle.convergence.specs.Counting.{Each, AtMost}
-use Rattle.convergence.specs.Phases.{End, Faults, endOf, lowest, highest, spread}
+use Rattle.convergence.specs.Phases.{End, Faults, endAfter, lowest, highest, spread}
 
 -- s divided by 2 to the power k, rounded up
 unfoldable pub halved : ℕ → ℕ → ℕ
@@ -22,8 +22,8 @@ HeldBetween Null high (Position u) = ⊥
 HeldBetween (Position low) Null (Position u) = ⊥
 
 -- the sizes that are accepted: 2n at least 7f + 2
-abbrev pub Accepted : ℕ → ℕ → Type 0
-Accepted n f = 7 * f + 2 ≤ 2 * n
+abbrev pub AcceptedSize : ℕ → ℕ → Type 0
+AcceptedSize n f = 7 * f + 2 ≤ 2 * n
 
 -- the sizes at which halving is promised: 3n at least 11f + 3
 abbrev pub Halves : ℕ → ℕ → Type 0
@@ -35,12 +35,12 @@ pub record Demand3 (n f k : ℕ) (e e′ : End) : Type 0 where
   pub halving : Halves n f → spread n e′ ≤ halved k (spread n e)
 
 -- no round strikes more than f heads
-abbrev pub Within : ℕ → ℕ → (ℕ → Faults) → Type 0
-Within n f F = (p : ℕ) → AtMost f n (F p .collect) × AtMost f n (F p .confess)
+abbrev pub FewStruck : ℕ → ℕ → (ℕ → Faults) → Type 0
+FewStruck n f F = (p : ℕ) → AtMost f n (F p .collect) × AtMost f n (F p .confess)
 
 -- At every accepted size, whatever the first positions, whichever heads each round strikes, at most f of them, and whatever these send to each
 -- neighbour: any two phase ends, the start among them.
 abbrev pub Converges : Type 0
 Converges =
-    (n f : ℕ) → Accepted n f → (v : ℕ → ℤ) (F : ℕ → Faults) → Within n f F
-    → (p k : ℕ) → Demand3 n f k (endOf n f v F p) (endOf n f v F (p + k))
+    (n f : ℕ) → AcceptedSize n f → (v : ℕ → ℤ) (F : ℕ → Faults) → FewStruck n f F
+    → (p k : ℕ) → Demand3 n f k (endAfter n f v F p) (endAfter n f v F (p + k))

@@ -50,9 +50,9 @@ unfoldable pub rounding : ℕ → ℕ
 rounding p = 0
 
 -- the end of phase p; end 0 is the start
-unfoldable pub endOf : ℕ → ℕ → (ℕ → ℤ) → (ℕ → Faults) → ℕ → End
-endOf n f v F zero = start v
-endOf n f v F (suc p) = after (rounding (suc p)) n f (endOf n f v F p) (F (suc p))
+unfoldable pub endAfter : ℕ → ℕ → (ℕ → ℤ) → (ℕ → Faults) → ℕ → End
+endAfter n f v F zero = start v
+endAfter n f v F (suc p) = after (rounding (suc p)) n f (endAfter n f v F p) (F (suc p))
 
 -- ---- lowest, highest and spread of the sound heads 0 .. n - 1
 

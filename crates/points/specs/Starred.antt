@@ -15,9 +15,9 @@ use Rattle.convergence.specs.Counting.{sum}
 use Rattle.convergence.specs.Settling.{nulls, trim, insert, ordered, lowKept, highKept, middle, enough}
 use Rattle.convergence.specs.Trust.{Given, nothing, confessed, gave, support, confessions, seen, trusted}
 use Rattle.convergence.specs.Demand3.{Halves}
-use Rattle.midpoint.specs.Answers.{settling}
-use Rattle.midpoint.specs.declared.Settled.{Settled}
-use Rattle.midpoint.specs.declared.Settled.the-variants.{Refused, New}
+use Rattle.settle_midpoint.specs.Answers.{settling}
+use Rattle.settle_midpoint.specs.declared.Settled.{Settled}
+use Rattle.settle_midpoint.specs.declared.Settled.the-variants.{Refused, New}
 
 -- n heads, struck limit f, and what the rules answer
 pub data Point : Type 0 where
@@ -43,18 +43,18 @@ abbrev pub number : Settled → ℕ
 number (Refused c) = c
 number (New k) = 0
 
-abbrev pub Holds : Point → Type 0
-Holds (taken n f) = sizeRefusal n f ≡ 0
-Holds (refused n f c) = sizeRefusal n f ≡ c
-Holds (halving n f) = Halves n f
-Holds (no-halving n f) = Halves n f → ⊥
-Holds (settles n f l v) = newPosition (settling 0 n f (table l)) ≡ Position v
-Holds (too-few n f l) = number (settling 0 n f (table l)) ≡ 25
-Holds (trusts n f l j e) = trusted n f (links l) j ≡ e
+abbrev pub PointHolds : Point → Type 0
+PointHolds (taken n f) = sizeRefusal n f ≡ 0
+PointHolds (refused n f c) = sizeRefusal n f ≡ c
+PointHolds (halving n f) = Halves n f
+PointHolds (no-halving n f) = Halves n f → ⊥
+PointHolds (settles n f l v) = newPosition (settling 0 n f (table l)) ≡ Position v
+PointHolds (too-few n f l) = number (settling 0 n f (table l)) ≡ 25
+PointHolds (trusts n f l j e) = trusted n f (links l) j ≡ e
 
 abbrev pub All : List Point → Type 0
 All [] = Unit {0}
-All (p ∷ ps) = Holds p × All ps
+All (p ∷ ps) = PointHolds p × All ps
 
 abbrev at : ℕ → Entry
 at n = Position (pos n)

@@ -1,6 +1,6 @@
 // What a call answers, and lines with answers in them.
 use crate::print;
-use midpoint::Settled;
+use settle_midpoint::Settled;
 use steps::scale::Scaled;
 use terms::Entry;
 

@@ -36,7 +36,7 @@ const FRAMES: [u8; 230] = *b"\x00\
 
 fn answer(frame: &[u8]) {
     let mut code: u8 = 0;
-    let rest = frames::check(frame, &mut code);
+    let rest = frame_check::check(frame, &mut code);
     answers::fill(
         b": #, rest of # bytes\n",
         [

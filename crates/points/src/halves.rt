@@ -29,8 +29,8 @@ fn half_line(c: Pair) {
 
 // How far two positions lie apart.
 pub fn distance(a: i32, b: i32) -> u32 {
-    let x = stores::unsigned(a);
-    let y = stores::unsigned(b);
+    let x = fields::unsigned(a);
+    let y = fields::unsigned(b);
     if a < b {
         return std::num::wrapping_sub_u32(y, x);
     }

@@ -16,7 +16,7 @@ fn main() {
     halves::section();
     midpoints::section();
     supports::section();
-    rounds::section();
+    run_round::section();
     checks::section();
     scales::section();
 }

@@ -35,7 +35,7 @@ fn trim_line(f: u8)
     );
     let mut z: u8 = 0;
     while z <= most {
-        print::count(b" ", midpoint::trim_of(f, z) as u64);
+        print::count(b" ", settle_midpoint::trim_of(f, z) as u64);
         z += 1;
     }
     print::text(b"\n");
@@ -43,7 +43,7 @@ fn trim_line(f: u8)
 
 fn put_entry(bytes: &mut [u8; 32], j: usize, v: i32) {
     if j < 8 {
-        stores::put_word(bytes, 4 * j, stores::unsigned(v));
+        fields::put_word(bytes, 4 * j, fields::unsigned(v));
     }
 }
 
@@ -77,7 +77,7 @@ fn entries_of(c: Trusted) -> [i32; 8] {
 fn midpoint_with(c: Trusted, marks: u32) -> Answer {
     let bytes = bytes_of(entries_of(c));
     let entries = print::front(&bytes, 4 * (c.0 as usize));
-    answers::of_settled(midpoint::midpoint(c.0, c.1, marks, entries))
+    answers::of_settled(settle_midpoint::midpoint(c.0, c.1, marks, entries))
 }
 
 // Where there are nulls, with what zeros in their place would give.

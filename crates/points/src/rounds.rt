@@ -6,8 +6,8 @@ use crate::halves;
 use crate::midpoints;
 use crate::print;
 use crate::wrong;
-use cells::Links;
-use midpoint::Settled;
+use settle_midpoint::Settled;
+use settle_trust::Links;
 
 // n, f, marks of the links that confessed, marks of those that gave the list, marks of its entries, the list
 struct Round(u8, u8, u32, u32, u32, [i32; 8]);
@@ -44,7 +44,7 @@ fn lists_of(c: Round) -> [[i32; 32]; 32] {
 }
 
 fn settled(c: Round) -> Settled {
-    settle::settle(lists_of(c), links_of(c), c.0, c.1)
+    settle_position::settle(lists_of(c), links_of(c), c.0, c.1)
 }
 
 // The round itself.
@@ -64,7 +64,7 @@ fn round_line(c: Round) {
     print::text(b": trusted [");
     print::table(
         c.0 as usize,
-        trust::trusted_table(lists_of(c), links_of(c), c.0, c.1),
+        settle_trust::trusted_table(lists_of(c), links_of(c), c.0, c.1),
     );
     answers::fill(
         b"], new position: #\n",

@@ -8,7 +8,7 @@ use crate::wrong;
 use Beside::Nulls;
 use Beside::Silence;
 use Beside::Support;
-use cells::Links;
+use settle_trust::Links;
 
 // What is to stand beside our answer: the support of two positions, or what a wrong reading gives.
 enum Beside {
@@ -92,7 +92,7 @@ fn lists_of(c: Given) -> [[i32; 32]; 32] {
 }
 
 fn trusted(c: Given, links: Links) -> Answer {
-    answers::of_entry(trust::trusted_entry(lists_of(c), links, c.0, c.1, c.2 as usize))
+    answers::of_entry(settle_trust::trusted_entry(lists_of(c), links, c.0, c.1, c.2 as usize))
 }
 
 // What link k gave.
@@ -127,7 +127,7 @@ fn show(c: Given) {
 }
 
 fn support(c: Given, u: i32) -> Answer {
-    answers::of_count(trust::support(lists_of(c), links_of(c), c.0, c.2 as usize, u))
+    answers::of_count(settle_trust::support(lists_of(c), links_of(c), c.0, c.2 as usize, u))
 }
 
 // Our answer, with the support of the two positions.

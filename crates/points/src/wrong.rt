@@ -1,5 +1,5 @@
 // The readings that are wrong though they look natural.
-use cells::Links;
+use settle_trust::Links;
 
 // Halving from 2n at least 7f + 2: at every size that is taken.
 pub fn halves(n: u32, f: u32) -> bool {
@@ -18,8 +18,8 @@ pub fn half_towards_zero(a: i32, b: i32) -> i64 {
 
 // Half of a sum, an odd sum rounded to an even number: one more than rounded down, where the sum and that are odd.
 pub fn half_to_even(a: i32, b: i32) -> i32 {
-    let down = stores::unsigned(steps::half_sum(a, b));
-    let odd = (stores::unsigned(a) ^ stores::unsigned(b)) & 1;
+    let down = fields::unsigned(steps::half_sum(a, b));
+    let odd = (fields::unsigned(a) ^ fields::unsigned(b)) & 1;
     fields::signed(std::num::wrapping_add_u32(down, down & odd))
 }
 

@@ -1,15 +1,15 @@
-// rigplay: a run file from standard input, its listing to standard output. What each page holds is promised by page::fill, and what is left at the end by
-// stream::finish; the lines of a piece are written before more input is waited for. Where a read or a write fails it ends, and no last line is written.
+// rigplay: a run file from standard input, its listing to standard output. What each page holds is promised by run_stream::fill, and what is left at the end by
+// run_stream::finish; the lines of a piece are written before more input is waited for. Where a read or a write fails it ends, and no last line is written.
 ghost use mathlib.Core.Bool.{true};
 ghost use mathlib.Core.List.{List, _++_};
 ghost use mathlib.Core.Path.{_≡_};
 ghost use Prim.Native.Nat.{ℕ};
-ghost use Rattle.player.specs.Memory.{before, after};
-ghost use Rattle.piece.specs.Leads.{Leads};
+ghost use Rattle.run_state.specs.Memory.{before, after};
+ghost use Rattle.run_piece.specs.Advances.{StateAt};
 use libc::STDIN_FILENO;
 use libc::STDOUT_FILENO;
-use listing::Text;
-use player::Player;
+use run_listing::Text;
+use run_state::Player;
 
 // What comes of a piece: the player after it, and whether all that it shows is written.
 struct Wrote {
@@ -52,14 +52,14 @@ fn play_piece(
     planted: &mut [u8; 143360],
     lengths: &mut [u8; 1024],
 ) -> Wrote
-    ensures { λ r. ⌜ ((a : List ℕ) → Leads a p (now (carry .entry)) (before positions marks lists planted lengths) → r .all ≡ true
-        → Leads (a ++ now (bytes .entry)) (r .player) (now (carry .exit)) (after positions marks lists planted lengths)) ⌝ }
+    ensures { λ r. ⌜ ((a : List ℕ) → StateAt a p (now (carry .entry)) (before positions marks lists planted lengths) → r .all ≡ true
+        → StateAt (a ++ now (bytes .entry)) (r .player) (now (carry .exit)) (after positions marks lists planted lengths)) ⌝ }
 {
     let mut page = io::buffer();
     let mut player = p;
     let mut at: usize = 0;
     while at < bytes.len() {
-        let filled = page::fill(
+        let filled = run_stream::fill(
             player,
             &bytes[at..],
             &mut page,
@@ -160,11 +160,11 @@ fn main() {
     let mut lists = [none; 32];
     let mut planted = [0u8; 143360];
     let mut lengths = [0u8; 1024];
-    if !write_text(listing::title_line()) {
+    if !write_text(run_listing::title_line()) {
         return;
     }
     let turn = play_all(
-        page::begin(),
+        run_stream::begin(),
         &mut piece,
         &mut carry,
         &mut positions,
@@ -176,7 +176,7 @@ fn main() {
     if !turn.ended {
         return;
     }
-    let finale = stream::finish(
+    let finale = run_stream::finish(
         turn.player,
         &mut positions,
         &mut marks,

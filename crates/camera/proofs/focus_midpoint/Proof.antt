@@ -7,15 +7,6 @@ use Rattle.camera.proofs.Answers.{given-out}
 use Rattle.camera.proofs.focus_midpoint.Statement.{statement}
 use Rattle.camera.proofs.focus_midpoint.Tie as tie
 
-midpoint-requires : tie.Need-midpoint-requires
-midpoint-requires c κs = search needs
-
-enum-known-answer : tie.Need-enum-known-answer
-enum-known-answer c = search needs
-
-enum-known-answer-2 : tie.Need-enum-known-answer-2
-enum-known-answer-2 c = search needs
-
 returns : tie.Need-returns
 returns c = given-out settledNumber settledOr refl refl (c .before .before .before .midpoint .ensures) (c .before .answer .given .1)
 
@@ -27,4 +18,4 @@ returns-2 c =
 
 pub focus-midpoint-spec : {M : Type 1} → statement M
 focus-midpoint-spec =
-    tie.close (tie.spec midpoint-requires enum-known-answer enum-known-answer-2 returns returns-2)
+    tie.close (tie.spec (λ c κs. search needs) (λ c. search needs) (λ c. search needs) returns returns-2)

@@ -9,15 +9,6 @@ use Rattle.camera.proofs.Answers.{given-out}
 use Rattle.camera.proofs.focus_scale.Statement.{statement}
 use Rattle.camera.proofs.focus_scale.Tie as tie
 
-scale-requires : tie.Need-scale-requires
-scale-requires c κs = search needs
-
-enum-known-answer : tie.Need-enum-known-answer
-enum-known-answer c = search needs
-
-enum-known-answer-2 : tie.Need-enum-known-answer-2
-enum-known-answer-2 c = search needs
-
 -- what the call gave is the scale of the steps passed
 is-scaled : (c : tie.After-scale) → c .scale .result ≡ scaled (c .before .args .steps) (c .before .args .numerator) (c .before .args .denominator)
 is-scaled c =
@@ -35,4 +26,4 @@ returns-2 c =
 
 pub focus-scale-spec : {M : Type 1} → statement M
 focus-scale-spec =
-    tie.close (tie.spec scale-requires enum-known-answer enum-known-answer-2 returns returns-2)
+    tie.close (tie.spec (λ c κs. search needs) (λ c. search needs) (λ c. search needs) returns returns-2)

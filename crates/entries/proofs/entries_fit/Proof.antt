@@ -17,24 +17,12 @@ Inv-loop m s n count whole j₀ j = (j ≤ n) × (entriesFit m s j ≡ true)
 abbrev μ-loop : tie.MeasureT-loop
 μ-loop m s n count whole j₀ j = n - j
 
-mul-whole : tie.Need-mul-whole Inv-loop μ-loop
-mul-whole c = search needs
-
 loop-holds : tie.Need-loop-holds Inv-loop μ-loop
 unfolding entriesFit
 loop-holds c = (search needs, refl)
 
-marked-requires : tie.Need-marked-requires Inv-loop μ-loop
-marked-requires c κs = search needs
-
-mul-word-in : tie.Need-mul-word-in Inv-loop μ-loop
-mul-word-in c = search needs
-
 word-in-requires : tie.Need-word-in-requires Inv-loop μ-loop
 word-in-requires c κs = λ t. omega (arith, leb-true)
-
-word-fits-requires : tie.Need-word-fits-requires Inv-loop μ-loop
-word-fits-requires c κs = search needs
 
 -- the next entry fits just where `word_fits` says so
 next : (c : tie.After-word-fits Inv-loop μ-loop) →
@@ -52,12 +40,6 @@ returns c =
     let a = l .before .before .args in
     sym (misfit (a .m) (now (a .s)) (l .loop .j + 1) (a .n) (next (c .before) ∙ not-true _ (c .if1 .taken)) (omega arith))
 
-add-j : tie.Need-add-j Inv-loop μ-loop
-add-j c = search needs
-
-loop-less : tie.Need-loop-less Inv-loop μ-loop
-loop-less c = search needs
-
 loop-again : tie.Need-loop-again Inv-loop μ-loop
 loop-again c = (search needs, next (c .before) ∙ not-false _ (c .if1 .left))
 
@@ -72,14 +54,14 @@ entries-fit-spec =
     (tie.spec
     Inv-loop
     μ-loop
-    mul-whole
+    (λ c. search needs)
     loop-holds
-    marked-requires
-    mul-word-in
+    (λ c κs. search needs)
+    (λ c. search needs)
     word-in-requires
-    word-fits-requires
+    (λ c κs. search needs)
     returns
-    add-j
-    loop-less
+    (λ c. search needs)
+    (λ c. search needs)
     loop-again
     returns-2)

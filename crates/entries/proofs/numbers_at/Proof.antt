@@ -37,26 +37,8 @@ loop-holds : tie.Need-loop-holds Inv-loop μ-loop
 unfolding numbers zeros
 loop-holds c = (capped (c .before) .0, capped (c .before) .1, search needs, refl)
 
-mul-word-in : tie.Need-mul-word-in Inv-loop μ-loop
-mul-word-in c = search needs
-
 word-in-requires : tie.Need-word-in-requires Inv-loop μ-loop
 word-in-requires c κs = λ t. omega (arith, leb-true)
-
-signed-requires : tie.Need-signed-requires Inv-loop μ-loop
-signed-requires c κs = search needs
-
-mul-out : tie.Need-mul-out Inv-loop μ-loop
-mul-out c = search needs
-
-array-set-from-out : tie.Need-array-set-from-out Inv-loop μ-loop
-array-set-from-out c = search needs
-
-add-k : tie.Need-add-k Inv-loop μ-loop
-add-k c = search needs
-
-loop-less : tie.Need-loop-less Inv-loop μ-loop
-loop-less c = search needs
 
 loop-again : tie.Need-loop-again Inv-loop μ-loop
 loop-again c =
@@ -83,12 +65,12 @@ numbers-at-spec =
     μ-loop
     mul-whole
     loop-holds
-    mul-word-in
+    (λ c. search needs)
     word-in-requires
-    signed-requires
-    mul-out
-    array-set-from-out
-    add-k
-    loop-less
+    (λ c κs. search needs)
+    (λ c. search needs)
+    (λ c. search needs)
+    (λ c. search needs)
+    (λ c. search needs)
     loop-again
     returns)

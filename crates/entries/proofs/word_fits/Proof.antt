@@ -8,9 +8,6 @@ use Rattle.entries.proofs.Entries.{zero-word}
 use Rattle.entries.proofs.word_fits.Statement.{statement}
 use Rattle.entries.proofs.word_fits.Tie as tie
 
-is-position-word-requires : tie.Need-is-position-word-requires
-is-position-word-requires c κs = search needs
-
 returns : tie.Need-returns
 returns c =
     c .is-position-word .ensures ∙ ap (λ (b : Bool). fits b (signedOf (c .before .before .args .x))) (sym (c .before .if1 .taken))
@@ -19,4 +16,4 @@ returns-2 : tie.Need-returns-2
 returns-2 c = sym (zero-word (c .before .args .x)) ∙ ap (λ (b : Bool). fits b (signedOf (c .before .args .x))) (sym (c .if1 .left))
 
 pub word-fits-spec : {M : Type 1} → statement M
-word-fits-spec = tie.close (tie.spec is-position-word-requires returns returns-2)
+word-fits-spec = tie.close (tie.spec (λ c κs. search needs) returns returns-2)

@@ -7,21 +7,6 @@ use Rattle.fields.proofs.Bytes.{reads-past}
 use Rattle.fields.proofs.half_at.Statement.{statement}
 use Rattle.fields.proofs.half_at.Tie as tie
 
-shared-slice-read-join2 : tie.Need-shared-slice-read-join2
-shared-slice-read-join2 c = search needs
-
-add-byte-at : tie.Need-add-byte-at
-add-byte-at c = search needs
-
-byte-at-requires : tie.Need-byte-at-requires
-byte-at-requires c κs = search needs
-
-join2-requires : tie.Need-join2-requires
-join2-requires c κs = search needs
-
-returns : tie.Need-returns
-returns c = search needs
-
 returns-2 : tie.Need-returns-2
 returns-2 c =
     let s = now (c .before .before .args .s) in
@@ -31,9 +16,9 @@ pub half-at-spec : {M : Type 1} → statement M
 half-at-spec =
     tie.close
     (tie.spec
-    shared-slice-read-join2
-    add-byte-at
-    byte-at-requires
-    join2-requires
-    returns
+    (λ c. search needs)
+    (λ c. search needs)
+    (λ c κs. search needs)
+    (λ c κs. search needs)
+    (λ c. search needs)
     returns-2)

@@ -6,14 +6,8 @@ use Rattle.fields.specs.Bytes.{signedOf}
 use Rattle.fields.proofs.signed_at.Statement.{statement}
 use Rattle.fields.proofs.signed_at.Tie as tie
 
-word-at-requires : tie.Need-word-at-requires
-word-at-requires c κs = search needs
-
-signed-requires : tie.Need-signed-requires
-signed-requires c κs = search needs
-
 returns : tie.Need-returns
 returns c = toZ-ofZ (record { sfits = c .signed .ok }) ∙ c .signed .ensures ∙ ap signedOf (c .before .word-at .ensures)
 
 pub signed-at-spec : {M : Type 1} → statement M
-signed-at-spec = tie.close (tie.spec word-at-requires signed-requires returns)
+signed-at-spec = tie.close (tie.spec (λ c κs. search needs) (λ c κs. search needs) returns)

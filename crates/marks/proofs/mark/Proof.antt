@@ -4,14 +4,8 @@ use Rattle.marks.proofs.Marks.{mark-is}
 use Rattle.marks.proofs.mark.Statement.{statement}
 use Rattle.marks.proofs.mark.Tie as tie
 
-cast-result : tie.Need-cast-result
-cast-result c = search needs
-
-shl-result : tie.Need-shl-result
-shl-result c = search needs
-
 returns : tie.Need-returns
 returns c = mark-is _ (c .pre)
 
 pub mark-spec : {M : Type 1} → statement M
-mark-spec = tie.close (tie.spec cast-result shl-result returns)
+mark-spec = tie.close (tie.spec (λ c. search needs) (λ c. search needs) returns)

@@ -6,12 +6,6 @@ use Rattle.marks.proofs.Marks.{bit-above}
 use Rattle.marks.proofs.marked.Statement.{statement}
 use Rattle.marks.proofs.marked.Tie as tie
 
-cast-result : tie.Need-cast-result
-cast-result c = search needs
-
-shr-result : tie.Need-shr-result
-shr-result c = search needs
-
 returns : tie.Need-returns
 unfolding bitOf
 returns c = refl
@@ -22,4 +16,4 @@ returns-2 c =
     sym (bit-above (a .m) 32 (a .j) (c .before .fits .m .fits) (c .if1 .left))
 
 pub marked-spec : {M : Type 1} → statement M
-marked-spec = tie.close (tie.spec cast-result shr-result returns returns-2)
+marked-spec = tie.close (tie.spec (λ c. search needs) (λ c. search needs) returns returns-2)

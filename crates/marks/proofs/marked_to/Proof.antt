@@ -20,22 +20,10 @@ loop-holds : tie.Need-loop-holds Inv-loop μ-loop
 unfolding sum
 loop-holds c = (search needs, refl)
 
-marked-requires : tie.Need-marked-requires Inv-loop μ-loop
-marked-requires c κs = search needs
-
-cast-c : tie.Need-cast-c Inv-loop μ-loop
-cast-c c = search needs
-
 add-c : tie.Need-add-c Inv-loop μ-loop
 add-c c =
     let b = c .marked .result in
     omega (arith, byte-bit b, bit-le b, bits-le (c .before .before .loop .k) (bitOf (c .before .before .before .args .m)))
-
-add-k : tie.Need-add-k Inv-loop μ-loop
-add-k c = search needs
-
-loop-less : tie.Need-loop-less Inv-loop μ-loop
-loop-less c = search needs
 
 loop-again : tie.Need-loop-again Inv-loop μ-loop
 loop-again c =
@@ -59,10 +47,10 @@ marked-to-spec =
     Inv-loop
     μ-loop
     loop-holds
-    marked-requires
-    cast-c
+    (λ c κs. search needs)
+    (λ c. search needs)
     add-c
-    add-k
-    loop-less
+    (λ c. search needs)
+    (λ c. search needs)
     loop-again
     returns)

@@ -10,12 +10,6 @@ use Rattle.marks.proofs.Marks.{shift-none}
 use Rattle.marks.proofs.marks_below.Statement.{statement}
 use Rattle.marks.proofs.marks_below.Tie as tie
 
-cast-result : tie.Need-cast-result
-cast-result c = search needs
-
-shr-result : tie.Need-shr-result
-shr-result c = search needs
-
 returns : tie.Need-returns
 unfolding marksBelow
 returns c = shift-none (c .before .args .m) (c .before .args .n)
@@ -27,4 +21,4 @@ returns-2 c =
     sym (lt-ltb (c .before .args .m) (2 ^ (c .before .args .n)) (omega arith))
 
 pub marks-below-spec : {M : Type 1} → statement M
-marks-below-spec = tie.close (tie.spec cast-result shr-result returns returns-2)
+marks-below-spec = tie.close (tie.spec (λ c. search needs) (λ c. search needs) returns returns-2)

@@ -9,14 +9,8 @@ use Rattle.marks.proofs.with_mark.Tie as tie
 returns : tie.Need-returns
 returns c = sym (with-past _ _ (c .if1 .taken))
 
-marked-requires : tie.Need-marked-requires
-marked-requires c κs = search needs
-
 returns-2 : tie.Need-returns-2
 returns-2 c = sym (with-old _ _ (sym (c .before .marked .ensures) ∙ c .if2 .taken))
-
-mark-requires : tie.Need-mark-requires
-mark-requires c κs = search needs
 
 add-result : tie.Need-add-result
 add-result c =
@@ -32,4 +26,4 @@ returns-3 c =
 
 pub with-mark-spec : {M : Type 1} → statement M
 with-mark-spec =
-    tie.close (tie.spec returns marked-requires returns-2 mark-requires add-result returns-3)
+    tie.close (tie.spec returns (λ c κs. search needs) returns-2 (λ c κs. search needs) add-result returns-3)

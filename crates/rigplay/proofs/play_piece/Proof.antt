@@ -8,37 +8,22 @@ use lib.ListN.{length, take}
 use lib.Seq.{take-all}
 use denote.Ref.{now}
 use borrow.Author.Needs.{needs}
-use Rattle.piece.specs.Leads.{Leads}
-use Rattle.stream.proofs.Pieces.{at-first, moved, joined}
+use Rattle.run_piece.specs.Advances.{StateAt}
+use Rattle.run_stream.proofs.Pieces.{at-first, moved, joined}
 use Rattle.rigplay.proofs.play_piece.Statement.{statement}
 use Rattle.rigplay.proofs.play_piece.Tie as tie
 
 abbrev Inv-loop : tie.InvT-loop
 Inv-loop bytes carry₀ positions₀ marks₀ lists₀ planted₀ lengths₀ page₀ player₀ at₀ carry positions marks lists planted lengths page player at =
     (at ≤ length bytes)
-    × ((a : List ℕ) → Leads a player₀ carry₀ (record { positions = positions₀; marks = marks₀; lists = lists₀; planted = planted₀; lengths = lengths₀ })
-    → Leads (a ++ take at bytes) player carry (record { positions = positions; marks = marks; lists = lists; planted = planted; lengths = lengths }))
+    × ((a : List ℕ) → StateAt a player₀ carry₀ (record { positions = positions₀; marks = marks₀; lists = lists₀; planted = planted₀; lengths = lengths₀ })
+    → StateAt (a ++ take at bytes) player carry (record { positions = positions; marks = marks; lists = lists; planted = planted; lengths = lengths }))
 
 abbrev μ-loop : tie.MeasureT-loop
 μ-loop bytes carry₀ positions₀ marks₀ lists₀ planted₀ lengths₀ page₀ player₀ at₀ carry positions marks lists planted lengths page player at = length bytes - at
 
-buffer-requires : tie.Need-buffer-requires Inv-loop μ-loop
-buffer-requires c κs = search needs
-
 loop-holds : tie.Need-loop-holds Inv-loop μ-loop
-loop-holds c = (omega arith, λ a L. at-first {bytes = now (c .before .before .args .bytes)} .follows a L .leads)
-
-sub-fill : tie.Need-sub-fill Inv-loop μ-loop
-sub-fill c = search needs
-
-part-fill-start : tie.Need-part-fill-start Inv-loop μ-loop
-part-fill-start c = search needs
-
-part-fill-end : tie.Need-part-fill-end Inv-loop μ-loop
-part-fill-end c = search needs
-
-fill-requires : tie.Need-fill-requires Inv-loop μ-loop
-fill-requires c κs = search needs
+loop-holds c = (omega arith, λ a L. at-first {bytes = now (c .before .before .args .bytes)} .advances a L .state)
 
 -- the step from `at`
 moves : (c : tie.After-fill Inv-loop μ-loop) →
@@ -56,9 +41,6 @@ add-at c =
     let s = v .before .before .before .before .before .before .before .before .before .before .before .before .before in
     omega (arith, moves v .0, s .good .1 .0 .0)
 
-write-page-requires : tie.Need-write-page-requires Inv-loop μ-loop
-write-page-requires c κs = search needs
-
 returns : tie.Need-returns Inv-loop μ-loop
 returns c = λ a L e. absurd (true≢false (sym e))
 
@@ -71,7 +53,7 @@ loop-again c =
     let l = v .before .before .before .before .before .before .before .before .before .before in
     let bytes = now (l .before .before .before .args .bytes) in (
       moves v .0,
-      λ a L. rw (← joined a (l .loop .at) (v .fill .result .used) bytes) (v .fill .ensures .1 (a ++ take (l .loop .at) bytes) (l .loop .inv .1 a L) .leads),
+      λ a L. rw (← joined a (l .loop .at) (v .fill .result .used) bytes) (v .fill .ensures .1 (a ++ take (l .loop .at) bytes) (l .loop .inv .1 a L) .state),
     )
 
 returns-2 : tie.Need-returns-2 Inv-loop μ-loop
@@ -86,14 +68,14 @@ play-piece-spec =
     (tie.spec
     Inv-loop
     μ-loop
-    buffer-requires
+    (λ c κs. search needs)
     loop-holds
-    sub-fill
-    part-fill-start
-    part-fill-end
-    fill-requires
+    (λ c. search needs)
+    (λ c. search needs)
+    (λ c. search needs)
+    (λ c κs. search needs)
     add-at
-    write-page-requires
+    (λ c κs. search needs)
     returns
     loop-less
     loop-again

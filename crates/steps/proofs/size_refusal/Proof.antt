@@ -17,15 +17,6 @@ returns-2 c =
     let h : 1 ≤ c .before .before .args .n = pos-of-ne-zero (c .before .if1 .left) in
     simp (le-leb 1 _ h, lt-leb _ 32 (c .if2 .taken))
 
-mul-if3 : tie.Need-mul-if3
-mul-if3 c = search needs
-
-mul-if3-2 : tie.Need-mul-if3-2
-mul-if3-2 c = search needs
-
-add-if3 : tie.Need-add-if3
-add-if3 c = search needs
-
 returns-3 : tie.Need-returns-3
 unfolding isCount isLimit
 returns-3 c =
@@ -40,4 +31,4 @@ returns-4 c =
 
 pub size-refusal-spec : {M : Type 1} → statement M
 size-refusal-spec =
-    tie.close (tie.spec returns returns-2 mul-if3 mul-if3-2 add-if3 returns-3 returns-4)
+    tie.close (tie.spec returns returns-2 (λ c. search needs) (λ c. search needs) (λ c. search needs) returns-3 returns-4)

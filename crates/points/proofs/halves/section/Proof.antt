@@ -10,49 +10,19 @@ Inv-loop i₀ i = Unit {0}
 abbrev μ-loop : tie.MeasureT-loop
 μ-loop i₀ i = 1000 - i
 
-loop-holds : tie.Need-loop-holds Inv-loop μ-loop
-loop-holds c = search needs
-
-mul-half-line : tie.Need-mul-half-line Inv-loop μ-loop
-mul-half-line c = search needs
-
-array-copy-out-half-line : tie.Need-array-copy-out-half-line Inv-loop μ-loop
-array-copy-out-half-line c = search needs
-
-half-line-requires : tie.Need-half-line-requires Inv-loop μ-loop
-half-line-requires c κs = search needs
-
-add-i : tie.Need-add-i Inv-loop μ-loop
-add-i c = search needs
-
-loop-less : tie.Need-loop-less Inv-loop μ-loop
-loop-less c = search needs
-
-loop-again : tie.Need-loop-again Inv-loop μ-loop
-loop-again c = search needs
-
-kept-line-requires : tie.Need-kept-line-requires Inv-loop μ-loop
-kept-line-requires c κs = search needs
-
-kept-line-requires-2 : tie.Need-kept-line-requires-2 Inv-loop μ-loop
-kept-line-requires-2 c κs = search needs
-
-returns : tie.Need-returns Inv-loop μ-loop
-returns c = search needs
-
 pub section-spec : {M : Type 1} → statement M
 section-spec =
     tie.close
     (tie.spec
     Inv-loop
     μ-loop
-    loop-holds
-    mul-half-line
-    array-copy-out-half-line
-    half-line-requires
-    add-i
-    loop-less
-    loop-again
-    kept-line-requires
-    kept-line-requires-2
-    returns)
+    (λ c. search needs)
+    (λ c. search needs)
+    (λ c. search needs)
+    (λ c κs. search needs)
+    (λ c. search needs)
+    (λ c. search needs)
+    (λ c. search needs)
+    (λ c κs. search needs)
+    (λ c κs. search needs)
+    (λ c. search needs))

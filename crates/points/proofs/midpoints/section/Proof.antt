@@ -10,45 +10,18 @@ Inv-loop i₀ i = Unit {0}
 abbrev μ-loop : tie.MeasureT-loop
 μ-loop i₀ i = 1000 - i
 
-trims-requires : tie.Need-trims-requires Inv-loop μ-loop
-trims-requires c κs = search needs
-
-loop-holds : tie.Need-loop-holds Inv-loop μ-loop
-loop-holds c = search needs
-
-mul-midpoint-line : tie.Need-mul-midpoint-line Inv-loop μ-loop
-mul-midpoint-line c = search needs
-
-array-copy-out-midpoint-line : tie.Need-array-copy-out-midpoint-line Inv-loop μ-loop
-array-copy-out-midpoint-line c = search needs
-
-midpoint-line-requires : tie.Need-midpoint-line-requires Inv-loop μ-loop
-midpoint-line-requires c κs = search needs
-
-add-i : tie.Need-add-i Inv-loop μ-loop
-add-i c = search needs
-
-loop-less : tie.Need-loop-less Inv-loop μ-loop
-loop-less c = search needs
-
-loop-again : tie.Need-loop-again Inv-loop μ-loop
-loop-again c = search needs
-
-returns : tie.Need-returns Inv-loop μ-loop
-returns c = search needs
-
 pub section-spec : {M : Type 1} → statement M
 section-spec =
     tie.close
     (tie.spec
     Inv-loop
     μ-loop
-    trims-requires
-    loop-holds
-    mul-midpoint-line
-    array-copy-out-midpoint-line
-    midpoint-line-requires
-    add-i
-    loop-less
-    loop-again
-    returns)
+    (λ c κs. search needs)
+    (λ c. search needs)
+    (λ c. search needs)
+    (λ c. search needs)
+    (λ c κs. search needs)
+    (λ c. search needs)
+    (λ c. search needs)
+    (λ c. search needs)
+    (λ c. search needs))

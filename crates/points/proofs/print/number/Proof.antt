@@ -12,9 +12,6 @@ use Rattle.points.proofs.print.number.Tie as tie
 held-fits : (c : tie.Start) → SFits w64 (read w64 (c .args .v))
 held-fits c = sfits-toZ (fits-ofZ (c .fits .v))
 
-slice-aggregate-count : tie.Need-slice-aggregate-count
-slice-aggregate-count c = search needs
-
 sub-count : tie.Need-sub-count
 sub-count c = below-fits _ (held-fits (c .before .before)) (c .before .if1 .taken)
 
@@ -24,31 +21,19 @@ cast-count c = below-casts _ (held-fits (c .before .before)) (c .before .if1 .ta
 add-count : tie.Need-add-count
 add-count c = one-more-fits _ (held-fits (c .before .before)) (c .before .if1 .taken)
 
-count-requires : tie.Need-count-requires
-count-requires c κs = search needs
-
 cast-print-decimal : tie.Need-cast-print-decimal
 cast-print-decimal c = natural-casts _ (held-fits (c .before)) (c .if1 .left)
-
-print-decimal-requires : tie.Need-print-decimal-requires
-print-decimal-requires c κs = search needs
-
-returns : tie.Need-returns
-returns c = search needs
-
-returns-2 : tie.Need-returns-2
-returns-2 c = search needs
 
 pub number-spec : {M : Type 1} → statement M
 number-spec =
     tie.close
     (tie.spec
-    slice-aggregate-count
+    (λ c. search needs)
     sub-count
     cast-count
     add-count
-    count-requires
+    (λ c κs. search needs)
     cast-print-decimal
-    print-decimal-requires
-    returns
-    returns-2)
+    (λ c κs. search needs)
+    (λ c. search needs)
+    (λ c. search needs))

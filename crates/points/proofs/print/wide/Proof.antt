@@ -7,8 +7,5 @@ use Rattle.points.proofs.print.wide.Tie as tie
 cast-result : tie.Need-cast-result
 cast-result c = wide-fits (c .fits .v)
 
-returns : tie.Need-returns
-returns c = search needs
-
 pub wide-spec : {M : Type 1} → statement M
-wide-spec = tie.close (tie.spec cast-result returns)
+wide-spec = tie.close (tie.spec cast-result (λ c. search needs))

@@ -10,45 +10,18 @@ Inv-loop i₀ i = Unit {0}
 abbrev μ-loop : tie.MeasureT-loop
 μ-loop i₀ i = 1000 - i
 
-loop-holds : tie.Need-loop-holds Inv-loop μ-loop
-loop-holds c = search needs
-
-mul-round-line : tie.Need-mul-round-line Inv-loop μ-loop
-mul-round-line c = search needs
-
-array-copy-out-round-line : tie.Need-array-copy-out-round-line Inv-loop μ-loop
-array-copy-out-round-line c = search needs
-
-round-line-requires : tie.Need-round-line-requires Inv-loop μ-loop
-round-line-requires c κs = search needs
-
-add-i : tie.Need-add-i Inv-loop μ-loop
-add-i c = search needs
-
-loop-less : tie.Need-loop-less Inv-loop μ-loop
-loop-less c = search needs
-
-loop-again : tie.Need-loop-again Inv-loop μ-loop
-loop-again c = search needs
-
-receivers-requires : tie.Need-receivers-requires Inv-loop μ-loop
-receivers-requires c κs = search needs
-
-returns : tie.Need-returns Inv-loop μ-loop
-returns c = search needs
-
 pub section-spec : {M : Type 1} → statement M
 section-spec =
     tie.close
     (tie.spec
     Inv-loop
     μ-loop
-    loop-holds
-    mul-round-line
-    array-copy-out-round-line
-    round-line-requires
-    add-i
-    loop-less
-    loop-again
-    receivers-requires
-    returns)
+    (λ c. search needs)
+    (λ c. search needs)
+    (λ c. search needs)
+    (λ c κs. search needs)
+    (λ c. search needs)
+    (λ c. search needs)
+    (λ c. search needs)
+    (λ c κs. search needs)
+    (λ c. search needs))

@@ -17,9 +17,6 @@ add-result c = wide-sum-fits _ _ (c .fits .a) (c .fits .b)
 div-result : tie.Need-div-result
 div-result c = (search needs, quotient-fits 2 (add-result c))
 
-returns : tie.Need-returns
-returns c = search needs
-
 pub half-towards-zero-spec : {M : Type 1} → statement M
 half-towards-zero-spec =
-    tie.close (tie.spec cast-result cast-result-2 add-result div-result returns)
+    tie.close (tie.spec cast-result cast-result-2 add-result div-result (λ c. search needs))

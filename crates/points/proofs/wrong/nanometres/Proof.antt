@@ -6,20 +6,11 @@ use Rattle.points.proofs.Signed.{product-fits, scaled-fits}
 use Rattle.points.proofs.wrong.nanometres.Statement.{statement}
 use Rattle.points.proofs.wrong.nanometres.Tie as tie
 
-returns : tie.Need-returns
-returns c = search needs
-
 cast-result : tie.Need-cast-result
 cast-result c = wide-fits (c .before .fits .steps)
 
-cast-result-2 : tie.Need-cast-result-2
-cast-result-2 c = search needs
-
 mul-result : tie.Need-mul-result
 mul-result c = product-fits (c .before .fits .steps) (c .before .fits .numerator)
-
-cast-result-3 : tie.Need-cast-result-3
-cast-result-3 c = search needs
 
 div-result : tie.Need-div-result
 div-result c = (
@@ -27,10 +18,7 @@ div-result c = (
   scaled-fits (c .before .fits .steps) (c .before .fits .numerator) (c .before .fits .denominator),
 )
 
-returns-2 : tie.Need-returns-2
-returns-2 c = search needs
-
 pub nanometres-spec : {M : Type 1} → statement M
 nanometres-spec =
     tie.close
-    (tie.spec returns cast-result cast-result-2 mul-result cast-result-3 div-result returns-2)
+    (tie.spec (λ c. search needs) cast-result (λ c. search needs) mul-result (λ c. search needs) div-result (λ c. search needs))

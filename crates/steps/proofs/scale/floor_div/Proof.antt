@@ -18,9 +18,6 @@ read-fits c = sfits-toZ (fits-ofZ (c .fits .x))
 answer-is : (c : tie.Start) → floorDiv (read w64 (c .args .x)) (c .args .d) ≡ floorDiv (c .args .x) (c .args .d)
 answer-is c = ap (λ (z : ℤ). floorDiv z (c .args .d)) (toZ-ofZ (c .fits .x))
 
-cast-by : tie.Need-cast-by
-cast-by c = search needs
-
 sub-result : tie.Need-sub-result
 sub-result c = minus-fits _ _ (read-fits (c .before)) (c .before .fits .d) (c .if1 .taken)
 
@@ -41,4 +38,4 @@ returns-2 c = natural-floor-is _ _ (read-fits (c .before)) (c .before .fits .d) 
 
 pub floor-div-spec : {M : Type 1} → statement M
 floor-div-spec =
-    tie.close (tie.spec cast-by sub-result div-result sub-result-2 div-result-2 returns returns-2)
+    tie.close (tie.spec (λ c. search needs) sub-result div-result sub-result-2 div-result-2 returns returns-2)

@@ -24,9 +24,6 @@ product-fits c = range-fits (omega (arithZ, scale-product-bound _ _ _ (c .pre .0
 cast-floor-div : tie.Need-cast-floor-div
 cast-floor-div c = wide-fits (c .fits .steps)
 
-cast-floor-div-2 : tie.Need-cast-floor-div-2
-cast-floor-div-2 c = search needs
-
 mul-floor-div : tie.Need-mul-floor-div
 mul-floor-div c = fits-as (product-is c) (product-fits c)
 
@@ -42,4 +39,4 @@ returns c =
 
 pub nanometres-of-spec : {M : Type 1} → statement M
 nanometres-of-spec =
-    tie.close (tie.spec cast-floor-div cast-floor-div-2 mul-floor-div floor-div-requires returns)
+    tie.close (tie.spec cast-floor-div (λ c. search needs) mul-floor-div floor-div-requires returns)

@@ -36,12 +36,6 @@ scale-holds c = sym (c .before .is-scale .ensures) ∙ c .if1 .taken
 position-holds : (c : tie.Then2) → isPosition (read w32 (c .before .before .before .before .args .steps)) ≡ true
 position-holds c = sym (c .before .is-position .ensures) ∙ c .if2 .taken
 
-is-scale-requires : tie.Need-is-scale-requires
-is-scale-requires c κs = search needs
-
-is-position-requires : tie.Need-is-position-requires
-is-position-requires c κs = search needs
-
 nanometres-of-requires : tie.Need-nanometres-of-requires
 nanometres-of-requires c κs = (position-holds c, scale-holds (c .before .before))
 
@@ -63,8 +57,8 @@ pub scale-spec : {M : Type 1} → statement M
 scale-spec =
     tie.close
     (tie.spec
-    is-scale-requires
-    is-position-requires
+    (λ c κs. search needs)
+    (λ c κs. search needs)
     nanometres-of-requires
     returns
     returns-2

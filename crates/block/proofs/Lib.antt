@@ -1,2 +1,0 @@
-pub mod Lendings
-pub mod Carried

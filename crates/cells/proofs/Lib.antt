@@ -1,4 +1,0 @@
--- Laws of the crate: tests, cells of entries, and what the links gave.
-pub mod Tests
-pub mod Cells
-pub mod Received

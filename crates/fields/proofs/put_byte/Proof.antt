@@ -1,0 +1,13 @@
+-- `fields::put_byte` meets its contract: past the end `set` changes nothing.
+use mathlib.Core.Path.{sym}
+use lib.Seq.{set-out}
+use denote.Ref.{now}
+use borrow.Author.Needs.{needs}
+use Rattle.fields.proofs.put_byte.Statement.{statement}
+use Rattle.fields.proofs.put_byte.Tie as tie
+
+returns-2 : tie.Need-returns-2
+returns-2 c = sym (set-out (now (c .before .args .s)) (c .before .args .at) (c .before .args .b) (c .if1 .left))
+
+pub put-byte-spec : {M : Type 1} → statement M
+put-byte-spec = tie.close (tie.spec (λ c. search needs) (λ c. search needs) (λ c. search needs) returns-2)

@@ -1,0 +1,72 @@
+// Frames: the frame check.
+ghost use mathlib.Core.Path.{_≡_};
+ghost use Rattle.frame_check.specs.Check.{kindOf, isKnown, lengthOf, frameRefusal, restOf};
+use terms::refusal;
+
+pub const POSITION: u16 = 1;
+
+pub const SILENCE: u16 = 2;
+
+pub const LIST: u16 = 3;
+
+pub const CONFESSION: u16 = 4;
+
+fn is_known(kind: u16) -> bool
+    ensures { λ r. ⌜ r ≡ isKnown (kindOf kind) ⌝ }
+{
+    if kind < POSITION {
+        false
+    } else {
+        kind <= CONFESSION
+    }
+}
+
+// The length of a frame, by its kind and, of a list, its count; 0 for an unknown kind.
+fn length_of(kind: u16, count: u8) -> usize
+    ensures { λ r. ⌜ r ≡ lengthOf (kindOf kind) count ⌝ }
+{
+    match kind {
+        POSITION => 11,
+        SILENCE => 7,
+        LIST => 12 + 4 * (count as usize),
+        CONFESSION => 7,
+        _ => 0,
+    }
+}
+
+// The frame check: 0, or 6, 7, 8, in that order. Every field is read first: a byte past the end reads as 0.
+pub fn frame_refusal(frame: &[u8]) -> u8
+    ensures { λ r. ⌜ r ≡ frameRefusal (now (frame .entry)) ⌝ }
+{
+    let len = frame.len();
+    let stated = fields::half_at(frame, 0) as usize;
+    let kind = fields::half_at(frame, 2);
+    let known = is_known(kind);
+    let due = length_of(kind, fields::byte_at(frame, 7));
+    if len < 4 {
+        return refusal::LENGTH;
+    }
+    if stated != len {
+        return refusal::LENGTH;
+    }
+    if !known {
+        return refusal::KIND;
+    }
+    if len != due {
+        return refusal::KIND_LENGTH;
+    }
+    0
+}
+
+// The frame check with the rest of the frame, as that part of the caller's own bytes; empty where the frame is refused.
+pub fn check<'a, 'b>(frame: &'a [u8], number: &'b mut u8) -> &'a [u8]
+    ensures number { λ r. ⌜ now (number .exit) ≡ frameRefusal (now (frame .entry)) ⌝ }
+    ensures rest { λ r. ⌜ now r ≡ restOf (now (frame .entry)) ⌝ }
+{
+    let refused = frame_refusal(frame);
+    *number = refused;
+    if refused == 0 {
+        return &frame[7..];
+    }
+    &frame[..0]
+}

@@ -1,0 +1,220 @@
+// Frames read: what a frame says to a head.
+ghost use mathlib.Core.Path.{_≡_};
+ghost use Rattle.frame_check.specs.Check.{kindOf, position, list};
+ghost use Rattle.frame_spec.specs.Said.{roundOf, entriesField, said, saidOf, tableIn, meant};
+ghost use Rattle.frame_codec.specs.Steps.{fromMarks, fromPhase, fromRound, saidUnless};
+ghost use mathlib.Core.List.{[]};
+ghost use Prim.Native.Nat.{_≤_};
+ghost use lib.ListN.{length, getD, drop};
+ghost use lib.IntN.{pos};
+ghost use Rattle.fields.specs.Bytes.{wordOf, over};
+ghost use Rattle.frame_spec.specs.Written.{header, entryBytes, positionFrame, listFrame, frameOf, written, buffered};
+use frame_spec::Said;
+use frame_spec::Written;
+use terms::Entry;
+use terms::Table;
+use terms::refusal;
+
+// The round that a kind belongs to, 2 where the kind is unknown.
+fn round_of(kind: u16) -> u8
+    ensures { λ r. ⌜ r ≡ roundOf (kindOf kind) ⌝ }
+{
+    match kind {
+        frame_check::POSITION => 0,
+        frame_check::SILENCE => 0,
+        frame_check::LIST => 1,
+        frame_check::CONFESSION => 1,
+        _ => 2,
+    }
+}
+
+// The bytes of a list's entries; none where the frame is shorter.
+fn entries_of(frame: &[u8]) -> &[u8]
+    ensures { λ r. ⌜ now r ≡ entriesField (now (frame .entry)) ⌝ }
+{
+    fields::bytes_from(frame, 12)
+}
+
+// A position: 11, and what it says, the same for every count of heads.
+fn read_position(frame: &[u8]) -> Said
+    ensures { λ r. ⌜ r ≡ saidUnless (fromMarks position 0 (now (frame .entry))) position 0 (now (frame .entry)) ⌝ }
+{
+    let word = fields::word_at(frame, 7);
+    if entries::is_position_word(word) {
+        return Said::Collection(Entry::Position(fields::signed(word)));
+    }
+    Said::Refused(refusal::ENTRY)
+}
+
+// A list: 10, 11.
+fn read_list(frame: &[u8], n: u8) -> Said
+    ensures { λ r. ⌜ r ≡ saidUnless (fromMarks list n (now (frame .entry))) list n (now (frame .entry)) ⌝ }
+{
+    if fields::byte_at(frame, 7) != n {
+        return Said::Refused(refusal::MARKS);
+    }
+    let marks = fields::word_at(frame, 8);
+    if !marks::marks_below(marks, n as usize) {
+        return Said::Refused(refusal::MARKS);
+    }
+    if entries::entries_fit(marks, entries_of(frame), n) {
+        return Said::List;
+    }
+    Said::Refused(refusal::ENTRY)
+}
+
+// 10 and 11, by the kind, and what the frame says.
+fn read_rest(frame: &[u8], kind: u16, n: u8) -> Said
+    ensures { λ r. ⌜ r ≡ saidUnless (fromMarks (kindOf kind) n (now (frame .entry))) (kindOf kind) n (now (frame .entry)) ⌝ }
+{
+    match kind {
+        frame_check::POSITION => read_position(frame),
+        frame_check::SILENCE => Said::Collection(Entry::Null),
+        frame_check::LIST => read_list(frame, n),
+        frame_check::CONFESSION => Said::Confession,
+        _ => Said::Refused(refusal::KIND),
+    }
+}
+
+// 23, and what follows it.
+fn read_phase(frame: &[u8], kind: u16, n: u8, phase: u16) -> Said
+    ensures { λ r. ⌜ r ≡ saidUnless (fromPhase (kindOf kind) n phase (now (frame .entry))) (kindOf kind) n (now (frame .entry)) ⌝ }
+{
+    if fields::half_at(frame, 5) != phase {
+        return Said::Refused(refusal::OTHER_PHASE);
+    }
+    read_rest(frame, kind, n)
+}
+
+// 22, 9, and what follows them.
+fn read_round(frame: &[u8], kind: u16, n: u8, phase: u16, round: u8, link: u8) -> Said
+    ensures { λ r. ⌜ r ≡ saidUnless (fromRound (kindOf kind) n phase round link (now (frame .entry))) (kindOf kind) n (now (frame .entry)) ⌝ }
+{
+    if round_of(kind) != round {
+        return Said::Refused(refusal::ROUND);
+    }
+    if fields::byte_at(frame, 4) != link {
+        return Said::Refused(refusal::SENDER);
+    }
+    read_phase(frame, kind, n, phase)
+}
+
+// What a frame says on a link, to a head of a ring of n heads in this phase and round. Refusals 6, 7, 8, 22, 9, 23, 10, 11.
+pub fn read(frame: &[u8], n: u8, phase: u16, round: u8, link: u8) -> Said
+    ensures { λ r. ⌜ r ≡ saidOf (said n phase round link (now (frame .entry))) ⌝ }
+{
+    let refused = frame_check::frame_refusal(frame);
+    if refused != 0 {
+        return Said::Refused(refused);
+    }
+    read_round(frame, fields::half_at(frame, 2), n, phase, round, link)
+}
+
+// The table of a list frame.
+pub fn table_in(frame: &[u8], n: u8) -> Table
+    ensures { λ r. ⌜ r ≡ tableIn n (now (frame .entry)) ⌝ }
+{
+    let marks = fields::word_at(frame, 8);
+    let entries = entries::numbers_at(entries_of(frame), n);
+    Table { marks, entries }
+}
+
+// ---- Frames written: the frame that says something, at the front of a buffer.
+
+// The common fields, seven bytes.
+fn put_header(size: u16, kind: u16, sender: u8, phase: u16, buffer: &mut [u8])
+    requires { ⌜ 7 ≤ length (now buffer) ⌝ }
+    ensures { λ _. ⌜ now (buffer .exit) ≡ header size kind sender phase (drop 7 (now (buffer .entry))) ⌝ }
+{
+    fields::put_half(buffer, 0, size);
+    fields::put_half(buffer, 2, kind);
+    buffer[4] = sender;
+    fields::put_half(buffer, 5, phase);
+}
+
+// A frame of the common fields alone.
+fn write_bare(kind: u16, sender: u8, phase: u16, buffer: &mut [u8]) -> Written
+    ensures answer { λ r. ⌜ r ≡ written (header 7 kind sender phase []) (now (buffer .entry)) ⌝ }
+    ensures bytes { λ r. ⌜ now (buffer .exit) ≡ buffered (header 7 kind sender phase []) (now (buffer .entry)) ⌝ }
+{
+    if buffer.len() < 7 {
+        return Written::Refused(refusal::BUFFER);
+    }
+    put_header(7, kind, sender, phase, buffer);
+    Written::Length(7)
+}
+
+// A frame with a position.
+fn write_position(v: i32, sender: u8, phase: u16, buffer: &mut [u8]) -> Written
+    ensures answer { λ r. ⌜ r ≡ written (positionFrame sender phase v) (now (buffer .entry)) ⌝ }
+    ensures bytes { λ r. ⌜ now (buffer .exit) ≡ buffered (positionFrame sender phase v) (now (buffer .entry)) ⌝ }
+{
+    if buffer.len() < 11 {
+        return Written::Refused(refusal::BUFFER);
+    }
+    put_header(11, frame_check::POSITION, sender, phase, buffer);
+    fields::put_word(buffer, 7, fields::unsigned(v));
+    Written::Length(11)
+}
+
+// The word of entry j; past the entries it is 0.
+fn entry_word(entries: &[i32], j: usize) -> u32
+    ensures { λ r. ⌜ r ≡ wordOf (getD (now (entries .entry)) j (pos 0)) ⌝ }
+{
+    if j < entries.len() {
+        fields::unsigned(entries[j])
+    } else {
+        0
+    }
+}
+
+// The first n entries of a list frame.
+fn put_entries(entries: &[i32], n: u8, buffer: &mut [u8])
+    ensures { λ _. ⌜ now (buffer .exit) ≡ over (entryBytes (now (entries .entry)) n) 12 (now (buffer .entry)) ⌝ }
+{
+    let count = n as usize;
+    let mut j: usize = 0;
+    while j < count {
+        fields::put_word(buffer, 12 + 4 * j, entry_word(entries, j));
+        j += 1;
+    }
+}
+
+// A frame with a list.
+fn write_list(
+    marks: u32,
+    entries: &[i32],
+    n: u8,
+    sender: u8,
+    phase: u16,
+    buffer: &mut [u8],
+) -> Written
+    ensures answer { λ r. ⌜ r ≡ written (listFrame n sender phase (record { marks = marks; entries = now (entries .entry) })) (now (buffer .entry)) ⌝ }
+    ensures bytes { λ r. ⌜ now (buffer .exit) ≡ buffered (listFrame n sender phase (record { marks = marks; entries = now (entries .entry) })) (now (buffer .entry)) ⌝ }
+{
+    let size = 12 + 4 * (n as u16);
+    if buffer.len() < size as usize {
+        return Written::Refused(refusal::BUFFER);
+    }
+    put_header(size, frame_check::LIST, sender, phase, buffer);
+    buffer[7] = n;
+    fields::put_word(buffer, 8, marks);
+    put_entries(entries, n, buffer);
+    Written::Length(size as usize)
+}
+
+// Writes the frame that says `what` (a list with `table`) at the front of the buffer. Refusal 24 leaves the buffer as it was.
+pub fn write(what: Said, table: Table, n: u8, sender: u8, phase: u16, buffer: &mut [u8]) -> Written
+    ensures answer { λ r. ⌜ r ≡ written (frameOf n sender phase (meant what table)) (now (buffer .entry)) ⌝ }
+    ensures bytes { λ r. ⌜ now (buffer .exit) ≡ buffered (frameOf n sender phase (meant what table)) (now (buffer .entry)) ⌝ }
+{
+    match what {
+        Said::Refused(_) => Written::Length(0),
+        Said::Collection(entry) => match entry {
+            Entry::Null => write_bare(frame_check::SILENCE, sender, phase, buffer),
+            Entry::Position(v) => write_position(v, sender, phase, buffer),
+        },
+        Said::List => write_list(table.marks, &table.entries, n, sender, phase, buffer),
+        Said::Confession => write_bare(frame_check::CONFESSION, sender, phase, buffer),
+    }
+}

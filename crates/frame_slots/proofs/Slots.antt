@@ -1,0 +1,81 @@
+-- Bytes pasted into a list stand where they were pasted, and each part before or behind them is as it was. So a slot holds the bytes stored in it, and
+-- any other slot, of at most 140 bytes, what it held.
+use mathlib.Core.Path.{_≡_, refl, ap, sym, _∙_}
+use mathlib.Core.Bool.{Bool, true, false, cond, _&&_}
+use mathlib.Core.List.{List, [], _++_, append-assoc, append-nil}
+use Prim.Native.Nat.{ℕ, zero, suc, _+_, _*_, _-_, _≤_, _<_}
+use native.Mathlib.Omega.{arith}
+use native.Mathlib.Decide.{decLt}
+use borrow.Author.Tests.{eqb-true, eqb-false}
+use lib.Dec.{eqb}
+use lib.ListN.{length, getD, set, take, drop, replicate, length-take, length-drop, take-append-drop, drop-of-length-le}
+use lib.Seq.{take-append-le, drop-append-le, take-append-seam, drop-at, take-length, length-take-le, drop-drop, getD-set-same, getD-set-other, paste, drop-paste}
+use Rattle.frame_slots.specs.Slots.{slot, plantedIn}
+
+zeros : (n j : ℕ) → getD (replicate {A = ℕ} n 0) j 0 ≡ 0
+zeros zero j = refl
+zeros (suc n) zero = refl
+zeros (suc n) (suc j) = zeros n j
+
+-- a list that is filled with 0 to its end
+pub wiped : (d l : List ℕ) (n : ℕ) → length d ≤ n → l ≡ replicate n 0 ++ drop n d → (j : ℕ) → getD l j 0 ≡ 0
+wiped d l n h e j = rw (e, drop-of-length-le d h, append-nil) (zeros n j)
+
+-- a part of the first of two lists
+part-front : (h x : List ℕ) (from n : ℕ) → from + n ≤ length h → take n (drop from (h ++ x)) ≡ take n (drop from h)
+part-front h x from n l = rw (drop-append-le from h x (omega arith)) (take-append-le n (drop from h) x (simp length-drop (omega arith)))
+
+module _ (d b : List ℕ) (at : ℕ) (fits : at + length b ≤ length d) where
+  abbrev pasted : List ℕ
+  pasted = paste d at b (length b)
+
+  is-pasted : pasted ≡ take at d ++ (b ++ drop (at + length b) d)
+  is-pasted = rw (take-length b) (append-assoc (take at d) b (drop (at + length b) d))
+
+  part-pasted : take (length b) (drop at pasted) ≡ b
+  part-pasted = rw (is-pasted, drop-at (take at d) (b ++ drop (at + length b) d) at (length-take-le at d (omega arith))) (take-append-seam b _)
+
+  part-before : (from n : ℕ) → from + n ≤ at → take n (drop from pasted) ≡ take n (drop from d)
+  part-before from n l =
+      let long : from + n ≤ length (take at d) = rw (length-take-le at d (omega arith)) l in
+      ap (λ (x : List ℕ). take n (drop from x)) is-pasted
+      ∙ part-front (take at d) _ from n long
+      ∙ sym (part-front (take at d) (drop at d) from n long)
+      ∙ ap (λ (x : List ℕ). take n (drop from x)) (take-append-drop at d)
+
+  part-behind : (from : ℕ) → at + length b ≤ from → drop from pasted ≡ drop from d
+  part-behind from l =
+      let n = at + length b in
+      let e : n + (from - n) ≡ from = omega arith in
+      rw (← e) (sym (drop-drop (from - n) n pasted) ∙ ap (drop (from - n)) (drop-paste d at b (length b) (omega arith) (omega arith)) ∙ drop-drop (from - n) n d)
+
+module _ (d l b : List ℕ) (k i : ℕ) (hd : length d ≡ 143360) (hl : length l ≡ 1024) (hk : k < 32) (hi : i < 32) (hb : length b ≤ 140) (j m : ℕ)
+    (hm : m < 32) where
+  abbrev after : List ℕ
+  after = plantedIn (paste d (140 * (32 * k + i)) b (length b)) (set l (32 * k + i) (length b)) j m
+
+  there : k ≡ j → i ≡ m → after ≡ b
+  unfolding slot
+  there e q = rw (← e, ← q, getD-set-same l (32 * k + i) (length b) 0 (omega arith)) (part-pasted d b (140 * (32 * k + i)) (omega arith))
+
+  elsewhere : (32 * j + m ≡ 32 * k + i → ⊥) → length (plantedIn d l j m) ≤ 140 → after ≡ plantedIn d l j m
+  unfolding slot
+  elsewhere other short =
+      rw (getD-set-other l (32 * k + i) (32 * j + m) (length b) 0 other) (go (decLt (32 * j + m) (32 * k + i)))
+    where
+      n : ℕ
+      n = getD l (32 * j + m) 0
+
+      go : Dec (32 * j + m < 32 * k + i)
+          → take n (drop (140 * (32 * j + m)) (paste d (140 * (32 * k + i)) b (length b))) ≡ take n (drop (140 * (32 * j + m)) d)
+      go (yes h) =
+          part-before d b (140 * (32 * k + i)) (omega arith) (140 * (32 * j + m)) n (omega (arith, simp (length-take, length-drop) at short))
+      go (no h) = ap (take n) (part-behind d b (140 * (32 * k + i)) (omega arith) (140 * (32 * j + m)) (omega arith))
+
+  pub planted-after : length (plantedIn d l j m) ≤ 140 → after ≡ cond (eqb k j && eqb i m) b (plantedIn d l j m)
+  planted-after short = go (eqb k j) (eqb i m) refl refl
+    where
+      go : (x y : Bool) → eqb k j ≡ x → eqb i m ≡ y → after ≡ cond (x && y) b (plantedIn d l j m)
+      go true true e q = there (eqb-true k j e) (eqb-true i m q)
+      go true false e q = elsewhere (λ s. eqb-false i m q (omega arith)) short
+      go false y e q = elsewhere (λ s. eqb-false k j e (omega arith)) short

@@ -1,0 +1,54 @@
+-- `frame_slots::is_same` meets its contract: where nothing differs before place j, the bytes below j are the same.
+use mathlib.Core.Path.{_≡_, sym, _∙_}
+use mathlib.Core.Logic.{⊎-elim}
+use mathlib.Core.Bool.{true, true≢false}
+use Prim.Native.Nat.{ℕ, _-_, _≤_, _<_}
+use native.Mathlib.Omega.{arith}
+use lib.ListN.{length, getD}
+use lib.Seq.{ext-getD}
+use denote.Ref.{now}
+use borrow.Author.Needs.{needs}
+use borrow.Author.Count.{below-more}
+use Rattle.frame_slots.proofs.is_same.Statement.{statement}
+use Rattle.frame_slots.proofs.is_same.Tie as tie
+
+abbrev Inv-loop : tie.InvT-loop
+Inv-loop a b len same₀ j₀ same j = (j ≤ len) × (same ≡ true → (i : ℕ) → i < j → getD a i 0 ≡ getD b i 0)
+
+abbrev μ-loop : tie.MeasureT-loop
+μ-loop a b len same₀ j₀ same j = len - j
+
+returns : tie.Need-returns Inv-loop μ-loop
+returns c e = absurd (true≢false (sym e))
+
+loop-holds : tie.Need-loop-holds Inv-loop μ-loop
+loop-holds c = (search needs, λ e i l. absurd (omega arith))
+
+loop-again : tie.Need-loop-again Inv-loop μ-loop
+loop-again c =
+    let l = c .before .before .before .before .loop in
+    ⊎-elim
+    (λ w. (search needs, λ e. absurd (true≢false (sym e ∙ w .1))))
+    (λ w. (search needs, λ e. below-more _ (l .j) (l .inv .1 (sym (w .1) ∙ e)) (w .0 .left)))
+    (c .if2 .came)
+
+returns-2 : tie.Need-returns-2 Inv-loop μ-loop
+returns-2 c =
+    let l = c .before .loop in
+    let a = c .before .before .before .args in
+    λ e. ext-getD 0 (now (a .a)) (now (a .b)) (search needs) (λ i h. l .inv .1 e i (omega arith))
+
+pub is-same-spec : {M : Type 1} → statement M
+is-same-spec =
+    tie.close
+    (tie.spec
+    Inv-loop
+    μ-loop
+    returns
+    loop-holds
+    (λ c. search needs)
+    (λ c. search needs)
+    (λ c. search needs)
+    (λ c. search needs)
+    loop-again
+    returns-2)

@@ -1,0 +1,119 @@
+// Frames side by side: a slot of 140 bytes and a length for each. The bytes planted in a round have a slot for each link.
+ghost use mathlib.Core.Bool.{true, cond, _&&_};
+ghost use mathlib.Core.List.{List, []};
+ghost use mathlib.Core.Path.{_≡_};
+ghost use Prim.Native.Nat.{ℕ, _+_, _*_, _≤_, _<_};
+ghost use lib.Dec.{eqb};
+ghost use lib.ListN.{length, getD, set};
+ghost use lib.Seq.{paste};
+ghost use Rattle.frame_slots.specs.Slots.{slot, plantedIn};
+
+// The bytes of slot k, as many as its length says, and are there.
+pub fn slot<'a, 'b>(bytes: &'a [u8], lengths: &'b [u8], k: u16) -> &'a [u8]
+    ensures { λ r. ⌜ now r ≡ slot (now (bytes .entry)) (now (lengths .entry)) k ⌝ }
+{
+    let from = 140 * (k as usize);
+    let size = bytes.len();
+    if size <= from {
+        return &bytes[..0];
+    }
+    let len = fields::byte_at(lengths, k as usize) as usize;
+    if size - from <= len {
+        return &bytes[from..];
+    }
+    let to = from + len;
+    &bytes[from..to]
+}
+
+// The bytes planted on the link from k to i.
+pub fn planted<'a, 'b>(bytes: &'a [u8], lengths: &'b [u8], k: u8, i: u8) -> &'a [u8]
+    ensures { λ r. ⌜ now r ≡ plantedIn (now (bytes .entry)) (now (lengths .entry)) k i ⌝ }
+{
+    slot(bytes, lengths, 32 * (k as u16) + (i as u16))
+}
+
+// Whether two slices have the same bytes. All are looked at, without a branch, so that many are compared at once.
+fn is_same(a: &[u8], b: &[u8]) -> bool
+    ensures { λ r. ⌜ (r ≡ true → now (a .entry) ≡ now (b .entry)) ⌝ }
+{
+    let len = a.len();
+    if b.len() != len {
+        return false;
+    }
+    let mut same = true;
+    let mut j: usize = 0;
+    while j < len {
+        if a[j] != b[j] {
+            same = false;
+        }
+        j += 1;
+    }
+    same
+}
+
+// Whether the same is planted on the links from k to i and from k to m.
+pub fn is_alike(bytes: &[u8], lengths: &[u8], k: u8, i: u8, m: u8) -> bool
+    ensures { λ r. ⌜ (r ≡ true → plantedIn (now (bytes .entry)) (now (lengths .entry)) k i ≡ plantedIn (now (bytes .entry)) (now (lengths .entry)) k m) ⌝ }
+{
+    is_same(planted(bytes, lengths, k, i), planted(bytes, lengths, k, m))
+}
+
+// Every length is 0.
+fn wipe(lengths: &mut [u8])
+    ensures { λ _. ⌜ ((s : ℕ) → getD (now (lengths .exit)) s 0 ≡ 0) ⌝ }
+{
+    let mut s: usize = 0;
+    while s < lengths.len() {
+        lengths[s] = 0;
+        s += 1;
+    }
+}
+
+// Nothing is planted.
+pub fn clear(lengths: &mut [u8; 1024])
+    ensures { λ _. ⌜ ((bytes : List ℕ) (k i : ℕ) → plantedIn bytes (now (lengths .exit)) k i ≡ []) ⌝ }
+{
+    wipe(lengths);
+}
+
+// The bytes of a slice from an index on.
+fn put_bytes(planted: &mut [u8], at: usize, bytes: &[u8])
+    requires { ⌜ at + length (now bytes) ≤ length (now planted) ⌝ }
+    ensures { λ _. ⌜ now (planted .exit) ≡ paste (now (planted .entry)) at (now (bytes .entry)) (length (now (bytes .entry))) ⌝ }
+{
+    let mut j: usize = 0;
+    while j < bytes.len() {
+        planted[at + j] = bytes[j];
+        j += 1;
+    }
+}
+
+// The length of a slot.
+fn put_length(lengths: &mut [u8], slot: usize, len: u8)
+    requires { ⌜ slot < length (now lengths) ⌝ }
+    ensures { λ _. ⌜ now (lengths .exit) ≡ set (now (lengths .entry)) slot len ⌝ }
+{
+    lengths[slot] = len;
+}
+
+// Plants bytes on the link from k to i: at most 140 bytes, on the links of 32 heads. What is planted on any other link stays.
+pub fn plant(planted: &mut [u8; 143360], lengths: &mut [u8; 1024], k: u8, i: u8, bytes: &[u8])
+    ensures { λ _. ⌜ (length (now (bytes .entry)) ≤ 140 → (j m : ℕ) → j < 32 → m < 32
+        → length (plantedIn (now (planted .entry)) (now (lengths .entry)) j m) ≤ 140
+        → plantedIn (now (planted .exit)) (now (lengths .exit)) j m
+        ≡ cond (eqb k j && eqb i m) (now (bytes .entry)) (plantedIn (now (planted .entry)) (now (lengths .entry)) j m)) ⌝ }
+{
+    if 32 <= k {
+        return;
+    }
+    if 32 <= i {
+        return;
+    }
+    let len = bytes.len();
+    if 140 < len {
+        return;
+    }
+    let slot = 32 * (k as usize) + (i as usize);
+    put_bytes(planted, 140 * slot, bytes);
+    put_length(lengths, slot, len as u8);
+}

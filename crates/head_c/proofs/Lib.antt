@@ -1,0 +1,4 @@
+pub mod Filled
+pub mod Blocks
+pub mod Lendings
+pub mod Carried

@@ -1,0 +1,51 @@
+-- What is settled from the lists, laid out, is what closing settles; phases round down.
+use mathlib.Core.Path.{_≡_}
+use mathlib.Core.List.{List}
+use lib.IntN.{ℤ}
+use mir.Syntax.{w32}
+use mir.Val.{SFits}
+use mir.Facts.{toZ-ofZ}
+use Rattle.convergence.specs.Phases.{rounding}
+use Rattle.convergence.specs.Trust.{trusted}
+use Rattle.settle_midpoint.specs.Answers.{settling}
+use Rattle.settle_midpoint.specs.declared.Settled.{Settled}
+use Rattle.settle_trust.specs.Received.{givenBy}
+use Rattle.head_spec.specs.declared.Head.{Head}
+use Rattle.head_spec.specs.Record.{rows, trustedBy}
+use borrow.Author.Needs.{needs}
+use Rattle.head_calls.proofs.close_confession.Statement.{statement}
+use Rattle.head_calls.proofs.close_confession.Tie as tie
+
+settles : (h : Head) {lists : List (List ℤ)} {a : Settled} → lists ≡ rows (h .lists)
+    → a ≡ settling 0 (h .n) (h .f) (trusted (h .n) (h .f) (givenBy (h .links) lists))
+    → a ≡ settling (rounding (h .phase)) (h .n) (h .f) (trustedBy h)
+unfolding rounding
+settles h p q = rw p at q
+
+returns : tie.Need-returns
+returns c =
+    let d = c .before .before .before in
+    let h = d .before .before .before .before .args .h in
+    let e = settles h (d .before .laid-out .ensures) (d .settle .ensures) in
+    rw (← e, c .before .refused .given .1)
+
+returns-2 : tie.Need-returns-2
+returns-2 c =
+    let t = c .before .before .before in
+    let d = t .before .before in
+    let h = d .before .before .before .before .args .h in
+    let e = settles h (d .before .laid-out .ensures) (d .settle .ensures) in
+    let f : SFits w32 (t .kept .given .0 .0 .position) = search needs in
+    rw (← e, t .kept .given .1, c .closed-phase .ensures, toZ-ofZ f)
+
+pub close-confession-spec : {M : Type 1} → statement M
+close-confession-spec =
+    tie.close
+    (tie.spec
+    (λ c κs. search needs)
+    (λ c κs. search needs)
+    (λ c. search needs)
+    (λ c. search needs)
+    (λ c κs. search needs)
+    returns
+    returns-2)

@@ -1,0 +1,60 @@
+-- Refusal 26 comes first, and leaves the buffer. Else what the code has to say, with the list beside it, is what the head has to say, and writing it is
+-- the codec's.
+use mathlib.Core.Path.{_≡_, refl, ap, sym, _∙_}
+use mathlib.Core.Bool.{Bool, true, false, cond}
+use mathlib.Core.List.{List}
+use Prim.Native.Nat.{ℕ, zero, suc}
+use denote.Ref.{now}
+use borrow.Author.Needs.{needs}
+use Rattle.frame_spec.specs.declared.Said.{Said}
+use Rattle.frame_spec.specs.declared.Written.{Written}
+use Rattle.frame_spec.specs.Said.{listed, confessed, meant}
+use Rattle.frame_spec.specs.Written.{frameOf, written, buffered}
+use Rattle.head_spec.specs.declared.Head.{Head}
+use Rattle.head_spec.specs.Calls.{spokenIn, spoken, frameFor, writeAnswer, writeBuffer}
+use Rattle.head_spec.proofs.Stops.{ended-writes}
+use Rattle.head_calls.specs.Steps.{saidBy}
+use Rattle.head_calls.proofs.Answers.{runs-on}
+use Rattle.head_calls.proofs.write.Statement.{statement}
+use Rattle.head_calls.proofs.write.Tie as tie
+
+module _ (h : Head) {what : Said} (e : what ≡ saidBy (h .round) (h .healed) (h .position)) where
+  meant-spoken : meant what (h .list) ≡ spoken h
+  unfolding spoken
+  meant-spoken = rw e (go (h .round))
+    where
+      confesses : (b : Bool) → meant (cond b Said.Confession Said.List) (h .list) ≡ cond b confessed (listed (h .list))
+      confesses true = refl
+      confesses false = refl
+
+      go : (r : ℕ) → meant (saidBy r (h .healed) (h .position)) (h .list) ≡ spokenIn r h
+      go zero = refl
+      go (suc r) = confesses (h .healed)
+
+  abbrev frame : List ℕ
+  frame = frameOf (h .n) (h .number) (h .phase) (meant what (h .list))
+
+  same : frame ≡ frameFor h
+  same = ap (frameOf (h .n) (h .number) (h .phase)) meant-spoken
+
+  writes : (buffer : List ℕ) {r : Written} {out : List ℕ} → h .ended ≡ false → (r ≡ written frame buffer) × (out ≡ buffered frame buffer)
+      → (r ≡ writeAnswer h buffer) × (out ≡ writeBuffer h buffer)
+  unfolding writeAnswer writeBuffer
+  writes buffer runs p =
+      (p .0 ∙ ap (λ (s : List ℕ). written s buffer) same ∙ runs-on _ _ runs, p .1 ∙ ap (λ (s : List ℕ). buffered s buffer) same ∙ runs-on _ _ runs)
+
+returns : tie.Need-returns
+returns c =
+    let a = c .before .before .args in
+    let e = ended-writes (a .h) (c .if1 .taken) (now (a .buffer)) in
+    (sym (e .0), sym (e .1))
+
+returns-2 : tie.Need-returns-2
+returns-2 c =
+    let w = c .before .before in
+    let a = w .before .before .before .before .before .before .args in
+    let q = w .before .before in
+    writes (a .h) (q .spoken .ensures) (now (a .buffer)) (q .before .before .if1 .left) (w .write .ensures)
+
+pub write-spec : {M : Type 1} → statement M
+write-spec = tie.close (tie.spec returns (λ c κs. search needs) (λ c κs. search needs) (λ c. search needs) returns-2)

@@ -1,0 +1,264 @@
+// The head's calls on its record, by value, other than hearing and closing: start, restart, write. Each promise is one equation with a definition of record's
+// specs/Calls.antt; a refusal gives its number and leaves the record as it was.
+ghost use mathlib.Core.Path.{_≡_};
+ghost use Rattle.terms.specs.Refusals.{check};
+ghost use Rattle.head_spec.specs.Record.{noEntries, opened, rows};
+ghost use Rattle.head_spec.specs.Calls.{start, restart, writeAnswer, writeBuffer, closedCollection, closedPhase, closeIn, close};
+ghost use Rattle.head_calls.specs.Steps.{checkMember, isTime, saidBy};
+use frame_spec::Said;
+use frame_spec::Written;
+use head_spec::Answer;
+use head_spec::Closed;
+use head_spec::Closing;
+use head_spec::Head;
+use head_spec::Row;
+use settle_midpoint::Settled;
+use settle_trust::Links;
+use terms::Entry;
+use terms::Table;
+use terms::refusal;
+
+// A table of nulls.
+pub fn no_entries() -> Table
+    ensures { λ r. ⌜ r ≡ noEntries ⌝ }
+{
+    let entries = [0i32; 32]; // a null entry holds 0
+    Table { marks: 0, entries }
+}
+
+// The record with nothing heard. Start, restart and closing make a record here and nowhere else.
+pub fn opened(
+    n: u8,
+    f: u8,
+    number: u8,
+    phase: u16,
+    round: u8,
+    healed: bool,
+    ended: bool,
+    position: Entry,
+    list: Table,
+) -> Head
+    ensures { λ r. ⌜ r ≡ opened n f number phase round healed ended position list ⌝ }
+{
+    let marks = [0u32; 32];
+    let links = Links {
+        confessed: 0,
+        listed: 0,
+        marks,
+    };
+    let entries = [0i32; 32];
+    let row = Row { entries };
+    let lists = [row; 32];
+    Head {
+        n,
+        f,
+        number,
+        phase,
+        round,
+        healed,
+        ended,
+        position,
+        heard: 0,
+        list,
+        links,
+        lists,
+    }
+}
+
+// One check: its number where it fails, and else what the checks that follow gave.
+fn check(holds: bool, number: u8, rest: u8) -> u8
+    ensures { λ r. ⌜ r ≡ check holds number rest ⌝ }
+{
+    if holds { rest } else { number }
+}
+
+// Refusals 1, 2 and 3, before the checks that follow.
+fn member_refusal(n: u32, f: u32, number: u32, rest: u8) -> u8
+    ensures { λ r. ⌜ r ≡ checkMember n f number rest ⌝ }
+{
+    let size = steps::size_refusal(n, f);
+    if size != 0 {
+        return size;
+    }
+    check(number < n, refusal::NUMBER, rest)
+}
+
+// Whether there is such a phase, and such a round.
+fn is_time(phase: u32, round: u32) -> bool
+    ensures { λ r. ⌜ r ≡ isTime phase round ⌝ }
+{
+    if phase == 0 {
+        return false;
+    }
+    if 65535 < phase {
+        return false;
+    }
+    round < 2
+}
+
+// The record of a head that starts with a position, in phase 1.
+pub fn start(h: Head, n: u32, f: u32, number: u32, position: i32) -> Answer
+    ensures { λ r. ⌜ r ≡ start h n f number position ⌝ }
+{
+    let last = check(steps::is_position(position), refusal::POSITION, 0);
+    let refused = member_refusal(n, f, number, last);
+    if refused != 0 {
+        return Answer {
+            refusal: refused,
+            head: h,
+        };
+    }
+    let held = Entry::Position(position);
+    let head = opened(
+        n as u8,
+        f as u8,
+        number as u8,
+        1,
+        0,
+        false,
+        false,
+        held,
+        no_entries(),
+    );
+    Answer { refusal: 0, head }
+}
+
+// The record of a head that was healed, in the phase and round given, with no position.
+pub fn restart(h: Head, n: u32, f: u32, number: u32, phase: u32, round: u32) -> Answer
+    ensures { λ r. ⌜ r ≡ restart h n f number phase round ⌝ }
+{
+    let last = check(is_time(phase, round), refusal::PHASE, 0);
+    let refused = member_refusal(n, f, number, last);
+    if refused != 0 {
+        return Answer {
+            refusal: refused,
+            head: h,
+        };
+    }
+    let head = opened(
+        n as u8,
+        f as u8,
+        number as u8,
+        phase as u16,
+        round as u8,
+        true,
+        false,
+        Entry::Null,
+        no_entries(),
+    );
+    Answer { refusal: 0, head }
+}
+
+// What a head has to say; a list stands beside this.
+fn spoken(round: u8, healed: bool, position: Entry) -> Said
+    ensures { λ r. ⌜ r ≡ saidBy round healed position ⌝ }
+{
+    if round == 0 {
+        if healed {
+            return Said::Collection(Entry::Null);
+        }
+        return Said::Collection(position);
+    }
+    if healed { Said::Confession } else { Said::List }
+}
+
+// Writes what the head has to say at the front of the buffer.
+pub fn write(h: Head, buffer: &mut [u8]) -> Written
+    ensures answer { λ r. ⌜ r ≡ writeAnswer h (now (buffer .entry)) ⌝ }
+    ensures bytes { λ r. ⌜ now (buffer .exit) ≡ writeBuffer h (now (buffer .entry)) ⌝ }
+{
+    if h.ended {
+        return Written::Refused(refusal::ENDED);
+    }
+    let position = h.position;
+    let list = h.list;
+    frame_codec::write(
+        spoken(h.round, h.healed, position),
+        list,
+        h.n,
+        h.number,
+        h.phase,
+        buffer,
+    )
+}
+
+// ---- Closing a round, on a record by value. The promise is one equation with a definition of record's specs/Calls.antt; a refusal gives its number and leaves the
+// record as it was.
+
+// The lists received, without their marks, as settling takes them.
+fn laid_out(lists: [Row; 32]) -> [[i32; 32]; 32]
+    ensures { λ r. ⌜ r ≡ rows lists ⌝ }
+{
+    let zeros = [0i32; 32];
+    let mut out = [zeros; 32];
+    let mut k: usize = 0;
+    while k < 32 {
+        let row = lists[k];
+        let entries = row.entries;
+        out[k] = entries;
+        k += 1;
+    }
+    out
+}
+
+// The collection round is closed: the list stands.
+fn closed_collection(h: Head) -> Head
+    ensures { λ r. ⌜ r ≡ closedCollection h ⌝ }
+{
+    let position = h.position;
+    let list = h.list;
+    opened(h.n, h.f, h.number, h.phase, 1, false, false, position, list)
+}
+
+// The phase has ended with a position; after phase 65,535 phase and round stay, and the head has ended.
+fn closed_phase(h: Head, position: i32) -> Head
+    ensures { λ r. ⌜ r ≡ closedPhase h position ⌝ }
+{
+    let at = Entry::Position(position);
+    let list = no_entries();
+    if h.phase == 65535 {
+        return opened(h.n, h.f, h.number, h.phase, 1, false, true, at, list);
+    }
+    opened(h.n, h.f, h.number, h.phase + 1, 0, false, false, at, list)
+}
+
+// Closes a confession round.
+fn close_confession(h: Head) -> Closing
+    ensures { λ r. ⌜ r ≡ closeIn 1 h ⌝ }
+{
+    let lists = h.lists;
+    let links = h.links;
+    match settle_position::settle(laid_out(lists), links, h.n, h.f) {
+        Settled::Refused(refused) => Closing {
+            closed: Closed::Refused(refused),
+            head: h,
+        },
+        Settled::New(kept) => {
+            let head = closed_phase(h, kept.position);
+            Closing {
+                closed: Closed::Settled(kept),
+                head,
+            }
+        }
+    }
+}
+
+// Closes the round.
+pub fn close(h: Head) -> Closing
+    ensures { λ r. ⌜ r ≡ close h ⌝ }
+{
+    if h.ended {
+        return Closing {
+            closed: Closed::Refused(refusal::ENDED),
+            head: h,
+        };
+    }
+    if h.round == 0 {
+        let head = closed_collection(h);
+        return Closing {
+            closed: Closed::Listed,
+            head,
+        };
+    }
+    close_confession(h)
+}

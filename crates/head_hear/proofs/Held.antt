@@ -1,0 +1,28 @@
+-- A record as the machine holds it: each of its arrays has 32 elements, as its type says. The record's fields follow one another, and its list is the tenth.
+use mathlib.Core.Path.{_≡_, sym, _∙_}
+use mathlib.Core.List.{List}
+use Prim.Native.Nat.{ℕ}
+use lib.ListN.{length, length-map}
+use lib.IntN.{ℤ}
+use mir.Val.{Val}
+use denote.Laws.{Is}
+use Rattle.head_spec.specs.declared.Row.{Row}
+use Rattle.head_spec.specs.declared.Head.{Head}
+use Rattle.head_spec.proofs.Head.{the-row}
+
+pub record Long (entries : List ℤ) (marks : List ℕ) (lists : List Row) : Type 0 where
+  pub entries-long : length entries ≡ 32
+  pub marks-long : length marks ≡ 32
+  pub lists-long : length lists ≡ 32
+
+abbrev pub Full : Head → Type 0
+Full h = Long (h .list .entries) (h .links .marks) (h .lists)
+
+pub full : {vs : List Val} (h : Head) → Is the-row h vs → Full h
+full h is =
+    let tenth = is .1 .1 .1 .1 .1 .1 .1 .1 .1 .1 .1 in
+    record {
+      entries-long = sym (length-map (h .list .entries) _) ∙ tenth .0 .1 .1 .1 .0 .1 .0 .1;
+      marks-long = sym (length-map (h .links .marks) _) ∙ tenth .1 .0 .1 .1 .1 .1 .0 .1 .0 .1;
+      lists-long = sym (length-map (h .lists) _) ∙ tenth .1 .1 .0 .1 .0 .1;
+    }

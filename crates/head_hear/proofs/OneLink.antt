@@ -1,0 +1,133 @@
+-- What hearing makes of one link. Its checks are those of the link, and then those of the frame; a frame that no check refuses is of a known kind, so it
+-- says something, and a frame that reading refuses is refused with the number of its first check that fails. So hearing answers what was said: the
+-- refusal, with the record that was, or the record with what the link gave.
+use mathlib.Core.Path.{_≡_, refl, ap, sym, _∙_}
+use mathlib.Core.Bool.{Bool, true, false, not, true≢false}
+use mathlib.Core.List.{List}
+use Prim.Native.Nat.{ℕ, zero, suc}
+use lib.Dec.{eqb, leb, ltb}
+use lib.ListN.{length, set}
+use Rattle.terms.specs.Refusals as refusal
+use Rattle.terms.specs.Refusals.{check}
+use Rattle.terms.specs.declared.Entry.{Entry}
+use Rattle.terms.specs.declared.Table.{Table}
+use Rattle.marks.specs.Marks.{bitOf, withMark}
+use Rattle.frame_check.specs.Check.{Kind, position, silence, list, confession, unknown, isKnown, kindField, lengthField, checkFrame}
+use Rattle.frame_check.proofs.Checks.{passed}
+use Rattle.frame_spec.specs.declared.Said.{Said}
+use Rattle.frame_spec.specs.Said.{Meaning, refused, collected, listed, confessed, refusalOf, tableIn, meaning, unlessRefused, said, saidOf, meant}
+use Rattle.frame_spec.specs.Proper.{AcceptedMeaning}
+use Rattle.frame_spec.proofs.OneMeaning.{meant-said}
+use Rattle.settle_trust.specs.declared.Links.{Links}
+use Rattle.head_spec.specs.declared.Row.{Row}
+use Rattle.head_spec.specs.declared.Head.{Head}
+use Rattle.head_spec.specs.declared.Answer.{Answer}
+use Rattle.head_spec.specs.Calls.{answer, hearRefusal, withEntry, withConfession, withList, taken, hear}
+use Rattle.head_hear.specs.Steps.{linkRefusal, saidOn}
+
+-- ---- a frame that is not refused says something
+
+known-says : (K : Kind) (n : ℕ) (s : List ℕ) → isKnown K ≡ true → AcceptedMeaning (meaning K n s)
+known-says position n s e = tt
+known-says silence n s e = tt
+known-says list n s e = tt
+known-says confession n s e = tt
+known-says unknown n s e = absurd (true≢false (sym e))
+
+says-something : (n p r k : ℕ) (s : List ℕ) → refusalOf n p r k s ≡ 0 → AcceptedMeaning (meaning (kindField s) n s)
+unfolding refusalOf checkFrame
+says-something n p r k s e =
+    let first = passed (leb 4 (length s)) _ e in
+    let second = passed (eqb (lengthField s) (length s)) _ (first .1) in
+    let third = passed (isKnown (kindField s)) _ (second .1) in
+    known-says (kindField s) n s (third .0)
+
+-- ---- the answer to what was said
+
+-- what link k says
+abbrev pub linkSays : Head → ℕ → List ℕ → Meaning
+linkSays h k s = saidOn (h .ended) (h .n) (h .phase) (h .round) (h .heard) k s
+
+abbrev answered : Head → ℕ → Meaning → Answer
+answered h k (refused c) = record { refusal = c; head = h }
+answered h k (collected x) = record { refusal = 0; head = taken h k (collected x) }
+answered h k (listed t) = record { refusal = 0; head = taken h k (listed t) }
+answered h k confessed = record { refusal = 0; head = taken h k confessed }
+
+module _ (h : Head) (k : ℕ) (s : List ℕ) where
+  -- the checks of the frame alone
+  frame-answered : let m = said (h .n) (h .phase) (h .round) k s in answer (refusalOf (h .n) (h .phase) (h .round) k s) (taken h k m) h ≡ answered h k m
+  unfolding said
+  frame-answered =
+      go (refusalOf (h .n) (h .phase) (h .round) k s) (meaning (kindField s) (h .n) s) (says-something (h .n) (h .phase) (h .round) k s)
+    where
+      go : (c : ℕ) (m : Meaning) → (c ≡ 0 → AcceptedMeaning m) → answer c (taken h k (unlessRefused c m)) h ≡ answered h k (unlessRefused c m)
+      go zero (refused d) a = absurd (a refl)
+      go zero (collected x) a = refl
+      go zero (listed t) a = refl
+      go zero confessed a = refl
+      go (suc c) m a = refl
+
+  -- before them those of the link
+  link-answered : answered h k (linkSays h k s) ≡ hear h k s
+  unfolding hear hearRefusal
+  link-answered = sym (go (not (h .ended)) (ltb k (h .n)) (not (bitOf (h .heard) k)))
+    where
+      row : Bool → Bool → Bool → ℕ → ℕ
+      row a b c rest = check a refusal.ended (check b refusal.number (check c refusal.heard rest))
+
+      go : (a b c : Bool) → let m = said (h .n) (h .phase) (h .round) k s in
+          answer (row a b c (refusalOf (h .n) (h .phase) (h .round) k s)) (taken h k m) h ≡ answered h k (unlessRefused (row a b c 0) m)
+      go true true true = frame-answered
+      go true true false = refl
+      go true false c = refl
+      go false b c = refl
+
+  -- the code has what is said as an enum, with the table of a list beside it
+  meant-link : meant (saidOf (linkSays h k s)) (tableIn (h .n) s) ≡ linkSays h k s
+  meant-link = go (linkRefusal (h .ended) (h .n) (h .heard) k)
+    where
+      go : (c : ℕ) → let m = unlessRefused c (said (h .n) (h .phase) (h .round) k s) in meant (saidOf m) (tableIn (h .n) s) ≡ m
+      go zero = meant-said (h .n) (h .phase) (h .round) k s
+      go (suc c) = refl
+
+-- ---- what the code makes of the record
+
+-- with the links heard, the list that is being filled, and what the links gave
+abbrev pub holding : Head → ℕ → Table → Links → List Row → Head
+holding h heard t g l =
+    record {
+      n = h .n;
+      f = h .f;
+      number = h .number;
+      phase = h .phase;
+      round = h .round;
+      healed = h .healed;
+      ended = h .ended;
+      position = h .position;
+      heard = heard;
+      list = t;
+      links = g;
+      lists = l;
+    }
+
+-- it is what hearing makes of it, by what was said
+module _ (h : Head) (k : ℕ) (s : List ℕ) {what : Said} (e : what ≡ saidOf (linkSays h k s)) where
+  as-said : {w : Said} → what ≡ w → answered h k (meant w (tableIn (h .n) s)) ≡ hear h k s
+  as-said q = ap (answered h k) (ap (λ (w : Said). meant w (tableIn (h .n) s)) (sym q ∙ e) ∙ meant-link h k s) ∙ link-answered h k s
+
+  pub refused-heard : {c : ℕ} → what ≡ Said.Refused c → record { refusal = c; head = h } ≡ hear h k s
+  refused-heard q = as-said q
+
+  module _ {heard : ℕ} (m : heard ≡ withMark (h .heard) k) where
+    pub entry-heard : {x : Entry} {t : Table} → what ≡ Said.Collection x → t ≡ withEntry (h .list) k x
+        → record { refusal = 0; head = holding h heard t (h .links) (h .lists) } ≡ hear h k s
+    entry-heard q a = rw (m, a) (as-said q)
+
+    pub list-heard : {t : Table} {g : Links} {l : List Row} → what ≡ Said.List → t ≡ tableIn (h .n) s → g ≡ withList (h .links) k t
+        → l ≡ set (h .lists) k (record { entries = t .entries }) → record { refusal = 0; head = holding h heard (h .list) g l } ≡ hear h k s
+    list-heard q a b d = rw (m, d, b, a) (as-said q)
+
+    pub confession-heard : {g : Links} → what ≡ Said.Confession → g ≡ withConfession (h .links) k
+        → record { refusal = 0; head = holding h heard (h .list) g (h .lists) } ≡ hear h k s
+    confession-heard q a = rw (m, a) (as-said q)

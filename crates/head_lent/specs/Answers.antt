@@ -1,0 +1,36 @@
+-- What a call on a lent record gives back: a number, and a result in lent memory, which is as it was where there is none.
+use Prim.Native.Nat.{ℕ}
+use lib.IntN.{ℤ}
+use Rattle.terms.specs.declared.Entry.{Entry}
+use Rattle.frame_spec.specs.declared.Written.{Written}
+use Rattle.head_spec.specs.declared.Answer.{Answer}
+use Rattle.head_spec.specs.declared.Closed.{Closed}
+use Rattle.head_spec.specs.declared.Closing.{Closing}
+
+-- 0 where the round is closed
+abbrev pub closedNumber : Closed → ℕ
+closedNumber (Closed.Refused c) = c
+closedNumber Closed.Listed = 0
+closedNumber (Closed.Settled k) = 0
+
+abbrev pub closedAnswer : Closing → Answer
+closedAnswer c = record { refusal = closedNumber (c .closed); head = c .head }
+
+-- 0 where a frame was written
+abbrev pub writtenNumber : Written → ℕ
+writtenNumber (Written.Refused c) = c
+writtenNumber (Written.Length n) = 0
+
+-- the frame's length
+abbrev pub writtenOr : Written → ℕ → ℕ
+writtenOr (Written.Refused c) old = old
+writtenOr (Written.Length n) old = n
+
+-- 1 where an entry is a position
+abbrev pub heldNumber : Entry → ℕ
+heldNumber Entry.Null = 0
+heldNumber (Entry.Position v) = 1
+
+abbrev pub heldOr : Entry → ℤ → ℤ
+heldOr Entry.Null old = old
+heldOr (Entry.Position v) old = v

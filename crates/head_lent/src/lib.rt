@@ -1,0 +1,115 @@
+// The calls on a head's record that its owner keeps and lends: each changes that record itself, or reads it. Each is a thin form of a call by value, and
+// its promise is that call's definition (record's specs/Calls.antt). A refusal gives its number and leaves the record, and what else is lent, as it was.
+ghost use mathlib.Core.Path.{_≡_};
+ghost use Rattle.head_spec.specs.Calls.{start, restart, hear, writeAnswer, writeBuffer, close};
+ghost use Rattle.head_lent.specs.Answers.{closedNumber, closedAnswer, writtenNumber, writtenOr, heldNumber, heldOr};
+use frame_spec::Written;
+use head_spec::Answer;
+use head_spec::Closed;
+use head_spec::Head;
+use terms::Entry;
+
+// Starts the record with a position, in phase 1: 0, or 1, 2, 3, 4.
+pub fn start(h: &mut Head, n: u32, f: u32, number: u32, position: i32) -> u8
+    ensures { λ r. ⌜ (r ≡ start (now (h .entry)) n f number position .refusal) × (now (h .exit) ≡ start (now (h .entry)) n f number position .head) ⌝ }
+{
+    let out = head_calls::start(*h, n, f, number, position);
+    *h = out.head;
+    out.refusal
+}
+
+// Starts the record of a head that was healed, in the phase and round given, with no position: 0, or 1, 2, 3, 5.
+pub fn restart(h: &mut Head, n: u32, f: u32, number: u32, phase: u32, round: u32) -> u8
+    ensures { λ r. ⌜ (r ≡ restart (now (h .entry)) n f number phase round .refusal) × (now (h .exit) ≡ restart (now (h .entry)) n f number phase round .head) ⌝ }
+{
+    let out = head_calls::restart(*h, n, f, number, phase, round);
+    *h = out.head;
+    out.refusal
+}
+
+// Hears a frame on a link: 0, or 26, 3, 21, 6, 7, 8, 22, 9, 23, 10, 11.
+pub fn hear(h: &mut Head, link: u32, frame: &[u8]) -> u8
+    ensures { λ r. ⌜ (r ≡ hear (now (h .entry)) link (now (frame .entry)) .refusal) × (now (h .exit) ≡ hear (now (h .entry)) link (now (frame .entry)) .head) ⌝ }
+{
+    let out = head_hear::hear(*h, link, frame);
+    *h = out.head;
+    out.refusal
+}
+
+// What closing by value answers, as a number and the record.
+pub fn closed(h: Head) -> Answer
+    ensures { λ r. ⌜ r ≡ closedAnswer (close h) ⌝ }
+{
+    let out = head_calls::close(h);
+    let c = out.closed;
+    let g = out.head;
+    match c {
+        Closed::Refused(number) => Answer {
+            refusal: number,
+            head: g,
+        },
+        Closed::Listed => Answer {
+            refusal: 0,
+            head: g,
+        },
+        Closed::Settled(_) => Answer {
+            refusal: 0,
+            head: g,
+        },
+    }
+}
+
+// Closes the round: 0, or 26, 25.
+pub fn close(h: &mut Head) -> u8
+    ensures { λ r. ⌜ (r ≡ closedNumber (close (now (h .entry)) .closed)) × (now (h .exit) ≡ close (now (h .entry)) .head) ⌝ }
+{
+    let out = closed(*h);
+    *h = out.head;
+    out.refusal
+}
+
+// What writing by value answers, as a number, and the frame's length where it was lent.
+pub fn written(h: Head, buffer: &mut [u8], length: &mut usize) -> u8
+    ensures { λ r. ⌜ (r ≡ writtenNumber (writeAnswer h (now (buffer .entry))))
+        × (now (buffer .exit) ≡ writeBuffer h (now (buffer .entry)))
+        × (now (length .exit) ≡ writtenOr (writeAnswer h (now (buffer .entry))) (now (length .entry))) ⌝ }
+{
+    let answer = head_calls::write(h, buffer);
+    match answer {
+        Written::Refused(number) => number,
+        Written::Length(n) => {
+            *length = n;
+            0
+        }
+    }
+}
+
+// Writes what the head has to say at the front of the buffer, and the frame's length: 0, or 26, 24.
+pub fn write(h: &Head, buffer: &mut [u8], length: &mut usize) -> u8
+    ensures { λ r. ⌜ (r ≡ writtenNumber (writeAnswer (now (h .entry)) (now (buffer .entry))))
+        × (now (buffer .exit) ≡ writeBuffer (now (h .entry)) (now (buffer .entry)))
+        × (now (length .exit) ≡ writtenOr (writeAnswer (now (h .entry)) (now (buffer .entry))) (now (length .entry))) ⌝ }
+{
+    written(*h, buffer, length)
+}
+
+// The position of a record by value, where it was lent: 1, or 0 where there is none.
+pub fn held(h: Head, position: &mut i32) -> u8
+    ensures { λ r. ⌜ (r ≡ heldNumber (h .position)) × (now (position .exit) ≡ heldOr (h .position) (now (position .entry))) ⌝ }
+{
+    let e = h.position;
+    match e {
+        Entry::Null => 0,
+        Entry::Position(v) => {
+            *position = v;
+            1
+        }
+    }
+}
+
+// The position that the record holds: 1, or 0 where it holds none.
+pub fn position(h: &Head, position: &mut i32) -> u8
+    ensures { λ r. ⌜ (r ≡ heldNumber (now (h .entry) .position)) × (now (position .exit) ≡ heldOr (now (h .entry) .position) (now (position .entry))) ⌝ }
+{
+    held(*h, position)
+}

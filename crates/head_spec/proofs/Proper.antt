@@ -1,0 +1,154 @@
+-- A proper record: what holds of every record that the calls make. Start and restart make one, since their checks ask for just that, and a record
+-- with nothing heard is proper whatever the round.
+use mathlib.Core.Path.{_≡_, refl, _∙_}
+use mathlib.Core.Logic.{_≢_}
+use mathlib.Core.Bool.{Bool, true, false, _&&_, true≢false}
+use mathlib.Core.List.{List, []}
+use Prim.Native.Nat.{ℕ, suc, _+_, _*_, _^_, _≤_, _<_}
+use native.Mathlib.Omega.{arith}
+use lib.Dec.{leb, ltb}
+use lib.Pow.{pow-pos}
+use lib.ListN.{length, getD, getD-replicate}
+use lib.IntN.{ℤ}
+use borrow.Author.Tests.{leb-true, ltb-true, le-leb, lt-ltb}
+use Rattle.terms.specs.Refusals.{check}
+use Rattle.terms.specs.Sizes.{isCount, isLimit, checkSize}
+use Rattle.terms.specs.Positions.{isPosition, eqZ}
+use Rattle.terms.specs.declared.Entry.{Entry}
+use Rattle.terms.specs.declared.Table.{Table}
+use Rattle.marks.specs.Marks.{bitOf}
+use Rattle.entries.specs.Entries.{zeros, numbers}
+use Rattle.marks.proofs.Marks.{bit-none}
+use Rattle.entries.proofs.Entries.{numbers-length}
+use Rattle.convergence.specs.Counting.{Each}
+use Rattle.convergence.specs.Demand3.{AcceptedSize}
+use Rattle.convergence.proofs.Support.{not-null}
+use Rattle.frame_spec.specs.Said.{collected}
+use Rattle.frame_spec.specs.Proper.{ProperTable, Proper}
+use Rattle.frame_spec.proofs.Listing.{and-both, numbers-none}
+use Rattle.settle_trust.specs.declared.Links.{Links}
+use Rattle.head_spec.specs.declared.Row.{Row}
+use Rattle.head_spec.specs.declared.Head.{Head}
+use Rattle.head_spec.specs.Record.{noEntries, noLinks, noLists, opened, rows}
+use Rattle.head_spec.specs.Calls.{startRefusal, started, restartRefusal, restarted}
+
+-- the list held of link k
+abbrev pub listFrom : Links → List Row → ℕ → Table
+listFrom g l k = record { marks = getD (g .marks) k 0; entries = getD (rows l) k [] }
+
+-- What the links gave: no mark at n or above, tables of n entries, and nothing from a link that was not heard.
+pub record ProperLinks (n heard : ℕ) (g : Links) (l : List Row) : Type 0 where
+  pub confessed-below : g .confessed < 2 ^ n
+  pub listed-below : g .listed < 2 ^ n
+  pub marks-long : length (g .marks) ≡ 32
+  pub lists-long : length l ≡ 32
+  pub tables : Each n (λ k. ProperTable n (listFrom g l k))
+  pub unheard : (k : ℕ) → bitOf heard k ≡ false → (bitOf (g .confessed) k ≡ false) × (bitOf (g .listed) k ≡ false)
+
+-- an accepted size
+pub record Sized (n f : ℕ) : Type 0 where
+  pub some : 1 ≤ n
+  pub most : n ≤ 32
+  pub limit : AcceptedSize n f
+
+-- A head in a collection round that is not healed holds a position; in a confession round it may have none.
+pub record ProperHead (h : Head) : Type 0 where
+  pub size : Sized (h .n) (h .f)
+  pub number : h .number < h .n
+  pub from-first : 1 ≤ h .phase
+  pub to-last : h .phase ≤ 65535
+  pub round : h .round < 2
+  pub position : Proper (h .n) (collected (h .position))
+  pub holds : h .round ≡ 0 → h .healed ≡ false → h .position ≢ Entry.Null
+  pub heard : h .heard < 2 ^ h .n
+  pub list : ProperTable (h .n) (h .list)
+  pub links : ProperLinks (h .n) (h .heard) (h .links) (h .lists)
+
+-- ---- nothing heard
+
+pub no-entries : (n : ℕ) → ProperTable n noEntries
+unfolding noEntries numbers eqZ
+no-entries n =
+    record {
+      below = pow-pos n;
+      long = numbers-length [] 0;
+      fit = λ j l. rw (bit-none j, numbers-none [] 0 j (omega arith));
+      none = λ j l. numbers-none [] 0 j (omega arith);
+    }
+
+no-links : (n : ℕ) → n ≤ 32 → ProperLinks n 0 noLinks noLists
+unfolding noLinks noLists noEntries
+no-links n size =
+    record {
+      confessed-below = pow-pos n;
+      listed-below = pow-pos n;
+      marks-long = refl;
+      lists-long = refl;
+      tables = λ k l. let m : k < 32 = omega arith in rw (getD-replicate {A = ℕ} 32 k 0 0 m, getD-replicate 32 k zeros [] m) (no-entries n);
+      unheard = λ k e. (bit-none k, bit-none k);
+    }
+
+pub proper-opened : {n f i p r : ℕ} {healed ended : Bool} {x : Entry} {t : Table} → Sized n f → i < n → 1 ≤ p → p ≤ 65535 → r < 2 → Proper n (collected x)
+    → (r ≡ 0 → healed ≡ false → x ≢ Entry.Null) → ProperTable n t → ProperHead (opened n f i p r healed ended x t)
+proper-opened {n} S number from-first to-last round position holds list =
+    record {
+      size = S;
+      number = number;
+      from-first = from-first;
+      to-last = to-last;
+      round = round;
+      position = position;
+      holds = holds;
+      heard = pow-pos n;
+      list = list;
+      links = no-links n (S .most);
+    }
+
+-- ---- start and restart
+
+-- two checks in a row that give 0: both tests hold, and what follows gives 0
+pub both-passed : {rest : ℕ} (a b : Bool) (m n : ℕ) → check a (suc m) (check b (suc n) rest) ≡ 0 → (a ≡ true) × (b ≡ true) × (rest ≡ 0)
+both-passed true true m n e = (refl, refl, e)
+both-passed true false m n e = absurd (omega arith)
+both-passed false b m n e = absurd (omega arith)
+
+-- the checks of the size pass just where it is accepted
+pub sized-by : (n f : ℕ) → isCount n ≡ true → isLimit n f ≡ true → Sized n f
+unfolding isCount isLimit
+sized-by n f count limit =
+    let (some, most) = and-both (leb 1 n) (leb n 32) count in
+    record { some = leb-true 1 n some; most = leb-true n 32 most; limit = leb-true (7 * f + 2) (2 * n) limit }
+
+sized : (n f : ℕ) {rest : ℕ} → checkSize n f rest ≡ 0 → Sized n f × (rest ≡ 0)
+sized n f e = let (count, limit, rest) = both-passed (isCount n) (isLimit n f) 0 1 e in (sized-by n f count limit, rest)
+
+sized-passes : (n f rest : ℕ) → Sized n f → checkSize n f rest ≡ rest
+unfolding isCount isLimit
+sized-passes n f rest S = rw (le-leb 1 n (S .some), le-leb n 32 (S .most), le-leb (7 * f + 2) (2 * n) (S .limit))
+
+module _ (n f i : ℕ) where
+  pub proper-started : (v : ℤ) → startRefusal n f i v ≡ 0 → ProperHead (started n f i v)
+  unfolding startRefusal started
+  proper-started v e =
+      let (S, rest) = sized n f e in
+      let (number, range, done) = both-passed (ltb i n) (isPosition v) 2 3 rest in
+      proper-opened S (ltb-true i n number) (omega arith) (omega arith) (omega arith) range (λ r h q. not-null q refl) (no-entries n)
+
+  pub proper-restarted : (p r : ℕ) → restartRefusal n f i p r ≡ 0 → ProperHead (restarted n f i p r)
+  unfolding restartRefusal restarted
+  proper-restarted p r e =
+      let (S, rest) = sized n f e in
+      let (number, times, done) = both-passed (ltb i n) (leb 1 p && leb p 65535 && ltb r 2) 2 4 rest in
+      let (phase, round) = and-both (leb 1 p && leb p 65535) (ltb r 2) times in
+      let (first, last) = and-both (leb 1 p) (leb p 65535) phase in
+      proper-opened S (ltb-true i n number) (leb-true 1 p first) (leb-true p 65535 last) (ltb-true r 2 round) tt (λ z h q. true≢false h) (no-entries n)
+
+  -- in a ring of an accepted size no start at a position is refused, and no restart in phases 1 to 65,535
+  module _ (S : Sized n f) (l : i < n) where
+    pub start-accepted : (v : ℤ) → isPosition v ≡ true → startRefusal n f i v ≡ 0
+    unfolding startRefusal
+    start-accepted v h = sized-passes n f _ S ∙ rw (lt-ltb i n l, h)
+
+    pub restart-accepted : (p r : ℕ) → 1 ≤ p → p ≤ 65535 → r < 2 → restartRefusal n f i p r ≡ 0
+    unfolding restartRefusal
+    restart-accepted p r a b c = sized-passes n f _ S ∙ rw (lt-ltb i n l, le-leb 1 p a, le-leb p 65535 b, lt-ltb r 2 c)

@@ -1,0 +1,48 @@
+-- Stops of the calls, straight from their definitions: a refusal leaves the record, start and restart do not look at the record that was, and once
+-- phase 65,535 has ended hearing, writing and closing are refused 26 before all else.
+use mathlib.Core.Path.{_≡_, refl}
+use mathlib.Core.Logic.{_≢_}
+use mathlib.Core.Bool.{true}
+use mathlib.Core.List.{List}
+use Prim.Native.Nat.{ℕ, zero, suc}
+use lib.IntN.{ℤ}
+use Rattle.terms.specs.Refusals as refusal
+use Rattle.frame_spec.specs.declared.Written.{Written}
+use Rattle.head_spec.specs.declared.Head.{Head}
+use Rattle.head_spec.specs.declared.Closed.{Closed}
+use Rattle.head_spec.specs.Calls.{answer, startRefusal, started, start, restartRefusal, restarted, restart, hearRefusal, hear, writeAnswer, writeBuffer, closing, close}
+
+-- start, restart and hearing answer so: the refusal, the new record where it is 0, and else the record that was
+pub answer-refusal : (c : ℕ) (new old : Head) → answer c new old .refusal ≡ c
+answer-refusal zero new old = refl
+answer-refusal (suc c) new old = refl
+
+pub answer-kept : (c : ℕ) (new old : Head) → c ≢ 0 → answer c new old .head ≡ old
+answer-kept zero new old d = absurd (d refl)
+answer-kept (suc c) new old d = refl
+
+-- ---- whatever record there was
+
+pub starts-anew : (h : Head) (n f i : ℕ) (v : ℤ) → startRefusal n f i v ≡ 0 → start h n f i v ≡ record { refusal = 0; head = started n f i v }
+unfolding start
+starts-anew h n f i v e = rw e
+
+pub restarts-anew : (h : Head) (n f i p r : ℕ) → restartRefusal n f i p r ≡ 0
+    → restart h n f i p r ≡ record { refusal = 0; head = restarted n f i p r }
+unfolding restart
+restarts-anew h n f i p r e = rw e
+
+-- ---- phase 65,535 has ended
+
+module _ (h : Head) (over : h .ended ≡ true) where
+  pub ended-hears : (k : ℕ) (s : List ℕ) → hear h k s ≡ record { refusal = refusal.ended; head = h }
+  unfolding hear hearRefusal
+  ended-hears k s = rw over
+
+  pub ended-writes : (buffer : List ℕ) → (writeAnswer h buffer ≡ Written.Refused refusal.ended) × (writeBuffer h buffer ≡ buffer)
+  unfolding writeAnswer writeBuffer
+  ended-writes buffer = (rw over, rw over)
+
+  pub ended-closes : close h ≡ closing (Closed.Refused refusal.ended) h
+  unfolding close
+  ended-closes = rw over

@@ -1,0 +1,75 @@
+-- The head's record as it stands when a round opens, and how what it received is read.
+use mathlib.Core.Bool.{Bool, true, false}
+use mathlib.Core.List.{List, map}
+use Prim.Native.Nat.{ℕ}
+use lib.ListN.{replicate}
+use lib.IntN.{ℤ}
+use Rattle.terms.specs.declared.Entry.{Entry}
+use Rattle.terms.specs.declared.Table.{Table}
+use Rattle.entries.specs.Entries.{zeros}
+use Rattle.entries.specs.Tables.{tableAt}
+use Rattle.convergence.specs.Trust as Trust
+use Rattle.convergence.specs.Trust.{Given, trusted}
+use Rattle.frame_spec.specs.Said.{Meaning, refused, collected, listed, confessed}
+use Rattle.settle_trust.specs.declared.Links.{Links}
+use Rattle.settle_trust.specs.Received.{givenBy}
+use Rattle.head_spec.specs.declared.Row.{Row}
+use Rattle.head_spec.specs.declared.Head.{Head}
+
+-- all entries null
+unfoldable pub noEntries : Table
+noEntries = record { marks = 0; entries = zeros }
+
+-- no link gave anything
+unfoldable pub noLinks : Links
+noLinks = record { confessed = 0; listed = 0; marks = replicate 32 0 }
+
+unfoldable pub noLists : List Row
+noLists = replicate 32 (record { entries = zeros })
+
+-- The record with nothing heard: ring, number, phase and round, whether it is healed in this round, whether phase 65,535 has ended, its position
+-- or none, and its list. Start, restart and closing make a record here and nowhere else.
+abbrev pub opened : ℕ → ℕ → ℕ → ℕ → ℕ → Bool → Bool → Entry → Table → Head
+opened n f i p r healed ended x t =
+    record {
+      n = n;
+      f = f;
+      number = i;
+      phase = p;
+      round = r;
+      healed = healed;
+      ended = ended;
+      position = x;
+      heard = 0;
+      list = t;
+      links = noLinks;
+      lists = noLists;
+    }
+
+-- the lists received, without their marks
+abbrev pub rows : List Row → List (List ℤ)
+rows l = map (λ (r : Row). r .entries) l
+
+-- what link k gave
+abbrev pub given : Head → ℕ → Given
+given h = givenBy (h .links) (rows (h .lists))
+
+-- the trusted entries
+abbrev pub trustedBy : Head → ℕ → Entry
+trustedBy h = trusted (h .n) (h .f) (given h)
+
+-- ---- what a frame that was heard amounts to
+
+-- in a collection round: the entry that was said, null where no position was
+abbrev pub heardEntry : Meaning → Entry
+heardEntry (refused c) = Entry.Null
+heardEntry (collected e) = e
+heardEntry (listed t) = Entry.Null
+heardEntry confessed = Entry.Null
+
+-- in a confession round: what the link gave
+abbrev pub givenOf : Meaning → Given
+givenOf (refused c) = Trust.nothing
+givenOf (collected e) = Trust.nothing
+givenOf (listed t) = Trust.gave (tableAt t)
+givenOf confessed = Trust.confessed

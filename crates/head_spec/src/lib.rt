@@ -1,0 +1,45 @@
+// The head's record and what the calls on it answer. No functions: specs/Calls.antt says what each call makes of the record.
+
+use settle_midpoint::Kept;
+use settle_trust::Links;
+use terms::Entry;
+use terms::Table;
+
+// The numbers of a received list.
+pub struct Row {
+    pub entries: [i32; 32],
+}
+
+// All that a head remembers.
+pub struct Head {
+    pub n: u8,
+    pub f: u8,
+    pub number: u8,
+    pub phase: u16,
+    pub round: u8, // 0 collection, 1 confession
+    pub healed: bool, // in this round
+    pub ended: bool, // phase 65,535 has ended
+    pub position: Entry,
+    pub heard: u32, // the links heard in this round
+    pub list: Table, // in collection what is heard so far, in confession the list of this phase
+    pub links: Links, // which links confessed or gave a list, and the lists' marks
+    pub lists: [Row; 32], // the lists received
+}
+
+// What start, restart and hearing answer: 0 or the refusal's number, and the record.
+pub struct Answer {
+    pub refusal: u8,
+    pub head: Head,
+}
+
+// What closing answers: the collection round is closed, a position is settled, or a refusal.
+pub enum Closed {
+    Refused(u8),
+    Listed,
+    Settled(Kept),
+}
+
+pub struct Closing {
+    pub closed: Closed,
+    pub head: Head,
+}

@@ -1,4 +1,0 @@
-pub mod Memory
-pub mod Keeps
-pub mod Leads
-pub mod Inner

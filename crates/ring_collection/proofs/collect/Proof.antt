@@ -1,0 +1,23 @@
+-- `ring_collection::collect` meets its contract: what the unstruck heads send is read once, and each head that is not struck lists it with what is planted to it.
+use mathlib.Core.Path.{_∙_, ap}
+use mathlib.Core.Bool.{cond}
+use denote.Ref.{now}
+use borrow.Author.Needs.{needs}
+use Rattle.terms.specs.declared.Table.{Table}
+use Rattle.ring_round.specs.Memory.{hears, rowIn}
+use Rattle.frame_slots.specs.Slots.{plantedIn}
+use Rattle.ring_collection.proofs.Lists.{heard-list}
+use Rattle.ring_collection.proofs.collect.Statement.{statement}
+use Rattle.ring_collection.proofs.collect.Tie as tie
+
+returns : tie.Need-returns
+returns c =
+    let e = c .before .before .before in
+    let a = c .before .before .before .before .before .before .args in
+    λ i.
+    c .fill-lists .ensures i
+    ∙ ap (λ (t : Table). cond (hears (a .s) i) t (rowIn (now (a .marks)) (now (a .lists)) i))
+    (heard-list (a .s) (now (a .positions)) (plantedIn (now (a .planted)) (now (a .lengths))) i (e .entries-sent .result) (e .entries-sent .ensures))
+
+pub collect-spec : {M : Type 1} → statement M
+collect-spec = tie.close (tie.spec (λ c κs. search needs) (λ c κs. search needs) returns)

@@ -1,0 +1,223 @@
+// A collection round of a whole ring, played on the heads' memory: the list of each head that is not struck. What all unstruck heads say is read once.
+ghost use mathlib.Core.Bool.{true, cond};
+ghost use mathlib.Core.Path.{_≡_};
+ghost use Prim.Native.Nat.{ℕ, _<_};
+ghost use lib.ListN.{length, getD};
+ghost use Rattle.entries.specs.Tables.{tableOf, mark, number};
+ghost use Rattle.frame_spec.specs.Said.{said};
+ghost use Rattle.head_spec.specs.Record.{heardEntry};
+ghost use Rattle.ring_round.specs.Memory.{heads, hears, sends, listEntry, rowIn};
+ghost use Rattle.frame_slots.specs.Slots.{plantedIn};
+ghost use Rattle.ring_collection.specs.Inner.{ownEntry, sent, heard, heardFrom};
+use frame_spec::Said;
+use ring_round::Stage;
+use terms::Entry;
+use terms::Table;
+
+// The entry that a collection frame says; null where it says none.
+fn entry_in(frame: &[u8], n: u8, phase: u16, k: u8) -> Entry
+    ensures { λ r. ⌜ r ≡ heardEntry (said n phase 0 k (now (frame .entry))) ⌝ }
+{
+    match frame_codec::read(frame, n, phase, 0, k) {
+        Said::Refused(_) => Entry::Null,
+        Said::Collection(e) => e,
+        Said::List => Entry::Null,
+        Said::Confession => Entry::Null,
+    }
+}
+
+// What head k sends: a healed head silence, a healthy one its position.
+fn own_entry(s: Stage, positions: &[i32; 32], k: usize) -> Entry
+    requires { ⌜ k < 32 ⌝ }
+    ensures { λ r. ⌜ r ≡ ownEntry s (now (positions .entry)) k ⌝ }
+{
+    if marks::marked(s.before, k) {
+        return Entry::Null;
+    }
+    Entry::Position(positions[k])
+}
+
+// What each unstruck head hears of head k, where that is not struck either.
+fn entry_sent(s: Stage, positions: &[i32; 32], k: usize) -> Entry
+    requires { ⌜ k < 32 ⌝ }
+    ensures { λ r. ⌜ r ≡ sent s (now (positions .entry)) k ⌝ }
+{
+    let n = ring_round::head_count(s);
+    let entries = [0i32; 32];
+    let table = Table { marks: 0, entries };
+    let what = Said::Collection(own_entry(s, positions, k));
+    let mut buffer = [0u8; 140];
+    let len = ring_round::write_frame(what, table, s, k as u8, &mut buffer);
+    entry_in(&buffer[..len], n, s.phase, k as u8)
+}
+
+// Whether heads i and m send the same position.
+fn sends_alike(s: Stage, positions: &[i32; 32], i: usize, m: usize) -> bool
+    requires { ⌜ (i < 32) × (m < 32) ⌝ }
+    ensures { λ r. ⌜ (r ≡ true → sends s (now (positions .entry)) i ≡ sends s (now (positions .entry)) m) ⌝ }
+{
+    if marks::marked(s.before, i) {
+        return false;
+    }
+    if marks::marked(s.before, m) {
+        return false;
+    }
+    positions[i] == positions[m]
+}
+
+// What is heard of head k, after `told` was heard of head `last`, or first where that is 32: heads that send the same are heard the same.
+fn entry_after(s: Stage, positions: &[i32; 32], k: usize, last: usize, told: Entry) -> Entry
+    requires { ⌜ (k < 32) × (last < 32 → told ≡ sent s (now positions) last) ⌝ }
+    ensures { λ r. ⌜ r ≡ sent s (now (positions .entry)) k ⌝ }
+{
+    if last < 32 {
+        if sends_alike(s, positions, k, last) {
+            return told;
+        }
+    }
+    entry_sent(s, positions, k)
+}
+
+// What each unstruck head hears of the unstruck heads.
+fn entries_sent(s: Stage, positions: &[i32; 32]) -> [Entry; 32]
+    ensures { λ r. ⌜ ((k : ℕ) → hears s k ≡ true → getD r k Entry.Null ≡ sent s (now (positions .entry)) k) ⌝ }
+{
+    let n = ring_round::head_count(s) as usize;
+    let mut entries = [Entry::Null; 32];
+    let mut told = Entry::Null;
+    let mut last: usize = 32;
+    let mut k: usize = 0;
+    while k < n {
+        if !marks::marked(s.struck, k) {
+            told = entry_after(s, positions, k, last, told);
+            last = k;
+            entries[k] = told;
+        }
+        k += 1;
+    }
+    entries
+}
+
+// What head i hears of head k: what is planted, or what head k sent.
+fn entry_heard(s: Stage, sent: Entry, planted: &[u8], lengths: &[u8], k: usize, i: usize) -> Entry
+    requires { ⌜ (k < 32) × (i < 32) ⌝ }
+    ensures { λ r. ⌜ r ≡ heard s sent (plantedIn (now (planted .entry)) (now (lengths .entry)) k i) k ⌝ }
+{
+    if !marks::marked(s.struck, k) {
+        return sent;
+    }
+    let frame = frame_slots::planted(planted, lengths, k as u8, i as u8);
+    entry_in(frame, ring_round::head_count(s), s.phase, k as u8)
+}
+
+// The mark of an entry.
+fn mark_of(e: Entry) -> u32
+    ensures { λ r. ⌜ r ≡ mark e ⌝ }
+{
+    match e {
+        Entry::Null => 0,
+        Entry::Position(_) => 1,
+    }
+}
+
+// The number of an entry, 0 where it is null.
+fn number_of(e: Entry) -> i32
+    ensures { λ r. ⌜ r ≡ number e ⌝ }
+{
+    match e {
+        Entry::Null => 0,
+        Entry::Position(v) => v,
+    }
+}
+
+// The list of head i.
+fn list_for(s: Stage, sent: [Entry; 32], planted: &[u8], lengths: &[u8], i: usize) -> Table
+    requires { ⌜ i < 32 ⌝ }
+    ensures { λ r. ⌜ r ≡ tableOf (heads s) (heardFrom s sent (plantedIn (now (planted .entry)) (now (lengths .entry))) i) ⌝ }
+{
+    let n = ring_round::head_count(s) as usize;
+    let mut marks: u32 = 0;
+    let mut entries = [0i32; 32];
+    let mut k: usize = 0;
+    while k < n {
+        let e = entry_heard(s, sent[k], planted, lengths, k, i);
+        marks += mark_of(e) << k;
+        entries[k] = number_of(e);
+        k += 1;
+    }
+    Table { marks, entries }
+}
+
+// The list of head i, after head `last` filled the list `told`, or first where that is 32: heads that are told alike fill the same.
+fn list_after(
+    s: Stage,
+    sent: [Entry; 32],
+    planted: &[u8],
+    lengths: &[u8],
+    i: usize,
+    last: usize,
+    told: Table,
+) -> Table
+    requires { ⌜ (i < 32) × (last < 32 → told ≡ tableOf (heads s) (heardFrom s sent (plantedIn (now planted) (now lengths)) last)) ⌝ }
+    ensures { λ r. ⌜ r ≡ tableOf (heads s) (heardFrom s sent (plantedIn (now (planted .entry)) (now (lengths .entry))) i) ⌝ }
+{
+    if last < 32 {
+        if ring_round::is_told_alike(s, planted, lengths, i, last) {
+            return told;
+        }
+    }
+    list_for(s, sent, planted, lengths, i)
+}
+
+// Stores the list of each unstruck head.
+fn fill_lists(
+    s: Stage,
+    sent: [Entry; 32],
+    planted: &[u8],
+    lengths: &[u8],
+    marks: &mut [u32],
+    lists: &mut [[i32; 32]],
+)
+    requires { ⌜ (length (now marks) ≡ 32) × (length (now lists) ≡ 32) ⌝ }
+    ensures { λ _. ⌜ ((i : ℕ) → rowIn (now (marks .exit)) (now (lists .exit)) i
+        ≡ cond (hears s i)
+        (tableOf (heads s) (heardFrom s sent (plantedIn (now (planted .entry)) (now (lengths .entry))) i))
+        (rowIn (now (marks .entry)) (now (lists .entry)) i)) ⌝ }
+{
+    let n = ring_round::head_count(s) as usize;
+    let none = [0i32; 32];
+    let mut list = Table {
+        marks: 0,
+        entries: none,
+    };
+    let mut last: usize = 32;
+    let mut i: usize = 0;
+    while i < n {
+        if !marks::marked(s.struck, i) {
+            list = list_after(s, sent, planted, lengths, i, last, list);
+            last = i;
+            let entries = list.entries;
+            marks[i] = list.marks;
+            lists[i] = entries;
+        }
+        i += 1;
+    }
+}
+
+// A collection round: the list of each head that is not struck, from the positions and what is planted. The other lists stay as they were.
+pub fn collect(
+    s: Stage,
+    positions: &[i32; 32],
+    planted: &[u8],
+    lengths: &[u8],
+    marks: &mut [u32; 32],
+    lists: &mut [[i32; 32]; 32],
+)
+    ensures { λ _. ⌜ ((i : ℕ) → rowIn (now (marks .exit)) (now (lists .exit)) i
+        ≡ cond (hears s i)
+        (tableOf (heads s) (listEntry s (now (positions .entry)) (plantedIn (now (planted .entry)) (now (lengths .entry))) i))
+        (rowIn (now (marks .entry)) (now (lists .entry)) i)) ⌝ }
+{
+    let sent = entries_sent(s, positions);
+    fill_lists(s, sent, planted, lengths, marks, lists);
+}

@@ -1,0 +1,117 @@
+-- What a head settles in a confession round. It depends on what links 0 .. n - 1 give alone. The unstruck heads give all alike; so heads to which the struck
+-- ones plant the same settle the same.
+use mathlib.Core.Path.{_≡_, refl, ap, sym, _∙_, fun-ext}
+use mathlib.Core.Bool.{Bool, true, false, not, cond, _&&_, true≢false}
+use mathlib.Core.List.{List}
+use Prim.Native.Nat.{ℕ, _<_}
+use lib.Dec.{ltb}
+use lib.IntN.{ℤ}
+use borrow.Author.Tests.{lt-ltb}
+use Rattle.terms.specs.declared.Entry.{Entry}
+use Rattle.terms.specs.declared.Table.{Table}
+use Rattle.marks.specs.Marks.{bitOf}
+use Rattle.convergence.specs.Counting.{Each}
+use Rattle.convergence.specs.Trust.{Given, nothing, trusted}
+use Rattle.convergence.proofs.Same.{ordered-same, trusted-same}
+use Rattle.settle_midpoint.specs.Answers.{settling, settlingFrom}
+use Rattle.settle_midpoint.specs.declared.Settled.{Settled}
+use Rattle.settle_midpoint.proofs.Middle.{settling-from}
+use Rattle.frame_spec.specs.declared.Said.{Said}
+use Rattle.frame_spec.specs.Said.{Meaning, listed, confessed, said, meant}
+use Rattle.frame_spec.specs.Written.{frameOf}
+use Rattle.frame_spec.proofs.Senders.{said-alike}
+use Rattle.settle_trust.specs.declared.Links.{Links}
+use Rattle.settle_trust.specs.Received.{givenBy}
+use Rattle.head_spec.specs.Record.{givenOf}
+use Rattle.ring_round.specs.declared.Stage.{Stage}
+use Rattle.ring_round.specs.Memory.{heads, ToldAlike, rowIn, replies, givenEntry, positionOf, newPosition}
+use Rattle.ring_confession.specs.Inner.{isStruck, ownReply, replied, Received, RowsKept, givenAlike, Untold, givenPlanted, settledFrom}
+
+-- ---- what an unstruck head replies
+
+reply-is : (b : Bool) (t : Table) → meant (cond b Said.Confession Said.List) t ≡ cond b confessed (listed t)
+reply-is true t = refl
+reply-is false t = refl
+
+-- x: what head k replies; bytes: its frame
+pub replied-is : (s : Stage) (marks : List ℕ) (lists : List (List ℤ)) (k : ℕ) {n : ℕ} {x : Said} {bytes : List ℕ} → n ≡ heads s → x ≡ ownReply s k
+    → bytes ≡ frameOf (heads s) k (s .phase) (meant x (rowIn marks lists k)) → said n (s .phase) 1 k bytes ≡ replied s marks lists k
+unfolding replied
+replied-is s marks lists k p q f = rw (f, q, p, reply-is (bitOf (s .before) k) (rowIn marks lists k))
+
+-- heads that reply the same are heard the same
+pub replied-alike : (s : Stage) (marks : List ℕ) (lists : List (List ℤ)) (k m : ℕ) → replies s marks lists k ≡ replies s marks lists m
+    → replied s marks lists k ≡ replied s marks lists m
+unfolding replied
+replied-alike s marks lists k m e =
+    ap (λ (x : Meaning). said (heads s) (s .phase) 1 k (frameOf (heads s) k (s .phase) x)) e ∙ said-alike (heads s) (s .phase) 1 k m (replies s marks lists m)
+
+-- ---- what is settled
+
+settling-same : (n f : ℕ) (E E′ : ℕ → Entry) → Each n (λ j. E j ≡ E′ j) → settling 0 n f E ≡ settling 0 n f E′
+settling-same n f E E′ h = settling-from 0 n f E ∙ ap (settlingFrom 0 n f) (ordered-same n E E′ h) ∙ sym (settling-from 0 n f E′)
+
+settled-same : (s : Stage) (G G′ : ℕ → Given) → Each (heads s) (λ k. G k ≡ G′ k) → settledFrom s G ≡ settledFrom s G′
+unfolding settledFrom
+settled-same s G G′ h =
+    ap positionOf (settling-same (heads s) (s .f) _ _ (λ j l. trusted-same (heads s) (s .f) G G′ j l h))
+
+-- x: what settling answered, from n heads
+pub settled-is : (s : Stage) (G : ℕ → Given) {n : ℕ} {x : Settled} → n ≡ heads s → x ≡ settling 0 n (s .f) (trusted n (s .f) G) → positionOf x ≡ settledFrom s G
+unfolding settledFrom
+settled-is s G p e = ap positionOf e ∙ rw p
+
+pub settled-received : (s : Stage) (g : Links) (rows : List (List ℤ)) (G : ℕ → Given) → Received g rows G → settledFrom s (givenBy g rows) ≡ settledFrom s G
+settled-received s g rows G h = ap (settledFrom s) (fun-ext (h .gives))
+
+-- ---- what is planted
+
+-- g gives the same with other rows
+module _ (s : Stage) (g : Links) (rows rows′ : List (List ℤ)) (h : RowsKept g rows rows′) where
+  pub untold-kept : Untold s g rows → Untold s g rows′
+  untold-kept u = record { marks-long = u .marks-long; rows-long = h .long; untold = λ k e. ap (λ (G : ℕ → Given). G k) (h .gives) ∙ u .untold k e }
+
+  pub planted-kept : (plant : ℕ → ℕ → List ℕ) (i : ℕ) → givenPlanted s g rows′ plant i ≡ givenPlanted s g rows plant i
+  unfolding givenPlanted
+  planted-kept plant i =
+      ap {B = ℕ → Given} (λ (G : ℕ → Given). λ k. cond (isStruck s k) (givenOf (said (heads s) (s .phase) 1 k (plant k i))) (G k)) (h .gives)
+
+-- heads told alike settle the same
+pub told-settled : (s : Stage) (g : Links) (rows : List (List ℤ)) (plant : ℕ → ℕ → List ℕ) (i m : ℕ) → ToldAlike s plant i m
+    → settledFrom s (givenPlanted s g rows plant m) ≡ settledFrom s (givenPlanted s g rows plant i)
+unfolding givenPlanted
+told-settled s g rows plant i m h = settled-same s _ _ go
+  where
+    go : (k : ℕ) → k < heads s → givenPlanted s g rows plant m k ≡ givenPlanted s g rows plant i k
+    go k l = rw (lt-ltb k (heads s) l) (pick (bitOf (s .struck) k) (h k l))
+      where
+        pick : (b : Bool) → (b ≡ true → plant k i ≡ plant k m)
+            → cond b (givenOf (said (heads s) (s .phase) 1 k (plant k m))) (givenBy g rows k) ≡ cond b (givenOf (said (heads s) (s .phase) 1 k (plant k i))) (givenBy g rows k)
+        pick true e = rw (e refl)
+        pick false e = refl
+
+-- the links and the rows hold what the unstruck heads give alike
+module _ (s : Stage) (marks : List ℕ) (lists : List (List ℤ)) (g : Links) (rows : List (List ℤ)) (h : Received g rows (givenAlike s marks lists)) where
+  pub alike-untold : Untold s g rows
+  unfolding givenAlike
+  alike-untold = record { marks-long = h .marks-long; rows-long = h .rows-long; untold = λ k e. h .gives k ∙ go (ltb k (heads s)) (bitOf (s .struck) k) _ e }
+    where
+      go : (l b : Bool) (x : Given) → (l && b) ≡ true → cond (l && not b) x nothing ≡ nothing
+      go true true x e = refl
+      go true false x e = absurd (true≢false (sym e))
+      go false b x e = refl
+
+  module _ (plant : ℕ → ℕ → List ℕ) (i : ℕ) where
+    given-same : (k : ℕ) → k < heads s → givenPlanted s g rows plant i k ≡ givenEntry s marks lists plant i k
+    unfolding givenPlanted givenAlike givenEntry replied
+    given-same k l = rw (h .gives k, lt-ltb k (heads s) l) (go (bitOf (s .struck) k))
+      where
+        go : (b : Bool) → cond b (givenOf (said (heads s) (s .phase) 1 k (plant k i)))
+            (cond (not b) (givenOf (said (heads s) (s .phase) 1 k (frameOf (heads s) k (s .phase) (replies s marks lists k)))) nothing)
+            ≡ givenOf (said (heads s) (s .phase) 1 k (cond b (plant k i) (frameOf (heads s) k (s .phase) (replies s marks lists k))))
+        go true = refl
+        go false = refl
+
+    pub new-settled : settledFrom s (givenPlanted s g rows plant i) ≡ newPosition s marks lists plant i
+    unfolding settledFrom newPosition
+    new-settled = settled-same s _ _ given-same

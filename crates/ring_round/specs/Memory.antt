@@ -1,0 +1,71 @@
+-- A round played on the heads' memory, which a player keeps apart from the records: the positions at the last phase end, and after a collection round
+-- the list of each head. Each definition says what the head records would hear and make of it.
+use mathlib.Core.Path.{_≡_}
+use mathlib.Core.Bool.{Bool, true, false, not, cond, _&&_}
+use mathlib.Core.List.{List, []}
+use Prim.Native.Nat.{ℕ, _+_, _*_, _<_, min}
+use lib.Dec.{ltb}
+use lib.ListN.{getD, take, drop}
+use lib.IntN.{ℤ, pos}
+use Rattle.terms.specs.declared.Entry.{Entry}
+use Rattle.terms.specs.declared.Table.{Table}
+use Rattle.marks.specs.Marks.{bitOf}
+use Rattle.convergence.specs.Trust.{Given, trusted}
+use Rattle.frame_spec.specs.Said.{Meaning, collected, listed, confessed, said}
+use Rattle.frame_spec.specs.Written.{frameOf}
+use Rattle.settle_midpoint.specs.Answers.{settling}
+use Rattle.settle_midpoint.specs.declared.Settled.{Settled}
+use Rattle.settle_midpoint.specs.declared.Settled.the-variants.{Refused, New}
+use Rattle.head_spec.specs.Record.{heardEntry, givenOf}
+use Rattle.ring_round.specs.declared.Stage.{Stage}
+
+-- the heads that are played: 32 at most
+abbrev pub heads : Stage → ℕ
+heads s = min (s .n) 32
+
+-- whether head i is played and not struck in this round
+abbrev pub hears : Stage → ℕ → Bool
+hears s i = ltb i (heads s) && not (bitOf (s .struck) i)
+
+-- What link k carries to head i in round r: what is planted there, or the frame that says m, what head k has to say.
+abbrev pub carries : Stage → (ℕ → ℕ → List ℕ) → ℕ → ℕ → Meaning → List ℕ
+carries s plant i k m = cond (bitOf (s .struck) k) (plant k i) (frameOf (heads s) k (s .phase) m)
+
+-- the same is planted from each struck head to heads i and m
+abbrev pub ToldAlike : Stage → (ℕ → ℕ → List ℕ) → ℕ → ℕ → Type 0
+ToldAlike s plant i m = (k : ℕ) → k < heads s → bitOf (s .struck) k ≡ true → plant k i ≡ plant k m
+
+-- ---- collection
+
+-- a healed head sends silence, a healthy one its position
+abbrev pub sends : Stage → List ℤ → ℕ → Meaning
+sends s positions k = collected (cond (bitOf (s .before) k) Entry.Null (Entry.Position (getD positions k (pos 0))))
+
+-- entry k of the list that head i fills
+unfoldable pub listEntry : Stage → List ℤ → (ℕ → ℕ → List ℕ) → ℕ → ℕ → Entry
+listEntry s positions plant i k = heardEntry (said (heads s) (s .phase) 0 k (carries s plant i k (sends s positions k)))
+
+-- ---- confession
+
+-- the list of head k
+abbrev pub rowIn : List ℕ → List (List ℤ) → ℕ → Table
+rowIn marks lists k = record { marks = getD marks k 0; entries = getD lists k [] }
+
+-- a healed head sends a confession, any other its list
+abbrev pub replies : Stage → List ℕ → List (List ℤ) → ℕ → Meaning
+replies s marks lists k = cond (bitOf (s .before) k) confessed (listed (rowIn marks lists k))
+
+-- what link k gives head i
+unfoldable pub givenEntry : Stage → List ℕ → List (List ℤ) → (ℕ → ℕ → List ℕ) → ℕ → ℕ → Given
+givenEntry s marks lists plant i k =
+    givenOf (said (heads s) (s .phase) 1 k (carries s plant i k (replies s marks lists k)))
+
+-- a refusal leaves no position: 0 stands for none, and no ring within its limits comes to it
+abbrev pub positionOf : Settled → ℤ
+positionOf (Refused c) = pos 0
+positionOf (New k) = k .position
+
+-- the new position of head i
+unfoldable pub newPosition : Stage → List ℕ → List (List ℤ) → (ℕ → ℕ → List ℕ) → ℕ → ℤ
+newPosition s marks lists plant i =
+    positionOf (settling 0 (heads s) (s .f) (trusted (heads s) (s .f) (givenEntry s marks lists plant i)))

@@ -1,0 +1,70 @@
+// A round of a whole ring, played on the heads' memory: what each head says is written as its frame and heard as a frame, planted bytes are heard as they are.
+// `collection` and `confession` play the two rounds; here is what both need.
+ghost use mathlib.Core.Bool.{true};
+ghost use mathlib.Core.Path.{_≡_};
+ghost use Prim.Native.Nat.{_<_};
+ghost use Rattle.frame_slots.specs.Slots.{plantedIn};
+ghost use Rattle.frame_spec.specs.Said.{meant};
+ghost use Rattle.frame_spec.specs.Written.{frameOf};
+ghost use Rattle.ring_round.specs.Memory.{heads, ToldAlike};
+ghost use Rattle.ring_round.specs.Frames.{Front};
+use frame_spec::Said;
+use frame_spec::Written;
+use terms::Table;
+
+// The ring in a round: its size, the phase, the heads struck in the round before and those struck in this one.
+pub struct Stage {
+    pub n: u8,
+    pub f: u8,
+    pub phase: u16,
+    pub before: u32,
+    pub struck: u32,
+}
+
+// How many heads are played.
+pub fn head_count(s: Stage) -> u8
+    ensures { λ r. ⌜ r ≡ heads s ⌝ }
+{
+    if s.n < 32 { s.n } else { 32 }
+}
+
+// Writes the frame in which head k says `what` (a list with `table`) at the front of the buffer, and answers its length.
+pub fn write_frame(what: Said, table: Table, s: Stage, k: u8, buffer: &mut [u8; 140]) -> usize
+    ensures { λ r. ⌜ Front (frameOf (heads s) k (s .phase) (meant what table)) r (now (buffer .exit)) ⌝ }
+{
+    match frame_codec::write(what, table, head_count(s), k, s.phase, buffer) {
+        Written::Length(len) => len,
+        Written::Refused(_) => 0,
+    }
+}
+
+// Whether the same is planted from each struck head to heads i and m: what the one hears of them, the other does too.
+fn hears_alike(s: Stage, planted: &[u8], lengths: &[u8], i: usize, m: usize) -> bool
+    requires { ⌜ (i < 32) × (m < 32) ⌝ }
+    ensures { λ r. ⌜ (r ≡ true → ToldAlike s (plantedIn (now (planted .entry)) (now (lengths .entry))) i m) ⌝ }
+{
+    if s.struck == 0 {
+        return true;
+    }
+    let n = head_count(s) as usize;
+    let mut k: usize = 0;
+    while k < n {
+        if marks::marked(s.struck, k)
+            && !frame_slots::is_alike(planted, lengths, k as u8, i as u8, m as u8)
+        {
+            return false;
+        }
+        k += 1;
+    }
+    true
+}
+
+// The same of any two numbers: from 32 on there is no head, and the answer is no.
+pub fn is_told_alike(s: Stage, planted: &[u8], lengths: &[u8], i: usize, m: usize) -> bool
+    ensures { λ r. ⌜ (r ≡ true → ToldAlike s (plantedIn (now (planted .entry)) (now (lengths .entry))) i m) ⌝ }
+{
+    if i < 32 && m < 32 {
+        return hears_alike(s, planted, lengths, i, m);
+    }
+    false
+}

@@ -1,0 +1,125 @@
+-- What an unstruck head's record is when the round is closed: after collection its list stands, and after confession, where enough entries are
+-- trusted, it holds the midpoint of what it trusts. Either way the next round can open, up to the last phase.
+use mathlib.Core.Path.{_≡_, ap, sym, subst, _∙_}
+use mathlib.Core.Bool.{true, false}
+use Prim.Native.Nat.{ℕ, _+_, _<_}
+use native.Mathlib.Omega.{arith}
+use borrow.Author.Tests.{lt-leb}
+use Rattle.terms.specs.declared.Entry.{Entry}
+use Rattle.marks.specs.Marks.{bitOf}
+use Rattle.convergence.specs.Counting.{Each}
+use Rattle.convergence.specs.Settling.{midpoint, enough}
+use Rattle.convergence.specs.Trust.{trusted}
+use Rattle.convergence.specs.Phases.{rounding}
+use Rattle.head_spec.specs.declared.Head.{Head}
+use Rattle.head_spec.specs.declared.Closed.{Closed}
+use Rattle.head_spec.specs.declared.Closing.{Closing}
+use Rattle.head_spec.specs.Record.{given}
+use Rattle.head_spec.specs.Calls.{closing, closedCollection, closedPhase, close}
+use Rattle.head_spec.proofs.Hearing.{HeardKept, keptOf}
+use Rattle.head_spec.proofs.RoundEnd.{settledBy, closes-collection, closes-phase, settled-midpoint, fresh-collection, fresh-phase}
+use Rattle.ring_spec.specs.Rounds.{Round, Ring, openedAt, closedAt, phaseThen, roundThen, afterRound}
+use Rattle.ring_spec.proofs.OneRound.{recordOf, Ready, RingReady, heardAt, heard-proper, heard-is}
+
+module _ (n f : ℕ) (R : Ring) (w : Round) (S : RingReady n f R) where
+  module _ (i : ℕ) (l : i < n) (q : bitOf (w .struck) i ≡ false) where
+    abbrev T : Head
+    T = heardAt n f R w i
+
+    is : keptOf T ≡ recordOf n f i (R .phase) (R .round) (bitOf (R .before) i) (openedAt n f R w i .position)
+    is = heard-is n f R w S i l q
+
+    round-is : {r : ℕ} → R .round ≡ r → T .round ≡ r
+    round-is c = ap (λ (x : HeardKept). x .round) is ∙ c
+
+    closed-is : (c : Closed) (h : Head) → close T ≡ closing c h → closedAt n f R w i ≡ h
+    unfolding closedAt
+    closed-is c h e = rw q (ap (λ (x : Closing). x .head) e)
+
+    module _ (collection : R .round ≡ 0) where
+      pub collection-closes : close T ≡ closing Closed.Listed (closedCollection T)
+      collection-closes = closes-collection T (ap (λ (x : HeardKept). x .ended) is) (round-is collection)
+
+      pub collection-closed : closedAt n f R w i ≡ closedCollection T
+      collection-closed = closed-is Closed.Listed (closedCollection T) collection-closes
+
+      pub collection-ready : Ready n f i (R .phase) 1 false (closedAt n f R w i)
+      unfolding closedCollection
+      collection-ready =
+          rw collection-closed
+          (record {
+            fresh = fresh-collection T (heard-proper n f R w S i l q);
+            is = ap (λ (x : HeardKept). recordOf (x .n) (x .f) (x .number) (x .phase) 1 false (T .position)) is;
+          })
+
+    -- a confession round in which enough entries are trusted
+    module _ (confession : R .round ≡ 1) (calm : enough n f (trusted n f (given T)) ≡ true) where
+      pub confession-closes : close T ≡ closing (Closed.Settled (settledBy T)) (closedPhase T (settledBy T .position))
+      confession-closes =
+          closes-phase T (ap (λ (x : HeardKept). x .ended) is) (round-is confession)
+          (ap (λ (x : HeardKept). enough (x .n) (x .f) (trusted (x .n) (x .f) (given T))) is ∙ calm)
+
+      confession-closed : closedAt n f R w i ≡ closedPhase T (settledBy T .position)
+      confession-closed = closed-is (Closed.Settled (settledBy T)) (closedPhase T (settledBy T .position)) confession-closes
+
+      pub confession-settles : closedAt n f R w i .position ≡ Entry.Position (midpoint (rounding (R .phase)) n f (trusted n f (given T)))
+      unfolding closedPhase
+      confession-settles =
+          ap (λ (x : Head). x .position) confession-closed
+          ∙ ap Entry.Position (settled-midpoint T)
+          ∙ ap (λ (x : HeardKept). Entry.Position (midpoint (rounding (x .phase)) (x .n) (x .f) (trusted (x .n) (x .f) (given T)))) is
+
+      pub confession-ready : R .phase < 65535 → Ready n f i (R .phase + 1) 0 false (closedAt n f R w i)
+      unfolding closedPhase
+      confession-ready more =
+          let p : T .phase ≡ R .phase = ap (λ (x : HeardKept). x .phase) is in
+          rw confession-closed
+          (record {
+            fresh = fresh-phase T (heard-proper n f R w S i l q) (omega arith);
+            is =
+                rw (lt-leb 65535 (T .phase) (omega arith))
+                (ap (λ (x : HeardKept). recordOf (x .n) (x .f) (x .number) (x .phase + 1) 0 false (Entry.Position (settledBy T .position))) is);
+          })
+
+  -- ---- the ring
+
+  abbrev next : Ring
+  next = afterRound n f R w
+
+  pub after-collection : R .round ≡ 0 → (next .phase ≡ R .phase) × (next .round ≡ 1)
+  unfolding afterRound
+  after-collection c = (ap (λ (r : ℕ). phaseThen r (R .phase)) c, ap roundThen c)
+
+  pub after-confession : R .round ≡ 1 → (next .phase ≡ R .phase + 1) × (next .round ≡ 0)
+  unfolding afterRound
+  after-confession c = (ap (λ (r : ℕ). phaseThen r (R .phase)) c, ap roundThen c)
+
+  -- record i of the next ring
+  next-head : (i r : ℕ) → R .round ≡ r → Ready n f i (phaseThen r (R .phase)) (roundThen r) false (closedAt n f R w i)
+      → Ready n f i (phaseThen (R .round) (R .phase)) (roundThen (R .round)) false (closedAt n f R w i)
+  next-head i r c H = subst (λ (x : ℕ). Ready n f i (phaseThen x (R .phase)) (roundThen x) false (closedAt n f R w i)) (sym c) H
+
+  pub collection-next : R .round ≡ 0 → RingReady n f next
+  unfolding afterRound
+  collection-next c =
+      let (p, r) = after-collection c in
+      record {
+        size = S .size;
+        from-first = omega (arith, S .from-first);
+        to-last = omega (arith, S .to-last);
+        round = omega arith;
+        heads = λ i l q. next-head i 0 c (collection-ready i l q c);
+      }
+
+  pub confession-next : R .round ≡ 1 → Each n (λ i. bitOf (w .struck) i ≡ false → enough n f (trusted n f (given (heardAt n f R w i))) ≡ true)
+      → R .phase < 65535 → RingReady n f next
+  unfolding afterRound
+  confession-next c calm more =
+      let (p, r) = after-confession c in
+      record {
+        size = S .size;
+        from-first = omega arith;
+        to-last = omega arith;
+        round = omega arith;
+        heads = λ i l q. next-head i 1 c (confession-ready i l q c (calm i l q) more);
+      }

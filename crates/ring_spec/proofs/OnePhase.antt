@@ -1,0 +1,179 @@
+-- A phase of a ring, played on records and frames, is a phase in the sense of `convergence`: planted bytes amount to faults, since a frame says
+-- something or nothing, and what each unstruck record holds after its two rounds is what a head of `convergence` holds. So no closing is refused, and
+-- the end is nearer.
+use mathlib.Core.Path.{_≡_, refl, ap, ap₂, sym, _∙_}
+use mathlib.Core.Logic.{_≢_}
+use mathlib.Core.Bool.{Bool, true, false, cond}
+use Prim.Native.Nat.{ℕ, _*_, _≤_, _<_}
+use native.Mathlib.Omega.{arith}
+use lib.IntN.{ℤ}
+use borrow.Author.Tests.{le-leb}
+use Rattle.terms.specs.declared.Entry.{Entry}
+use Rattle.terms.specs.declared.Entry.the-variants.{Null, Position}
+use Rattle.marks.specs.Marks.{bitOf}
+use Rattle.entries.specs.Tables.{tableAt}
+use Rattle.convergence.specs.Counting.{Each, AtMost}
+use Rattle.convergence.specs.Settling.{nulls, midpoint, enough}
+use Rattle.convergence.specs.Trust.{Given, gave, hasConfessed, saysOf, trusted}
+use Rattle.convergence.specs.Trust as Trust
+use Rattle.convergence.specs.Phases.{End, Faults, gives, listOf, givenTo, after, rounding}
+use Rattle.convergence.specs.Demand3.{Halves}
+use Rattle.convergence.proofs.OnePhase.{Limits}
+use Rattle.convergence.proofs.Ends.{number, AllHold, Nearer}
+use Rattle.convergence.proofs.Same.{SameOf, nulls-same, midpoint-same, trusted-same-of}
+use Rattle.convergence.proofs.Demand3.{settled-is, few-nulls-in-phase, nearer, rounding-le}
+use Rattle.frame_spec.specs.Said.{collected, listed, confessed, said}
+use Rattle.head_spec.specs.declared.Head.{Head}
+use Rattle.head_spec.specs.Record.{given, heardEntry, givenOf}
+use Rattle.head_spec.specs.Calls.{closedCollection}
+use Rattle.head_spec.proofs.Hearing.{HeardKept}
+use Rattle.ring_spec.specs.Rounds.{Round, planted, Ring, openedAt, afterRound}
+use Rattle.ring_spec.proofs.OneRound.{RingReady, says-entry, says-list, saidIn, heardAt, said-planted, opened-same, opened-in, said-spoken, heard-given, heard-list}
+use Rattle.ring_spec.proofs.Closings.{collection-closed, confession-settles, after-collection, collection-next}
+
+-- the faults that the planted bytes of phase p amount to, whatever they are: a in its collection round, b in its confession round
+unfoldable pub faultsOf : ℕ → ℕ → Round → Round → Faults
+faultsOf n p a b =
+    record {
+      collect = bitOf (a .struck);
+      told = λ k i. heardEntry (said n p 0 k (planted (a .plants) k i));
+      confess = bitOf (b .struck);
+      replied = λ k i. givenOf (said n p 1 k (planted (b .plants) k i));
+    }
+
+-- the phase end that a ring stands at before a collection round
+abbrev pub endAt : Ring → End
+endAt R = record { struck = bitOf (R .before); at = λ i. R .heads i .position }
+
+held : (x : Entry) → x ≢ Null → x ≡ Position (number x)
+held Null d = absurd (d refl)
+held (Position u) d = refl
+
+-- an end is nearer by what its sound heads hold
+nearer-same : {n N f : ℕ} {Q : Type 0} {e : End} {s : ℕ → Bool} {x y : ℕ → Entry} → Nearer n N f Q e (record { struck = s; at = x })
+    → Each N (λ i. s i ≡ false → y i ≡ x i) → Nearer n N f Q e (record { struck = s; at = y })
+nearer-same {s} {x} {y} P h =
+    record {
+      few = P .few;
+      between = λ m M I i l q. rw (h i l q) (P .between m M I i l q);
+      near =
+          λ large m M I i i′ l l′ a b q q′. P .near large m M I i i′ l l′ a b (sound (s i) (x i) (y i) a (h i l) q)
+          (sound (s i′) (x i′) (y i′) b (h i′ l′) q′);
+    }
+  where
+    sound : (b : Bool) (x y : Entry) (a : ℤ) → (b ≡ false → y ≡ x) → cond b Null y ≡ Position a → cond b Null x ≡ Position a
+    sound true x y a h q = q
+    sound false x y a h q = sym (h refl) ∙ q
+
+-- two links that gave the same
+same-given : {j : ℕ} {g g₁ g₂ : Given} → g ≡ g₁ → SameOf j g₁ g₂ → SameOf j g g₂
+same-given {j} e s = record { confesses = ap hasConfessed e ∙ s .confesses; says = ap (saysOf j) e ∙ s .says }
+
+module _ (n f : ℕ) (R : Ring) (a b : Round) (S : RingReady n f R) (collection : R .round ≡ 0) where
+  abbrev R₁ : Ring
+  R₁ = afterRound n f R a
+
+  abbrev F : Faults
+  F = faultsOf n (R .phase) a b
+
+  -- each sound head holds a position
+  pub ring-holds : AllHold n (endAt R)
+  ring-holds i l q =
+      let H = S .heads i l q in
+      held (R .heads i .position) (H .fresh .proper .holds (ap (λ (x : HeardKept). x .round) (H .is) ∙ collection) (ap (λ (x : HeardKept). x .healed) (H .is)))
+
+  -- ---- the collection round
+
+  -- entry j of the list that head i fills
+  said-entry : (i j : ℕ) → j < n → heardEntry (saidIn n f R a i j) ≡ listOf (endAt R) F i j
+  unfolding listOf faultsOf
+  said-entry i j l = go (bitOf (a .struck) j) (bitOf (R .before) j) refl refl
+    where
+      told : Entry
+      told = heardEntry (said n (R .phase) 0 j (planted (a .plants) j i))
+
+      spoke : bitOf (a .struck) j ≡ false → saidIn n f R a i j ≡ collected (cond (bitOf (R .before) j) Null (openedAt n f R a j .position))
+      spoke q = said-spoken n f R a S i j l q ∙ says-entry (opened-in n f R a S j l q collection)
+
+      go : (c p : Bool) → bitOf (a .struck) j ≡ c → bitOf (R .before) j ≡ p → heardEntry (saidIn n f R a i j) ≡ gives c p told Null (R .heads j .position)
+      go true p q e = ap heardEntry (said-planted n f R a i j q) ∙ rw collection
+      go false true q e = ap heardEntry (spoke q) ∙ rw e
+      go false false q e = ap heardEntry (spoke q) ∙ rw (e, opened-same n f R a j q e)
+
+  list-same : (i : ℕ) → i < n → bitOf (a .struck) i ≡ false → Each n (λ j. tableAt (R₁ .heads i .list) j ≡ listOf (endAt R) F i j)
+  unfolding afterRound closedCollection
+  list-same i l q j m =
+      ap (λ (h : Head). tableAt (h .list) j) (collection-closed n f R a S i l q collection)
+      ∙ heard-list n f R a S i l q collection j m
+      ∙ said-entry i j m
+
+  -- ---- the confession round
+
+  S₁ : RingReady n f R₁
+  S₁ = collection-next n f R a S collection
+
+  confession : R₁ .round ≡ 1
+  confession = after-collection n f R a S collection .1
+
+  -- what link k gave head i, as far as head j goes
+  given-same : (i j k : ℕ) → i < n → bitOf (b .struck) i ≡ false → j < n → k < n → SameOf j (given (heardAt n f R₁ b i) k) (givenTo (endAt R) F i k)
+  unfolding givenTo faultsOf afterRound
+  given-same i j k l q m t =
+      same-given (heard-given n f R₁ b S₁ i l q k t) (go (bitOf (b .struck) k) (bitOf (a .struck) k) refl refl)
+    where
+      replied : Given
+      replied = givenOf (said n (R .phase) 1 k (planted (b .plants) k i))
+
+      spoke : (c : Bool) → bitOf (b .struck) k ≡ false → bitOf (a .struck) k ≡ c → saidIn n f R₁ b i k ≡ cond c confessed (listed (openedAt n f R₁ b k .list))
+      spoke c d e =
+          said-spoken n f R₁ b S₁ i k t d
+          ∙ says-list (opened-in n f R₁ b S₁ k t d confession)
+          ∙ ap (λ (x : Bool). cond x confessed (listed (openedAt n f R₁ b k .list))) e
+
+      go : (d c : Bool) → bitOf (b .struck) k ≡ d → bitOf (a .struck) k ≡ c
+          → SameOf j (givenOf (saidIn n f R₁ b i k)) (gives d c replied Trust.confessed (gave (listOf (endAt R) F k)))
+      go true c d e =
+          let (p, r) = after-collection n f R a S collection in
+          same-given (ap givenOf (said-planted n f R₁ b i k d ∙ ap₂ (λ (p r : ℕ). said n p r k (planted (b .plants) k i)) p r))
+          (record { confesses = refl; says = refl })
+      go false true d e = same-given (ap givenOf (spoke true d e)) (record { confesses = refl; says = refl })
+      go false false d e =
+          same-given (ap givenOf (spoke false d e ∙ ap (λ (h : Head). listed (h .list)) (opened-same n f R₁ b k d e)))
+          (record { confesses = refl; says = list-same k t e j m })
+
+  -- ---- within the limits
+
+  module _ (few-before : AtMost f n (bitOf (R .before))) (few-a : AtMost f n (bitOf (a .struck)))
+      (few-b : AtMost f n (bitOf (b .struck))) where
+    limits : Limits n f (F .collect) (F .confess) (endAt R .struck)
+    unfolding faultsOf
+    limits = record { size = S .size .limit; few-c = few-a; few-d = few-b; few-p = few-before }
+
+    module _ (i : ℕ) (l : i < n) (q : bitOf (b .struck) i ≡ false) where
+      -- the trusted entries of head i are those of `convergence`
+      trusted-same : Each n (λ j. trusted n f (given (heardAt n f R₁ b i)) j ≡ trusted n f (givenTo (endAt R) F i) j)
+      trusted-same j m = trusted-same-of n f _ _ j (λ k t. given-same i j k l q m t) m
+
+      few : nulls n (trusted n f (givenTo (endAt R) F i)) ≤ 3 * f
+      few = few-nulls-in-phase n f (endAt R) F limits ring-holds i
+
+      -- never refused 25
+      pub calm : enough n f (trusted n f (given (heardAt n f R₁ b i))) ≡ true
+      unfolding enough
+      calm = le-leb (nulls n (trusted n f (given (heardAt n f R₁ b i)))) (3 * f) (omega (arith, nulls-same n _ _ trusted-same, few))
+
+      -- and the new position is that of `convergence`
+      pub settles-as : afterRound n f R₁ b .heads i .position ≡ after (rounding (R .phase)) n f (endAt R) F .at i
+      unfolding afterRound after
+      settles-as =
+          confession-settles n f R₁ b S₁ i l q confession calm
+          ∙ ap (λ (p : ℕ). Position (midpoint (rounding p) n f (trusted n f (given (heardAt n f R₁ b i))))) (after-collection n f R a S collection .0)
+          ∙ ap Position (midpoint-same (rounding (R .phase)) n f _ _ trusted-same)
+          ∙ sym (settled-is (rounding (R .phase)) n f (trusted n f (givenTo (endAt R) F i)) few)
+
+    abbrev R₂ : Ring
+    R₂ = afterRound n f R₁ b
+
+    pub phase-nearer : Nearer n n f (Halves n f) (endAt R) (endAt R₂)
+    unfolding afterRound after faultsOf
+    phase-nearer = nearer-same (nearer n f (endAt R) F limits n (rounding (R .phase)) (rounding-le (R .phase))) settles-as

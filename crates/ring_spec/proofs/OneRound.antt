@@ -1,0 +1,120 @@
+-- One round of a ring. Every unstruck head opens it with nothing heard and says what its record has to say, and every other hears it say so; a struck
+-- head says what is planted, if anything. So these alone tell what an unstruck record holds when all is heard.
+use mathlib.Core.Path.{_≡_, refl, ap, sym, subst, _∙_}
+use mathlib.Core.Bool.{Bool, true, false, cond}
+use mathlib.Core.List.{List}
+use Prim.Native.Nat.{ℕ, _≤_, _<_}
+use Rattle.terms.specs.declared.Entry.{Entry}
+use Rattle.marks.specs.Marks.{bitOf}
+use Rattle.entries.specs.Tables.{tableAt}
+use Rattle.convergence.specs.Counting.{Each}
+use Rattle.frame_spec.specs.Said.{Meaning, collected, listed, confessed, said}
+use Rattle.head_spec.specs.declared.Head.{Head}
+use Rattle.head_spec.specs.Record.{given, heardEntry, givenOf}
+use Rattle.head_spec.specs.Calls.{restarted, hearAll, spokenIn, spoken, frameFor}
+use Rattle.head_spec.proofs.Proper.{Sized, ProperHead, restart-accepted}
+use Rattle.head_spec.proofs.Hearing.{HeardKept, keptOf, all-keep, proper-all, Fresh, fresh-restarted, gave-as-said, listed-as-said}
+use Rattle.head_spec.proofs.Speaking.{spoken-reads-back}
+use Rattle.ring_spec.specs.Rounds.{Round, planted, Ring, openedAt, carried}
+
+-- what hearing keeps of the record of head i, in round r of phase p, with position x; b: it is healed
+abbrev pub recordOf : ℕ → ℕ → ℕ → ℕ → ℕ → Bool → Entry → HeardKept
+recordOf n f i p r b x = record { n = n; f = f; number = i; phase = p; round = r; healed = b; ended = false; position = x }
+
+-- the record of head i as round r of phase p opens
+pub record Ready (n f i p r : ℕ) (b : Bool) (h : Head) : Type 0 where
+  pub fresh : Fresh h
+  pub is : keptOf h ≡ recordOf n f i p r b (h .position)
+
+-- a ring as the next round finds it: every head whose record is not lost can open it
+pub record RingReady (n f : ℕ) (R : Ring) : Type 0 where
+  pub size : Sized n f
+  pub from-first : 1 ≤ R .phase
+  pub to-last : R .phase ≤ 65535
+  pub round : R .round < 2
+  pub heads : Each n (λ i. bitOf (R .before) i ≡ false → Ready n f i (R .phase) (R .round) false (R .heads i))
+
+-- what a record says, by its round
+module _ {n f i p : ℕ} {b : Bool} {h : Head} where
+  pub says-entry : Ready n f i p 0 b h → spoken h ≡ collected (cond b Entry.Null (h .position))
+  unfolding spoken
+  says-entry H =
+      ap (λ (x : HeardKept). spokenIn (x .round) h) (H .is) ∙ ap (λ (x : HeardKept). collected (cond (x .healed) Entry.Null (h .position))) (H .is)
+
+  pub says-list : Ready n f i p 1 b h → spoken h ≡ cond b confessed (listed (h .list))
+  unfolding spoken
+  says-list H = ap (λ (x : HeardKept). spokenIn (x .round) h) (H .is) ∙ ap (λ (x : HeardKept). cond (x .healed) confessed (listed (h .list))) (H .is)
+
+module _ (n f : ℕ) (R : Ring) (w : Round) where
+  -- what head i hears on link k
+  abbrev pub saidIn : ℕ → ℕ → Meaning
+  saidIn i k = said n (R .phase) (R .round) k (carried n f R w i k)
+
+  -- the record of head i when it has heard all links
+  abbrev pub heardAt : ℕ → Head
+  heardAt i = hearAll (openedAt n f R w i) (carried n f R w i) n
+
+  pub said-planted : (i k : ℕ) → bitOf (w .struck) k ≡ true → saidIn i k ≡ said n (R .phase) (R .round) k (planted (w .plants) k i)
+  unfolding carried
+  said-planted i k q = rw q
+
+  -- neither struck nor healed: the record that was
+  pub opened-same : (i : ℕ) → bitOf (w .struck) i ≡ false → bitOf (R .before) i ≡ false → openedAt n f R w i ≡ R .heads i
+  unfolding openedAt
+  opened-same i q e = rw (q, e)
+
+  module _ (S : RingReady n f R) where
+    restarted-ready : (i : ℕ) → i < n → Ready n f i (R .phase) (R .round) true (restarted n f i (R .phase) (R .round))
+    unfolding restarted
+    restarted-ready i l =
+        let accepted = restart-accepted n f i (S .size) l (R .phase) (R .round) (S .from-first) (S .to-last) (S .round) in
+        record { fresh = fresh-restarted n f i (R .phase) (R .round) accepted; is = refl }
+
+    module _ (i : ℕ) (l : i < n) (q : bitOf (w .struck) i ≡ false) where
+      pub opened-ready : Ready n f i (R .phase) (R .round) (bitOf (R .before) i) (openedAt n f R w i)
+      unfolding openedAt
+      opened-ready = rw q (go (bitOf (R .before) i) refl)
+        where
+          go : (b : Bool) → bitOf (R .before) i ≡ b
+              → Ready n f i (R .phase) (R .round) b (cond b (restarted n f i (R .phase) (R .round)) (R .heads i))
+          go true e = restarted-ready i l
+          go false e = S .heads i l e
+
+      pub opened-in : {r : ℕ} → R .round ≡ r → Ready n f i (R .phase) r (bitOf (R .before) i) (openedAt n f R w i)
+      opened-in c = subst (λ (r : ℕ). Ready n f i (R .phase) r (bitOf (R .before) i) (openedAt n f R w i)) c opened-ready
+
+    -- every head hears an unstruck one say what its record has to say
+    pub said-spoken : (i k : ℕ) → k < n → bitOf (w .struck) k ≡ false → saidIn i k ≡ spoken (openedAt n f R w k)
+    unfolding carried
+    said-spoken i k l q =
+        let h = openedAt n f R w k in
+        let H = opened-ready k l q in
+        rw q (ap (λ (x : HeardKept). said (x .n) (x .phase) (x .round) (x .number) (frameFor h)) (sym (H .is)) ∙ spoken-reads-back h (H .fresh .proper))
+
+    -- ---- when all is heard
+
+    module _ (i : ℕ) (l : i < n) (q : bitOf (w .struck) i ≡ false) where
+      abbrev h : Head
+      h = openedAt n f R w i
+
+      abbrev g : ℕ → List ℕ
+      g = carried n f R w i
+
+      abbrev H : Ready n f i (R .phase) (R .round) (bitOf (R .before) i) h
+      H = opened-ready i l q
+
+      pub heard-proper : ProperHead (heardAt i)
+      heard-proper = proper-all h g n (H .fresh .proper)
+
+      pub heard-is : keptOf (heardAt i) ≡ recordOf n f i (R .phase) (R .round) (bitOf (R .before) i) (h .position)
+      heard-is = all-keep h g n ∙ H .is
+
+      pub heard-given : Each n (λ k. given (heardAt i) k ≡ givenOf (saidIn i k))
+      heard-given =
+          subst (λ (x : HeardKept). Each (x .n) (λ k. given (hearAll h g (x .n)) k ≡ givenOf (said (x .n) (x .phase) (x .round) k (g k)))) (H .is)
+          (gave-as-said h (H .fresh) g)
+
+      pub heard-list : R .round ≡ 0 → Each n (λ k. tableAt (heardAt i .list) k ≡ heardEntry (saidIn i k))
+      heard-list c =
+          subst (λ (x : HeardKept). Each (x .n) (λ k. tableAt (hearAll h g (x .n) .list) k ≡ heardEntry (said (x .n) (x .phase) (x .round) k (g k)))) (H .is)
+          (listed-as-said h (H .fresh) g (ap (λ (x : HeardKept). x .round) (H .is) ∙ c))

@@ -1,0 +1,32 @@
+-- Demand 3, of a ring of records and frames: any first positions, any rounds within the limits, any planted bytes.
+use mathlib.Core.Bool.{Bool, false, true}
+use mathlib.Core.List.{List, [], _∷_}
+use mathlib.Core.Path.{_≡_}
+use Prim.Native.Nat.{ℕ, _+_, _≤_, _<_}
+use lib.ListN.{length, getD}
+use lib.IntN.{ℤ}
+use Rattle.terms.specs.Positions.{isPosition}
+use Rattle.marks.specs.Marks.{bitOf}
+use Rattle.convergence.specs.Counting.{Each, AtMost}
+use Rattle.convergence.specs.Demand3.{Demand3, AcceptedSize}
+use Rattle.ring_spec.specs.Rounds.{Round, PhaseEnd, asEnd, endsAfter, lost}
+
+-- at most f heads are struck in each round
+abbrev pub FewStruckIn : ℕ → ℕ → List Round → Type 0
+FewStruckIn n f [] = Unit {0}
+FewStruckIn n f (w ∷ ws) = AtMost f n (bitOf (w .struck)) × FewStruckIn n f ws
+
+-- no end at all
+abbrev pub noEnd : PhaseEnd
+noEnd = record { collect = 0; confess = 0; heads = λ i. lost }
+
+-- any two of a list of ends, which has the latest first, k apart
+abbrev pub AnyTwo : ℕ → ℕ → List PhaseEnd → Type 0
+AnyTwo n f es =
+    (i k : ℕ) → i + k < length es → Demand3 n f k (asEnd (getD es (i + k) noEnd)) (asEnd (getD es i noEnd))
+
+-- up to the last round of phase 65,535
+abbrev pub RingConverges : Type 0
+RingConverges =
+    (n f : ℕ) (v : ℕ → ℤ) (ws : List Round) → n ≤ 32 → AcceptedSize n f → Each n (λ i. isPosition (v i) ≡ true) → FewStruckIn n f ws → length ws ≤ 131070
+    → AnyTwo n f (endsAfter n f v ws)

@@ -1,0 +1,105 @@
+-- Document 01, "Strikes", for the records of a whole ring: memory lost, healed heads restarted, frames sent and delivered, rounds closed.
+use mathlib.Core.Bool.{Bool, false, cond, _&&_}
+use mathlib.Core.List.{List, [], _∷_}
+use Prim.Native.Nat.{ℕ, zero, suc, _+_}
+use lib.Dec.{eqb}
+use lib.IntN.{ℤ}
+use Rattle.terms.specs.declared.Entry.{Entry}
+use Rattle.marks.specs.Marks.{bitOf}
+use Rattle.convergence.specs.Phases.{End}
+use Rattle.head_spec.specs.Record.{noEntries, opened}
+use Rattle.head_spec.specs.Calls.{started, restarted, hearAll, frameFor, close}
+use Rattle.head_spec.specs.declared.Head.{Head}
+
+-- bytes planted on the link from a struck sender to a receiver
+pub record Plant : Type 0 where
+  pub from : ℕ
+  pub to : ℕ
+  pub bytes : List ℕ
+
+-- a round: the mark word of the struck heads, and what is planted
+pub record Round : Type 0 where
+  pub struck : ℕ
+  pub plants : List Plant
+
+-- what is planted from k to i. Nothing planted is the empty frame, which its receiver refuses.
+abbrev pub planted : List Plant → ℕ → ℕ → List ℕ
+planted [] k i = []
+planted (x ∷ xs) k i = cond (eqb (x .from) k && eqb (x .to) i) (x .bytes) (planted xs k i)
+
+-- a record whose memory is lost
+unfoldable pub lost : Head
+lost = opened 0 0 0 0 0 false false Entry.Null noEntries
+
+-- the ring as the next round finds it: that round's phase and number (0 collection, 1 confession), the heads struck in the round before, and the records
+pub record Ring : Type 0 where
+  pub phase : ℕ
+  pub round : ℕ
+  pub before : ℕ
+  pub heads : ℕ → Head
+
+-- ---- a round w of n heads
+
+module _ (n f : ℕ) (R : Ring) (w : Round) where
+  -- record i as the round opens: a struck head's is lost, a healed head is restarted
+  unfoldable pub openedAt : ℕ → Head
+  openedAt i =
+      cond (bitOf (w .struck) i) lost
+      (cond (bitOf (R .before) i) (restarted n f i (R .phase) (R .round)) (R .heads i))
+
+  -- what link k carries to head i: what is planted there, or the frame that head k writes, the same to all
+  unfoldable pub carried : ℕ → ℕ → List ℕ
+  carried i k = cond (bitOf (w .struck) k) (planted (w .plants) k i) (frameFor (openedAt k))
+
+  -- record i as the round is closed: every unstruck head has heard all links, its own too
+  unfoldable pub closedAt : ℕ → Head
+  closedAt i = cond (bitOf (w .struck) i) lost (close (hearAll (openedAt i) (carried i) n) .head)
+
+abbrev pub phaseThen : ℕ → ℕ → ℕ
+phaseThen zero p = p
+phaseThen (suc r) p = p + 1
+
+abbrev pub roundThen : ℕ → ℕ
+roundThen zero = 1
+roundThen (suc r) = 0
+
+unfoldable pub afterRound : ℕ → ℕ → Ring → Round → Ring
+afterRound n f R w =
+    record {
+      phase = phaseThen (R .round) (R .phase);
+      round = roundThen (R .round);
+      before = w .struck;
+      heads = closedAt n f R w;
+    }
+
+-- ---- a run: positions v at the start, then rounds; a list of rounds or of ends has the latest first
+
+-- a phase end: the mark words of its two rounds, and the records
+pub record PhaseEnd : Type 0 where
+  pub collect : ℕ
+  pub confess : ℕ
+  pub heads : ℕ → Head
+
+-- what is compared: who was struck in the confession round, and the position that each record holds
+abbrev pub asEnd : PhaseEnd → End
+asEnd e = record { struck = bitOf (e .confess); at = λ i. e .heads i .position }
+
+-- a confession round ends a phase
+abbrev pub withEnd : ℕ → PhaseEnd → List PhaseEnd → List PhaseEnd
+withEnd zero e es = es
+withEnd (suc r) e es = e ∷ es
+
+module _ (n f : ℕ) (v : ℕ → ℤ) where
+  unfoldable pub firstHeads : ℕ → Head
+  firstHeads i = started n f i (v i)
+
+  unfoldable pub ringAfter : List Round → Ring
+  ringAfter [] = record { phase = 1; round = 0; before = 0; heads = firstHeads }
+  ringAfter (w ∷ ws) = afterRound n f (ringAfter ws) w
+
+  unfoldable pub endsAfter : List Round → List PhaseEnd
+  endsAfter [] = record { collect = 0; confess = 0; heads = firstHeads } ∷ []
+  endsAfter (w ∷ ws) =
+      withEnd (ringAfter ws .round)
+      (record { collect = ringAfter ws .before; confess = w .struck; heads = ringAfter (w ∷ ws) .heads })
+      (endsAfter ws)

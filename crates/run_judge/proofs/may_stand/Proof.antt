@@ -1,0 +1,34 @@
+-- `run_judge::is_allowed` meets its contract: an arm for each known kind asks what the definition asks of it, and a kind that is none of these may not stand.
+use borrow.Author.Needs.{needs}
+use borrow.Author.Tests.{ne-eqb}
+use Rattle.run_judge.proofs.is_allowed.Statement.{statement}
+use Rattle.run_judge.proofs.is_allowed.Tie as tie
+
+returns : tie.Need-returns
+returns c F b w = rw (c .before .match .keys1, b) (c .has-place .ensures)
+
+returns-2 : tie.Need-returns-2
+returns-2 c F b w = rw (c .before .match .keys2, b, c .if1 .taken)
+
+returns-3 : tie.Need-returns-3
+returns-3 c F b w = rw (c .before .match .keys2, b, c .if1 .left)
+
+returns-4 : tie.Need-returns-4
+returns-4 c F b w = rw (c .before .match .keys3, w) (c .has-place2 .ensures)
+
+returns-5 : tie.Need-returns-5
+returns-5 c F b w =
+    let r = c .match .rest in
+    simp (ne-eqb _ _ (r .0 .0 .1), ne-eqb _ _ (r .0 .1), ne-eqb _ _ (r .1))
+
+pub may-stand-spec : {M : Type 1} → statement M
+may-stand-spec =
+    tie.close
+    (tie.spec
+    (λ c κs. search needs)
+    (λ c κs. search needs)
+    returns
+    returns-2
+    returns-3
+    returns-4
+    returns-5)

@@ -1,0 +1,164 @@
+// The records of a run file, judged: where one may stand, and the number of its first fault, 0 for none. Each promise holds of every file read so far that has
+// what the arguments say.
+ghost use mathlib.Core.Path.{_≡_};
+ghost use mathlib.Core.Bool.{_&&_};
+ghost use mathlib.Core.List.{List};
+ghost use Prim.Native.Nat.{ℕ, _<_};
+ghost use lib.Dec.{leb};
+ghost use lib.ListN.{getD, drop};
+ghost use lib.IntN.{pos};
+ghost use Rattle.ring_spec.specs.Rounds.{Plant};
+ghost use Rattle.run_spec.specs.RunFile.{File, given, recordKind, start, round, plant, isAllowed, recordFault, positionIn, positionsFit, fewMarks, rises, pairFits};
+ghost use Rattle.run_judge.specs.Pairs.{lastPair};
+use terms::refusal;
+
+// The kinds of records.
+pub const START: u16 = 0x10;
+
+pub const ROUND: u16 = 0x11;
+
+pub const PLANT: u16 = 0x12;
+
+// Two rounds for each of 65,535 phases.
+const MOST_ROUNDS: u32 = 131070;
+
+// The sender and receiver of the last planted record of a round, if there was one.
+pub struct Pair {
+    pub some: bool,
+    pub from: u8,
+    pub to: u8,
+}
+
+// Whether a record has a place, and a length from low to high.
+fn has_place(place: bool, len: u16, low: u16, high: u16) -> bool
+    ensures { λ r. ⌜ r ≡ (place && leb low len && leb len high) ⌝ }
+{
+    if !place {
+        return false;
+    }
+    if len < low {
+        return false;
+    }
+    len <= high
+}
+
+// Whether a record of this kind and length may stand where a start was or was not accepted, and a round does or does not wait.
+pub fn is_allowed(kind: u16, len: u16, begun: bool, pending: bool) -> bool
+    ensures { λ r. ⌜ ((F : File) → F .begun ≡ begun → F .pending ≡ pending → r ≡ isAllowed (recordKind kind) F len) ⌝ }
+{
+    match kind {
+        START => has_place(!begun, len, 6, 1026),
+        ROUND => begun && len == 8,
+        PLANT => has_place(pending, len, 6, 146),
+        _ => false,
+    }
+}
+
+// Whether the first n positions of a start record are positions.
+fn positions_fit(bytes: &[u8], n: u8) -> bool
+    ensures { λ r. ⌜ r ≡ positionsFit (now (bytes .entry)) n ⌝ }
+{
+    let count = n as usize;
+    let mut j: usize = 0;
+    while j < count {
+        if !entries::is_position_word(fields::word_at(bytes, 6 + 4 * j)) {
+            return false;
+        }
+        j += 1;
+    }
+    true
+}
+
+// A whole start record: 13, 1, 2, 4.
+pub fn start_fault(bytes: &[u8]) -> u8
+    ensures { λ r. ⌜ ((F : File) → r ≡ recordFault start F (now (bytes .entry))) ⌝ }
+{
+    let n = fields::byte_at(bytes, 4);
+    let f = fields::byte_at(bytes, 5);
+    if bytes.len() != 6 + 4 * (n as usize) {
+        return refusal::RUN_RECORD;
+    }
+    let size = steps::size_refusal(n as u32, f as u32);
+    if size != 0 {
+        return size;
+    }
+    if !positions_fit(bytes, n) {
+        return refusal::POSITION;
+    }
+    0
+}
+
+// The positions of a start record.
+pub fn first_positions(bytes: &[u8]) -> [i32; 32]
+    ensures { λ r. ⌜ ((j : ℕ) → j < 32 → getD r j (pos 0) ≡ positionIn (now (bytes .entry)) j) ⌝ }
+{
+    entries::numbers_at(fields::bytes_from(bytes, 6), 32)
+}
+
+// Whether at most f heads are marked, and none at n or above.
+fn few_marks(n: u8, f: u8, m: u32) -> bool
+    ensures { λ r. ⌜ r ≡ fewMarks n f m ⌝ }
+{
+    let count = n as usize;
+    if !marks::marks_below(m, count) {
+        return false;
+    }
+    marks::marked_to(m, count) <= f as usize
+}
+
+// A whole round record, after a number of rounds: 14, 26.
+pub fn round_fault(bytes: &[u8], n: u8, f: u8, rounds: u32) -> u8
+    ensures { λ r. ⌜ ((F : File) → F .n ≡ n → F .f ≡ f → given F ≡ rounds → r ≡ recordFault round F (now (bytes .entry))) ⌝ }
+{
+    if !few_marks(n, f, fields::word_at(bytes, 4)) {
+        return refusal::STRUCK;
+    }
+    if MOST_ROUNDS <= rounds {
+        return refusal::ENDED;
+    }
+    0
+}
+
+// Whether a pair comes after the last of its round: by sender, then by receiver.
+fn comes_after(last: Pair, from: u8, to: u8) -> bool
+    ensures { λ r. ⌜ ((xs : List Plant) → lastPair xs ≡ last → r ≡ rises xs from to) ⌝ }
+{
+    if !last.some {
+        return true;
+    }
+    if last.from == from {
+        return last.to < to;
+    }
+    last.from < from
+}
+
+// Whether a pair may be planted: a struck sender, a receiver that is not, both among n heads, after the last pair.
+fn pair_fits(from: u8, to: u8, n: u8, struck: u32, last: Pair) -> bool
+    ensures { λ r. ⌜ ((F : File) → F .n ≡ n → F .last .struck ≡ struck → lastPair (F .last .plants) ≡ last → r ≡ pairFits F from to) ⌝ }
+{
+    if n <= from {
+        return false;
+    }
+    if n <= to {
+        return false;
+    }
+    if !marks::marked(struck, from as usize) {
+        return false;
+    }
+    if marks::marked(struck, to as usize) {
+        return false;
+    }
+    comes_after(last, from, to)
+}
+
+// A whole planted record, after the last pair of its round: 13.
+pub fn plant_fault(bytes: &[u8], n: u8, struck: u32, last: Pair) -> u8
+    ensures { λ r. ⌜ ((F : File) → F .n ≡ n → F .last .struck ≡ struck → lastPair (F .last .plants) ≡ last → r ≡ recordFault plant F (now (bytes .entry))) ⌝ }
+{
+    let from = fields::byte_at(bytes, 4);
+    let to = fields::byte_at(bytes, 5);
+    if pair_fits(from, to, n, struck, last) {
+        return 0;
+    }
+    refusal::RUN_RECORD
+}

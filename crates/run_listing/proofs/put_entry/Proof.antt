@@ -1,0 +1,33 @@
+-- `run_listing::put_entry` meets its contract: a null has the empty text, and a position is read back as it was held.
+use mathlib.Core.Path.{refl, ap}
+use mathlib.Core.List.{[], _∷_, _++_}
+use native.Mathlib.Omega.{arith}
+use lib.IntN.{ℤ}
+use mir.Syntax.{w32}
+use mir.Val.{SFits}
+use mir.Facts.{toZ-ofZ}
+use borrow.Author.Needs.{needs}
+use Rattle.run_spec.specs.Listing.{whole}
+use Rattle.run_listing.proofs.Writing.{longer-as}
+use Rattle.run_listing.proofs.put_entry.Statement.{statement}
+use Rattle.run_listing.proofs.put_entry.Tie as tie
+
+returns : tie.Need-returns
+returns c = rw (c .before .before .enum-told .given .1) (longer-as refl (omega arith) (c .put .ensures))
+
+returns-2 : tie.Need-returns-2
+returns-2 c =
+    let v : SFits w32 (c .before .before .e .given .0 .0) = record { sfits = c .before .known-told .given .0 .1 } in
+    rw (c .before .before .e .given .1) (longer-as (ap (λ (z : ℤ). whole z ++ (32 ∷ [])) (toZ-ofZ v)) (omega arith) (c .put-position .ensures))
+
+pub put-entry-spec : {M : Type 1} → statement M
+put-entry-spec =
+    tie.close
+    (tie.spec
+    (λ c. search needs)
+    (λ c. search needs)
+    (λ c κs. search needs)
+    (λ c. search needs)
+    (λ c κs. search needs)
+    returns
+    returns-2)

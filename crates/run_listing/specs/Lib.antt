@@ -1,0 +1,4 @@
+pub mod Held
+pub mod Heights
+pub mod Texts
+pub mod Inner

@@ -1,0 +1,29 @@
+-- The texts of the listing as the code makes them.
+use mathlib.Core.List.{List, [], _∷_, _++_}
+use Prim.Native.Nat.{ℕ}
+use lib.ListN.{take}
+use lib.IntN.{ℤ}
+use Rattle.terms.specs.declared.Entry.{Entry}
+use Rattle.convergence.specs.Phases.{lowest, highest, spread}
+use Rattle.run_spec.specs.Listing.{decimal, textOf, hex, spaced}
+use Rattle.run_listing.specs.declared.Text.{Text}
+use Rattle.run_listing.specs.Held.{endIn}
+
+-- the bytes of a text
+abbrev pub bytesOf : Text → List ℕ
+bytesOf t = take (t .len) (t .bytes)
+
+-- a line of the listing, field by field
+unfoldable pub fields : ℕ → Entry → Entry → ℕ → ℕ → ℕ → List ℕ
+fields p low high wide collect confess =
+    spaced (decimal p)
+    (spaced (textOf low)
+    (spaced (textOf high)
+    (spaced (decimal wide)
+    (spaced (hex 8 collect)
+    (hex 8 confess ++ (10 ∷ []))))))
+
+-- the line of a phase end as the player holds it
+unfoldable pub endLine : ℕ → ℕ → List ℤ → ℕ → ℕ → List ℕ
+endLine n p positions collect confess =
+    fields p (lowest n (endIn confess positions)) (highest n (endIn confess positions)) (spread n (endIn confess positions)) collect confess

@@ -1,0 +1,230 @@
+// The lowest and the highest position of a phase end, and how far they lie apart.
+ghost use mathlib.Core.Path.{_≡_};
+ghost use Prim.Native.Nat.{_+_, _<_, _≤_};
+ghost use lib.ListN.{getD, length};
+ghost use lib.IntN.{pos};
+ghost use Rattle.convergence.specs.Phases.{join, apart};
+ghost use Rattle.run_listing.specs.Held.{endIn};
+ghost use Rattle.run_listing.specs.Inner.{heightOf, outward, Found, Longer, spelled};
+ghost use mathlib.Core.List.{_∷_, [], _++_};
+ghost use Rattle.run_spec.specs.Listing.{size, decimal, whole, textOf, hexDigit, title, verdict};
+ghost use Rattle.run_listing.specs.Texts.{bytesOf, endLine};
+use terms::Entry;
+
+// The lowest and the highest position.
+pub struct Ends {
+    pub low: Entry,
+    pub high: Entry,
+}
+
+// How far v lies above the lowest number of 32 bits.
+pub fn height(v: i32) -> u32
+    ensures { λ r. ⌜ r ≡ heightOf v ⌝ }
+{
+    let w = fields::unsigned(v);
+    if w < 2147483648 {
+        w + 2147483648
+    } else {
+        w - 2147483648
+    }
+}
+
+// The position of head j; 0 past the last.
+pub fn position_at(positions: &[i32], j: usize) -> i32
+    ensures { λ r. ⌜ r ≡ getD (now (positions .entry)) j (pos 0) ⌝ }
+{
+    if j < positions.len() { positions[j] } else { 0 }
+}
+
+// Of v and an entry's position, the lower one, or the higher.
+fn outer(v: i32, e: Entry, high: bool) -> Entry
+    ensures { λ r. ⌜ r ≡ join (outward high) (Entry.Position v) e ⌝ }
+{
+    let Entry::Position(w) = e else {
+        return Entry::Position(v);
+    };
+    if (v <= w) == high {
+        Entry::Position(w)
+    } else {
+        Entry::Position(v)
+    }
+}
+
+// The lowest and the highest position of the first n heads that the mark word leaves.
+pub fn ends_of(positions: &[i32; 32], struck: u32, n: u8) -> Ends
+    ensures { λ r. ⌜ Found n (endIn struck (now (positions .entry))) (r .low) (r .high) ⌝ }
+{
+    let count = n as usize;
+    let mut low = Entry::Null;
+    let mut high = Entry::Null;
+    let mut j: usize = 0;
+    while j < count {
+        if !marks::marked(struck, j) {
+            let v = position_at(positions, j);
+            low = outer(v, low, false);
+            high = outer(v, high, true);
+        }
+        j += 1;
+    }
+    Ends { low, high }
+}
+
+// How far apart two entries are; 0 where one is null.
+pub fn spread_of(low: Entry, high: Entry) -> u32
+    ensures { λ r. ⌜ r ≡ apart low high ⌝ }
+{
+    let Entry::Position(a) = low else {
+        return 0;
+    };
+    let Entry::Position(b) = high else {
+        return 0;
+    };
+    let x = height(a);
+    let y = height(b);
+    if x <= y { y - x } else { x - y }
+}
+
+// ---- The texts of a listing: its first line, a line for a phase end, and its last line.
+
+// A text of up to 64 bytes: the first len of bytes.
+pub struct Text {
+    pub len: usize,
+    pub bytes: [u8; 64],
+}
+
+// The empty text.
+pub fn empty() -> Text
+    ensures { λ r. ⌜ r .len ≡ 0 ⌝ }
+{
+    Text {
+        len: 0,
+        bytes: [0u8; 64],
+    }
+}
+
+// A text with the bytes of a slice after it.
+fn put(t: Text, s: &[u8]) -> Text
+    requires { ⌜ t .len + length (now s) ≤ 64 ⌝ }
+    ensures { λ r. ⌜ Longer t (now (s .entry)) (length (now (s .entry))) r ⌝ }
+{
+    let at = t.len;
+    let mut bytes = t.bytes;
+    let mut i: usize = 0;
+    while i < s.len() {
+        bytes[at + i] = s[i];
+        i += 1;
+    }
+    Text { len: at + i, bytes }
+}
+
+// The byte of a digit.
+fn digit(d: u32) -> u8
+    requires { ⌜ d < 16 ⌝ }
+    ensures { λ r. ⌜ r ≡ hexDigit d ⌝ }
+{
+    if d < 10 { 48 + d as u8 } else { 87 + d as u8 }
+}
+
+// A text with the last k digits of x in a base after it, and one byte more.
+fn put_digits(t: Text, base: u32, k: usize, x: u32, after: u8) -> Text
+    requires { ⌜ (0 < base) × (base ≤ 16) × (t .len + k + 1 ≤ 64) ⌝ }
+    ensures { λ r. ⌜ Longer t (spelled base k x ++ (after ∷ [])) (k + 1) r ⌝ }
+{
+    let at = t.len;
+    let mut bytes = t.bytes;
+    bytes[at + k] = after;
+    let mut rest = x;
+    let mut i = k;
+    while 0 < i {
+        i -= 1;
+        bytes[at + i] = digit(rest % base);
+        rest = rest / base;
+    }
+    Text {
+        len: at + k + 1,
+        bytes,
+    }
+}
+
+// How many decimal digits x has.
+fn size_of(x: u32) -> usize
+    ensures { λ r. ⌜ (r ≡ size 9 x) × (r ≤ 10) ⌝ }
+{
+    let mut rest = x;
+    let mut k: usize = 1;
+    while k < 10 {
+        if rest < 10 {
+            return k;
+        }
+        rest = rest / 10;
+        k += 1;
+    }
+    k
+}
+
+// A text with a number after it, and one byte more.
+fn put_number(t: Text, x: u32, after: u8) -> Text
+    requires { ⌜ t .len + 11 ≤ 64 ⌝ }
+    ensures { λ r. ⌜ Longer t (decimal x ++ (after ∷ [])) 11 r ⌝ }
+{
+    put_digits(t, 10, size_of(x), x, after)
+}
+
+// A text with a position after it, and a space.
+fn put_position(t: Text, v: i32) -> Text
+    requires { ⌜ t .len + 12 ≤ 64 ⌝ }
+    ensures { λ r. ⌜ Longer t (whole v ++ (32 ∷ [])) 12 r ⌝ }
+{
+    let h = height(v);
+    if h < 2147483648 {
+        put_number(put(t, b"-"), 2147483648 - h, b' ')
+    } else {
+        put_number(t, h - 2147483648, b' ')
+    }
+}
+
+// A text with an entry after it, and a space.
+fn put_entry(t: Text, e: Entry) -> Text
+    requires { ⌜ t .len + 12 ≤ 64 ⌝ }
+    ensures { λ r. ⌜ Longer t (textOf e ++ (32 ∷ [])) 12 r ⌝ }
+{
+    match e {
+        Entry::Null => put(t, b" "),
+        Entry::Position(v) => put_position(t, v),
+    }
+}
+
+// The first line.
+pub fn title_line() -> Text
+    ensures { λ r. ⌜ bytesOf r ≡ title ⌝ }
+    ensures { λ r. ⌜ r .len ≤ 64 ⌝ }
+{
+    put(empty(), b"phase low high spread collect confess\n")
+}
+
+// The last line: `end`, or `refused` and the number.
+pub fn verdict_line(number: u8) -> Text
+    ensures { λ r. ⌜ bytesOf r ≡ verdict number ⌝ }
+    ensures { λ r. ⌜ r .len ≤ 64 ⌝ }
+{
+    if number == 0 {
+        put(empty(), b"end\n")
+    } else {
+        put_number(put(empty(), b"refused "), number as u32, b'\n')
+    }
+}
+
+// The line of a phase end: the positions of n heads, and the mark words of its two rounds.
+pub fn end_line(phase: u16, positions: &[i32; 32], n: u8, collect: u32, confess: u32) -> Text
+    ensures { λ r. ⌜ bytesOf r ≡ endLine n phase (now (positions .entry)) collect confess ⌝ }
+    ensures { λ r. ⌜ r .len ≤ 64 ⌝ }
+{
+    let e = ends_of(positions, confess, n);
+    let low = e.low;
+    let high = e.high;
+    let t = put_number(empty(), phase as u32, b' ');
+    let t = put_entry(put_entry(t, low), high);
+    let t = put_number(t, spread_of(low, high), b' ');
+    let t = put_digits(t, 16, 8, collect, b' ');
+    put_digits(t, 16, 8, confess, b'\n')
+}

@@ -1,0 +1,95 @@
+-- What a record adds to the phase ends played: a start the first, a round record that of the round that waited, where that was a confession round, and no other
+-- record any. What it shows is the line of that end.
+use mathlib.Core.Path.{_≡_, refl, ap, sym, _∙_}
+use mathlib.Core.Bool.{Bool, true, false}
+use mathlib.Core.List.{List, [], _∷_, _++_, append-assoc, append-nil}
+use Prim.Native.Nat.{ℕ, zero, suc, _+_, _<_}
+use native.Mathlib.Omega.{arith}
+use lib.ListN.{length, drop, length-append}
+use lib.Seq.{drop-at}
+use lib.IntN.{ℤ}
+use Rattle.ring_spec.specs.Rounds.{Round, Ring, roundThen, afterRound, PhaseEnd, withEnd, firstHeads, ringAfter, endsAfter}
+use Rattle.run_spec.specs.RunFile.{File, RecordKind, start, round, plant, other, isAllowed, countIn, limitIn, positionIn, struckIn, recordFault, thenPlayed, withRecord, stopped, unlessFault, judged, endsSoFar}
+use Rattle.run_spec.specs.Listing.{title, line, lines, shown}
+use Rattle.run_spec.proofs.Streaming.{start-shows, plant-shows, stop-shows}
+use Rattle.run_record.proofs.Records.{start-place, round-place}
+use Rattle.run_piece.specs.Advances.{endHere, Grown, none, one, GrownTo}
+
+same-after : (x : List ℕ) {y z : List ℕ} → x ++ y ≡ x ++ z → y ≡ z
+same-after x {y} {z} e = sym (drop-at x y (length x) refl) ∙ ap (drop (length x)) e ∙ drop-at x z (length x) refl
+
+-- a line has one byte at least
+pub line-some : (n p : ℕ) (e : PhaseEnd) → 0 < length (line n p e)
+unfolding line
+line-some n p e = simp length-append (omega arith)
+
+pub grown-none : (F G : File) {text : List ℕ} → endsSoFar G ≡ endsSoFar F → shown G ≡ shown F → shown G ≡ shown F ++ text → GrownTo F G text
+grown-none F G e s t = none e (same-after (shown F) (sym t ∙ s ∙ sym (append-nil (shown F))))
+
+-- ---- one round more, with what it shows
+
+module _ (n f : ℕ) (v : ℕ → ℤ) (ws : List Round) (w : Round) {text : List ℕ} where
+  pub next-grown : lines n (endsAfter n f v (w ∷ ws)) ≡ lines n (endsAfter n f v ws) ++ text
+      → Grown n (endsAfter n f v ws) (endsAfter n f v (w ∷ ws)) (ringAfter n f v (w ∷ ws)) text
+  unfolding endsAfter ringAfter afterRound lines
+  next-grown t = go (ringAfter n f v ws .round) refl t
+    where
+      es : List PhaseEnd
+      es = endsAfter n f v ws
+
+      next : Ring
+      next = ringAfter n f v (w ∷ ws)
+
+      e : PhaseEnd
+      e = endHere (ringAfter n f v ws .before) next
+
+      go : (r : ℕ) → ringAfter n f v ws .round ≡ r → lines n (withEnd r e es) ≡ lines n es ++ text → Grown n es (withEnd r e es) next text
+      go zero c t = none refl (same-after (lines n es) (sym t ∙ sym (append-nil (lines n es))))
+      go (suc r) c t = one (ringAfter n f v ws .before) (ap roundThen c) refl (same-after (lines n es) (sym t))
+
+-- ---- each record
+
+-- the file after an accepted round record s, with the rounds ws played
+abbrev with-rounds : File → List ℕ → List Round → File
+with-rounds F s ws =
+    record {
+      part = [];
+      begun = F .begun;
+      n = F .n;
+      f = F .f;
+      first = F .first;
+      played = ws;
+      pending = true;
+      last = record { struck = struckIn s; plants = [] };
+      fault = 0;
+    }
+
+module _ (F : File) (s : List ℕ) {text : List ℕ} where
+  start-grown : F .begun ≡ false → shown (withRecord start F s) ≡ shown F ++ text → GrownTo F (withRecord start F s) text
+  unfolding ringAfter endsAfter
+  start-grown begun t =
+      let empty : [] ≡ endsSoFar F = rw begun in
+      let first : PhaseEnd = record { collect = 0; confess = 0; heads = firstHeads (countIn s) (limitIn s) (positionIn s) } in
+      one 0 refl (ap (λ (es : List PhaseEnd). first ∷ es) empty)
+      (same-after (shown F) (sym t ∙ start-shows F s begun) ∙ ap (λ (es : List PhaseEnd). line (countIn s) (length es) first) empty)
+
+  round-grown : (b : Bool) → F .begun ≡ true → let G = with-rounds F s (thenPlayed b (F .played) (F .last)) in shown G ≡ shown F ++ text → GrownTo F G text
+  unfolding shown
+  round-grown false begun t = grown-none F (with-rounds F s (F .played)) refl refl t
+  round-grown true begun t =
+      let t′ = rw begun at t in
+      rw begun (next-grown (F .n) (F .f) (F .first) (F .played) (F .last) (same-after title (t′ ∙ append-assoc title _ text)))
+
+  taken-grown : (K : RecordKind) (len : ℕ) → isAllowed K F len ≡ true → shown (withRecord K F s) ≡ shown F ++ text → GrownTo F (withRecord K F s) text
+  taken-grown start len may t = start-grown (start-place F len may) t
+  taken-grown round len may t = round-grown (F .pending) (round-place F len may) t
+  taken-grown plant len may t = grown-none F (withRecord plant F s) refl (plant-shows F s) t
+  taken-grown other len may t = grown-none F F refl refl t
+
+  pub judged-grown : (K : RecordKind) (len : ℕ) → isAllowed K F len ≡ true → shown (judged K F s) ≡ shown F ++ text → GrownTo F (judged K F s) text
+  unfolding judged
+  judged-grown K len may t = go (recordFault K F s) t
+    where
+      go : (c : ℕ) → let G = unlessFault c (withRecord K F s) F in shown G ≡ shown F ++ text → GrownTo F G text
+      go zero t = taken-grown K len may t
+      go (suc c) t = grown-none F (stopped F (suc c)) refl (stop-shows F (suc c)) t

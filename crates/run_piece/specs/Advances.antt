@@ -1,0 +1,46 @@
+-- The player's promise: where the bytes a lead, and fed b after them, it stands where a ++ b leads. Each piece shows the text by which the listing grows, and
+-- the positions then held keep demand 3 with every phase end that the listing shows. Where no record was accepted, as where one is refused, the memory is as it
+-- was; the bytes of a record that is cut are scratch.
+use mathlib.Core.List.{List, [], _∷_, _++_}
+use mathlib.Core.Path.{_≡_}
+use Prim.Native.Nat.{ℕ}
+use lib.ListN.{length, take}
+use Rattle.ring_spec.specs.Rounds.{Ring, PhaseEnd}
+use Rattle.run_spec.specs.RunFile.{File, readFile, accepted, endsSoFar}
+use Rattle.run_spec.specs.Listing.{line, shown}
+use Rattle.run_state.specs.declared.Player.{Player}
+use Rattle.run_state.specs.Memory.{Memory}
+use Rattle.run_state.specs.State.{ringBefore, PlayerOf, MemoryOf, halted}
+use Rattle.run_round.specs.Converged.{ConvergedIn}
+
+-- the player, with the bytes of a record that is cut, and the memory lent to it, stand where the bytes a lead
+pub record StateAt (a : List ℕ) (p : Player) (carry : List ℕ) (M : Memory) : Type 0 where
+  pub player : PlayerOf p (readFile a)
+  pub part : readFile a .part ≡ take (p .have) carry
+  pub have : p .have ≡ length (readFile a .part)
+  pub memory : MemoryOf (readFile a) M
+
+-- fed b after a, it shows a text: from the player p and the memory M to the player q and the memory M′
+pub record Advances (a b : List ℕ) (p : Player) (M : Memory) (q : Player) (text carry : List ℕ) (M′ : Memory) : Type 0 where
+  pub state : StateAt (a ++ b) q carry M′
+  pub shows : shown (readFile (a ++ b)) ≡ shown (readFile a) ++ text
+  pub idle : accepted (readFile (a ++ b)) ≡ accepted (readFile a) → (M′ ≡ M) × (q ≡ halted p (q .have) (q .fault))
+  pub demand3 : ConvergedIn (readFile (a ++ b)) (readFile (a ++ b) .played) (M′ .positions)
+
+-- the phase end at which a ring stands after a confession round; collect: the heads struck in the round before that
+abbrev pub endHere : ℕ → Ring → PhaseEnd
+endHere collect R = record { collect = collect; confess = R .before; heads = R .heads }
+
+-- the phase ends es of n heads become es′: no end more was played, and nothing is shown; or one, at which the ring R then stands, and its line is shown
+pub data Grown (n : ℕ) (es es′ : List PhaseEnd) (R : Ring) (text : List ℕ) : Type 0 where
+  none : es′ ≡ es → text ≡ [] → Grown n es es′ R text
+  one : (collect : ℕ) → R .round ≡ 0 → es′ ≡ endHere collect R ∷ es → text ≡ line n (length es) (endHere collect R) → Grown n es es′ R text
+
+-- as the file F becomes G
+abbrev pub GrownTo : File → File → List ℕ → Type 0
+GrownTo F G text = Grown (G .n) (endsSoFar F) (endsSoFar G) (ringBefore G) text
+
+-- and one phase end was played at most
+pub record AdvancesOnce (a b : List ℕ) (p : Player) (M : Memory) (q : Player) (text carry : List ℕ) (M′ : Memory) : Type 0 where
+  pub advances : Advances a b p M q text carry M′
+  pub grown : GrownTo (readFile a) (readFile (a ++ b)) text

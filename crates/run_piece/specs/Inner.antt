@@ -1,0 +1,74 @@
+-- What the private functions promise each other. Readers of the public promises do not need this file.
+use mathlib.Core.Path.{_≡_}
+use mathlib.Core.Bool.{Bool, true, false}
+use mathlib.Core.List.{List, []}
+use Prim.Native.Nat.{ℕ, _+_, _≤_, _<_}
+use lib.ListN.{length, take}
+use Rattle.terms.specs.Refusals as refusal
+use Rattle.run_spec.specs.RunFile.{File, plant, lengthOf, kindOf, isAllowed, stopped, withPart}
+use Rattle.run_listing.specs.Texts.{bytesOf}
+use Rattle.run_state.specs.declared.Player.{Player}
+use Rattle.run_record.specs.declared.RecordResult.{RecordResult}
+use Rattle.run_state.specs.Memory.{Memory, withSlots}
+use Rattle.run_state.specs.State.{PlayerOf, halted}
+use Rattle.run_piece.specs.declared.FeedResult.{FeedResult}
+use Rattle.run_piece.specs.declared.PassResult.{PassResult}
+use Rattle.run_piece.specs.Advances.{StateAt, AdvancesOnce}
+
+-- r bytes are missing: to the end of the header, or to the end of the record
+pub record Missing (have : ℕ) (carry : List ℕ) (r : ℕ) : Type 0 where
+  pub some : 0 < r
+  pub header : have < 4 → have + r ≡ 4
+  pub rest : 4 ≤ have → have < lengthOf carry → have + r ≡ lengthOf carry
+
+-- r tells whether the record that s begins may stand
+pub record Stood (p : Player) (s : List ℕ) (r : Bool) : Type 0 where
+  pub player : (F : File) → PlayerOf p F → isAllowed (kindOf s) F (lengthOf s) ≡ r
+  pub long : r ≡ true → 6 ≤ lengthOf s
+
+-- a piece begins with a whole record that may stand
+pub record Whole (p : Player) (s : List ℕ) : Type 0 where
+  pub fresh : p .have ≡ 0
+  pub within : lengthOf s ≤ length s
+  pub long : 6 ≤ lengthOf s
+  pub player : (F : File) → PlayerOf p F → isAllowed (kindOf s) F (lengthOf s) ≡ true
+
+-- a piece begins with a whole planted record that may stand
+pub record Plants (p : Player) (s : List ℕ) : Type 0 where
+  pub whole : Whole p s
+  pub kind : kindOf s ≡ plant
+  pub sound : p .fault ≡ 0
+
+-- the player r that p becomes with a header, by whether it may stand
+abbrev pub Headed : Bool → File → List ℕ → Player → Player → Type 0
+Headed true F s p r = (r ≡ halted p 4 (p .fault)) × PlayerOf r (withPart F s)
+Headed false F s p r = (r ≡ halted p 0 refusal.run-record) × PlayerOf r (stopped F refusal.run-record)
+
+-- a step that shows nothing
+pub record Quiet (q : Player) (n : ℕ) (r : FeedResult) : Type 0 where
+  pub player : r .player ≡ q
+  pub used : r .used ≡ n
+  pub none : r .text .len ≡ 0
+
+-- a step that takes a record
+pub record RecordTaken (t : RecordResult) (n : ℕ) (r : FeedResult) : Type 0 where
+  pub player : r .player ≡ t .player
+  pub used : r .used ≡ n
+  pub text : r .text ≡ t .text
+
+-- bytes are taken, the first at least, and their line has room
+pub record Used (bytes : List ℕ) (r : FeedResult) : Type 0 where
+  pub within : r .used ≤ length bytes
+  pub some : 0 < length bytes → 0 < r .used
+  pub room : r .text .len ≤ 64
+
+-- as much of the bytes as is used is read: from the memory before to that after
+abbrev pub Reads : Player → List ℕ → FeedResult → List ℕ → Memory → List ℕ → Memory → Type 0
+Reads p bytes r carry M carry′ M′ =
+    (a : List ℕ) → StateAt a p carry M → AdvancesOnce a (take (r .used) bytes) p M (r .player) (bytesOf (r .text)) carry′ M′
+
+-- the same of bytes that show nothing and change what is planted alone
+abbrev pub Passes : Player → List ℕ → PassResult → List ℕ → List ℕ → List ℕ → List ℕ → Type 0
+Passes p bytes r planted lengths planted′ lengths′ =
+    (a carry : List ℕ) (M : Memory) → StateAt a p carry (withSlots M planted lengths)
+    → AdvancesOnce a (take (r .used) bytes) p (withSlots M planted lengths) (r .player) [] carry (withSlots M planted′ lengths′)

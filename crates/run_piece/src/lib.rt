@@ -1,0 +1,229 @@
+// One step over a piece of a run file, which may be cut anywhere, down to one byte: a record that stands whole in the piece is taken where it stands; one that
+// is cut is gathered first.
+ghost use mathlib.Core.Bool.{true};
+ghost use mathlib.Core.List.{List, _++_};
+ghost use mathlib.Core.Path.{_≡_};
+ghost use Prim.Native.Nat.{ℕ, _+_, _≤_, _<_, min};
+ghost use lib.ListN.{length, take};
+ghost use Rattle.run_spec.specs.RunFile.{File, lengthOf, kindOf, isAllowed, withPart};
+ghost use Rattle.run_state.specs.Memory.{before, after};
+ghost use Rattle.run_state.specs.State.{PlayerOf, halted};
+ghost use Rattle.run_piece.specs.Inner.{Missing, Stood, Whole, Plants, Headed, Quiet, RecordTaken, Used, Reads, Passes};
+use run_listing::Text;
+use run_record::RecordResult;
+use run_state::Player;
+use terms::refusal;
+
+// What comes of a piece: the player after it, how many of its bytes were taken, and the line that they show, if any.
+pub struct FeedResult {
+    pub player: Player,
+    pub used: usize,
+    pub text: Text,
+}
+
+fn least(a: usize, b: usize) -> usize
+    ensures { λ r. ⌜ r ≡ min a b ⌝ }
+{
+    if a < b { a } else { b }
+}
+
+// How many bytes are missing: to the end of the header, or to the end of the record.
+fn missing(have: usize, carry: &[u8]) -> usize
+    ensures { λ r. ⌜ Missing have (now (carry .entry)) r ⌝ }
+{
+    if have < 4 {
+        return 4 - have;
+    }
+    let len = fields::half_at(carry, 0) as usize;
+    if len <= have {
+        return 1;
+    }
+    len - have
+}
+
+// Puts bytes after those that are there.
+fn gather(carry: &mut [u8], have: usize, bytes: &[u8])
+    requires { ⌜ have + length (now bytes) ≤ length (now carry) ⌝ }
+    ensures { λ _. ⌜ take (have + length (now (bytes .entry))) (now (carry .exit)) ≡ take have (now (carry .entry)) ++ now (bytes .entry) ⌝ }
+{
+    let mut j: usize = 0;
+    while j < bytes.len() {
+        carry[have + j] = bytes[j];
+        j += 1;
+    }
+}
+
+// Whether the header of a record lets it stand.
+fn stands(p: Player, bytes: &[u8]) -> bool
+    ensures { λ r. ⌜ Stood p (now (bytes .entry)) r ⌝ }
+{
+    run_judge::is_allowed(
+        fields::half_at(bytes, 2),
+        fields::half_at(bytes, 0),
+        p.begun,
+        p.pending,
+    )
+}
+
+// Whether a piece begins with a whole record that may stand.
+fn is_whole(p: Player, bytes: &[u8]) -> bool
+    ensures { λ r. ⌜ (r ≡ true → Whole p (now (bytes .entry))) ⌝ }
+{
+    if p.have != 0 {
+        return false;
+    }
+    if bytes.len() < fields::half_at(bytes, 0) as usize {
+        return false;
+    }
+    stands(p, bytes)
+}
+
+// The player with more of a record that is not whole.
+fn holding(p: Player, have: usize) -> Player
+    ensures { λ r. ⌜ (r ≡ halted p have (p .fault)) × ((F : File) (s : List ℕ) → PlayerOf p F → PlayerOf r (withPart F s)) ⌝ }
+{
+    let mut out = p;
+    out.have = have;
+    out
+}
+
+// The player with a record's header.
+fn headed(p: Player, bytes: &[u8]) -> Player
+    ensures { λ r. ⌜ ((F : File) (s : List ℕ) → PlayerOf p F → Headed (isAllowed (kindOf (now (bytes .entry))) F (lengthOf (now (bytes .entry)))) F s p r) ⌝ }
+{
+    if stands(p, bytes) {
+        return holding(p, 4);
+    }
+    run_state::stop(p, refusal::RUN_RECORD)
+}
+
+// Bytes that show nothing.
+pub fn quiet(player: Player, used: usize) -> FeedResult
+    ensures { λ r. ⌜ Quiet player used r ⌝ }
+{
+    FeedResult {
+        player,
+        used,
+        text: run_listing::empty(),
+    }
+}
+
+// Bytes that are a record.
+fn taken(t: RecordResult, used: usize) -> FeedResult
+    ensures { λ r. ⌜ RecordTaken t used r ⌝ }
+{
+    let player = t.player;
+    let text = t.text;
+    FeedResult { player, used, text }
+}
+
+// The first n bytes.
+fn front(bytes: &[u8], n: usize) -> &[u8]
+    requires { ⌜ n ≤ length (now bytes) ⌝ }
+    ensures { λ r. ⌜ now r ≡ take n (now (bytes .entry)) ⌝ }
+{
+    &bytes[..n]
+}
+
+// Gathers bytes of a record that is cut, to the end of its header or of the record at most.
+fn take_part(
+    p: Player,
+    rest: &[u8],
+    carry: &mut [u8; 1026],
+    positions: &mut [i32; 32],
+    marks: &mut [u32; 32],
+    lists: &mut [[i32; 32]; 32],
+    planted: &mut [u8; 143360],
+    lengths: &mut [u8; 1024],
+) -> FeedResult
+    requires { ⌜ p .fault ≡ 0 ⌝ }
+    ensures { λ r. ⌜ Used (now (rest .entry)) r ⌝ }
+    ensures { λ r. ⌜ Reads p (now (rest .entry)) r
+        (now (carry .entry)) (before positions marks lists planted lengths)
+        (now (carry .exit)) (after positions marks lists planted lengths) ⌝ }
+{
+    let have = p.have;
+    if 1026 <= have {
+        return quiet(p, rest.len());
+    }
+    let want = missing(have, carry);
+    let used = least(least(want, 1026 - have), rest.len());
+    gather(carry, have, front(rest, used));
+    let now = have + used;
+    if used < want {
+        return quiet(holding(p, now), used);
+    }
+    if have < 4 {
+        return quiet(headed(p, carry), used);
+    }
+    let whole = front(carry, now);
+    let t = run_record::take_record(p, whole, positions, marks, lists, planted, lengths);
+    taken(t, used)
+}
+
+// Planted records passed: the player after them, and how many bytes they take.
+pub struct PassResult {
+    pub player: Player,
+    pub used: usize,
+}
+
+// Whether a piece begins with a whole planted record that may stand.
+fn is_plant(p: Player, bytes: &[u8]) -> bool
+    ensures { λ r. ⌜ (r ≡ true → Plants p (now (bytes .entry))) ⌝ }
+{
+    let fault = p.fault;
+    if fault != 0 {
+        return false;
+    }
+    if fields::half_at(bytes, 2) != run_judge::PLANT {
+        return false;
+    }
+    is_whole(p, bytes)
+}
+
+// Takes the planted record at the front of a piece, if a whole one stands there. It shows nothing, so no text goes with it.
+pub fn pass_plant(
+    p: Player,
+    rest: &[u8],
+    planted: &mut [u8; 143360],
+    lengths: &mut [u8; 1024],
+) -> PassResult
+    ensures { λ r. ⌜ r .used ≤ length (now (rest .entry)) ⌝ }
+    ensures { λ r. ⌜ Passes p (now (rest .entry)) r (now (planted .entry)) (now (lengths .entry)) (now (planted .exit)) (now (lengths .exit)) ⌝ }
+{
+    if !is_plant(p, rest) {
+        return PassResult { player: p, used: 0 };
+    }
+    let used = fields::half_at(rest, 0) as usize;
+    let whole = front(rest, used);
+    let player = run_record::pass_plant(p, whole, planted, lengths);
+    PassResult { player, used }
+}
+
+// One step: a whole record, or bytes of one that is cut. After a fault nothing is read.
+pub fn advance(
+    p: Player,
+    rest: &[u8],
+    carry: &mut [u8; 1026],
+    positions: &mut [i32; 32],
+    marks: &mut [u32; 32],
+    lists: &mut [[i32; 32]; 32],
+    planted: &mut [u8; 143360],
+    lengths: &mut [u8; 1024],
+) -> FeedResult
+    ensures { λ r. ⌜ Used (now (rest .entry)) r ⌝ }
+    ensures { λ r. ⌜ Reads p (now (rest .entry)) r
+        (now (carry .entry)) (before positions marks lists planted lengths)
+        (now (carry .exit)) (after positions marks lists planted lengths) ⌝ }
+{
+    if p.fault != 0 {
+        return quiet(p, rest.len());
+    }
+    if is_whole(p, rest) {
+        let used = fields::half_at(rest, 0) as usize;
+        let whole = front(rest, used);
+        let t = run_record::take_record(p, whole, positions, marks, lists, planted, lengths);
+        return taken(t, used);
+    }
+    take_part(p, rest, carry, positions, marks, lists, planted, lengths)
+}

@@ -1,0 +1,166 @@
+-- What a record changes: what is told of the file, what the memory holds of it, and what is shown. A record with a fault changes the fault alone.
+use mathlib.Core.Path.{_≡_, refl, ap, sym, _∙_}
+use mathlib.Core.Bool.{Bool, true, false, not, cond, _&&_, true≢false}
+use mathlib.Core.List.{List, [], _++_, append-assoc, append-nil}
+use Prim.Native.Nat.{ℕ, zero, suc, _+_, _*_, _≤_, _<_}
+use native.Mathlib.Omega.{arith}
+use lib.Dec.{eqb, leb}
+use lib.ListN.{length, getD, drop}
+use lib.IntN.{pos}
+use borrow.Author.Tests.{leb-true, ltb-true, not-true}
+use Rattle.terms.specs.Sizes.{isCount}
+use Rattle.convergence.specs.Counting.{Each}
+use Rattle.frame_spec.proofs.Listing.{and-both}
+use Rattle.head_spec.proofs.Proper.{both-passed}
+use Rattle.ring_spec.specs.Rounds.{Ring, ringAfter}
+use Rattle.run_spec.specs.RunFile.{File, given, RecordKind, start, round, plant, isAllowed, countIn, limitIn, positionIn, struckIn, fewMarks, senderIn, receiverIn, recordFault, withRecord, stopped, judged}
+use Rattle.run_spec.specs.Listing.{title, shown}
+use Rattle.run_spec.proofs.Streaming.{start-shows, plant-shows, stop-shows}
+use Rattle.frame_slots.specs.Slots.{plantedIn}
+use Rattle.run_listing.specs.declared.Text.{Text}
+use Rattle.run_listing.specs.Texts.{bytesOf, endLine}
+use Rattle.run_listing.proofs.Lines.{line-is}
+use Rattle.run_record.specs.declared.RecordResult.{RecordResult}
+use Rattle.run_state.specs.declared.Player.{Player}
+use Rattle.run_state.specs.Memory.{Memory, withSlots}
+use Rattle.run_state.specs.Heads.{HeadsOf}
+use Rattle.run_state.specs.State.{ringBefore, PlayerOf, MemoryOf, halted}
+use Rattle.run_round.specs.Played.{Played}
+use Rattle.run_record.specs.Next.{Next}
+use Rattle.run_state.specs.Inner.{freshPlayer}
+use Rattle.run_record.specs.Inner.{Turned}
+use Rattle.run_round.proofs.Keeping.{start-positions, start-keeps}
+use Rattle.run_listing.proofs.Writing.{empty-text}
+use Rattle.run_state.proofs.Told.{start-tells}
+
+shows-none : (l : List ℕ) (t : Text) → t .len ≡ 0 → l ≡ l ++ bytesOf t
+shows-none l t e = rw (empty-text t e) (sym (append-nil l))
+
+-- ---- the two ways of a record
+
+module _ (K : RecordKind) (F : File) (s : List ℕ) where
+  pub judged-stopped : (c : ℕ) → c ≡ recordFault K F s → (c ≡ 0 → ⊥) → judged K F s ≡ stopped F c
+  unfolding judged
+  judged-stopped zero e h = absurd (h refl)
+  judged-stopped (suc c) e h = rw (← e)
+
+  pub judged-taken : {c : ℕ} → c ≡ recordFault K F s → c ≡ 0 → judged K F s ≡ withRecord K F s
+  unfolding judged
+  judged-taken e h = rw (← e, h)
+
+-- ---- where a record may stand, and what one without a fault shows of the file
+
+module _ (F : File) (len : ℕ) where
+  pub start-place : isAllowed start F len ≡ true → F .begun ≡ false
+  start-place e = not-true (F .begun) (and-both (not (F .begun)) _ (and-both (not (F .begun) && leb 6 len) _ e .0) .0)
+
+  pub round-place : isAllowed round F len ≡ true → F .begun ≡ true
+  round-place e = and-both (F .begun) _ e .0
+
+  pub plant-place : isAllowed plant F len ≡ true → len ≤ 146
+  plant-place e = leb-true len 146 (and-both (F .pending && leb 6 len) _ e .1)
+
+start-small : (F : File) (s : List ℕ) → recordFault start F s ≡ 0 → countIn s ≤ 32
+unfolding isCount
+start-small F s sound =
+    let count = both-passed (eqb (length s) (6 + 4 * countIn s)) (isCount (countIn s)) 12 0 sound .1 in
+    leb-true (countIn s) 32 (and-both (leb 1 (countIn s)) _ count .1)
+
+pub round-room : (F : File) (s : List ℕ) → recordFault round F s ≡ 0 → given F < 131070
+round-room F s sound = ltb-true (given F) _ (both-passed (fewMarks (F .n) (F .f) (struckIn s)) _ 13 25 sound .1)
+
+-- ---- a round record
+
+module _ {F : File} {t : Text} {M : Memory} (s : List ℕ) where
+  pub played-turns : F .begun ≡ true → F .pending ≡ true → Played F t M → Turned F s t M
+  unfolding shown ringAfter
+  played-turns begun pending P =
+      record {
+        keeps = rw pending (P .keeps);
+        shows = rw (pending, begun, P .shows) (sym (append-assoc title _ _));
+      }
+
+  pub none-turns : F .pending ≡ false → HeadsOf (F .n) (ringBefore F) M → t .len ≡ 0 → Turned F s t M
+  unfolding shown
+  none-turns pending K none = record { keeps = rw pending K; shows = rw (pending, empty-text t none) (sym (append-nil _)) }
+
+-- ---- what comes of a record
+
+-- which records the memory stands for is not settled by what is planted
+same-keeps : {n : ℕ} {R : Ring} {M : Memory} {bytes lengths : List ℕ} → HeadsOf n R M → HeadsOf n R (withSlots M bytes lengths)
+same-keeps K = record { collection = K .collection; confession = K .confession; always = K .always }
+
+either-short : (b : Bool) (x y : List ℕ) → length x ≤ 140 → length y ≤ 140 → length (cond b x y) ≤ 140
+either-short true x y h k = h
+either-short false x y h k = k
+
+module _ {F : File} {p : Player} {M : Memory} {r : RecordResult} where
+  -- a fault: all is as it was
+  pub stopped-next : {c : ℕ} → MemoryOf F M → (r .player ≡ halted p 0 c) × PlayerOf (r .player) (stopped F c) → r .text .len ≡ 0 → Next F (stopped F c) p M r M
+  stopped-next {c} H (is, tells) none =
+      record {
+        player = tells;
+        whole = rw is refl;
+        memory = record { keeps = H .keeps; slots = H .slots; short = H .short };
+        refused = λ h. (refl, is);
+        shows = stop-shows F c ∙ shows-none (shown F) (r .text) none;
+        room = omega arith;
+      }
+
+  module _ (s : List ℕ) where
+    -- a round: what was planted is gone
+    pub round-next : {M′ : Memory} {bytes lengths : List ℕ} → Turned F s (r .text) M′ → r .text .len ≤ 64 → ((k i : ℕ) → plantedIn bytes lengths k i ≡ [])
+        → (r .player .have ≡ 0) × PlayerOf (r .player) (withRecord round F s)
+        → Next F (withRecord round F s) p M r (withSlots M′ bytes lengths)
+    round-next P room cleared (whole, tells) =
+        record {
+          player = tells;
+          whole = whole;
+          memory = record { keeps = λ b. same-keeps (P .keeps); slots = λ w k i k-below i-below. cleared k i; short = λ w k i. omega arith };
+          refused = λ h. absurd (h refl);
+          shows = P .shows;
+          room = room;
+        }
+
+    -- a planted record: what it plants is added
+    pub plant-next : {bytes lengths : List ℕ} → MemoryOf F M → length (drop 6 s) ≤ 140
+        → ((k i : ℕ) → k < 32 → i < 32 → length (plantedIn (M .planted) (M .lengths) k i) ≤ 140
+        → plantedIn bytes lengths k i ≡ cond (eqb (senderIn s) k && eqb (receiverIn s) i) (drop 6 s) (plantedIn (M .planted) (M .lengths) k i))
+        → (r .player .have ≡ 0) × PlayerOf (r .player) (withRecord plant F s) → r .text .len ≡ 0
+        → Next F (withRecord plant F s) p M r (withSlots M bytes lengths)
+    plant-next H few new (whole, tells) none =
+        record {
+          player = tells;
+          whole = whole;
+          holds =
+              record {
+                keeps = λ b. same-keeps (H .keeps b);
+                slots = λ w k i a b. rw (new k i a b (rw (H .slots w k i a b) (H .short w k i)), H .slots w k i a b);
+                short = λ w k i. either-short (eqb (senderIn s) k && eqb (receiverIn s) i) (drop 6 s) _ few (H .short w k i);
+              };
+          refused = λ h. absurd (h refl);
+          shows = plant-shows F s ∙ shows-none (shown F) (r .text) none;
+          room = omega arith;
+        }
+
+    -- a start: the first positions
+    pub start-next : {M′ : Memory} → F .begun ≡ false → recordFault start F s ≡ 0 → ((j : ℕ) → j < 32 → getD (M′ .positions) j (pos 0) ≡ positionIn s j)
+        → r .player ≡ freshPlayer true (countIn s) (limitIn s) → bytesOf (r .text) ≡ endLine (countIn s) 0 (M′ .positions) 0 0 → r .text .len ≤ 64
+        → Next F (withRecord start F s) p M r M′
+    start-next {M′} begun sound first is text room =
+        let same : Each (countIn s) (λ i. getD (M′ .positions) i (pos 0) ≡ positionIn s i) = λ i l. first i (omega (arith, start-small F s sound)) in
+        let held = start-positions (countIn s) (limitIn s) (positionIn s) M′ same in
+        record {
+          player = rw is (start-tells F s);
+          whole = rw is refl;
+          holds =
+              record {
+                keeps = λ b. start-keeps (countIn s) (limitIn s) (positionIn s) M′ same;
+                slots = λ w. absurd (true≢false (sym w));
+                short = λ w. absurd (true≢false (sym w));
+              };
+          refused = λ h. absurd (h refl);
+          shows =
+              start-shows F s begun ∙ ap (λ (l : List ℕ). shown F ++ l) (line-is (countIn s) 0 _ (M′ .positions) (λ i l q. held i l) ∙ sym text);
+          room = room;
+        }

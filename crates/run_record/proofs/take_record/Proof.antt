@@ -1,0 +1,71 @@
+-- `run_record::take_record` meets its contract: the kind says which of the four takes the record, and where it may stand what that one needs to know.
+use mathlib.Core.Path.{_≡_, ap, sym, _∙_}
+use mathlib.Core.Bool.{true≢false}
+use native.Mathlib.Omega.{arith}
+use borrow.Author.Needs.{needs}
+use borrow.Author.Tests.{ne-eqb}
+use denote.Ref.{now}
+use Rattle.run_spec.specs.RunFile.{readFile, start, round, plant, other, recordKind, kindOf, lengthOf}
+use Rattle.run_state.specs.Memory.{Memory}
+use Rattle.run_record.proofs.Records.{start-place, round-place, plant-place}
+use Rattle.run_record.proofs.take_record.Statement.{statement}
+use Rattle.run_record.proofs.take_record.Tie as tie
+
+-- the memory as it was lent
+abbrev lent : tie.After-half-at → Memory
+lent h =
+    let a = h .before .before .args in
+    record {
+      positions = now (a .positions);
+      marks = now (a .marks);
+      lists = now (a .lists);
+      planted = now (a .planted);
+      lengths = now (a .lengths);
+    }
+
+returns : tie.Need-returns
+returns c =
+    let m = c .before .before in
+    let s = now (m .before .before .before .args .bytes) in
+    let kind : kindOf s ≡ start = ap recordKind (sym (m .before .half-at .ensures) ∙ m .match .keys1) in
+    let (next, room) = c .take-start .ensures in
+    (λ a T H may whole. rw kind (next (readFile a) (lent (m .before)) (start-place (readFile a) (lengthOf s) (rw kind at may)) T H), room)
+
+returns-2 : tie.Need-returns-2
+returns-2 c =
+    let m = c .before .before .before .before .before .before in
+    let s = now (m .before .before .before .args .bytes) in
+    let kind : kindOf s ≡ round = ap recordKind (sym (m .before .half-at .ensures) ∙ m .match .keys2) in
+    let (next, room) = c .take-round .ensures in
+    (λ a T H may whole. rw kind (next a (round-place (readFile a) (lengthOf s) (rw kind at may)) T H), room)
+
+returns-3 : tie.Need-returns-3
+returns-3 c =
+    let m = c .before .before .before in
+    let s = now (m .before .before .before .args .bytes) in
+    let kind : kindOf s ≡ plant = ap recordKind (sym (m .before .half-at .ensures) ∙ m .match .keys3) in
+    let (next, room) = c .take-plant .ensures in
+    (λ a T H may whole. rw kind (next (readFile a) (lent (m .before)) (omega (arith, plant-place (readFile a) (lengthOf s) (rw kind at may))) T H), room)
+
+returns-4 : tie.Need-returns-4
+returns-4 c =
+    let m = c .before in
+    let s = now (m .before .before .before .args .bytes) in
+    let r = m .match .rest in
+    let kind : kindOf s ≡ other =
+    ap recordKind (sym (m .before .half-at .ensures)) ∙ simp (ne-eqb _ _ (r .0 .0 .1), ne-eqb _ _ (r .0 .1), ne-eqb _ _ (r .1)) in
+    (λ a T H may whole. absurd (true≢false (sym (rw kind at may))), c .refuse .ensures .1)
+
+pub take-record-spec : {M : Type 1} → statement M
+take-record-spec =
+    tie.close
+    (tie.spec
+    (λ c κs. search needs)
+    (λ c κs. search needs)
+    (λ c κs. search needs)
+    (λ c κs. search needs)
+    (λ c κs. search needs)
+    returns
+    returns-2
+    returns-3
+    returns-4)

@@ -1,0 +1,47 @@
+-- `run_record::take_round` meets its contract: a fault stops the file, and else the round that waited is played and what was planted in it is cleared.
+use mathlib.Core.Path.{sym, _∙_}
+use denote.Ref.{now}
+use borrow.Author.Needs.{needs}
+use Rattle.run_spec.specs.RunFile.{round, readFile}
+use Rattle.run_record.proofs.Records.{judged-stopped, judged-taken, round-room, round-next}
+use Rattle.run_record.proofs.take_round.Statement.{statement}
+use Rattle.run_record.proofs.take_round.Tie as tie
+
+returns : tie.Need-returns
+returns c =
+    let t = c .before in
+    let (next, room) = c .refuse .ensures in (
+      λ a begun T H.
+          rw (judged-stopped round (readFile a) _ _ (t .before .round-fault .ensures (readFile a) (T .n) (T .f) (T .given)) (t .if1 .taken))
+          (next (readFile a) _ T H),
+      room,
+    )
+
+returns-2 : tie.Need-returns-2
+returns-2 c =
+    let l = c .before .before in
+    let k = l .before .before in
+    let t = k .before .before .before .before .before in
+    let s = now (t .before .before .before .args .bytes) in
+    let (turned, room) = k .play-waiting .ensures in
+    let (whole, tells) = c .given-round .ensures in (
+      λ a begun T H.
+          let e = t .before .round-fault .ensures (readFile a) (T .n) (T .f) (T .given) in
+          rw (judged-taken round (readFile a) s e (t .if1 .left))
+          (round-next s (turned a s begun T H) room (l .clear .ensures _)
+          (whole, tells (readFile a) s (c .before .word-at .ensures) (round-room (readFile a) s (sym e ∙ t .if1 .left)) T)),
+      room,
+    )
+
+pub take-round-spec : {M : Type 1} → statement M
+take-round-spec =
+    tie.close
+    (tie.spec
+    (λ c κs. search needs)
+    (λ c κs. search needs)
+    returns
+    (λ c κs. search needs)
+    (λ c κs. search needs)
+    (λ c κs. search needs)
+    (λ c κs. search needs)
+    returns-2)

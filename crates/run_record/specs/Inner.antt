@@ -1,0 +1,16 @@
+-- What the private functions promise each other. Readers of the public promises do not need this file.
+use mathlib.Core.Path.{_≡_}
+use mathlib.Core.List.{List, _++_}
+use Prim.Native.Nat.{ℕ}
+use Rattle.run_spec.specs.RunFile.{File, round, withRecord}
+use Rattle.run_spec.specs.Listing.{shown}
+use Rattle.run_listing.specs.declared.Text.{Text}
+use Rattle.run_listing.specs.Texts.{bytesOf}
+use Rattle.run_state.specs.Memory.{Memory}
+use Rattle.run_state.specs.Heads.{HeadsOf}
+use Rattle.run_state.specs.State.{ringBefore}
+
+-- as a round record s of the file F is taken, the round that pending, if one does, is played
+pub record Turned (F : File) (s : List ℕ) (text : Text) (M : Memory) : Type 0 where
+  pub keeps : HeadsOf (F .n) (ringBefore (withRecord round F s)) M
+  pub shows : shown (withRecord round F s) ≡ shown F ++ bytesOf text

@@ -1,0 +1,26 @@
+-- What a record changes: the player, its memory, and the listing.
+use mathlib.Core.List.{_++_}
+use mathlib.Core.Path.{_≡_}
+use Prim.Native.Nat.{_≤_}
+use Rattle.run_spec.specs.RunFile.{File}
+use Rattle.run_spec.specs.Listing.{shown}
+use Rattle.run_listing.specs.declared.Text.{Text}
+use Rattle.run_listing.specs.Texts.{bytesOf}
+use Rattle.run_state.specs.declared.Player.{Player}
+use Rattle.run_record.specs.declared.RecordResult.{RecordResult}
+use Rattle.run_state.specs.Memory.{Memory}
+use Rattle.run_state.specs.State.{PlayerOf, MemoryOf, halted}
+
+-- a record is taken, by which the file F becomes G: from the player p and its memory M to the player after it, its memory M′, and the text by which the listing
+-- grows. A record that is refused leaves the memory as it was, and the player but for its fault.
+pub record Next (F G : File) (p : Player) (M : Memory) (r : RecordResult) (M′ : Memory) : Type 0 where
+  pub player : PlayerOf (r .player) G
+  pub whole : r .player .have ≡ 0
+  pub memory : MemoryOf G M′
+  pub refused : (G .fault ≡ 0 → ⊥) → (M′ ≡ M) × (r .player ≡ halted p 0 (G .fault))
+  pub shows : shown G ≡ shown F ++ bytesOf (r .text)
+  pub room : r .text .len ≤ 64
+
+-- the same of a record that shows nothing: q is the player after it
+abbrev pub NextQuiet : File → File → Player → Memory → Player → Memory → Type 0
+NextQuiet F G p M q M′ = (t : Text) → t .len ≡ 0 → Next F G p M (record { player = q; text = t }) M′

@@ -1,0 +1,159 @@
+// The records of a run file, taken one by one.
+ghost use mathlib.Core.Bool.{true, false};
+ghost use mathlib.Core.List.{List};
+ghost use mathlib.Core.Path.{_≡_};
+ghost use Prim.Native.Nat.{ℕ, _≤_, _<_};
+ghost use lib.ListN.{length, drop};
+ghost use Rattle.run_spec.specs.RunFile.{File, given, readFile, start, round, plant, kindOf, lengthOf, isAllowed, judged, stopped};
+ghost use Rattle.run_state.specs.Memory.{Memory, before, after, withPositions, withSlots};
+ghost use Rattle.run_state.specs.State.{PlayerOf, MemoryOf};
+ghost use Rattle.run_record.specs.Next.{Next, NextQuiet};
+ghost use Rattle.run_record.specs.Inner.{Turned};
+use run_listing::Text;
+use run_state::Player;
+use terms::refusal;
+
+// What comes of a record: the player after it, and the line that it shows, if any.
+pub struct RecordResult {
+    pub player: Player,
+    pub text: Text,
+}
+
+// A record with a fault: the file stops, and nothing is shown.
+fn refuse(p: Player, number: u8) -> RecordResult
+    ensures { λ r. ⌜ ((F : File) (M : Memory) → PlayerOf p F → MemoryOf F M → Next F (stopped F number) p M r M) ⌝ }
+    ensures { λ r. ⌜ r .text .len ≤ 64 ⌝ }
+{
+    RecordResult {
+        player: run_state::stop(p, number),
+        text: run_listing::empty(),
+    }
+}
+
+// A start record.
+fn take_start(p: Player, bytes: &[u8], positions: &mut [i32; 32]) -> RecordResult
+    ensures { λ r. ⌜ ((F : File) (M : Memory) → F .begun ≡ false → PlayerOf p F → MemoryOf F (withPositions M (now (positions .entry)))
+        → Next F (judged start F (now (bytes .entry))) p (withPositions M (now (positions .entry))) r (withPositions M (now (positions .exit)))) ⌝ }
+    ensures { λ r. ⌜ r .text .len ≤ 64 ⌝ }
+{
+    let number = run_judge::start_fault(bytes);
+    if number != 0 {
+        return refuse(p, number);
+    }
+    let n = fields::byte_at(bytes, 4);
+    *positions = run_judge::first_positions(bytes);
+    RecordResult {
+        player: run_state::fresh(true, n, fields::byte_at(bytes, 5)),
+        text: run_listing::end_line(0, positions, n, 0, 0),
+    }
+}
+
+// Plays the round that pending, if one does, and answers the line of the phase that it ends, if it ends one.
+fn play_waiting(
+    p: Player,
+    positions: &mut [i32; 32],
+    marks: &mut [u32; 32],
+    lists: &mut [[i32; 32]; 32],
+    planted: &[u8; 143360],
+    lengths: &[u8; 1024],
+) -> Text
+    ensures { λ r. ⌜ ((a s : List ℕ) → readFile a .begun ≡ true → PlayerOf p (readFile a)
+        → MemoryOf (readFile a) (before positions marks lists planted lengths)
+        → Turned (readFile a) s r (after positions marks lists planted lengths)) ⌝ }
+    ensures { λ r. ⌜ r .len ≤ 64 ⌝ }
+{
+    if !p.pending {
+        return run_listing::empty();
+    }
+    run_round::play_round(p, positions, marks, lists, planted, lengths)
+}
+
+// A round record: the round that waited is played.
+fn take_round(
+    p: Player,
+    bytes: &[u8],
+    positions: &mut [i32; 32],
+    marks: &mut [u32; 32],
+    lists: &mut [[i32; 32]; 32],
+    planted: &[u8; 143360],
+    lengths: &mut [u8; 1024],
+) -> RecordResult
+    ensures { λ r. ⌜ ((a : List ℕ) → readFile a .begun ≡ true → PlayerOf p (readFile a)
+        → MemoryOf (readFile a) (before positions marks lists planted lengths)
+        → Next (readFile a) (judged round (readFile a) (now (bytes .entry))) p (before positions marks lists planted lengths) r (after positions marks lists planted lengths)) ⌝ }
+    ensures { λ r. ⌜ r .text .len ≤ 64 ⌝ }
+{
+    let fault = run_judge::round_fault(bytes, p.n, p.f, p.given);
+    if fault != 0 {
+        return refuse(p, fault);
+    }
+    let text = play_waiting(p, positions, marks, lists, planted, lengths);
+    frame_slots::clear(lengths);
+    RecordResult {
+        player: run_state::given_round(p, fields::word_at(bytes, 4)),
+        text,
+    }
+}
+
+// The player after a planted record, which shows nothing.
+pub fn pass_plant(
+    p: Player,
+    bytes: &[u8],
+    planted: &mut [u8; 143360],
+    lengths: &mut [u8; 1024],
+) -> Player
+    ensures { λ r. ⌜ ((F : File) (M : Memory) → length (now (bytes .entry)) ≤ 146 → PlayerOf p F → MemoryOf F (withSlots M (now (planted .entry)) (now (lengths .entry)))
+        → NextQuiet F (judged plant F (now (bytes .entry))) p (withSlots M (now (planted .entry)) (now (lengths .entry))) r (withSlots M (now (planted .exit)) (now (lengths .exit)))) ⌝ }
+{
+    let fault = run_judge::plant_fault(bytes, p.n, p.struck, p.last);
+    if fault != 0 {
+        return run_state::stop(p, fault);
+    }
+    let from = fields::byte_at(bytes, 4);
+    let to = fields::byte_at(bytes, 5);
+    frame_slots::plant(planted, lengths, from, to, fields::bytes_from(bytes, 6));
+    run_state::planted_pair(p, from, to)
+}
+
+// A planted record.
+fn take_plant(
+    p: Player,
+    bytes: &[u8],
+    planted: &mut [u8; 143360],
+    lengths: &mut [u8; 1024],
+) -> RecordResult
+    ensures { λ r. ⌜ ((F : File) (M : Memory) → length (now (bytes .entry)) ≤ 146 → PlayerOf p F → MemoryOf F (withSlots M (now (planted .entry)) (now (lengths .entry)))
+        → Next F (judged plant F (now (bytes .entry))) p (withSlots M (now (planted .entry)) (now (lengths .entry))) r (withSlots M (now (planted .exit)) (now (lengths .exit)))) ⌝ }
+    ensures { λ r. ⌜ r .text .len ≤ 64 ⌝ }
+{
+    RecordResult {
+        player: pass_plant(p, bytes, planted, lengths),
+        text: run_listing::empty(),
+    }
+}
+
+// A whole record that may stand where it stands.
+pub fn take_record(
+    p: Player,
+    bytes: &[u8],
+    positions: &mut [i32; 32],
+    marks: &mut [u32; 32],
+    lists: &mut [[i32; 32]; 32],
+    planted: &mut [u8; 143360],
+    lengths: &mut [u8; 1024],
+) -> RecordResult
+    ensures { λ r. ⌜ ((a : List ℕ) → PlayerOf p (readFile a)
+        → MemoryOf (readFile a) (before positions marks lists planted lengths)
+        → isAllowed (kindOf (now (bytes .entry))) (readFile a) (lengthOf (now (bytes .entry))) ≡ true
+        → length (now (bytes .entry)) ≡ lengthOf (now (bytes .entry))
+        → Next (readFile a) (judged (kindOf (now (bytes .entry))) (readFile a) (now (bytes .entry)))
+        p (before positions marks lists planted lengths) r (after positions marks lists planted lengths)) ⌝ }
+    ensures { λ r. ⌜ r .text .len ≤ 64 ⌝ }
+{
+    match fields::half_at(bytes, 2) {
+        run_judge::START => take_start(p, bytes, positions),
+        run_judge::ROUND => take_round(p, bytes, positions, marks, lists, planted, lengths),
+        run_judge::PLANT => take_plant(p, bytes, planted, lengths),
+        _ => refuse(p, refusal::RUN_RECORD),
+    }
+}

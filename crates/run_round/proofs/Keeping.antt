@@ -1,0 +1,191 @@
+-- The memory keeps step with the ring. Before a round it settles what each record that is neither struck nor healed has to say, so that each unstruck
+-- head hears the same in both, and makes the same of it: in collection its list, its position left as it is, in confession its new position, since no closing is
+-- refused.
+use mathlib.Core.Path.{_≡_, refl, ap, ap₂, sym, subst, _∙_}
+use mathlib.Core.Bool.{Bool, true, false, cond}
+use mathlib.Core.List.{List, []}
+use Prim.Native.Nat.{ℕ, _<_}
+use native.Mathlib.Omega.{arith}
+use lib.ListN.{getD}
+use lib.IntN.{ℤ, pos}
+use Rattle.terms.specs.declared.Entry.{Entry}
+use Rattle.marks.specs.Marks.{bitOf}
+use Rattle.entries.specs.Tables.{tableAt, tableOf}
+use Rattle.convergence.specs.Counting.{Each, AtMost}
+use Rattle.convergence.specs.Settling.{midpoint, enough}
+use Rattle.convergence.specs.Trust.{Given, trusted}
+use Rattle.convergence.specs.Phases.{End, rounding}
+use Rattle.convergence.proofs.Same.{nulls-same, midpoint-same, trusted-same}
+use Rattle.frame_spec.specs.Said.{collected, listed, confessed}
+use Rattle.frame_spec.specs.Proper.{ProperTable}
+use Rattle.settle_midpoint.specs.Answers.{settling}
+use Rattle.head_spec.specs.declared.Head.{Head}
+use Rattle.head_spec.specs.Record.{given, heardEntry, givenOf}
+use Rattle.head_spec.specs.Calls.{started, restarted, closedCollection, spoken}
+use Rattle.head_spec.proofs.Hearing.{HeardKept}
+use Rattle.ring_spec.specs.Rounds.{Round, Ring, openedAt, afterRound, firstHeads, ringAfter}
+use Rattle.ring_spec.proofs.OneRound.{RingReady, says-entry, says-list, heardAt, opened-same, opened-in, heard-proper, heard-is, heard-given, heard-list}
+use Rattle.ring_spec.proofs.Closings.{collection-closed, confession-settles, after-collection, after-confession}
+use Rattle.ring_spec.proofs.Demand3.{Playable}
+use Rattle.ring_round.specs.declared.Stage.{Stage}
+use Rattle.ring_round.specs.Memory.{heads, hears, sends, listEntry, rowIn, replies, givenEntry, positionOf, newPosition}
+use Rattle.run_state.specs.Memory.{Memory}
+use Rattle.run_state.specs.Heads.{HeadsOf}
+use Rattle.run_round.proofs.Tables.{table-same, table-of-entries}
+use Rattle.run_round.proofs.Carried.{Plays, heads-are, hears-unstruck, said-same}
+
+-- a record holds one position at most
+one-position : {e : Entry} {u v : ℤ} → e ≡ Entry.Position u → e ≡ Entry.Position v → u ≡ v
+one-position p q = cc
+
+no-position : {A : Type 0} {v : ℤ} → Entry.Null ≡ Entry.Position v → A
+no-position p = let z : _≡_ {A = ℕ} 0 1 = cc in absurd (omega arith)
+
+-- ---- the start, with the positions of the start record
+
+module _ (n f : ℕ) (v : ℕ → ℤ) (M : Memory) (same : Each n (λ i. getD (M .positions) i (pos 0) ≡ v i)) where
+  pub start-positions : Each n (λ i. firstHeads n f v i .position ≡ Entry.Position (getD (M .positions) i (pos 0)))
+  unfolding firstHeads started
+  start-positions i l = ap Entry.Position (sym (same i l))
+
+  pub start-keeps : HeadsOf n (ringAfter n f v []) M
+  unfolding ringAfter
+  start-keeps =
+      record {
+        collection = λ r i l q. start-positions i l;
+        confession = λ r. absurd (omega arith);
+        always = λ i l q v e. one-position (start-positions i l) e;
+      }
+
+-- the new position, where enough entries are trusted
+settles-midpoint : (n f : ℕ) (E : ℕ → Entry) → enough n f E ≡ true → positionOf (settling 0 n f E) ≡ midpoint 0 n f E
+unfolding settling midpoint
+settles-midpoint n f E e = rw e
+
+module _ {n f : ℕ} {R : Ring} {w : Round} {s : Stage} {plant : ℕ → ℕ → List ℕ} (P : Plays n f R w s plant)
+    {M : Memory} (K : HeadsOf n R M) where
+  abbrev positions : List ℤ
+  positions = M .positions
+
+  abbrev marks : List ℕ
+  marks = M .marks
+
+  abbrev lists : List (List ℤ)
+  lists = M .lists
+
+  -- ---- a collection round
+
+  module _ (S : RingReady n f R) (collection : R .round ≡ 0) where
+    says-position : (k : ℕ) → k < n → bitOf (w .struck) k ≡ false → spoken (openedAt n f R w k) ≡ sends s positions k
+    says-position k l q = says-entry (opened-in n f R w S k l q collection) ∙ rw (P .before) (go (bitOf (R .before) k) refl)
+      where
+        go : (b : Bool) → bitOf (R .before) k ≡ b
+            → collected (cond b Entry.Null (openedAt n f R w k .position)) ≡ collected (cond b Entry.Null (Entry.Position (getD positions k (pos 0))))
+        go true e = refl
+        go false e = rw (opened-same n f R w k q e, K .collection collection k l e)
+
+    module _ (i : ℕ) (l : i < n) (q : bitOf (w .struck) i ≡ false) where
+      abbrev T : Head
+      T = heardAt n f R w i
+
+      heard-entries : Each n (λ k. tableAt (T .list) k ≡ listEntry s positions plant i k)
+      unfolding listEntry
+      heard-entries k b =
+          heard-list n f R w S i l q collection k b ∙ sym (ap heardEntry (said-same P S i l q k b (sends s positions k) (says-position k b) collection))
+
+      -- its list when all is heard, which is proper
+      heard-table : T .list ≡ tableOf (heads s) (listEntry s positions plant i)
+      heard-table =
+          let proper = subst (λ (x : HeardKept). ProperTable (x .n) (T .list)) (heard-is n f R w S i l q) (heard-proper n f R w S i l q .list) in
+          rw (heads-are P S)
+          (sym (table-of-entries n (T .list) proper (S .size .most)) ∙ table-same n (tableAt (T .list)) (listEntry s positions plant i) heard-entries)
+
+      list-kept : afterRound n f R w .heads i .list ≡ tableOf (heads s) (listEntry s positions plant i)
+      unfolding afterRound closedCollection
+      list-kept = ap (λ (h : Head). h .list) (collection-closed n f R w S i l q collection) ∙ heard-table
+
+      -- its position, which a head that is healed in this round does not have
+      position-stays : (v : ℤ) → afterRound n f R w .heads i .position ≡ Entry.Position v → getD positions i (pos 0) ≡ v
+      unfolding afterRound closedCollection openedAt restarted
+      position-stays v e =
+          go (bitOf (R .before) i) refl
+          (sym (ap (λ (h : Head). h .position) (collection-closed n f R w S i l q collection) ∙ ap (λ (x : HeardKept). x .position) (heard-is n f R w S i l q)) ∙ e)
+        where
+          go : (b : Bool) → bitOf (R .before) i ≡ b → openedAt n f R w i .position ≡ Entry.Position v → getD positions i (pos 0) ≡ v
+          go true b e = no-position (rw (q, b) at e)
+          go false b e = K .always i l b v (rw (opened-same n f R w i q b) at e)
+
+    pub collect-keeps : {M′ : Memory} → M′ .positions ≡ positions
+        → ((i : ℕ) → rowIn (M′ .marks) (M′ .lists) i ≡ cond (hears s i) (tableOf (heads s) (listEntry s positions plant i)) (rowIn marks lists i))
+        → HeadsOf n (afterRound n f R w) M′
+    unfolding afterRound
+    collect-keeps same new =
+        let next = after-collection n f R w S collection .1 in
+        record {
+          collection = λ r. absurd (omega arith);
+          confession = λ r i l q. list-kept i l q ∙ sym (new i ∙ rw (hears-unstruck P S i l q));
+          always = λ i l q v e. rw same (position-stays i l q v e);
+        }
+
+  -- ---- a confession round
+
+  module _ {e : End} (A : Playable n f e R) (few : AtMost f n (bitOf (w .struck))) (confession : R .round ≡ 1) where
+    abbrev S : RingReady n f R
+    S = A .ready
+
+    says-row : (k : ℕ) → k < n → bitOf (w .struck) k ≡ false → spoken (openedAt n f R w k) ≡ replies s marks lists k
+    says-row k l q = says-list (opened-in n f R w S k l q confession) ∙ rw (P .before) (go (bitOf (R .before) k) refl)
+      where
+        go : (b : Bool) → bitOf (R .before) k ≡ b
+            → cond b confessed (listed (openedAt n f R w k .list)) ≡ cond b confessed (listed (rowIn marks lists k))
+        go true e = refl
+        go false e = rw (opened-same n f R w k q e, K .confession confession k l e)
+
+    module _ (i : ℕ) (l : i < n) (q : bitOf (w .struck) i ≡ false) where
+      abbrev G : ℕ → Given
+      G = given (heardAt n f R w i)
+
+      abbrev G′ : ℕ → Given
+      G′ = givenEntry s marks lists plant i
+
+      given-same : Each n (λ k. G k ≡ G′ k)
+      unfolding givenEntry
+      given-same k b =
+          heard-given n f R w S i l q k b ∙ sym (ap givenOf (said-same P S i l q k b (replies s marks lists k) (says-row k b) confession))
+
+      trust-same : Each n (λ j. trusted n f G j ≡ trusted n f G′ j)
+      trust-same j b = trusted-same n f G G′ j b given-same
+
+      calm : enough n f (trusted n f G) ≡ true
+      calm = A .settles confession w few i l q
+
+      still-calm : enough n f (trusted n f G′) ≡ true
+      unfolding enough
+      still-calm = rw (← nulls-same n _ _ trust-same) calm
+
+      new-position : newPosition s marks lists plant i ≡ midpoint 0 n f (trusted n f G′)
+      unfolding newPosition
+      new-position =
+          ap₂ (λ (a b : ℕ). positionOf (settling 0 a b (trusted a b G′))) (heads-are P S) (P .limit)
+          ∙ settles-midpoint n f (trusted n f G′) still-calm
+
+      position-kept : afterRound n f R w .heads i .position ≡ Entry.Position (newPosition s marks lists plant i)
+      unfolding afterRound rounding
+      position-kept =
+          confession-settles n f R w S i l q confession calm ∙ ap Entry.Position (midpoint-same 0 n f _ _ trust-same ∙ sym new-position)
+
+    module _ (M′ : Memory)
+        (new : (i : ℕ) → getD (M′ .positions) i (pos 0) ≡ cond (hears s i) (newPosition s marks lists plant i) (getD positions i (pos 0))) where
+      -- in phase 65,535 too, where the ring ends
+      pub confess-positions : Each n (λ i. bitOf (w .struck) i ≡ false → afterRound n f R w .heads i .position ≡ Entry.Position (getD (M′ .positions) i (pos 0)))
+      confess-positions i l q = position-kept i l q ∙ ap Entry.Position (sym (new i ∙ rw (hears-unstruck P S i l q)))
+
+      pub confess-keeps : HeadsOf n (afterRound n f R w) M′
+      unfolding afterRound
+      confess-keeps =
+          let next = after-confession n f R w S confession .1 in
+          record {
+            collection = λ r. confess-positions;
+            confession = λ r. absurd (omega arith);
+            always = λ i l q v e. one-position (confess-positions i l q) e;
+          }

@@ -1,0 +1,59 @@
+// The round that pending, played on the heads' memory: when the next round record is accepted, or the file ends well.
+ghost use mathlib.Core.Bool.{true};
+ghost use mathlib.Core.List.{List};
+ghost use mathlib.Core.Path.{_≡_};
+ghost use Prim.Native.Nat.{ℕ, _+_, _/_, _≤_, _<_};
+ghost use Rattle.run_spec.specs.RunFile.{given, readFile};
+ghost use Rattle.run_state.specs.Memory.{before, after};
+ghost use Rattle.run_state.specs.State.{PlayerOf, MemoryOf};
+ghost use Rattle.run_round.specs.Played.{Played};
+ghost use Rattle.run_round.specs.Inner.{stageOf};
+use ring_round::Stage;
+use run_listing::Text;
+use run_state::Player;
+
+// The phase of the round that pending.
+fn phase_of(given: u32) -> u16
+    ensures { λ r. ⌜ (given ≤ 131070 → r ≡ (given + 1) / 2) ⌝ }
+{
+    if 131070 < given {
+        return 0;
+    }
+    ((given + 1) / 2) as u16
+}
+
+// The ring in the round that pending.
+fn stage_of(p: Player) -> Stage
+    ensures { λ r. ⌜ (p .given ≤ 131070 → r ≡ stageOf p) ⌝ }
+{
+    Stage {
+        n: p.n,
+        f: p.f,
+        phase: phase_of(p.given),
+        before: p.before,
+        struck: p.struck,
+    }
+}
+
+// Plays the round that pending, and answers the line of the phase that it ends, if it ends one.
+pub fn play_round(
+    p: Player,
+    positions: &mut [i32; 32],
+    marks: &mut [u32; 32],
+    lists: &mut [[i32; 32]; 32],
+    planted: &[u8; 143360],
+    lengths: &[u8; 1024],
+) -> Text
+    ensures { λ r. ⌜ ((a : List ℕ) → readFile a .begun ≡ true → readFile a .pending ≡ true → PlayerOf p (readFile a)
+        → MemoryOf (readFile a) (before positions marks lists planted lengths)
+        → Played (readFile a) r (after positions marks lists planted lengths)) ⌝ }
+    ensures { λ r. ⌜ r .len ≤ 64 ⌝ }
+{
+    let s = stage_of(p);
+    if p.given % 2 == 1 {
+        ring_collection::collect(s, positions, planted, lengths, marks, lists);
+        return run_listing::empty();
+    }
+    ring_confession::confess(s, marks, lists, planted, lengths, positions);
+    run_listing::end_line(s.phase, positions, p.n, p.before, p.struck)
+}

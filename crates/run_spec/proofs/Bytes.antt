@@ -1,0 +1,196 @@
+-- What holds of every file read, by what a byte does to it: after a fault nothing, or it is one byte more of a record, or it stops the file, or it makes a
+-- record whole that is accepted. So no round pending before a start, and the bytes read are at least those of the records that were accepted.
+use mathlib.Core.Path.{_≡_, refl, sym, subst, _∙_}
+use mathlib.Core.Bool.{Bool, true, false, not, cond, _&&_, true≢false}
+use mathlib.Core.List.{List, [], _∷_, _++_}
+use Prim.Native.Nat.{ℕ, zero, suc, _+_, _*_, _≤_}
+use native.Mathlib.Omega.{arith}
+use native.Mathlib.Decide.{decLe}
+use native.Mathlib.Nat.{add-zero, zero-add}
+use lib.Dec.{ltb, leb, eqb}
+use lib.ListN.{length, length-append}
+use borrow.Author.Tests.{leb-true, eqb-true, ltb-false, eq-eqb, not-true, not-false}
+use Rattle.terms.specs.Refusals as refusal
+use Rattle.terms.specs.Sizes.{isCount}
+use Rattle.frame_spec.proofs.Listing.{and-both}
+use Rattle.head_spec.proofs.Proper.{both-passed}
+use Rattle.ring_spec.specs.Rounds.{Round, endsAfter}
+use Rattle.ring_spec.proofs.Counts.{counted}
+use Rattle.run_spec.specs.RunFile.{File, unread, given, RecordKind, start, round, plant, other, lengthOf, kindOf, isAllowed, countIn, recordFault, thenPlayed, withRecord, stopped, unlessFault, judged, withPart, readOn, unlessStopped, step, feed, readFile, recordsOf, accepted, ending, roundsPlayed, endsPlayed}
+use Rattle.run_spec.proofs.Taken.{length-then}
+use Rattle.run_spec.proofs.Whole.{stands, RoundsFit, kept-on, kept-read, kept}
+use Rattle.run_spec.proofs.Streaming.{feed-append}
+
+-- P: of a file and the number of bytes that led to it
+module _ (P : File → ℕ → Type 0)
+    (rests : (F : File) (k : ℕ) → P F k → P F (suc k))
+    (parts : (F : File) (s : List ℕ) (k : ℕ) → length s ≡ suc (length (F .part)) → P F k → P (withPart F s) (suc k))
+    (stops : (F : File) (c k : ℕ) → P F k → P (stopped F c) (suc k))
+    (takes : (F : File) (s : List ℕ) (k : ℕ) → length s ≡ suc (length (F .part)) → stands F s ≡ true → length s ≡ lengthOf s
+    → recordFault (kindOf s) F s ≡ 0 → P F k → P (withRecord (kindOf s) F s) (suc k)) where
+  module _ (F : File) (kept : RoundsFit F) (x k : ℕ) (p : P F k) where
+    abbrev s : List ℕ
+    s = F .part ++ (x ∷ [])
+
+    one : length s ≡ suc (length (F .part))
+    one = length-append (F .part) (x ∷ []) ∙ omega arith
+
+    judges : stands F s ≡ true → length s ≡ lengthOf s → P (judged (kindOf s) F s) (suc k)
+    unfolding judged
+    judges may all = go (recordFault (kindOf s) F s) refl
+      where
+        go : (c : ℕ) → recordFault (kindOf s) F s ≡ c → P (unlessFault c (withRecord (kindOf s) F s) F) (suc k)
+        go zero e = takes F s k one may all e p
+        go (suc c) e = stops F (suc c) k p
+
+    -- a whole record has a header that may stand
+    may-stand : ltb (length s) 4 ≡ false → (eqb (length s) 4 && not (stands F s)) ≡ false → stands F s ≡ true
+    may-stand long place = go (decLe 4 (length (F .part)))
+      where
+        go : Dec (4 ≤ length (F .part)) → stands F s ≡ true
+        go (yes h) = kept-on F kept (x ∷ []) h .0
+        go (no h) = not-false (stands F s) (rw (eq-eqb (length s) 4 (omega (arith, one, ltb-false (length s) 4 long))) at place)
+
+    reads : P (readOn F s) (suc k)
+    unfolding readOn
+    reads = go (ltb (length s) 4) (eqb (length s) 4 && not (stands F s)) (eqb (length s) (lengthOf s)) refl refl refl
+      where
+        go : (few out all : Bool) → ltb (length s) 4 ≡ few → (eqb (length s) 4 && not (stands F s)) ≡ out → eqb (length s) (lengthOf s) ≡ all
+            → P (cond few (withPart F s) (cond out (stopped F refusal.run-record) (cond all (judged (kindOf s) F s) (withPart F s)))) (suc k)
+        go true out all f o a = parts F s k one p
+        go false true all f o a = stops F refusal.run-record k p
+        go false false true f o a = judges (may-stand f o) (eqb-true (length s) (lengthOf s) a)
+        go false false false f o a = parts F s k one p
+
+  pub from : (F : File) (xs : List ℕ) (k : ℕ) → RoundsFit F → P F k → P (feed F xs) (k + length xs)
+  unfolding feed step
+  from F [] k kept p = simp add-zero p
+  from F (x ∷ xs) k kept p =
+      let (q, h) = go (F .fault) in
+      let e : suc k + length xs ≡ k + length (x ∷ xs) = omega arith in
+      subst (λ (m : ℕ). P (feed (step F x) xs) m) e (from (step F x) xs (suc k) q h)
+    where
+      go : (c : ℕ) → let G = unlessStopped c F (readOn F (F .part ++ (x ∷ []))) in RoundsFit G × P G (suc k)
+      go zero = (kept-read F kept x, reads F kept x k p)
+      go (suc c) = (kept, rests F k p)
+
+  pub byte-by-byte : P unread 0 → (s : List ℕ) → P (readFile s) (length s)
+  unfolding unread
+  byte-by-byte p s = rw (zero-add (length s)) at (from unread s 0 (λ h. absurd (omega arith)) p)
+
+-- ---- the bytes that the records took
+
+pub record Cost (F : File) (k : ℕ) : Type 0 where
+  pub begun : F .pending ≡ true → F .begun ≡ true
+  pub part : length (F .part) ≤ k
+  pub records : F .begun ≡ true → 10 + 8 * given F + length (F .part) ≤ k
+
+start-long : (F : File) (s : List ℕ) → recordFault start F s ≡ 0 → 10 ≤ length s
+unfolding isCount
+start-long F s sound =
+    let (whole, count, rest) = both-passed (eqb (length s) (6 + 4 * countIn s)) (isCount (countIn s)) 12 0 sound in
+    let some = leb-true 1 (countIn s) (and-both (leb 1 (countIn s)) _ count .0) in
+    omega (arith, eqb-true (length s) (6 + 4 * countIn s) whole)
+
+costs-more : (K : RecordKind) (F : File) (s : List ℕ) (k : ℕ) → length s ≡ suc (length (F .part)) → isAllowed K F (lengthOf s) ≡ true → length s ≡ lengthOf s
+    → recordFault K F s ≡ 0 → Cost F k → Cost (withRecord K F s) (suc k)
+costs-more start F s k one may all sound C =
+    record { begun = λ w. refl; part = omega arith; records = λ b. omega (arith, start-long F s sound, C .part) }
+costs-more round F s k one may all sound C =
+    let (begun, eight) = and-both (F .begun) _ may in
+    record {
+      begun = λ w. begun;
+      part = omega arith;
+      records = λ b. omega (arith, C .records begun, eqb-true (lengthOf s) 8 eight, length-then (F .pending) (F .played) (F .last));
+    }
+costs-more plant F s k one may all sound C =
+    record { begun = C .begun; part = omega arith; records = λ b. omega (arith, C .records b) }
+costs-more other F s k one may all sound C = absurd (true≢false (sym may))
+
+pub cost : (s : List ℕ) → Cost (readFile s) (length s)
+unfolding unread
+cost s =
+    byte-by-byte Cost
+    (λ F k C. record { begun = C .begun; part = omega (arith, C .part); records = λ b. omega (arith, C .records b) })
+    (λ F s k one C. record { begun = C .begun; part = omega (arith, C .part); records = λ b. omega (arith, C .records b) })
+    (λ F c k C. record { begun = C .begun; part = omega arith; records = λ b. omega (arith, C .records b) })
+    (λ F s k one may all sound C. costs-more (kindOf s) F s k one may all sound C)
+    (record { begun = λ w. absurd (true≢false (sym w)); part = omega arith; records = λ b. absurd (true≢false (sym b)) })
+    s
+
+-- ---- how many phase ends that can be
+
+-- the start took 10 bytes at least, and each phase 16
+pub few-ends : (s : List ℕ) → 16 * length (endsPlayed (readFile s)) ≤ length s + 6
+unfolding endsPlayed roundsPlayed
+few-ends s = go (F .begun) (eqb (ending F) 0) refl
+  where
+    F : File
+    F = readFile s
+
+    ends : List Round → ℕ
+    ends ws = length (endsAfter (F .n) (F .f) (F .first) ws)
+
+    few : (b : Bool) → F .begun ≡ true → 16 * ends (cond b (thenPlayed (F .pending) (F .played) (F .last)) (F .played)) ≤ length s + 6
+    few true begun =
+        let ws = thenPlayed (F .pending) (F .played) (F .last) in
+        let C = counted (F .n) (F .f) (F .first) ws in
+        omega (arith, cost s .records begun, C .played, C .counts, length-then (F .pending) (F .played) (F .last))
+    few false begun =
+        let C = counted (F .n) (F .f) (F .first) (F .played) in
+        omega (arith, cost s .records begun, C .played, C .counts)
+
+    go : (begun b : Bool) → F .begun ≡ begun
+        → 16 * length (cond begun (endsAfter (F .n) (F .f) (F .first) (cond b (thenPlayed (F .pending) (F .played) (F .last)) (F .played))) []) ≤ length s + 6
+    go true b e = few b e
+    go false b e = omega arith
+
+-- ---- the records accepted
+
+-- each is one more
+pub one-accepted : (K : RecordKind) (F : File) (s : List ℕ) (len : ℕ) → isAllowed K F len ≡ true → (F .pending ≡ true → F .begun ≡ true)
+    → accepted (withRecord K F s) ≡ suc (accepted F)
+unfolding accepted recordsOf
+one-accepted start F s len may W =
+    let none = not-true (F .begun) (and-both (not (F .begun)) _ (and-both (not (F .begun) && leb 6 len) _ may .0) .0) in
+    rw none refl
+one-accepted round F s len may W = rw (and-both (F .begun) _ may .0) (omega arith)
+one-accepted plant F s len may W =
+    let pending = and-both (F .pending) _ (and-both (F .pending && leb 6 len) _ may .0) .0 in
+    rw (W pending, pending) (omega arith)
+one-accepted other F s len may W = absurd (true≢false (sym may))
+
+-- and where none is, a record that was judged has a fault
+pub none-accepted : (K : RecordKind) (F : File) (s : List ℕ) (len : ℕ) → isAllowed K F len ≡ true → (F .pending ≡ true → F .begun ≡ true)
+    → accepted (judged K F s) ≡ accepted F → judged K F s .fault ≡ 0 → ⊥
+unfolding judged
+none-accepted K F s len may W = go (recordFault K F s)
+  where
+    go : (c : ℕ) → accepted (unlessFault c (withRecord K F s) F) ≡ accepted F → unlessFault c (withRecord K F s) F .fault ≡ 0 → ⊥
+    go zero e z = omega (arith, one-accepted K F s len may W)
+    go (suc c) e z = omega arith
+
+-- at least m, and no round pending before a start
+record Least (m : ℕ) (F : File) (k : ℕ) : Type 0 where
+  begun : F .pending ≡ true → F .begun ≡ true
+  least : m ≤ accepted F
+
+least-more : (m : ℕ) (K : RecordKind) (F : File) (s : List ℕ) (k : ℕ) → isAllowed K F (lengthOf s) ≡ true → Least m F k → Least m (withRecord K F s) (suc k)
+least-more m start F s k may L = record { begun = λ w. refl; least = omega (arith, one-accepted start F s (lengthOf s) may (L .begun), L .least) }
+least-more m round F s k may L =
+    record { begun = λ w. and-both (F .begun) _ may .0; least = omega (arith, one-accepted round F s (lengthOf s) may (L .begun), L .least) }
+least-more m plant F s k may L = record { begun = L .begun; least = omega (arith, one-accepted plant F s (lengthOf s) may (L .begun), L .least) }
+least-more m other F s k may L = absurd (true≢false (sym may))
+
+-- by more bytes they do not become fewer
+pub more-accepted : (a b : List ℕ) → accepted (readFile a) ≤ accepted (readFile (a ++ b))
+unfolding accepted
+more-accepted a b =
+    let m = accepted (readFile a) in
+    rw (feed-append unread a b)
+    (from (Least m)
+    (λ F k L. record { begun = L .begun; least = L .least })
+    (λ F s k one L. record { begun = L .begun; least = L .least })
+    (λ F c k L. record { begun = L .begun; least = L .least })
+    (λ F s k one may all sound L. least-more m (kindOf s) F s k may L)
+    (readFile a) b (length a) (kept a) (record { begun = cost a .begun; least = omega arith }) .least)

@@ -1,0 +1,42 @@
+-- Demand 3 of every run file: its rounds played are rounds within the limits, so the ring of its records is as `ring-converges` says.
+use mathlib.Core.Path.{_≡_, refl}
+use mathlib.Core.Bool.{Bool, true, false, cond}
+use mathlib.Core.List.{List, []}
+use Prim.Native.Nat.{_≤_}
+use native.Mathlib.Omega.{arith}
+use lib.Dec.{eqb}
+use lib.ListN.{length}
+use Rattle.ring_spec.specs.Rounds.{Round, endsAfter}
+use Rattle.ring_spec.specs.Converges.{FewStruckIn, AnyTwo}
+use Rattle.ring_spec.proofs.Demand3.{ring-converges}
+use Rattle.run_spec.specs.RunFile.{File, thenPlayed, readFile, ending, roundsPlayed, endsPlayed}
+use Rattle.run_spec.specs.EveryFile.{EveryFile}
+use Rattle.run_spec.proofs.Reached.{Reached, taken, within-then, length-then}
+
+-- the rounds played, with the one that pending or without it
+abbrev pub playedWith : Bool → File → List Round
+playedWith b F = cond b (thenPlayed (F .pending) (F .played) (F .last)) (F .played)
+
+module _ (F : File) (I : Reached F) where
+  played-within : (b : Bool) → FewStruckIn (F .n) (F .f) (playedWith b F) × (length (playedWith b F) ≤ 131070)
+  played-within true = (
+    within-then (F .n) (F .f) (F .pending) (F .played) (F .last) (I .rounds) (I .waiting),
+    omega (arith, length-then (F .pending) (F .played) (F .last), I .count),
+  )
+  played-within false = (I .rounds, omega (arith, I .count))
+
+  pub played-converges : (b : Bool) → AnyTwo (F .n) (F .f) (endsAfter (F .n) (F .f) (F .first) (playedWith b F))
+  played-converges b =
+      let (within, most) = played-within b in
+      ring-converges (F .n) (F .f) (F .first) (playedWith b F) (I .size .most) (I .size .limit) (I .ranges) within most
+
+pub every-file : EveryFile
+unfolding endsPlayed roundsPlayed
+every-file s = go (readFile s .begun) refl
+  where
+    F : File
+    F = readFile s
+
+    go : (b : Bool) → F .begun ≡ b → AnyTwo (F .n) (F .f) (cond b (endsAfter (F .n) (F .f) (F .first) (roundsPlayed F)) [])
+    go true e = played-converges F (taken s e) (eqb (ending F) 0)
+    go false e = λ i k l. absurd (omega arith)

@@ -1,0 +1,48 @@
+-- Document 01's example, played from its bytes by computation: n = 5, f = 1, positions 10 20 30 40 50, a round with head 4 struck and none planted, a
+-- round with none struck. Every definition between the bytes and the listing is unfolded, so the two lists of bytes are the same by computing.
+use mathlib.Core.Path.{_≡_, refl}
+use mathlib.Core.List.{List, [], _∷_}
+use Prim.Native.Nat.{ℕ}
+use Rattle.terms.specs.Sizes.{isCount, isLimit}
+use Rattle.terms.specs.Positions.{isPosition, floorDiv, half, gap, eqZ}
+use Rattle.fields.specs.Bytes.{signedOf, wordOf}
+use Rattle.marks.specs.Marks.{bitOf, marksBelow, withMark}
+use Rattle.entries.specs.Entries.{entryAt, entriesFit, zeros, numbers}
+use Rattle.convergence.specs.Counting.{sum}
+use Rattle.convergence.specs.Settling.{nulls, trim, insert, ordered, lowKept, highKept, middle, midpoint, enough}
+use Rattle.convergence.specs.Trust.{support, confessions, seen, trusted}
+use Rattle.convergence.specs.Phases.{rounding, lowest, highest, spread}
+use Rattle.frame_check.specs.Check.{checkFrame}
+use Rattle.frame_spec.specs.Said.{refusalOf, tableIn, said}
+use Rattle.frame_spec.specs.Written.{entryBytes}
+use Rattle.settle_midpoint.specs.Answers.{settling}
+use Rattle.settle_trust.specs.Received.{givenBy}
+use Rattle.head_spec.specs.Record.{noEntries, noLinks, noLists}
+use Rattle.head_spec.specs.Calls.{started, restarted, hearRefusal, hear, hearAll, spoken, closedCollection, closedPhase, close}
+use Rattle.ring_spec.specs.Rounds.{lost, openedAt, carried, closedAt, afterRound, firstHeads, ringAfter, endsAfter}
+use Rattle.run_spec.specs.RunFile.{unread, positionsFit, fewMarks, judged, readOn, step, feed, ending, roundsPlayed, endsPlayed}
+use Rattle.run_spec.specs.Listing.{digits, size, decimal, hex, title, line, lines, listingOf, listing}
+
+-- a start, a round with head 4 struck, a round with none
+pub file : List ℕ
+file =
+    26 ∷ 0 ∷ 0x10 ∷ 0 ∷ 5 ∷ 1 ∷ 10 ∷ 0 ∷ 0 ∷ 0 ∷ 20 ∷ 0 ∷ 0 ∷ 0 ∷ 30 ∷ 0 ∷ 0 ∷ 0 ∷ 40 ∷ 0 ∷ 0 ∷ 0 ∷ 50 ∷ 0 ∷ 0 ∷ 0
+    ∷ 8 ∷ 0 ∷ 0x11 ∷ 0 ∷ 0x10 ∷ 0 ∷ 0 ∷ 0
+    ∷ 8 ∷ 0 ∷ 0x11 ∷ 0 ∷ 0 ∷ 0 ∷ 0 ∷ 0
+    ∷ []
+
+-- "phase low high spread collect confess", "0 10 50 40 00000000 00000000", "1 25 25 0 00000010 00000000", "end"
+pub printed : List ℕ
+printed =
+    112 ∷ 104 ∷ 97 ∷ 115 ∷ 101 ∷ 32 ∷ 108 ∷ 111 ∷ 119 ∷ 32 ∷ 104 ∷ 105 ∷ 103 ∷ 104 ∷ 32 ∷ 115 ∷ 112 ∷ 114 ∷ 101 ∷ 97 ∷ 100 ∷ 32
+    ∷ 99 ∷ 111 ∷ 108 ∷ 108 ∷ 101 ∷ 99 ∷ 116 ∷ 32 ∷ 99 ∷ 111 ∷ 110 ∷ 102 ∷ 101 ∷ 115 ∷ 115 ∷ 10
+    ∷ 48 ∷ 32 ∷ 49 ∷ 48 ∷ 32 ∷ 53 ∷ 48 ∷ 32 ∷ 52 ∷ 48 ∷ 32
+    ∷ 48 ∷ 48 ∷ 48 ∷ 48 ∷ 48 ∷ 48 ∷ 48 ∷ 48 ∷ 32 ∷ 48 ∷ 48 ∷ 48 ∷ 48 ∷ 48 ∷ 48 ∷ 48 ∷ 48 ∷ 10
+    ∷ 49 ∷ 32 ∷ 50 ∷ 53 ∷ 32 ∷ 50 ∷ 53 ∷ 32 ∷ 48 ∷ 32
+    ∷ 48 ∷ 48 ∷ 48 ∷ 48 ∷ 48 ∷ 48 ∷ 49 ∷ 48 ∷ 32 ∷ 48 ∷ 48 ∷ 48 ∷ 48 ∷ 48 ∷ 48 ∷ 48 ∷ 48 ∷ 10
+    ∷ 101 ∷ 110 ∷ 100 ∷ 10
+    ∷ []
+
+pub example : listing file ≡ printed
+unfolding file printed unread feed step readOn judged isCount isLimit positionsFit isPosition signedOf wordOf fewMarks marksBelow bitOf withMark sum ending roundsPlayed endsPlayed listingOf title lines line digits size decimal hex lowest highest spread gap endsAfter ringAfter firstHeads afterRound closedAt carried openedAt lost started restarted hearAll hear hearRefusal refusalOf checkFrame said tableIn entriesFit numbers zeros entryAt entryBytes eqZ spoken close closedCollection closedPhase settling enough nulls trim ordered insert lowKept highKept middle midpoint half floorDiv rounding trusted support confessions seen givenBy noEntries noLinks noLists
+example = refl

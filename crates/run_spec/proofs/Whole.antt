@@ -1,0 +1,230 @@
+-- Records as they come: bytes that end inside a record are kept, a header that may not stand stops the file, and a record is judged when it is whole. All
+-- follow from one law (`reads-on`): where every shorter front of a record is cut, its bytes are read as if they came at once.
+use mathlib.Core.Path.{_≡_, refl, ap, sym, _∙_}
+use mathlib.Core.Bool.{Bool, true, false, not, cond, _&&_, true≢false, and-false}
+use mathlib.Core.List.{List, [], _∷_, _++_, append-nil}
+use Prim.Native.Nat.{ℕ, zero, suc, _+_, _≤_, _<_}
+use native.Mathlib.Omega.{arith}
+use native.Mathlib.Decide.{decLe}
+use lib.Dec.{ltb, leb, eqb}
+use lib.ListN.{length, take, length-append}
+use lib.Seq.{getD-take, take-append-seam, append-snoc}
+use borrow.Author.Tests.{leb-true, eqb-true, eqb-false, ltb-true, ltb-false, not-false, le-ltb, eq-eqb, ne-eqb}
+use Rattle.terms.specs.Refusals as refusal
+use Rattle.fields.specs.Bytes.{at2}
+use Rattle.frame_spec.proofs.Listing.{and-both}
+use Rattle.run_spec.specs.RunFile.{File, unread, RecordKind, start, round, plant, other, lengthOf, kindOf, isAllowed, pairFits, recordFault, stopped, unlessFault, judged, withPart, readOn, unlessStopped, step, feed, readFile}
+
+-- ---- the header: four bytes
+
+-- whether the record that s begins may stand
+abbrev pub stands : File → List ℕ → Bool
+stands F s = isAllowed (kindOf s) F (lengthOf s)
+
+at2-take : (n : ℕ) (s : List ℕ) (i : ℕ) → i + 1 < n → at2 (take n s) i ≡ at2 s i
+at2-take n s i h = let k : i < n = omega arith in rw (getD-take n s i 0 k, getD-take n s (i + 1) 0 h)
+
+-- t begins with the header of s
+pub record Heads (t s : List ℕ) : Type 0 where
+  pub long : lengthOf t ≡ lengthOf s
+  pub kind : kindOf t ≡ kindOf s
+
+pub heads-take : (n : ℕ) (s : List ℕ) → 4 ≤ n → Heads (take n s) s
+heads-take n s h = record { long = at2-take n s 0 (omega arith); kind = rw (at2-take n s 2 (omega arith)) }
+
+pub heads-front : (q xs s : List ℕ) → q ++ xs ≡ s → 4 ≤ length q → Heads q s
+heads-front q xs s e h = rw (ap (take (length q)) (sym e) ∙ take-append-seam q xs) at (heads-take (length q) s h)
+
+pub heads-stand : {t s : List ℕ} (F : File) → Heads t s → stands F t ≡ stands F s
+heads-stand F h = rw (h .kind, h .long)
+
+-- from low to high, in its place
+within : (place : Bool) (low high len : ℕ) → (place && leb low len && leb len high) ≡ true → (low ≤ len) × (len ≤ high)
+within place low high len e =
+    let (front, most) = and-both (place && leb low len) (leb len high) e in
+    (leb-true low len (and-both place (leb low len) front .1), leb-true len high most)
+
+-- the lengths that some record has
+pub stands-long : (K : RecordKind) (F : File) (len : ℕ) → isAllowed K F len ≡ true → (6 ≤ len) × (len ≤ 1026)
+stands-long start F len e = within (not (F .begun)) 6 1026 len e
+stands-long round F len e = let is = eqb-true len 8 (and-both (F .begun) (eqb len 8) e .1) in (omega arith, omega arith)
+stands-long plant F len e = let (least, most) = within (F .pending) 6 146 len e in (least, omega arith)
+stands-long other F len e = absurd (true≢false (sym e))
+
+-- ---- a front of a record
+
+-- the first k of the bytes s are no whole record: they are too few for a header, or fewer than it says
+abbrev pub Cut : File → List ℕ → ℕ → Type 0
+Cut F s k = 4 ≤ k → (stands F s ≡ true) × (k < lengthOf s)
+
+cut-front : (F : File) (q xs s : List ℕ) → q ++ xs ≡ s → Cut F s (length q) → Cut F q (length q)
+cut-front F q xs s e c h =
+    let same = heads-front q xs s e h in
+    (heads-stand F same ∙ c h .0, omega (arith, c h .1, same .long))
+
+module _ (F : File) (s : List ℕ) where
+  read-cut : Cut F s (length s) → readOn F s ≡ withPart F s
+  unfolding readOn
+  read-cut c = go (ltb (length s) 4) refl
+    where
+      go : (few : Bool) → ltb (length s) 4 ≡ few
+          → cond few (withPart F s)
+          (cond (eqb (length s) 4 && not (stands F s)) (stopped F refusal.run-record) (cond (eqb (length s) (lengthOf s)) (judged (kindOf s) F s) (withPart F s)))
+          ≡ withPart F s
+      go true e = refl
+      go false e =
+          let (may, more) = c (ltb-false (length s) 4 e) in
+          rw (may, and-false (eqb (length s) 4), ne-eqb (length s) (lengthOf s) (omega arith))
+
+  read-refused : length s ≡ 4 → stands F s ≡ false → readOn F s ≡ stopped F refusal.run-record
+  unfolding readOn
+  read-refused four no-place = rw (no-place, le-ltb (length s) 4 (omega arith), eq-eqb (length s) 4 four)
+
+  read-whole : stands F s ≡ true → length s ≡ lengthOf s → readOn F s ≡ judged (kindOf s) F s
+  unfolding readOn
+  read-whole may all =
+      let long = stands-long (kindOf s) F (lengthOf s) may in
+      rw (may, and-false (eqb (length s) 4), le-ltb (length s) 4 (omega arith), eq-eqb (length s) (lengthOf s) all)
+
+-- ---- the bytes kept so far are not looked at
+
+unless-over : (c : ℕ) (good F : File) (q : List ℕ) → unlessFault c good (withPart F q) ≡ unlessFault c good F
+unless-over zero good F q = refl
+unless-over (suc c) good F q = refl
+
+judged-over : (K : RecordKind) (F : File) (q s : List ℕ) → judged K (withPart F q) s ≡ judged K F s
+unfolding judged pairFits
+judged-over start F q s = unless-over (recordFault start F s) _ F q
+judged-over round F q s = unless-over (recordFault round F s) _ F q
+judged-over plant F q s = unless-over (recordFault plant F s) _ F q
+judged-over other F q s = refl
+
+stands-over : (K : RecordKind) (F : File) (q : List ℕ) (len : ℕ) → isAllowed K (withPart F q) len ≡ isAllowed K F len
+stands-over start F q len = refl
+stands-over round F q len = refl
+stands-over plant F q len = refl
+stands-over other F q len = refl
+
+read-over : (F : File) (q s : List ℕ) → readOn (withPart F q) s ≡ readOn F s
+unfolding readOn
+read-over F q s = rw (judged-over (kindOf s) F q s, stands-over (kindOf s) F q (lengthOf s))
+
+-- ---- byte by byte, or at once
+
+unless-none : (c : ℕ) (F G : File) → c ≡ 0 → unlessStopped c F G ≡ G
+unless-none zero F G e = refl
+unless-none (suc c) F G e = absurd (omega arith)
+
+module _ (F : File) (ok : F .fault ≡ 0) where
+  step-at : (q : List ℕ) (x : ℕ) → step (withPart F q) x ≡ readOn F (q ++ (x ∷ []))
+  unfolding step
+  step-at q x = unless-none (F .fault) _ _ ok ∙ read-over F q (q ++ (x ∷ []))
+
+  reads-on : {s : List ℕ} → ((k : ℕ) → k < length s → Cut F s k) → (q xs : List ℕ) → q ++ xs ≡ s → 0 < length xs
+      → feed (withPart F q) xs ≡ readOn F s
+  unfolding feed
+  reads-on cut q [] e some = absurd (omega arith)
+  reads-on cut q (x ∷ []) e some = step-at q x ∙ ap (readOn F) e
+  reads-on {s} cut q (x ∷ y ∷ ys) e some =
+      let front = q ++ (x ∷ []) in
+      let e′ : front ++ (y ∷ ys) ≡ s = append-snoc q x (y ∷ ys) ∙ e in
+      let few : length front < length s = omega (arith, length-append front (y ∷ ys), ap length e′) in
+      ap (λ (G : File). feed G (y ∷ ys)) (step-at q x ∙ read-cut F front (cut-front F front (y ∷ ys) s e′ (cut (length front) few)))
+      ∙ reads-on cut front (y ∷ ys) e′ (omega arith)
+
+  -- ---- more bytes of a record
+
+  pub feed-cut : (xs : List ℕ) → let s = F .part ++ xs in Cut F s (length s) → feed F xs ≡ withPart F s
+  unfolding feed
+  feed-cut [] c = ap (withPart F) (sym (append-nil (F .part)))
+  feed-cut (x ∷ xs) c =
+      let s = F .part ++ (x ∷ xs) in
+      reads-on (λ k l h. (c (omega arith) .0, omega (arith, c (omega arith) .1))) (F .part) (x ∷ xs) refl (omega arith) ∙ read-cut F s c
+
+  module _ (xs : List ℕ) (some : 0 < length xs) where
+    -- its header may not stand
+    pub feed-refused : let s = F .part ++ xs in length s ≡ 4 → stands F s ≡ false → feed F xs ≡ stopped F refusal.run-record
+    feed-refused four no-place = reads-on (λ k l h. absurd (omega arith)) (F .part) xs refl some ∙ read-refused F (F .part ++ xs) four no-place
+
+    -- it is whole
+    pub feed-whole : let s = F .part ++ xs in stands F s ≡ true → length s ≡ lengthOf s → feed F xs ≡ judged (kindOf s) F s
+    feed-whole may all = reads-on (λ k l h. (may, omega arith)) (F .part) xs refl some ∙ read-whole F (F .part ++ xs) may all
+
+-- after a fault nothing is read
+pub feed-stopped : (F : File) (xs : List ℕ) → (F .fault ≡ 0 → ⊥) → feed F xs ≡ F
+unfolding feed step
+feed-stopped F [] fault = refl
+feed-stopped F (x ∷ xs) fault = ap (λ (G : File). feed G xs) (go (F .fault) fault) ∙ feed-stopped F xs fault
+  where
+    go : (c : ℕ) → (c ≡ 0 → ⊥) → unlessStopped c F (readOn F (F .part ++ (x ∷ []))) ≡ F
+    go zero no-fault = absurd (no-fault refl)
+    go (suc c) no-fault = refl
+
+-- after a record nothing is kept
+unless-empty : (c : ℕ) (good F : File) → good .part ≡ [] → unlessFault c good F .part ≡ []
+unless-empty zero good F e = e
+unless-empty (suc c) good F e = refl
+
+pub judged-empty : (K : RecordKind) (F : File) (s : List ℕ) → judged K F s .part ≡ []
+unfolding judged
+judged-empty start F s = unless-empty (recordFault start F s) _ F refl
+judged-empty round F s = unless-empty (recordFault round F s) _ F refl
+judged-empty plant F s = unless-empty (recordFault plant F s) _ F refl
+judged-empty other F s = refl
+
+-- ---- what is kept of every file read is cut
+
+abbrev pub RoundsFit : File → Type 0
+RoundsFit F = Cut F (F .part) (length (F .part))
+
+-- its header holds for more bytes after it
+pub kept-on : (F : File) → RoundsFit F → (xs : List ℕ) → 4 ≤ length (F .part)
+    → let s = F .part ++ xs in (stands F s ≡ true) × (lengthOf (F .part) ≡ lengthOf s) × (length (F .part) < lengthOf s)
+kept-on F kept xs h =
+    let same = heads-front (F .part) xs (F .part ++ xs) refl h in
+    let (may, few) = kept h in
+    (sym (heads-stand F same) ∙ may, same .long, omega (arith, same .long))
+
+module _ (F : File) (kept : RoundsFit F) (x : ℕ) where
+  cut-more : let s = F .part ++ (x ∷ []) in
+      4 ≤ length s → (eqb (length s) 4 && not (stands F s)) ≡ false → (length s ≡ lengthOf s → ⊥) → (stands F s ≡ true) × (length s < lengthOf s)
+  cut-more h place more = go (decLe 4 (length (F .part)))
+    where
+      s : List ℕ
+      s = F .part ++ (x ∷ [])
+
+      one : length s ≡ length (F .part) + 1
+      one = length-append (F .part) (x ∷ [])
+
+      go : Dec (4 ≤ length (F .part)) → (stands F s ≡ true) × (length s < lengthOf s)
+      go (yes k) = let (may, same, few) = kept-on F kept (x ∷ []) k in (may, omega (arith, one))
+      go (no k) =
+          let may : stands F s ≡ true = not-false (stands F s) (rw (eq-eqb (length s) 4 (omega (arith, one))) at place) in
+          (may, omega (arith, one, stands-long (kindOf s) F (lengthOf s) may .0))
+
+  pub kept-read : RoundsFit (readOn F (F .part ++ (x ∷ [])))
+  unfolding readOn
+  kept-read = go (ltb (length s) 4) (eqb (length s) 4 && not (stands F s)) (eqb (length s) (lengthOf s)) refl refl refl
+    where
+      s : List ℕ
+      s = F .part ++ (x ∷ [])
+
+      go : (few out all : Bool) → ltb (length s) 4 ≡ few → (eqb (length s) 4 && not (stands F s)) ≡ out → eqb (length s) (lengthOf s) ≡ all
+          → RoundsFit (cond few (withPart F s) (cond out (stopped F refusal.run-record) (cond all (judged (kindOf s) F s) (withPart F s))))
+      go true out all f o a h = absurd (omega (arith, ltb-true (length s) 4 f))
+      go false true all f o a h = absurd (omega arith)
+      go false false true f o a h = absurd (omega (arith, ap length (judged-empty (kindOf s) F s)))
+      go false false false f o a h = rw (stands-over (kindOf s) F s (lengthOf s)) (cut-more h o (eqb-false (length s) (lengthOf s) a))
+
+kept-feed : (F : File) (s : List ℕ) → RoundsFit F → RoundsFit (feed F s)
+unfolding feed step
+kept-feed F [] k = k
+kept-feed F (x ∷ s) k = kept-feed (step F x) s (go (F .fault))
+  where
+    go : (c : ℕ) → RoundsFit (unlessStopped c F (readOn F (F .part ++ (x ∷ []))))
+    go zero = kept-read F k x
+    go (suc c) = k
+
+pub kept : (s : List ℕ) → RoundsFit (readFile s)
+unfolding unread
+kept s = kept-feed unread s (λ h. absurd (omega arith))

@@ -1,0 +1,12 @@
+-- Demand 3 as one claim about the whole file, for every sequence of bytes.
+use mathlib.Core.List.{List}
+use Prim.Native.Nat.{ℕ}
+use Rattle.ring_spec.specs.Converges.{AnyTwo}
+use Rattle.run_spec.specs.RunFile.{File, readFile, endsPlayed}
+
+-- any two phase ends that were played, the start among them
+abbrev pub Demand3Of : File → Type 0
+Demand3Of F = AnyTwo (F .n) (F .f) (endsPlayed F)
+
+abbrev pub EveryFile : Type 0
+EveryFile = (s : List ℕ) → Demand3Of (readFile s)

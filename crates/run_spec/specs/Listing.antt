@@ -1,0 +1,87 @@
+-- The listing: a function of the phase ends played and of how the file ended. Bytes are ASCII.
+use mathlib.Core.Bool.{cond}
+use mathlib.Core.List.{List, [], _∷_, _++_}
+use Prim.Native.Nat.{ℕ, zero, suc, _+_, _/_, _%_}
+use lib.Dec.{ltb}
+use lib.ListN.{length}
+use lib.IntN.{ℤ, pos, negsuc}
+use Rattle.terms.specs.declared.Entry.{Entry}
+use Rattle.convergence.specs.Phases.{lowest, highest, spread}
+use Rattle.ring_spec.specs.Rounds.{PhaseEnd, asEnd}
+use Rattle.run_spec.specs.RunFile.{File, readFile, endsSoFar, ending, endsPlayed}
+
+-- ---- numbers
+
+-- the last k decimal digits of x
+unfoldable pub digits : ℕ → ℕ → List ℕ
+digits zero x = []
+digits (suc k) x = digits k (x / 10) ++ ((48 + x % 10) ∷ [])
+
+-- how many digits x has, up to k + 1
+unfoldable pub size : ℕ → ℕ → ℕ
+size zero x = 1
+size (suc k) x = cond (ltb x 10) 1 (suc (size k (x / 10)))
+
+-- without padding, of a number below 10 ^ 10
+unfoldable pub decimal : ℕ → List ℕ
+decimal x = digits (size 9 x) x
+
+-- with a minus sign where it is below zero
+abbrev pub whole : ℤ → List ℕ
+whole (pos x) = decimal x
+whole (negsuc x) = 45 ∷ decimal (suc x)
+
+abbrev pub hexDigit : ℕ → ℕ
+hexDigit d = cond (ltb d 10) (48 + d) (87 + d)
+
+-- the last k hexadecimal digits of x, in lower case
+unfoldable pub hex : ℕ → ℕ → List ℕ
+hex zero x = []
+hex (suc k) x = hex k (x / 16) ++ (hexDigit (x % 16) ∷ [])
+
+-- ---- lines
+
+abbrev pub textOf : Entry → List ℕ
+textOf Entry.Null = []
+textOf (Entry.Position v) = whole v
+
+-- parted by single spaces
+abbrev pub spaced : List ℕ → List ℕ → List ℕ
+spaced s rest = s ++ (32 ∷ rest)
+
+-- "phase low high spread collect confess"
+unfoldable pub title : List ℕ
+title =
+    112 ∷ 104 ∷ 97 ∷ 115 ∷ 101 ∷ 32 ∷ 108 ∷ 111 ∷ 119 ∷ 32 ∷ 104 ∷ 105 ∷ 103 ∷ 104 ∷ 32 ∷ 115 ∷ 112 ∷ 114 ∷ 101 ∷ 97 ∷ 100 ∷ 32
+    ∷ 99 ∷ 111 ∷ 108 ∷ 108 ∷ 101 ∷ 99 ∷ 116 ∷ 32 ∷ 99 ∷ 111 ∷ 110 ∷ 102 ∷ 101 ∷ 115 ∷ 115 ∷ 10 ∷ []
+
+-- phase, lowest, highest and spread of the sound heads, the two mark words as eight hexadecimal digits
+unfoldable pub line : ℕ → ℕ → PhaseEnd → List ℕ
+line n p e =
+    spaced (decimal p)
+    (spaced (textOf (lowest n (asEnd e)))
+    (spaced (textOf (highest n (asEnd e)))
+    (spaced (decimal (spread n (asEnd e)))
+    (spaced (hex 8 (e .collect))
+    (hex 8 (e .confess) ++ (10 ∷ []))))))
+
+-- a line for each end, the earliest first: the list has the latest first, and the start is end 0
+unfoldable pub lines : ℕ → List PhaseEnd → List ℕ
+lines n [] = []
+lines n (e ∷ es) = lines n es ++ line n (length es) e
+
+-- "end", or "refused" and the number
+abbrev pub verdict : ℕ → List ℕ
+verdict zero = 101 ∷ 110 ∷ 100 ∷ 10 ∷ []
+verdict (suc c) = 114 ∷ 101 ∷ 102 ∷ 117 ∷ 115 ∷ 101 ∷ 100 ∷ 32 ∷ decimal (suc c) ++ (10 ∷ [])
+
+-- what has been printed when the bytes so far are read: the lines of the rounds that were played, the waiting round not
+unfoldable pub shown : File → List ℕ
+shown F = title ++ lines (F .n) (endsSoFar F)
+
+-- what is printed in all
+unfoldable pub listingOf : File → List ℕ
+listingOf F = title ++ lines (F .n) (endsPlayed F) ++ verdict (ending F)
+
+abbrev pub listing : List ℕ → List ℕ
+listing s = listingOf (readFile s)

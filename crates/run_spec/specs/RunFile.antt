@@ -1,0 +1,263 @@
+-- Document 01, "The run file": what bytes say, record by record, as they come; how a file ends; and which rounds are played.
+use mathlib.Core.Bool.{Bool, true, false, not, cond, _&&_, _||_}
+use mathlib.Core.List.{List, [], _∷_, _++_}
+use Prim.Native.Nat.{ℕ, zero, suc, _+_, _*_, _%_}
+use lib.Dec.{ltb, leb, eqb}
+use lib.ListN.{length, getD, drop}
+use lib.IntN.{ℤ, pos}
+use Rattle.terms.specs.Refusals as refusal
+use Rattle.terms.specs.Refusals.{check}
+use Rattle.terms.specs.Sizes.{checkSize}
+use Rattle.terms.specs.Positions.{isPosition}
+use Rattle.fields.specs.Bytes.{at2, at4, signedAt}
+use Rattle.marks.specs.Marks.{bitOf, marksBelow}
+use Rattle.convergence.specs.Counting.{sum, bit}
+use Rattle.ring_spec.specs.Rounds.{Plant, Round, PhaseEnd, endsAfter}
+
+-- What has been read: the start, the rounds played (the latest first), the round that pending to be played, and the bytes of the record that is not yet whole.
+pub record File : Type 0 where
+  pub part : List ℕ
+  pub begun : Bool  -- a start was accepted
+  pub n : ℕ
+  pub f : ℕ
+  pub first : ℕ → ℤ  -- the positions of the start record
+  pub played : List Round
+  pub pending : Bool  -- a round was given, and is not yet played
+  pub last : Round
+  pub fault : ℕ  -- the number of the first fault, 0 for none
+
+abbrev pub noRound : Round
+noRound = record { struck = 0; plants = [] }
+
+unfoldable pub unread : File
+unread =
+    record {
+      part = [];
+      begun = false;
+      n = 0;
+      f = 0;
+      first = λ i. pos 0;
+      played = [];
+      pending = false;
+      last = noRound;
+      fault = 0;
+    }
+
+-- the number of rounds given
+abbrev pub given : File → ℕ
+given F = length (F .played) + bit (F .pending)
+
+-- ---- records: kinds, and where each may stand, with what length
+
+pub data RecordKind : Type 0 where
+  start : RecordKind
+  round : RecordKind
+  plant : RecordKind
+  other : RecordKind
+
+abbrev pub recordKind : ℕ → RecordKind
+recordKind k = cond (eqb k 0x10) start (cond (eqb k 0x11) round (cond (eqb k 0x12) plant other))
+
+-- two bytes length (of the whole record), two bytes kind
+abbrev pub lengthOf : List ℕ → ℕ
+lengthOf s = at2 s 0
+
+abbrev pub kindOf : List ℕ → RecordKind
+kindOf s = recordKind (at2 s 2)
+
+-- By its first four bytes: a start first and once, a round after it, a planted record after a round; the lengths that some record of that kind has.
+abbrev pub isAllowed : RecordKind → File → ℕ → Bool
+isAllowed start F len = not (F .begun) && leb 6 len && leb len 1026
+isAllowed round F len = F .begun && eqb len 8
+isAllowed plant F len = F .pending && leb 6 len && leb len 146
+isAllowed other F len = false
+
+-- ---- a start: n, f (a byte each), n positions
+
+abbrev pub countIn : List ℕ → ℕ
+countIn s = getD s 4 0
+
+abbrev pub limitIn : List ℕ → ℕ
+limitIn s = getD s 5 0
+
+abbrev pub positionIn : List ℕ → ℕ → ℤ
+positionIn s j = signedAt s (6 + 4 * j)
+
+unfoldable pub positionsFit : List ℕ → ℕ → Bool
+positionsFit s zero = true
+positionsFit s (suc j) = positionsFit s j && isPosition (positionIn s j)
+
+-- ---- a round: a mark word of struck heads, at most f of them and none at n or above
+
+abbrev pub struckIn : List ℕ → ℕ
+struckIn s = at4 s 4
+
+unfoldable pub fewMarks : ℕ → ℕ → ℕ → Bool
+fewMarks n f m = marksBelow m n && leb (sum n (λ j. bit (bitOf m j))) f
+
+-- ---- a planted record: sender, receiver, bytes; the sender struck, the receiver not, pairs rising by sender, then receiver (the latest stands first)
+
+abbrev pub senderIn : List ℕ → ℕ
+senderIn s = getD s 4 0
+
+abbrev pub receiverIn : List ℕ → ℕ
+receiverIn s = getD s 5 0
+
+abbrev pub rises : List Plant → ℕ → ℕ → Bool
+rises [] k i = true
+rises (x ∷ xs) k i = ltb (x .from) k || eqb (x .from) k && ltb (x .to) i
+
+unfoldable pub pairFits : File → ℕ → ℕ → Bool
+pairFits F k i =
+    ltb k (F .n) && ltb i (F .n) && bitOf (F .last .struck) k && not (bitOf (F .last .struck) i) && rises (F .last .plants) k i
+
+-- ---- a whole record: the number of its fault, 0 for none; 13, then 1, 2, 4, 14, 26
+
+abbrev pub recordFault : RecordKind → File → List ℕ → ℕ
+recordFault start F s =
+    check (eqb (length s) (6 + 4 * countIn s)) refusal.run-record
+    (checkSize (countIn s) (limitIn s)
+    (check (positionsFit s (countIn s)) refusal.position 0))
+recordFault round F s =
+    check (fewMarks (F .n) (F .f) (struckIn s)) refusal.struck (check (ltb (given F) 131070) refusal.ended 0)
+recordFault plant F s = check (pairFits F (senderIn s) (receiverIn s)) refusal.run-record 0
+recordFault other F s = refusal.run-record
+
+-- the waiting round is played
+abbrev pub thenPlayed : Bool → List Round → Round → List Round
+thenPlayed true ws w = w ∷ ws
+thenPlayed false ws w = ws
+
+-- what an accepted record changes
+abbrev pub withRecord : RecordKind → File → List ℕ → File
+withRecord start F s =
+    record {
+      part = [];
+      begun = true;
+      n = countIn s;
+      f = limitIn s;
+      first = positionIn s;
+      played = [];
+      pending = false;
+      last = noRound;
+      fault = 0;
+    }
+withRecord round F s =
+    record {
+      part = [];
+      begun = F .begun;
+      n = F .n;
+      f = F .f;
+      first = F .first;
+      played = thenPlayed (F .pending) (F .played) (F .last);
+      pending = true;
+      last = record { struck = struckIn s; plants = [] };
+      fault = 0;
+    }
+withRecord plant F s =
+    record {
+      part = [];
+      begun = F .begun;
+      n = F .n;
+      f = F .f;
+      first = F .first;
+      played = F .played;
+      pending = F .pending;
+      last =
+          record {
+            struck = F .last .struck;
+            plants = record { from = senderIn s; to = receiverIn s; bytes = drop 6 s } ∷ F .last .plants;
+          };
+      fault = 0;
+    }
+withRecord other F s = F
+
+-- a fault ends the file: nothing after it is read
+abbrev pub stopped : File → ℕ → File
+stopped F c =
+    record {
+      part = [];
+      begun = F .begun;
+      n = F .n;
+      f = F .f;
+      first = F .first;
+      played = F .played;
+      pending = F .pending;
+      last = F .last;
+      fault = c;
+    }
+
+abbrev pub unlessFault : ℕ → File → File → File
+unlessFault zero good F = good
+unlessFault (suc c) good F = stopped F (suc c)
+
+unfoldable pub judged : RecordKind → File → List ℕ → File
+judged K F s = unlessFault (recordFault K F s) (withRecord K F s) F
+
+-- ---- byte by byte
+
+abbrev pub withPart : File → List ℕ → File
+withPart F s =
+    record {
+      part = s;
+      begun = F .begun;
+      n = F .n;
+      f = F .f;
+      first = F .first;
+      played = F .played;
+      pending = F .pending;
+      last = F .last;
+      fault = F .fault;
+    }
+
+-- s: the bytes of the record so far. It is judged by its first four bytes, and again when it is whole.
+unfoldable pub readOn : File → List ℕ → File
+readOn F s =
+    cond (ltb (length s) 4) (withPart F s)
+    (cond (eqb (length s) 4 && not (isAllowed (kindOf s) F (lengthOf s))) (stopped F refusal.run-record)
+    (cond (eqb (length s) (lengthOf s)) (judged (kindOf s) F s) (withPart F s)))
+
+abbrev pub unlessStopped : ℕ → File → File → File
+unlessStopped zero F G = G
+unlessStopped (suc c) F G = F
+
+unfoldable pub step : File → ℕ → File
+step F x = unlessStopped (F .fault) F (readOn F (F .part ++ (x ∷ [])))
+
+-- the state after more bytes
+unfoldable pub feed : File → List ℕ → File
+feed F [] = F
+feed F (x ∷ xs) = feed (step F x) xs
+
+abbrev pub readFile : List ℕ → File
+readFile s = feed unread s
+
+-- how many records were accepted: the start, and of each round its own and what is planted in it
+unfoldable pub recordsOf : List Round → ℕ
+recordsOf [] = 0
+recordsOf (w ∷ ws) = suc (length (w .plants) + recordsOf ws)
+
+unfoldable pub accepted : File → ℕ
+accepted F = cond (F .begun) (suc (recordsOf (thenPlayed (F .pending) (F .played) (F .last)))) 0
+
+-- ---- the end
+
+abbrev pub isEmpty : List ℕ → Bool
+isEmpty [] = true
+isEmpty (x ∷ xs) = false
+
+-- the first fault, or 13: no start, a record cut short, or inside a phase; 0 where the file is played to its end
+unfoldable pub ending : File → ℕ
+ending F = check (eqb (F .fault) 0) (F .fault) (check (F .begun && isEmpty (F .part) && eqb (given F % 2) 0) refusal.run-record 0)
+
+-- the phase ends played when the bytes so far are read, the latest first; none before an accepted start
+abbrev pub endsSoFar : File → List PhaseEnd
+endsSoFar F = cond (F .begun) (endsAfter (F .n) (F .f) (F .first) (F .played)) []
+
+-- the waiting round is played where the file ends without fault
+unfoldable pub roundsPlayed : File → List Round
+roundsPlayed F = cond (eqb (ending F) 0) (thenPlayed (F .pending) (F .played) (F .last)) (F .played)
+
+-- the phase ends played, the latest first; none before an accepted start
+unfoldable pub endsPlayed : File → List PhaseEnd
+endsPlayed F = cond (F .begun) (endsAfter (F .n) (F .f) (F .first) (roundsPlayed F)) []

@@ -1,0 +1,4 @@
+pub mod Memory
+pub mod Heads
+pub mod State
+pub mod Inner

@@ -1,0 +1,118 @@
+// The player: what has been read of a run file, but for the heads' memory. specs/StateAt.antt says what it and its memory hold of the file read so far.
+ghost use mathlib.Core.Bool.{true, false, cond};
+ghost use mathlib.Core.List.{List, []};
+ghost use mathlib.Core.Path.{_≡_};
+ghost use Prim.Native.Nat.{ℕ, _+_, _<_};
+ghost use Rattle.run_spec.specs.RunFile.{File, given, readFile, round, plant, struckIn, senderIn, receiverIn, withRecord, stopped};
+ghost use Rattle.run_judge.specs.Pairs.{lastPair};
+ghost use Rattle.run_state.specs.State.{PlayerOf, halted};
+ghost use Rattle.run_state.specs.Inner.{freshPlayer};
+use run_judge::Pair;
+
+// What has been read of a run file, but for the heads' memory.
+pub struct Player {
+    pub begun: bool, // a start was accepted
+    pub n: u8,
+    pub f: u8,
+    pub given: u32, // rounds given
+    pub pending: bool, // the last of them is not yet played
+    pub before: u32, // the heads struck in the round before it
+    pub struck: u32, // the heads struck in it
+    pub last: Pair, // its last planted pair
+    pub have: usize, // how many bytes of the record that is not yet whole
+    pub fault: u8, // the number of the first fault, 0 for none
+}
+
+// Before the first round.
+pub fn fresh(begun: bool, n: u8, f: u8) -> Player
+    ensures { λ r. ⌜ r ≡ freshPlayer begun n f ⌝ }
+{
+    Player {
+        begun,
+        n,
+        f,
+        given: 0,
+        pending: false,
+        before: 0,
+        struck: 0,
+        last: no_pair(),
+        have: 0,
+        fault: 0,
+    }
+}
+
+fn no_pair() -> Pair
+    ensures { λ r. ⌜ r ≡ lastPair [] ⌝ }
+{
+    Pair {
+        some: false,
+        from: 0,
+        to: 0,
+    }
+}
+
+// Before the first byte.
+pub fn unread() -> Player
+    ensures { λ r. ⌜ PlayerOf r (readFile []) ⌝ }
+    ensures { λ r. ⌜ r .have ≡ 0 ⌝ }
+{
+    fresh(false, 0, 0)
+}
+
+// The player at a fault, which ends the file.
+pub fn stop(p: Player, number: u8) -> Player
+    ensures { λ r. ⌜ (r ≡ halted p 0 number) × ((F : File) → PlayerOf p F → PlayerOf r (stopped F number)) ⌝ }
+{
+    let mut out = p;
+    out.have = 0;
+    out.fault = number;
+    out
+}
+
+// A round more than a number of rounds.
+fn one_more(given: u32) -> u32
+    ensures { λ r. ⌜ (given < 131070 → r ≡ given + 1) ⌝ }
+{
+    if given < 131070 { given + 1 } else { 0 }
+}
+
+// The heads struck in the round before the next one.
+fn struck_before(p: Player) -> u32
+    ensures { λ r. ⌜ r ≡ cond (p .pending) (p .struck) (p .before) ⌝ }
+{
+    if p.pending { p.struck } else { p.before }
+}
+
+// The player after an accepted round record.
+pub fn given_round(p: Player, struck: u32) -> Player
+    ensures { λ r. ⌜ (r .have ≡ 0) × ((F : File) (s : List ℕ) → struck ≡ struckIn s → given F < 131070 → PlayerOf p F → PlayerOf r (withRecord round F s)) ⌝ }
+{
+    Player {
+        begun: p.begun,
+        n: p.n,
+        f: p.f,
+        given: one_more(p.given),
+        pending: true,
+        before: struck_before(p),
+        struck,
+        last: no_pair(),
+        have: 0,
+        fault: 0,
+    }
+}
+
+// The player after an accepted planted record.
+pub fn planted_pair(p: Player, from: u8, to: u8) -> Player
+    ensures { λ r. ⌜ (r .have ≡ 0) × ((F : File) (s : List ℕ) → from ≡ senderIn s → to ≡ receiverIn s → PlayerOf p F → PlayerOf r (withRecord plant F s)) ⌝ }
+{
+    let last = Pair {
+        some: true,
+        from,
+        to,
+    };
+    let mut out = p;
+    out.last = last;
+    out.have = 0;
+    out.fault = 0;
+    out
+}

@@ -1,0 +1,26 @@
+-- `run_stream::begin` meets its contract: before the first byte no start was accepted and no round pending, so the memory has nothing to hold.
+use mathlib.Core.Path.{refl, sym}
+use mathlib.Core.Bool.{true≢false}
+use borrow.Author.Needs.{needs}
+use Rattle.run_spec.specs.RunFile.{unread, feed}
+use Rattle.run_stream.proofs.begin.Statement.{statement}
+use Rattle.run_stream.proofs.begin.Tie as tie
+
+returns : tie.Need-returns
+unfolding unread feed
+returns c carry M =
+    let e = c .unread .ensures in
+    record {
+      player = e .0;
+      part = rw (e .1);
+      have = e .1;
+      holds =
+          record {
+            keeps = λ b. absurd (true≢false (sym b));
+            slots = λ b. absurd (true≢false (sym b));
+            short = λ b. absurd (true≢false (sym b));
+          };
+    }
+
+pub begin-spec : {M : Type 1} → statement M
+begin-spec = tie.close (tie.spec (λ c κs. search needs) returns)

@@ -1,0 +1,28 @@
+-- The end of the file: the text at the end makes the listing whole, the memory stands for the ring that the rounds played leave, and the positions then held keep
+-- demand 3 with every phase end in it.
+use mathlib.Core.Bool.{true}
+use mathlib.Core.List.{List, _++_}
+use mathlib.Core.Path.{_≡_}
+use Prim.Native.Nat.{ℕ}
+use Rattle.ring_spec.specs.Rounds.{Ring, ringAfter}
+use Rattle.run_spec.specs.RunFile.{File, readFile, endsSoFar, ending, roundsPlayed, endsPlayed}
+use Rattle.run_spec.specs.Listing.{shown, listing}
+use Rattle.run_listing.specs.Texts.{bytesOf}
+use Rattle.run_state.specs.Memory.{Memory}
+use Rattle.run_state.specs.Heads.{HeadsOf}
+use Rattle.run_round.specs.Converged.{ConvergedIn}
+use Rattle.run_piece.specs.Advances.{Grown}
+use Rattle.run_stream.specs.declared.FinishResult.{FinishResult}
+
+-- the ring when all rounds that are played are played
+abbrev pub ringAtEnd : File → Ring
+ringAtEnd F = ringAfter (F .n) (F .f) (F .first) (roundsPlayed F)
+
+-- the file ends after a: from the memory M to the memory M′, which is the same where no round was left to play
+pub record Ends (a : List ℕ) (M : Memory) (r : FinishResult) (M′ : Memory) : Type 0 where
+  pub number : r .number ≡ ending (readFile a)
+  pub shows : listing a ≡ shown (readFile a) ++ bytesOf (r .line) ++ bytesOf (r .verdict)
+  pub held : readFile a .begun ≡ true → HeadsOf (readFile a .n) (ringAtEnd (readFile a)) M′
+  pub unplayed : roundsPlayed (readFile a) ≡ readFile a .played → M′ ≡ M
+  pub grown : Grown (readFile a .n) (endsSoFar (readFile a)) (endsPlayed (readFile a)) (ringAtEnd (readFile a)) (bytesOf (r .line))
+  pub demand3 : ConvergedIn (readFile a) (roundsPlayed (readFile a)) (M′ .positions)

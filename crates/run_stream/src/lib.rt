@@ -1,0 +1,234 @@
+// A run file as a stream: bytes in any pieces, and its end.
+ghost use mathlib.Core.List.{List, [], _++_};
+ghost use mathlib.Core.Path.{_≡_};
+ghost use Prim.Native.Nat.{ℕ, _+_, _≤_, _<_};
+ghost use lib.ListN.{length, take};
+ghost use Rattle.run_listing.specs.Texts.{bytesOf};
+ghost use Rattle.run_state.specs.Memory.{before, after, Memory};
+ghost use Rattle.run_piece.specs.Advances.{StateAt, AdvancesOnce, Advances};
+ghost use Rattle.run_piece.specs.Inner.{Used, Reads, Passes};
+ghost use Rattle.run_stream.specs.Ends.{Ends};
+ghost use Rattle.run_stream.specs.Inner.{endingOf};
+use run_listing::Text;
+use run_piece::FeedResult;
+use run_piece::PassResult;
+use run_state::Player;
+use terms::refusal;
+
+// How the file ends, the last line of a phase, if its end plays one, and the last line of all.
+pub struct FinishResult {
+    pub number: u8,
+    pub line: Text,
+    pub verdict: Text,
+}
+
+// Takes the planted records at the front of a piece, as many as stand there one after the other. They show nothing.
+fn pass_plants(
+    p: Player,
+    bytes: &[u8],
+    planted: &mut [u8; 143360],
+    lengths: &mut [u8; 1024],
+) -> PassResult
+    ensures { λ r. ⌜ r .used ≤ length (now (bytes .entry)) ⌝ }
+    ensures { λ r. ⌜ Passes p (now (bytes .entry)) r (now (planted .entry)) (now (lengths .entry)) (now (planted .exit)) (now (lengths .exit)) ⌝ }
+{
+    let mut player = p;
+    let mut used: usize = 0;
+    while used < bytes.len() {
+        let one = run_piece::pass_plant(player, &bytes[used..], planted, lengths);
+        player = one.player;
+        if one.used == 0 {
+            return PassResult { player, used };
+        }
+        used += one.used;
+    }
+    PassResult { player, used }
+}
+
+// One step: planted records, or else what `run_piece::advance` takes.
+fn step(
+    p: Player,
+    bytes: &[u8],
+    carry: &mut [u8; 1026],
+    positions: &mut [i32; 32],
+    marks: &mut [u32; 32],
+    lists: &mut [[i32; 32]; 32],
+    planted: &mut [u8; 143360],
+    lengths: &mut [u8; 1024],
+) -> FeedResult
+    ensures { λ r. ⌜ Used (now (bytes .entry)) r ⌝ }
+    ensures { λ r. ⌜ Reads p (now (bytes .entry)) r
+        (now (carry .entry)) (before positions marks lists planted lengths)
+        (now (carry .exit)) (after positions marks lists planted lengths) ⌝ }
+{
+    let passed = pass_plants(p, bytes, planted, lengths);
+    let player = passed.player;
+    let used = passed.used;
+    if used != 0 {
+        return run_piece::quiet(player, used);
+    }
+    run_piece::advance(
+        player,
+        bytes,
+        carry,
+        positions,
+        marks,
+        lists,
+        planted,
+        lengths,
+    )
+}
+
+// Takes bytes up to the first that show a line, or all of them.
+pub fn feed(
+    p: Player,
+    bytes: &[u8],
+    carry: &mut [u8; 1026],
+    positions: &mut [i32; 32],
+    marks: &mut [u32; 32],
+    lists: &mut [[i32; 32]; 32],
+    planted: &mut [u8; 143360],
+    lengths: &mut [u8; 1024],
+) -> FeedResult
+    ensures { λ r. ⌜ (r .used ≤ length (now (bytes .entry))) × (0 < length (now (bytes .entry)) → 0 < r .used) × (r .text .len ≤ 64) ⌝ }
+    ensures { λ r. ⌜ ((a : List ℕ) → StateAt a p (now (carry .entry)) (before positions marks lists planted lengths)
+        → AdvancesOnce a (take (r .used) (now (bytes .entry))) p (before positions marks lists planted lengths)
+        (r .player) (bytesOf (r .text)) (now (carry .exit)) (after positions marks lists planted lengths)) ⌝ }
+{
+    let mut player = p;
+    let mut used: usize = 0;
+    while used < bytes.len() {
+        let fed = step(
+            player,
+            &bytes[used..],
+            carry,
+            positions,
+            marks,
+            lists,
+            planted,
+            lengths,
+        );
+        player = fed.player;
+        used += fed.used;
+        let text = fed.text;
+        if text.len != 0 {
+            return FeedResult { player, used, text };
+        }
+    }
+    run_piece::quiet(player, used)
+}
+
+// How the file ends: the number of its first fault, or 13 where it has no start, ends inside a record or inside a phase.
+fn ending(p: Player) -> u8
+    ensures { λ r. ⌜ r ≡ endingOf p ⌝ }
+{
+    let fault = p.fault;
+    if fault != 0 {
+        return fault;
+    }
+    if p.begun && p.have == 0 && p.given % 2 == 0 {
+        return 0;
+    }
+    refusal::RUN_RECORD
+}
+
+// The end of the file: the round that pending is played where it ends well.
+pub fn finish(
+    p: Player,
+    positions: &mut [i32; 32],
+    marks: &mut [u32; 32],
+    lists: &mut [[i32; 32]; 32],
+    planted: &[u8; 143360],
+    lengths: &[u8; 1024],
+) -> FinishResult
+    ensures { λ r. ⌜ (r .line .len ≤ 64) × (r .verdict .len ≤ 64) ⌝ }
+    ensures { λ r. ⌜ ((a carry : List ℕ) → StateAt a p carry (before positions marks lists planted lengths)
+        → Ends a (before positions marks lists planted lengths) r (after positions marks lists planted lengths)) ⌝ }
+{
+    let number = ending(p);
+    let verdict = run_listing::verdict_line(number);
+    if number == 0 && p.pending {
+        let line = run_round::play_round(p, positions, marks, lists, planted, lengths);
+        return FinishResult {
+            number,
+            line,
+            verdict,
+        };
+    }
+    FinishResult {
+        number,
+        line: run_listing::empty(),
+        verdict,
+    }
+}
+
+// ---- A page of a listing: as many lines as fit into a buffer that the caller writes out. So a program that plays a run file reads, fills pages and writes them, and
+// nothing else.
+
+// What comes of a piece: the player after it, how many of its bytes were taken, and how many bytes of the page are filled.
+pub struct FillResult {
+    pub player: Player,
+    pub used: usize,
+    pub len: usize,
+}
+
+// Before the first byte, with any memory.
+pub fn begin() -> Player
+    ensures { λ r. ⌜ ((carry : List ℕ) (M : Memory) → StateAt [] r carry M) ⌝ }
+{
+    run_state::unread()
+}
+
+// Puts a text after the first bytes of a page, and answers how many are filled then.
+fn put(page: &mut [u8], len: usize, t: Text) -> usize
+    requires { ⌜ (len + t .len ≤ length (now page)) × (t .len ≤ 64) ⌝ }
+    ensures { λ r. ⌜ (r ≡ len + t .len) × (take r (now (page .exit)) ≡ take len (now (page .entry)) ++ bytesOf t) ⌝ }
+{
+    let count = t.len;
+    let bytes = t.bytes;
+    let mut j: usize = 0;
+    while j < count {
+        page[len + j] = bytes[j];
+        j += 1;
+    }
+    len + count
+}
+
+// Takes bytes of a piece as long as the page has room for a line.
+pub fn fill(
+    p: Player,
+    bytes: &[u8],
+    page: &mut [u8; 4096],
+    carry: &mut [u8; 1026],
+    positions: &mut [i32; 32],
+    marks: &mut [u32; 32],
+    lists: &mut [[i32; 32]; 32],
+    planted: &mut [u8; 143360],
+    lengths: &mut [u8; 1024],
+) -> FillResult
+    ensures { λ r. ⌜ (r .used ≤ length (now (bytes .entry))) × (0 < length (now (bytes .entry)) → 0 < r .used) × (r .len ≤ 4096) ⌝ }
+    ensures { λ r. ⌜ ((a : List ℕ) → StateAt a p (now (carry .entry)) (before positions marks lists planted lengths)
+        → Advances a (take (r .used) (now (bytes .entry))) p (before positions marks lists planted lengths)
+        (r .player) (take (r .len) (now (page .exit))) (now (carry .exit)) (after positions marks lists planted lengths)) ⌝ }
+{
+    let mut player = p;
+    let mut used: usize = 0;
+    let mut len: usize = 0;
+    while used < bytes.len() && len <= 4032 {
+        let fed = feed(
+            player,
+            &bytes[used..],
+            carry,
+            positions,
+            marks,
+            lists,
+            planted,
+            lengths,
+        );
+        player = fed.player;
+        used += fed.used;
+        let text = fed.text;
+        len = put(page, len, text);
+    }
+    FillResult { player, used, len }
+}

@@ -1,0 +1,259 @@
+-- From place to place through a file. What a piece shows is put behind the text that is there, and where it is the line of a phase end the ring stands there, with
+-- its positions in memory, and these are kept. So at the end the buffers hold the listing and every phase end, and any two of these keep demand 3, since the
+-- ends of the file do.
+use mathlib.Core.Path.{_≡_, refl, ap, sym, _∙_}
+use mathlib.Core.Bool.{Bool, true, false, not, cond, true≢false}
+use mathlib.Core.List.{List, [], _∷_, _++_}
+use Prim.Native.Nat.{ℕ, suc, _+_, _-_, _*_, _≤_, _<_}
+use native.Mathlib.Omega.{arith}
+use lib.Dec.{eqb}
+use lib.ListN.{length, getD, take}
+use lib.Seq.{length-take-le, take-all}
+use lib.IntN.{ℤ}
+use Rattle.convergence.specs.Phases.{spread}
+use Rattle.convergence.specs.Demand3.{Demand3}
+use Rattle.run_listing.specs.Held.{endIn}
+use Rattle.run_listing.proofs.Lowest.{found-held}
+use Rattle.ring_spec.specs.Rounds.{PhaseEnd, asEnd, ringAfter, afterRound, endsAfter}
+use Rattle.ring_spec.proofs.Counts.{counted}
+use Rattle.run_spec.specs.RunFile.{File, unread, RecordKind, start, round, plant, other, kindOf, lengthOf, isAllowed, thenPlayed, withRecord, feed, readFile, endsSoFar, ending, roundsPlayed, endsPlayed}
+use Rattle.run_spec.specs.Listing.{title, shown, listing}
+use Rattle.run_spec.proofs.Streaming.{feed-append}
+use Rattle.run_spec.proofs.Taken.{taken}
+use Rattle.run_spec.proofs.Demand3.{every-file}
+use Rattle.run_spec.proofs.Whole.{kept}
+use Rattle.run_spec.proofs.Bytes.{from, cost, few-ends}
+use Rattle.run_record.proofs.Records.{start-place}
+use Rattle.run_listing.specs.declared.Text.{Text}
+use Rattle.run_listing.specs.Texts.{bytesOf}
+use Rattle.run_state.specs.declared.Player.{Player}
+use Rattle.run_state.specs.Memory.{Memory}
+use Rattle.run_state.specs.State.{ringBefore}
+use Rattle.run_piece.specs.Advances.{StateAt, AdvancesOnce}
+use Rattle.run_stream.specs.declared.FinishResult.{FinishResult}
+use Rattle.run_stream.specs.Ends.{ringAtEnd, Ends}
+use Rattle.run_stream.proofs.Pieces.{rest, joined}
+use Rattle.run_stream.proofs.Cutting.{shown-first}
+use Rattle.run_whole.specs.declared.Place.{Place}
+use Rattle.run_whole.specs.declared.PlayResult.{PlayResult}
+use Rattle.run_whole.specs.Buffers.{Buffers, mostEnds, hasRoom, row}
+use Rattle.run_whole.specs.Whole.{endNumber, HoldsEnd, Whole}
+use Rattle.run_whole.specs.Inner.{Put, EndKept, Rows, Told, Going}
+use Rattle.run_whole.proofs.Rows.{rows-at}
+use Rattle.run_whole.proofs.Telling.{roomy, AtEnd, told-put, told-more, out-long}
+
+-- ---- the file so far
+
+-- how many phase ends it can have
+few-so-far : (s : List ℕ) → 16 * length (endsSoFar (readFile s)) ≤ length s + 6
+few-so-far s = go (F .begun) refl
+  where
+    F : File
+    F = readFile s
+
+    go : (b : Bool) → F .begun ≡ b → 16 * length (cond b (endsAfter (F .n) (F .f) (F .first) (F .played)) []) ≤ length s + 6
+    go true e = let C = counted (F .n) (F .f) (F .first) (F .played) in omega (arith, cost s .records e, C .played, C .counts)
+    go false e = omega arith
+
+-- a start gives the number of heads, and nothing after it another
+record Counts (m : ℕ) (F : File) (k : ℕ) : Type 0 where
+  begun : F .begun ≡ true
+  same : F .n ≡ m
+
+counts-on : (m : ℕ) (K : RecordKind) (F : File) (s : List ℕ) (k : ℕ) → isAllowed K F (lengthOf s) ≡ true → Counts m F k → Counts m (withRecord K F s) (suc k)
+counts-on m start F s k may C = absurd (true≢false (sym (C .begun) ∙ start-place F (lengthOf s) may))
+counts-on m round F s k may C = record { begun = C .begun; same = C .same }
+counts-on m plant F s k may C = record { begun = C .begun; same = C .same }
+counts-on m other F s k may C = absurd (true≢false (sym may))
+
+same-heads : (a b : List ℕ) → readFile a .begun ≡ true → readFile (a ++ b) .n ≡ readFile a .n
+same-heads a b begun =
+    let m = readFile a .n in
+    rw (feed-append unread a b)
+    (from (Counts m)
+    (λ F k C. record { begun = C .begun; same = C .same })
+    (λ F s k one C. record { begun = C .begun; same = C .same })
+    (λ F c k C. record { begun = C .begun; same = C .same })
+    (λ F s k one may all sound C. counts-on m (kindOf s) F s k may C)
+    (readFile a) b (length a) (kept a) (record { begun = begun; same = refl }) .same)
+
+-- before a start there is no row
+rows-then : (a b : List ℕ) (ends : List ℤ) (words : List ℕ) → Rows (readFile a .n) (endsSoFar (readFile a)) ends words
+    → Rows (readFile (a ++ b) .n) (endsSoFar (readFile a)) ends words
+unfolding Rows
+rows-then a b ends words = go (F .begun) refl
+  where
+    F : File
+    F = readFile a
+
+    go : (c : Bool) → F .begun ≡ c → let es = cond c (endsAfter (F .n) (F .f) (F .first) (F .played)) [] in
+        Rows (F .n) es ends words → Rows (readFile (a ++ b) .n) es ends words
+    go true e R = rw (same-heads a b e) R
+    go false e R = tt
+
+-- where there is a phase end, there was a start
+begun-so : (F : File) (x : PhaseEnd) (es : List PhaseEnd) → endsSoFar F ≡ x ∷ es → F .begun ≡ true
+begun-so F x es = go (F .begun)
+  where
+    go : (b : Bool) → cond b (endsAfter (F .n) (F .f) (F .first) (F .played)) [] ≡ x ∷ es → b ≡ true
+    go true e = refl
+    go false e = absurd (omega (arith, ap length e))
+
+-- ---- before the first byte
+
+none-told : (n : ℕ) (B : Buffers) → Told n [] [] 0 0 B B
+unfolding Rows
+none-told n B = record { len = refl; out = refl; count = refl; rows = tt; more-rows = refl; more-words = refl; long = refl; wide = refl }
+
+pub going-first : {file : List ℕ} {p : Player} {carry : List ℕ} {M : Memory} {t : Text} {l : ℕ} {out : List ℕ} (B : Buffers)
+    → hasRoom (length file) (length (B .out)) (length (B .ends)) (length (B .words)) ≡ true → StateAt [] p carry M → bytesOf t ≡ title → t .len ≤ 64
+    → Put t 0 l (B .out) out
+    → Going file (record { player = p; used = 0; len = l; count = 0 }) carry M B (record { out = out; ends = B .ends; words = B .words })
+unfolding unread feed
+going-first {file} {t} B room L text short P =
+    let R = roomy (length file) B room in
+    let (is, put) = P .puts short (omega (arith, R .out)) in
+    let told = told-put (none-told (readFile [] .n) B) (bytesOf t) (t .len) (P .long short) put in
+    record {
+      room = room;
+      within = omega arith;
+      state = L;
+      told = rw (shown-first ∙ sym text, is) told;
+      small = omega arith;
+    }
+
+-- ---- a step
+
+module _ {file : List ℕ} {at : Place} {carry : List ℕ} {M : Memory} {B₀ B : Buffers} (G : Going file at carry M B₀ B) where
+  abbrev a : List ℕ
+  a = take (at .used) file
+
+  -- the number of heads as it is after more bytes
+  told-then : (b : List ℕ) → Told (readFile (a ++ b) .n) (shown (readFile a)) (endsSoFar (readFile a)) (at .len) (at .count) B₀ B
+  told-then b =
+      let T = G .told in
+      record {
+        len = T .len;
+        out = T .out;
+        count = T .count;
+        rows = rows-then a b (B .ends) (B .words) (T .rows);
+        more-rows = T .more-rows;
+        more-words = T .more-words;
+        long = T .long;
+        wide = T .wide;
+      }
+
+  pub going-on : (used : ℕ) {t : Text} {q : Player} {carry′ : List ℕ} {M′ : Memory} {l c : ℕ} {out : List ℕ} {ends : List ℤ} {words : List ℕ} {some : Bool}
+      → at .used + used ≤ length file → t .len ≤ 64 → AdvancesOnce a (take used (rest (at .used) file)) (at .player) M q (bytesOf t) carry′ M′
+      → Put t (at .len) l (B .out) out → some ≡ not (eqb (t .len) 0)
+      → EndKept some (q .n) (q .before) (M′ .positions) (at .count) c (B .ends) (B .words) ends words
+      → Going file (record { player = q; used = at .used + used; len = l; count = c }) carry′ M′ B₀ (record { out = out; ends = ends; words = words })
+  going-on used {t} {q} {M′} within short S P flag K =
+      let b = take used (rest (at .used) file) in
+      let is : a ++ b ≡ take (at .used + used) file = joined [] (at .used) used file in
+      let L = S .advances .state in
+      let F = readFile (a ++ b) in
+      let long = ap length is ∙ length-take-le (at .used + used) file within in
+      let few : length (endsSoFar F) ≤ mostEnds (length file) = omega (arith, few-so-far (a ++ b)) in
+      let ended : (x : PhaseEnd) → endsSoFar F ≡ x ∷ endsSoFar (readFile a) → ringBefore F .round ≡ 0 → AtEnd (F .n) (ringBefore F) (q .before) (M′ .positions) =
+      λ x e r.
+      let begun = begun-so F x _ e in
+      record { is = sym (L .player .before); most = taken (a ++ b) begun .size .most; held = L .memory .keeps begun .collection r } in
+      let (told, small) =
+      told-more (told-then b) (roomy (length file) B₀ (G .room)) (G .small) short few {R = ringBefore F} ended P flag (rw (← L .player .n) at K) (S .grown) in
+      record {
+        room = G .room;
+        within = within;
+        state = rw (← is) L;
+        told = rw (← is, S .advances .shows) told;
+        small = small;
+      }
+
+-- ---- the end of the file
+
+-- where there is a phase end at last, there was a start
+begun-at : (F : File) (x : PhaseEnd) (es : List PhaseEnd) → endsPlayed F ≡ x ∷ es → F .begun ≡ true
+unfolding endsPlayed
+begun-at F x es = go (F .begun)
+  where
+    go : (b : Bool) → cond b (endsAfter (F .n) (F .f) (F .first) (roundsPlayed F)) [] ≡ x ∷ es → b ≡ true
+    go true e = refl
+    go false e = absurd (omega (arith, ap length e))
+
+-- where the end of the file plays a round, its mark word is that of the round that waited
+last-struck : (F : File) (x : PhaseEnd) → endsPlayed F ≡ x ∷ endsSoFar F → ringAtEnd F .before ≡ F .last .struck
+unfolding endsPlayed roundsPlayed ringAfter afterRound
+last-struck F x = go (eqb (ending F) 0) (F .pending)
+  where
+    more : (es : List PhaseEnd) → es ≡ x ∷ es → ⊥
+    more es e = omega (arith, ap length e)
+
+    go : (b w : Bool) → let ws = cond b (thenPlayed w (F .played) (F .last)) (F .played) in
+        cond (F .begun) (endsAfter (F .n) (F .f) (F .first) ws) [] ≡ x ∷ endsSoFar F → ringAfter (F .n) (F .f) (F .first) ws .before ≡ F .last .struck
+    go true true e = refl
+    go true false e = absurd (more (endsSoFar F) e)
+    go false w e = absurd (more (endsSoFar F) e)
+
+-- demand 3 of two phase ends, of the rows and words that hold them
+rows-converge : {n f k : ℕ} (x y : PhaseEnd) {ps qs : List ℤ} {v w : ℕ} → HoldsEnd n x ps v → HoldsEnd n y qs w → Demand3 n f k (asEnd x) (asEnd y)
+    → Demand3 n f k (endIn v ps) (endIn w qs)
+unfolding endIn spread
+rows-converge {n} x y {ps} {qs} H I D =
+    let X = found-held n (x .confess) (λ i. x .heads i .position) ps (H .held) in
+    let Y = found-held n (y .confess) (λ i. y .heads i .position) qs (I .held) in
+    rw (H .marks, I .marks)
+    record {
+      range = λ i l q. rw (← X .is-low, ← X .is-high, ← I .held i l q) (D .range i l q);
+      halving = λ h. rw (← X .is-low, ← X .is-high, ← Y .is-low, ← Y .is-high) (D .halving h);
+    }
+
+module _ (s : List ℕ) {r : PlayResult} {B₀ B : Buffers} (number : r .number ≡ ending (readFile s))
+    (T : Told (readFile s .n) (listing s) (endsPlayed (readFile s)) (r .len) (r .ends) B₀ B) where
+  whole-told : Whole s r B₀ B
+  whole-told =
+      let F = readFile s in
+      let es = endsPlayed F in
+      let at : (e : ℕ) → e < r .ends → HoldsEnd (F .n) (endNumber es e) (row e (B .ends)) (getD (B .words) e 0) =
+      λ e l. rows-at (F .n) es (B .ends) (B .words) (T .rows) e (omega (arith, T .count)) in
+      record {
+        number = number;
+        len = T .len;
+        out = T .out;
+        count = T .count;
+        rows = at;
+        more-rows = T .more-rows;
+        more-words = T .more-words;
+        demand3 =
+            λ e k l.
+            let i = length es - 1 - (e + k) in
+            let c = T .count in
+            let z : i + k ≡ length es - 1 - e = omega arith in
+            rows-converge (endNumber es e) (endNumber es (e + k)) (at e (omega arith)) (at (e + k) l)
+            (rw z at (every-file s i k (omega arith)));
+      }
+
+module _ {file : List ℕ} {at : Place} {carry : List ℕ} {M : Memory} {B₀ B : Buffers} (G : Going file at carry M B₀ B) (all : at .used ≡ length file) where
+  pub closes : {r : FinishResult} {M′ : Memory} {l l′ c : ℕ} {out out′ : List ℕ} {ends : List ℤ} {words : List ℕ} {some : Bool}
+      → Ends (take (at .used) file) M r M′ → r .line .len ≤ 64 → r .verdict .len ≤ 64
+      → Put (r .line) (at .len) l (B .out) out → some ≡ not (eqb (r .line .len) 0)
+      → EndKept some (at .player .n) (at .player .struck) (M′ .positions) (at .count) c (B .ends) (B .words) ends words
+      → Put (r .verdict) l l′ out out′
+      → Whole file (record { number = r .number; len = l′; ends = c }) B₀ (record { out = out′; ends = ends; words = words })
+  closes {r} {M′} {l′} {c} {out′} {ends} {words} E short short′ P flag K Q =
+      let s = take (at .used) file in
+      let is : s ≡ file = take-all (at .used) file (omega arith) in
+      let F = readFile s in
+      let L = G .state in
+      let room = roomy (length file) B₀ (G .room) in
+      let n-s = ap length is in
+      let few : length (endsPlayed F) ≤ mostEnds (length file) = omega (arith, few-ends s) in
+      let ended : (x : PhaseEnd) → endsPlayed F ≡ x ∷ endsSoFar F → ringAtEnd F .round ≡ 0 → AtEnd (F .n) (ringAtEnd F) (at .player .struck) (M′ .positions) =
+      λ x e z.
+      let begun = begun-at F x _ e in
+      record { is = sym (last-struck F x e ∙ L .player .struck); most = taken s begun .size .most; held = E .held begun .collection z } in
+      let (told, small) = told-more (G .told) room (G .small) short few {R = ringAtEnd F} ended P flag (rw (← L .player .n) at K) (E .grown) in
+      let (len, put) = Q .puts short′ (omega (arith, out-long told (omega (arith, told .count, room .out)), told .count, room .out)) in
+      let whole =
+      whole-told s {r = record { number = r .number; len = l′; ends = c }} {B₀ = B₀} {B = record { out = out′; ends = ends; words = words }} (E .number)
+      (rw (E .shows, len) (told-put told (bytesOf (r .verdict)) (r .verdict .len) (Q .long short′) put)) in
+      rw (← is) whole

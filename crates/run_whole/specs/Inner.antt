@@ -1,0 +1,63 @@
+-- What the private functions promise each other. Readers of the public promises do not need this file.
+use mathlib.Core.Path.{_≡_}
+use mathlib.Core.Bool.{Bool, true, false, cond}
+use mathlib.Core.List.{List, [], _∷_, _++_}
+use Prim.Native.Nat.{ℕ, zero, suc, _+_, _*_, _≤_, _<_}
+use lib.ListN.{length, getD, set, take, drop}
+use lib.Seq.{paste}
+use lib.IntN.{ℤ, pos}
+use Rattle.ring_spec.specs.Rounds.{PhaseEnd}
+use Rattle.run_spec.specs.RunFile.{readFile, endsSoFar}
+use Rattle.run_spec.specs.Listing.{shown}
+use Rattle.run_listing.specs.declared.Text.{Text}
+use Rattle.run_listing.specs.Texts.{bytesOf}
+use Rattle.run_state.specs.Memory.{Memory}
+use Rattle.run_piece.specs.Advances.{StateAt}
+use Rattle.run_whole.specs.declared.Place.{Place}
+use Rattle.run_whole.specs.Buffers.{Buffers, row, hasRoom}
+use Rattle.run_whole.specs.Whole.{HoldsEnd, isSound}
+
+-- a text is put behind the first len bytes, where there is room
+pub record Put (t : Text) (len r : ℕ) (out out′ : List ℕ) : Type 0 where
+  pub long : t .len ≤ 64 → length (bytesOf t) ≡ t .len
+  pub puts : t .len ≤ 64 → len + t .len ≤ length out → (r ≡ len + t .len) × (out′ ≡ paste out len (bytesOf t) (t .len))
+
+-- the number that a row has for head i
+abbrev pub soundNumber : ℕ → ℕ → List ℤ → ℕ → ℤ
+soundNumber n word positions i = cond (isSound n word i) (getD positions i (pos 0)) (pos 0)
+
+-- the first k numbers of a row
+unfoldable pub soundRow : ℕ → ℕ → List ℤ → ℕ → List ℤ
+soundRow n word positions zero = []
+soundRow n word positions (suc k) = soundRow n word positions k ++ (soundNumber n word positions k ∷ [])
+
+-- a phase end is kept, where there is one and room for it
+abbrev pub EndKept : Bool → ℕ → ℕ → List ℤ → ℕ → ℕ → List ℤ → List ℕ → List ℤ → List ℕ → Type 0
+EndKept true n word positions count r ends words ends′ words′ =
+    32 * count + 32 ≤ length ends → count < length words
+    → (r ≡ count + 1) × (ends′ ≡ paste ends (32 * count) (soundRow n word positions 32) 32) × (words′ ≡ set words count word)
+EndKept false n word positions count r ends words ends′ words′ = (r ≡ count) × (ends′ ≡ ends) × (words′ ≡ words)
+
+-- rows and words hold the phase ends es, which have the latest first
+unfoldable pub Rows : ℕ → List PhaseEnd → List ℤ → List ℕ → Type 0
+Rows n [] ends words = Unit {0}
+Rows n (x ∷ es) ends words = HoldsEnd n x (row (length es) ends) (getD words (length es) 0) × Rows n es ends words
+
+-- the buffers B, which were B₀, hold a text of l bytes and the phase ends es, c of them
+pub record Told (n : ℕ) (text : List ℕ) (es : List PhaseEnd) (l c : ℕ) (B₀ B : Buffers) : Type 0 where
+  pub len : l ≡ length text
+  pub out : B .out ≡ text ++ drop l (B₀ .out)
+  pub count : c ≡ length es
+  pub rows : Rows n es (B .ends) (B .words)
+  pub more-rows : drop (32 * c) (B .ends) ≡ drop (32 * c) (B₀ .ends)
+  pub more-words : drop c (B .words) ≡ drop c (B₀ .words)
+  pub long : length (B .ends) ≡ length (B₀ .ends)
+  pub wide : length (B .words) ≡ length (B₀ .words)
+
+-- at a place of the file, with buffers that have room for all of it
+pub record Going (file : List ℕ) (at : Place) (carry : List ℕ) (M : Memory) (B₀ B : Buffers) : Type 0 where
+  pub room : hasRoom (length file) (length (B₀ .out)) (length (B₀ .ends)) (length (B₀ .words)) ≡ true
+  pub within : at .used ≤ length file
+  pub state : StateAt (take (at .used) file) (at .player) carry M
+  pub told : let F = readFile (take (at .used) file) in Told (F .n) (shown F) (endsSoFar F) (at .len) (at .count) B₀ B
+  pub small : at .len ≤ 64 * (at .count + 1)

@@ -1,0 +1,57 @@
+-- The promise of playing a whole file: one record about all of it, and demand 3 of what the buffers hold.
+use mathlib.Core.Bool.{Bool, true, false, not, _&&_}
+use mathlib.Core.List.{List, _++_}
+use mathlib.Core.Path.{_≡_}
+use Prim.Native.Nat.{ℕ, _+_, _-_, _*_, _<_}
+use lib.Dec.{ltb}
+use lib.ListN.{length, getD, drop}
+use lib.IntN.{ℤ, pos}
+use Rattle.terms.specs.Refusals as refusal
+use Rattle.terms.specs.declared.Entry.{Entry}
+use Rattle.marks.specs.Marks.{bitOf}
+use Rattle.convergence.specs.Counting.{Each}
+use Rattle.convergence.specs.Phases.{End}
+use Rattle.convergence.specs.Demand3.{Demand3}
+use Rattle.run_listing.specs.Held.{endIn}
+use Rattle.ring_spec.specs.Rounds.{PhaseEnd}
+use Rattle.ring_spec.specs.Converges.{noEnd}
+use Rattle.run_spec.specs.RunFile.{readFile, ending, endsPlayed}
+use Rattle.run_spec.specs.Listing.{listing}
+use Rattle.run_whole.specs.declared.PlayResult.{PlayResult}
+use Rattle.run_whole.specs.Buffers.{Buffers, row}
+
+-- phase end e, counted from the start, of a list that has the latest first
+abbrev pub endNumber : List PhaseEnd → ℕ → PhaseEnd
+endNumber es e = getD es (length es - 1 - e) noEnd
+
+-- whether head i of n is sound, by the mark word of the confession round
+abbrev pub isSound : ℕ → ℕ → ℕ → Bool
+isSound n word i = ltb i n && not (bitOf word i)
+
+-- a row and a mark word hold a phase end of n heads: the word is that of its confession round; the row has for each sound head the position that its record
+-- holds, and 0 elsewhere
+pub record HoldsEnd (n : ℕ) (x : PhaseEnd) (row : List ℤ) (word : ℕ) : Type 0 where
+  pub marks : word ≡ x .confess
+  pub held : Each n (λ i. bitOf (x .confess) i ≡ false → x .heads i .position ≡ Entry.Position (getD row i (pos 0)))
+  pub others : (i : ℕ) → isSound n (x .confess) i ≡ false → getD row i (pos 0) ≡ pos 0
+
+-- the phase end that row e and word e are
+abbrev pub endAt : Buffers → ℕ → End
+endAt B e = endIn (getD (B .words) e 0) (row e (B .ends))
+
+-- the file s is played: how it ends; its listing, with what stands behind it as it was; its phase ends, with what stands behind them as it was; and any two of
+-- these, k phases apart, keep demand 3
+pub record Whole (s : List ℕ) (r : PlayResult) (B B′ : Buffers) : Type 0 where
+  pub number : r .number ≡ ending (readFile s)
+  pub len : r .len ≡ length (listing s)
+  pub out : B′ .out ≡ listing s ++ drop (r .len) (B .out)
+  pub count : r .ends ≡ length (endsPlayed (readFile s))
+  pub rows : (e : ℕ) → e < r .ends → HoldsEnd (readFile s .n) (endNumber (endsPlayed (readFile s)) e) (row e (B′ .ends)) (getD (B′ .words) e 0)
+  pub more-rows : drop (32 * r .ends) (B′ .ends) ≡ drop (32 * r .ends) (B .ends)
+  pub more-words : drop (r .ends) (B′ .words) ≡ drop (r .ends) (B .words)
+  pub demand3 : (e k : ℕ) → e + k < r .ends → Demand3 (readFile s .n) (readFile s .f) k (endAt B′ e) (endAt B′ (e + k))
+
+-- by whether the buffers have room: if not, 24, and they are as they were
+abbrev pub Plays : Bool → List ℕ → PlayResult → Buffers → Buffers → Type 0
+Plays true s r B B′ = Whole s r B B′
+Plays false s r B B′ = (r ≡ record { number = refusal.buffer; len = 0; ends = 0 }) × (B′ ≡ B)

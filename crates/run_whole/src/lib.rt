@@ -1,0 +1,291 @@
+// A whole run file in memory, played: its listing, and for each phase end the positions of the sound heads and the mark word of those struck. What a caller sees
+// of the file is one promise, about what these buffers hold.
+ghost use mathlib.Core.Bool.{true};
+ghost use mathlib.Core.List.{List};
+ghost use mathlib.Core.Path.{_≡_};
+ghost use Prim.Native.Nat.{ℕ, _+_, _*_, _≤_, _<_};
+ghost use lib.ListN.{length};
+ghost use lib.Seq.{paste};
+ghost use Rattle.run_state.specs.Memory.{before, after};
+ghost use Rattle.run_whole.specs.Buffers.{Buffers, lent, left, hasRoom};
+ghost use Rattle.run_whole.specs.Whole.{Whole, Plays};
+ghost use Rattle.run_whole.specs.Inner.{Put, soundNumber, soundRow, EndKept, Going};
+use run_listing::Text;
+use run_state::Player;
+use terms::refusal;
+
+// How the file ends, or 24 where a buffer is too short; how many bytes the listing has; and how many phase ends were played, the start among them.
+pub struct PlayResult {
+    pub number: u8,
+    pub len: usize,
+    pub ends: usize,
+}
+
+// A place in the file: the player there, the bytes taken, the bytes of the listing, and the phase ends.
+struct Place {
+    player: Player,
+    used: usize,
+    len: usize,
+    count: usize,
+}
+
+// Whether buffers of these lengths have room for a file of so many bytes.
+fn has_room(len: usize, out: usize, ends: usize, words: usize) -> bool
+    ensures { λ r. ⌜ r ≡ hasRoom len out ends words ⌝ }
+{
+    let most = len / 16 + 1;
+    if out / 64 < most + 2 {
+        return false;
+    }
+    if ends / 32 < most {
+        return false;
+    }
+    most <= words
+}
+
+// Puts a text after the first bytes, if there is room.
+fn put(out: &mut [u8], len: usize, t: Text) -> usize
+    ensures { λ r. ⌜ Put t len r (now (out .entry)) (now (out .exit)) ⌝ }
+{
+    let count = t.len;
+    if 64 < count {
+        return len;
+    }
+    if out.len() < count {
+        return len;
+    }
+    if out.len() - count < len {
+        return len;
+    }
+    let bytes = t.bytes;
+    let mut j: usize = 0;
+    while j < count {
+        out[len + j] = bytes[j];
+        j += 1;
+    }
+    len + count
+}
+
+// The number that a row has for head i: the position of a sound head, else 0.
+fn number_at(positions: &[i32; 32], n: u8, word: u32, i: usize) -> i32
+    ensures { λ r. ⌜ r ≡ soundNumber n word (now (positions .entry)) i ⌝ }
+{
+    if n as usize <= i {
+        return 0;
+    }
+    if marks::marked(word, i) {
+        return 0;
+    }
+    run_listing::position_at(positions, i)
+}
+
+// Writes a row.
+fn fill_row(ends: &mut [i32], base: usize, positions: &[i32; 32], n: u8, word: u32)
+    requires { ⌜ base + 32 ≤ length (now ends) ⌝ }
+    ensures { λ _. ⌜ now (ends .exit) ≡ paste (now (ends .entry)) base (soundRow n word (now (positions .entry)) 32) 32 ⌝ }
+{
+    let mut i: usize = 0;
+    while i < 32 {
+        let v = number_at(positions, n, word, i);
+        ends[base + i] = v;
+        i += 1;
+    }
+}
+
+// HeadsOf a phase end, if there is one and room for it, and answers how many there are then.
+fn keep(
+    some: bool,
+    ends: &mut [i32],
+    words: &mut [u32],
+    count: usize,
+    positions: &[i32; 32],
+    n: u8,
+    word: u32,
+) -> usize
+    ensures { λ r. ⌜ EndKept some n word (now (positions .entry)) count r (now (ends .entry)) (now (words .entry)) (now (ends .exit)) (now (words .exit)) ⌝ }
+{
+    if !some {
+        return count;
+    }
+    if words.len() <= count {
+        return count;
+    }
+    if ends.len() / 32 <= count {
+        return count;
+    }
+    fill_row(ends, 32 * count, positions, n, word);
+    words[count] = word;
+    count + 1
+}
+
+// Takes bytes up to the first that show a line, and keeps the line and the phase end that it is of.
+fn step(
+    at: Place,
+    file: &[u8],
+    out: &mut [u8],
+    ends: &mut [i32],
+    words: &mut [u32],
+    carry: &mut [u8; 1026],
+    positions: &mut [i32; 32],
+    marks: &mut [u32; 32],
+    lists: &mut [[i32; 32]; 32],
+    planted: &mut [u8; 143360],
+    lengths: &mut [u8; 1024],
+) -> Place
+    requires { ⌜ at .used < length (now file) ⌝ }
+    ensures { λ r. ⌜ (at .used < r .used) × (r .used ≤ length (now (file .entry))) ⌝ }
+    ensures { λ r. ⌜ ((B : Buffers)
+        → Going (now (file .entry)) at (now (carry .entry)) (before positions marks lists planted lengths) B (lent out ends words)
+        → Going (now (file .entry)) r (now (carry .exit)) (after positions marks lists planted lengths) B (left out ends words)) ⌝ }
+{
+    let used = at.used;
+    let fed = run_stream::feed(
+        at.player,
+        &file[used..],
+        carry,
+        positions,
+        marks,
+        lists,
+        planted,
+        lengths,
+    );
+    let text = fed.text;
+    let player = fed.player;
+    let len = put(out, at.len, text);
+    let count = keep(
+        text.len != 0,
+        ends,
+        words,
+        at.count,
+        positions,
+        player.n,
+        player.before,
+    );
+    Place {
+        player,
+        used: used + fed.used,
+        len,
+        count,
+    }
+}
+
+// The end of the file: the last phase end, if one is played there, and the last line.
+fn close(
+    at: Place,
+    out: &mut [u8],
+    ends: &mut [i32],
+    words: &mut [u32],
+    positions: &mut [i32; 32],
+    marks: &mut [u32; 32],
+    lists: &mut [[i32; 32]; 32],
+    planted: &[u8; 143360],
+    lengths: &[u8; 1024],
+) -> PlayResult
+    ensures { λ r. ⌜ ((file carry : List ℕ) (B : Buffers) → at .used ≡ length file
+        → Going file at carry (before positions marks lists planted lengths) B (lent out ends words) → Whole file r B (left out ends words)) ⌝ }
+{
+    let player = at.player;
+    let last = run_stream::finish(player, positions, marks, lists, planted, lengths);
+    let line = last.line;
+    let verdict = last.verdict;
+    let len = put(out, at.len, line);
+    let count = keep(
+        line.len != 0,
+        ends,
+        words,
+        at.count,
+        positions,
+        player.n,
+        player.struck,
+    );
+    PlayResult {
+        number: last.number,
+        len: put(out, len, verdict),
+        ends: count,
+    }
+}
+
+// Plays the file with the player's memory lent too.
+fn run(
+    file: &[u8],
+    out: &mut [u8],
+    ends: &mut [i32],
+    words: &mut [u32],
+    carry: &mut [u8; 1026],
+    positions: &mut [i32; 32],
+    marks: &mut [u32; 32],
+    lists: &mut [[i32; 32]; 32],
+    planted: &mut [u8; 143360],
+    lengths: &mut [u8; 1024],
+) -> PlayResult
+    requires { ⌜ hasRoom (length (now file)) (length (now out)) (length (now ends)) (length (now words)) ≡ true ⌝ }
+    ensures { λ r. ⌜ Whole (now (file .entry)) r (lent out ends words) (left out ends words) ⌝ }
+{
+    let title = run_listing::title_line();
+    let mut at = Place {
+        player: run_stream::begin(),
+        used: 0,
+        len: put(out, 0, title),
+        count: 0,
+    };
+    while at.used < file.len() {
+        at = step(
+            at,
+            file,
+            out,
+            ends,
+            words,
+            carry,
+            positions,
+            marks,
+            lists,
+            planted,
+            lengths,
+        );
+    }
+    close(
+        at,
+        out,
+        ends,
+        words,
+        positions,
+        marks,
+        lists,
+        planted,
+        lengths,
+    )
+}
+
+// Plays a whole file: its listing at the front of out, and for each phase end a row of ends and a word of words. Refused 24 where one of the three is too
+// short for the most phase ends that a file of this length can have.
+pub fn play(file: &[u8], out: &mut [u8], ends: &mut [i32], words: &mut [u32]) -> PlayResult
+    ensures { λ r. ⌜ Plays (hasRoom (length (now (file .entry))) (length (now (out .entry))) (length (now (ends .entry))) (length (now (words .entry))))
+        (now (file .entry)) r (lent out ends words) (left out ends words) ⌝ }
+{
+    if !has_room(file.len(), out.len(), ends.len(), words.len()) {
+        return PlayResult {
+            number: refusal::BUFFER,
+            len: 0,
+            ends: 0,
+        };
+    }
+    let mut carry = [0u8; 1026];
+    let mut positions = [0i32; 32];
+    let mut marks = [0u32; 32];
+    let none = [0i32; 32];
+    let mut lists = [none; 32];
+    let mut planted = [0u8; 143360];
+    let mut lengths = [0u8; 1024];
+    run(
+        file,
+        out,
+        ends,
+        words,
+        &mut carry,
+        &mut positions,
+        &mut marks,
+        &mut lists,
+        &mut planted,
+        &mut lengths,
+    )
+}

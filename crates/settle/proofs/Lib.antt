@@ -1,3 +1,0 @@
--- Laws of the crate: what a list that leads decides, and how the trusted entries make the new position.
-pub mod Leading
-pub mod Settling

@@ -1,2 +1,0 @@
--- How the settling functions go by a list that leads. What they promise is said by `midpoint` and `convergence`.
-pub mod Leading

@@ -1,0 +1,67 @@
+-- The new position from positions in order. Of n entries each is a position or null, so the nulls are the n entries less the positions: the
+-- positions in order say all that settling asks of a table.
+use mathlib.Core.Path.{_≡_, sym, _∙_}
+use mathlib.Core.List.{List}
+use Prim.Native.Nat.{ℕ, _-_, _*_, _≤_, _<_, min}
+use native.Mathlib.Omega.{arith}
+use native.Mathlib.Decide.{decLe}
+use lib.ListN.{length, getD, take, length-take}
+use lib.Seq.{take-all}
+use lib.IntN.{ℤ, pos, _+ℤ_}
+use borrow.Author.Tests.{le-leb, lt-leb}
+use Rattle.terms.specs.Refusals as refusal
+use Rattle.terms.specs.Positions.{half}
+use Rattle.terms.specs.declared.Entry.{Entry}
+use Rattle.convergence.specs.Settling.{nulls, trim, ordered, lowKept, highKept, middle, enough}
+use Rattle.convergence.proofs.Order.{length-ordered}
+use Rattle.settle_midpoint.specs.declared.Settled.{Settled}
+use Rattle.settle_midpoint.specs.Answers.{settling, settlingFrom}
+use Rattle.settle_midpoint.specs.Orders.{orderOf, inOrder}
+use Rattle.settle_midpoint.proofs.Ordering.{padded-front}
+
+pub settling-from : (r n f : ℕ) (E : ℕ → Entry) → settling r n f E ≡ settlingFrom r n f (ordered n E)
+unfolding settling settlingFrom enough
+settling-from r n f E =
+    let z : nulls n E ≡ n - length (ordered n E) = omega (arith, length-ordered n E) in
+    rw z
+
+-- what `order_of` gives, `middle_of` settles
+pub settling-in-order : (r n f : ℕ) (E : ℕ → Entry) → settlingFrom r n f (inOrder (orderOf (ordered n E))) ≡ settling r n f E
+settling-in-order r n f E = rw padded-front (sym (settling-from r n f E))
+
+-- ---- as the code works it out
+
+-- a: the array; c: how many of its positions count; z: the nulls
+module _ (a : List ℤ) (L n f : ℕ) {c z : ℕ} (full : length a ≡ 32) (counted : c ≡ min L 32) (nulls-are : z ≡ n - c) where
+  abbrev l : List ℤ
+  l = take L a
+
+  front-length : length l ≡ c
+  front-length = length-take L a ∙ rw full (sym counted)
+
+  front-is : take c a ≡ l
+  front-is = go (decLe 32 L)
+    where
+      go : Dec (32 ≤ L) → take c a ≡ l
+      go (yes h) = take-all c a (omega arith) ∙ sym (take-all L a (omega arith))
+      go (no h) = let e : c ≡ L = omega arith in rw e
+
+  pub too-few-refuses : 3 * f < z → Settled.Refused refusal.trusted ≡ settlingFrom 0 n f l
+  unfolding settlingFrom
+  too-few-refuses h = rw (front-length, ← nulls-are, lt-leb z (3 * f) h)
+
+  low-is : (t : ℕ) → getD (take c a) t (pos 0) ≡ lowKept t l
+  unfolding lowKept
+  low-is t = rw front-is
+
+  high-is : (t : ℕ) → getD (take c a) (c - 1 - t) (pos 0) ≡ highKept t l
+  unfolding highKept
+  high-is t = rw (front-is, front-length)
+
+  -- t: the trim; x and y: the lowest and the highest kept, y at place k; m: the new position
+  pub enough-settles : {t k : ℕ} {x y m : ℤ} → z ≤ 3 * f → t ≡ trim f z → x ≡ getD (take c a) t (pos 0) → k ≡ c - 1 - t
+      → y ≡ getD (take c a) k (pos 0) → m ≡ half 0 (x +ℤ y)
+      → Settled.New (record { low = x; high = y; trim = t; position = m }) ≡ settlingFrom 0 n f l
+  unfolding settlingFrom middle
+  enough-settles {t} few trim-is at-t top at-k is-half =
+      rw (is-half, at-k, top, at-t, low-is t, high-is t, trim-is, front-length, ← nulls-are, le-leb z (3 * f) few)

@@ -1,0 +1,32 @@
+-- The midpoint call: n, f, and a list's marks and entries. Checks 1, 2, 8 (entries not 4n bytes), 10, 11, 25.
+use mathlib.Core.List.{List}
+use Prim.Native.Nat.{ℕ, zero, suc, _*_}
+use lib.Dec.{eqb}
+use lib.ListN.{length}
+use Rattle.terms.specs.Refusals as refusal
+use Rattle.terms.specs.Refusals.{check}
+use Rattle.terms.specs.Sizes.{checkSize}
+use Rattle.terms.specs.declared.Entry.{Entry}
+use Rattle.marks.specs.Marks.{marksBelow}
+use Rattle.entries.specs.Entries.{entryAt, entriesFit, numbers}
+use Rattle.settle_midpoint.specs.declared.Settled.{Settled}
+use Rattle.settle_midpoint.specs.Answers.{settling}
+
+-- the entries that a mark word and bytes give
+abbrev pub entriesGiven : ℕ → ℕ → List ℕ → ℕ → Entry
+entriesGiven n m s = entryAt m (numbers s n)
+
+-- all but 25, which settling gives
+unfoldable pub listRefusal : ℕ → ℕ → ℕ → List ℕ → ℕ
+listRefusal n f m s =
+    checkSize n f
+    (check (eqb (length s) (4 * n)) refusal.kind-length
+    (check (marksBelow m n) refusal.marks
+    (check (entriesFit m s n) refusal.entry 0)))
+
+abbrev pub unlessRefused : ℕ → Settled → Settled
+unlessRefused zero x = x
+unlessRefused (suc c) x = Settled.Refused (suc c)
+
+unfoldable pub midpointCall : ℕ → ℕ → ℕ → List ℕ → Settled
+midpointCall n f m s = unlessRefused (listRefusal n f m s) (settling 0 n f (entriesGiven n m s))

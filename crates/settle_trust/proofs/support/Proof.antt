@@ -1,0 +1,78 @@
+-- `settle_trust::support` meets its contract: a link supports u by a confession, or by a list whose entry j has the cell of u. Each is counted by itself, at
+-- most 32 of each, so that the sum fits.
+use mathlib.Core.Path.{ap, _∙_}
+use mathlib.Core.Bool.{Bool}
+use Prim.Native.Nat.{ℕ, _+_}
+use native.Mathlib.Omega.{arith}
+use mir.Facts.{toZ-ofZ}
+use borrow.Author.Needs.{needs}
+use lib.Dec.{eqb}
+use lib.ListN.{getD}
+use Rattle.terms.specs.declared.Entry.{Entry}
+use Rattle.terms.specs.declared.Entry.the-variants.{Position}
+use Rattle.convergence.specs.Trust.{saysOf}
+use Rattle.settle_trust.specs.Received.{givenBy}
+use Rattle.marks.specs.Marks.{bitOf, markedTo}
+use Rattle.marks.proofs.Counts.{bits-le}
+use Rattle.settle_trust.proofs.Cells.{holds-same, equal-held}
+use Rattle.settle_trust.proofs.Received.{column-given, words}
+use Rattle.settle_trust.proofs.Trusted.{support-counted}
+use Rattle.settle_trust.proofs.support.Statement.{statement}
+use Rattle.settle_trust.proofs.support.Tie as tie
+
+-- the places of the walk, from the last call back
+module _ (c : tie.After-equal-to) where
+  abbrev confessed : tie.After-marked-to
+  confessed = c .before .before .before
+
+  abbrev filled : tie.After-column
+  filled = confessed .before
+
+  abbrev given : tie.After-all-marks
+  given = filled .before .before .before .before
+
+  abbrev counted : tie.After-link-count
+  counted = given .before
+
+  abbrev start : tie.Start
+  start = counted .before
+
+add-result : tie.Need-add-result
+add-result c =
+    let m = counted c .link-count .result in
+    let x = c .before .cell-of .result in
+    let b : ℕ → Bool = λ k. eqb (getD (filled c .column .last .1 .1 .1 .1 .0) k 0) x in
+    omega (
+      arith,
+      confessed c .marked-to .ensures,
+      c .equal-to .ensures,
+      bits-le m (bitOf (start c .args .links .confessed)),
+      bits-le m b,
+      counted c .link-count .ensures,
+    )
+
+returns : tie.Need-returns
+returns c =
+    let s = start c in
+    let a = s .args in
+    let m = counted c .link-count .result in
+    let E : ℕ → Entry = λ k. saysOf (a .j) (givenBy (a .links) (a .t1) k) in
+    let q = column-given (a .links) (a .t1) (given c .all-marks .result) m (a .j) (λ k l. given c .all-marks .ensures k (omega (arith, counted c .link-count .ensures))) in
+    let x = holds-same (c .before .cell-of .ensures) (ap Position (toZ-ofZ (s .fits .u))) in
+    ap (λ (k : ℕ). k + c .equal-to .result) (confessed c .marked-to .ensures)
+    ∙ ap (λ (k : ℕ). markedTo (a .links .confessed) m + k)
+    (c .equal-to .ensures ∙ equal-held m (filled c .column .last .1 .1 .1 .1 .0) E x (λ k l. holds-same (filled c .column .ensures k l) (q k l)))
+    ∙ support-counted (a .links) (a .t1) (words (a .links) (s .good .1 .0)) (a .n) (a .j) (a .u) (counted c .link-count .ensures)
+
+pub support-spec : {M : Type 1} → statement M
+support-spec =
+    tie.close
+    (tie.spec
+    (λ c κs. search needs)
+    (λ c κs. search needs)
+    (λ c κs. search needs)
+    (λ c κs. search needs)
+    (λ c κs. search needs)
+    (λ c κs. search needs)
+    add-result
+    returns)

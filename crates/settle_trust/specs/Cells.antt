@@ -1,0 +1,64 @@
+-- How the search for a trusted entry holds what the links gave: a mark word for each list, and each entry of a column as one number, 0 for null.
+-- Nothing here is needed to read what `support`, `trusted_entry` and `trusted_table` promise.
+use mathlib.Core.Path.{_≡_}
+use mathlib.Core.Bool.{Bool, true, false, not, _&&_}
+use mathlib.Core.List.{List, []}
+use Prim.Native.Nat.{ℕ, zero, suc, _≤_}
+use lib.Dec.{eqb, leb}
+use lib.IntN.{ℤ}
+use lib.ListN.{getD}
+use Rattle.terms.specs.declared.Entry.{Entry}
+use Rattle.terms.specs.declared.Entry.the-variants.{Null, Position}
+use Rattle.fields.specs.Bytes.{signedOf}
+use Rattle.marks.specs.Marks.{bitOf}
+use Rattle.entries.specs.Entries.{entryAt}
+use Rattle.convergence.specs.Counting.{Each, sum, bit}
+use Rattle.convergence.specs.Trust.{Seen, is, seen, choose}
+use Rattle.settle_trust.specs.declared.Links.{Links}
+
+-- the mark word of what a link gave: no list has no marks
+abbrev pub marksGiven : Bool → Bool → ℕ → ℕ
+marksGiven true lists m = 0
+marksGiven false true m = m
+marksGiven false false m = 0
+
+abbrev pub marksOfLink : Links → ℕ → ℕ
+marksOfLink g k = marksGiven (bitOf (g .confessed) k) (bitOf (g .listed) k) (getD (g .marks) k 0)
+
+-- entry j of the list of link k
+abbrev pub columnOf : List ℕ → List (List ℤ) → ℕ → ℕ → Entry
+columnOf marks lists j k = entryAt (getD marks k 0) (getD lists k []) j
+
+-- the entry that a cell holds: a position is held as one more than its word
+abbrev pub cellEntry : ℕ → Entry
+cellEntry zero = Null
+cellEntry (suc w) = Position (signedOf w)
+
+-- the number x is the cell of the entry e
+pub record CellOf (x : ℕ) (e : Entry) : Type 0 where
+  pub within : x ≤ 4294967296
+  pub entry : cellEntry x ≡ e
+
+-- the first n cells of a column are those of the entries E
+abbrev pub HoldsEach : ℕ → List ℕ → (ℕ → Entry) → Type 0
+HoldsEach n cells E = Each n (λ k. CellOf (getD cells k 0) (E k))
+
+-- how many of the first n cells are x
+abbrev pub equalTo : ℕ → List ℕ → ℕ → ℕ
+equalTo n cells x = sum n (λ k. bit (eqb (getD cells k 0) x))
+
+-- a cell that is not null, not the one found, and stands in `need` lists or more
+abbrev pub isAnother : ℕ → ℕ → List ℕ → ℕ → ℕ → Bool
+isAnother n need cells found x = not (eqb x 0) && (not (eqb x found) && leb need (equalTo n cells x))
+
+-- whether u stands `need` times or more among the first n entries
+abbrev pub standsIn : ℕ → ℕ → (ℕ → Entry) → ℤ → Bool
+standsIn n need E u = leb need (sum n (λ k. is u (E k)))
+
+-- the positions among the first n entries that stand there so often
+abbrev pub agreed : ℕ → ℕ → (ℕ → Entry) → Seen
+agreed n need E = seen (standsIn n need E) n E
+
+-- the trusted entry of a head from what n links say of it, by whether its link confessed, and by how many lists have to agree
+abbrev pub decided : Bool → ℕ → ℕ → (ℕ → Entry) → Entry
+decided confessed n need E = choose confessed (eqb need 0) (agreed n need E)

@@ -1,0 +1,236 @@
+// What the links gave in a confession round, as the search for the trusted entries holds it: mark words, and each entry as one number.
+ghost use mathlib.Core.Path.{_≡_};
+ghost use Prim.Native.Nat.{_+_, _-_, _≤_, _<_, min, ℕ};
+ghost use lib.ListN.{getD, length};
+ghost use Rattle.marks.specs.Marks.{markedTo, bitOf};
+ghost use Rattle.entries.specs.Entries.{entryAt};
+ghost use Rattle.entries.specs.Tables.{mark, number, tableOf};
+ghost use Rattle.convergence.specs.Counting.{Each};
+ghost use Rattle.settle_trust.specs.Cells.{marksGiven, marksOfLink, cellEntry, CellOf, columnOf, HoldsEach, equalTo, isAnother, agreed, decided};
+ghost use mathlib.Core.Bool.{false};
+ghost use Rattle.convergence.specs.Trust.{support, trusted, choose};
+ghost use Rattle.settle_trust.specs.Received.{givenBy};
+use terms::Entry;
+use terms::Table;
+
+// Which links confessed, which gave a list, and the mark words of the lists, which stand beside this.
+pub struct Links {
+    pub confessed: u32,
+    pub listed: u32,
+    pub marks: [u32; 32],
+}
+
+// How many links are looked at: those from 32 on gave nothing.
+pub fn link_count(n: u8) -> usize
+    ensures { λ r. ⌜ r ≡ min n 32 ⌝ }
+{
+    let count = n as usize;
+    if 32 < count { 32 } else { count }
+}
+
+// How many lists have to agree on a position for it to be trusted; 0 where the confessions alone reach n - f.
+pub fn lists_needed(confessed: u32, n: u8, f: u8) -> usize
+    ensures { λ r. ⌜ r ≡ n - f - markedTo confessed (min n 32) ⌝ }
+{
+    let c = marks::marked_to(confessed, link_count(n));
+    if n <= f {
+        return 0;
+    }
+    let reach = (n - f) as usize;
+    if reach <= c { 0 } else { reach - c }
+}
+
+// The cell of a position: one more than its word. The cell of a null entry is 0.
+pub fn cell_of(v: i32) -> u64
+    ensures { λ r. ⌜ CellOf r (Entry.Position v) ⌝ }
+{
+    1 + fields::unsigned(v) as u64
+}
+
+// The mark word of what a link gave: that of its list, or 0.
+fn marks_given(confessed: bool, listed: bool, m: u32) -> u32
+    ensures { λ r. ⌜ r ≡ marksGiven confessed listed m ⌝ }
+{
+    if confessed {
+        return 0;
+    }
+    if listed { m } else { 0 }
+}
+
+// The mark words of what the first n links gave.
+pub fn all_marks(links: Links, n: u8) -> [u32; 32]
+    ensures { λ r. ⌜ Each (min n 32) (λ k. getD r k 0 ≡ marksOfLink links k) ⌝ }
+{
+    let count = link_count(n);
+    let mut marks = [0u32; 32];
+    let mut k: usize = 0;
+    while k < count {
+        let confessed = marks::marked(links.confessed, k);
+        let listed = marks::marked(links.listed, k);
+        marks[k] = marks_given(confessed, listed, links.marks[k]);
+        k += 1;
+    }
+    marks
+}
+
+// The cell of entry j of a list with the mark word m.
+pub fn entry_cell(m: u32, list: &[i32; 32], j: usize) -> u64
+    ensures { λ r. ⌜ CellOf r (entryAt m (now (list .entry)) j) ⌝ }
+{
+    if marks::marked(m, j) {
+        if j < 32 {
+            return cell_of(list[j]);
+        }
+    }
+    0
+}
+
+// The mark of the entry that a cell holds.
+pub fn mark_of(x: u64) -> u32
+    ensures { λ r. ⌜ r ≡ mark (cellEntry x) ⌝ }
+{
+    if x == 0 { 0 } else { 1 }
+}
+
+// The number of the entry that a cell holds.
+pub fn number_of(x: u64) -> i32
+    ensures { λ r. ⌜ (x ≤ 4294967296 → r ≡ number (cellEntry x)) ⌝ }
+{
+    if x == 0 {
+        0
+    } else {
+        fields::signed(((x - 1) % 4294967296) as u32)
+    }
+}
+
+// ---- From what the links gave in a confession round to the trusted entries: support, and the one position that enough links support.
+
+// The cells of entry j of the first n lists.
+fn column(lists: &[[i32; 32]; 32], marks: &[u32; 32], n: usize, j: usize, cells: &mut [u64; 32])
+    requires { ⌜ (n ≤ 32) × (n ≤ length (now cells)) ⌝ }
+    ensures { λ _. ⌜ HoldsEach n (now (cells .exit)) (columnOf (now (marks .entry)) (now (lists .entry)) j) ⌝ }
+{
+    let mut k: usize = 0;
+    while k < n {
+        cells[k] = entry_cell(marks[k], &lists[k], j);
+        k += 1;
+    }
+}
+
+// How many of the first n cells are x.
+fn equal_to(cells: &[u64; 32], n: usize, x: u64) -> usize
+    requires { ⌜ n ≤ 32 ⌝ }
+    ensures { λ r. ⌜ r ≡ equalTo n (now (cells .entry)) x ⌝ }
+{
+    let mut c: usize = 0;
+    let mut k: usize = 0;
+    while k < n {
+        c += (cells[k] == x) as usize;
+        k += 1;
+    }
+    c
+}
+
+// Whether the cell x is another than the one found, and stands in `need` lists or more.
+fn is_another(cells: &[u64; 32], n: usize, need: usize, found: u64, x: u64) -> bool
+    requires { ⌜ n ≤ 32 ⌝ }
+    ensures { λ r. ⌜ r ≡ isAnother n need (now (cells .entry)) found x ⌝ }
+{
+    if x == 0 {
+        return false;
+    }
+    if x == found {
+        return false;
+    }
+    need <= equal_to(cells, n, x)
+}
+
+// The cell of the only position that stands in `need` lists or more; 0 where there is none, or several. What stands in so many lists stands in an early
+// one, so the search ends where fewer than `need` are left.
+fn only(cells: &[u64; 32], n: usize, need: usize) -> u64
+    requires { ⌜ (n ≤ 32) × (0 < need) ⌝ }
+    ensures { λ r. ⌜ ((E : ℕ → Entry) → HoldsEach n (now (cells .entry)) E → CellOf r (choose false false (agreed n need E))) ⌝ }
+{
+    let mut found: u64 = 0;
+    let mut k: usize = 0;
+    while need <= n - k {
+        let x = cells[k];
+        if is_another(cells, n, need, found, x) {
+            if found != 0 {
+                return 0; // a second one
+            }
+            found = x;
+        }
+        k += 1;
+    }
+    found
+}
+
+// The cell of trusted entry j among n links, 32 at most, from their lists, the mark words of these, and how many of them have to agree.
+pub fn trusted_cell(
+    lists: &[[i32; 32]; 32],
+    marks: &[u32; 32],
+    confessed: u32,
+    n: usize,
+    need: usize,
+    j: usize,
+) -> u64
+    ensures { λ r. ⌜ (n ≤ 32 → (E : ℕ → Entry) → Each n (λ k. columnOf (now (marks .entry)) (now (lists .entry)) j k ≡ E k) → CellOf r (decided (bitOf confessed j) n need E)) ⌝ }
+{
+    if marks::marked(confessed, j) {
+        return 0;
+    }
+    if 32 < n {
+        return 0;
+    }
+    if need == 0 {
+        return 0;
+    }
+    let mut cells = [0u64; 32];
+    column(lists, marks, n, j, &mut cells);
+    only(&cells, n, need)
+}
+
+// The support of the position u for head j among n links.
+pub fn support(lists: [[i32; 32]; 32], links: Links, n: u8, j: usize, u: i32) -> usize
+    ensures { λ r. ⌜ r ≡ support n (givenBy links lists) j u ⌝ }
+{
+    let count = link_count(n);
+    let given = all_marks(links, n);
+    let mut cells = [0u64; 32];
+    column(&lists, &given, count, j, &mut cells);
+    marks::marked_to(links.confessed, count) + equal_to(&cells, count, cell_of(u))
+}
+
+// Trusted entry j.
+pub fn trusted_entry(lists: [[i32; 32]; 32], links: Links, n: u8, f: u8, j: usize) -> Entry
+    ensures { λ r. ⌜ r ≡ trusted n f (givenBy links lists) j ⌝ }
+{
+    let need = lists_needed(links.confessed, n, f);
+    let count = link_count(n);
+    let given = all_marks(links, n);
+    let x = trusted_cell(&lists, &given, links.confessed, count, need, j);
+    if x == 0 {
+        return Entry::Null;
+    }
+    Entry::Position(number_of(x))
+}
+
+// The trusted entries of heads 0 .. n - 1.
+pub fn trusted_table(lists: [[i32; 32]; 32], links: Links, n: u8, f: u8) -> Table
+    ensures { λ r. ⌜ r ≡ tableOf n (trusted n f (givenBy links lists)) ⌝ }
+{
+    let need = lists_needed(links.confessed, n, f);
+    let count = link_count(n);
+    let given = all_marks(links, n);
+    let mut marks: u32 = 0;
+    let mut entries = [0i32; 32];
+    let mut j: usize = 0;
+    while j < count {
+        let x = trusted_cell(&lists, &given, links.confessed, count, need, j);
+        marks += mark_of(x) << j;
+        entries[j] = number_of(x);
+        j += 1;
+    }
+    Table { marks, entries }
+}

@@ -1,3 +1,0 @@
--- What other crates may cite: the lowest and the highest of a phase end are those of any array that holds the positions of its unstruck heads (`Lowest`).
-pub mod Heights
-pub mod Lowest
