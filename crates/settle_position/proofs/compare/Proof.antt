@@ -79,8 +79,8 @@ returns c =
       same = λ j i. l .inv .4 j i ∙ ap (λ (k : ℕ). agreeing k (now (a .marks)) (now (a .lists)) (a .reference) j) e;
     }
 
-pub follow-spec : {M : Type 1} → statement M
-follow-spec =
+pub compare-spec : {M : Type 1} → statement M
+compare-spec =
     tie.close
     (tie.spec
     Inv-loop
