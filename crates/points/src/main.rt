@@ -16,7 +16,7 @@ fn main() {
     halves::section();
     midpoints::section();
     supports::section();
-    run_round::section();
+    rounds::section();
     checks::section();
     scales::section();
 }

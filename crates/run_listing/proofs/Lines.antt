@@ -15,7 +15,7 @@ use Rattle.ring_spec.specs.Rounds.{PhaseEnd}
 use Rattle.run_spec.specs.Listing.{decimal, textOf, line}
 use Rattle.run_listing.specs.Texts.{fields, endLine}
 use Rattle.run_listing.specs.Held.{endIn}
-use Rattle.run_listing.specs.Inner.{Found}
+use Rattle.run_listing.specs.Heights.{Found}
 use Rattle.run_listing.specs.Inner.{spelled}
 use Rattle.run_listing.proofs.Digits.{spelled-hex}
 use Rattle.run_listing.proofs.Lowest.{found-held}

@@ -132,7 +132,7 @@ module _ {F : File} {p : Player} {M : Memory} {r : RecordResult} where
         record {
           player = tells;
           whole = whole;
-          holds =
+          memory =
               record {
                 keeps = λ b. same-keeps (H .keeps b);
                 slots = λ w k i a b. rw (new k i a b (rw (H .slots w k i a b) (H .short w k i)), H .slots w k i a b);
@@ -153,7 +153,7 @@ module _ {F : File} {p : Player} {M : Memory} {r : RecordResult} where
         record {
           player = rw is (start-tells F s);
           whole = rw is refl;
-          holds =
+          memory =
               record {
                 keeps = λ b. start-keeps (countIn s) (limitIn s) (positionIn s) M′ same;
                 slots = λ w. absurd (true≢false (sym w));

@@ -13,7 +13,7 @@ use Rattle.ring_spec.specs.Rounds.{Round, roundThen, afterRound, PhaseEnd, asEn
 use Rattle.ring_spec.specs.Converges.{noEnd, AnyTwo}
 use Rattle.ring_spec.proofs.OnePhase.{endAt}
 use Rattle.run_spec.specs.RunFile.{readFile}
-use Rattle.run_spec.proofs.Taken.{taken}
+use Rattle.run_spec.proofs.Reached.{taken}
 use Rattle.run_spec.proofs.Demand3.{playedWith, played-converges}
 use Rattle.run_listing.specs.Held.{endIn}
 use Rattle.run_listing.proofs.Lowest.{found-held}

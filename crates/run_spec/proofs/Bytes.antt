@@ -17,7 +17,7 @@ use Rattle.head_spec.proofs.Proper.{both-passed}
 use Rattle.ring_spec.specs.Rounds.{Round, endsAfter}
 use Rattle.ring_spec.proofs.Counts.{counted}
 use Rattle.run_spec.specs.RunFile.{File, unread, given, RecordKind, start, round, plant, other, lengthOf, kindOf, isAllowed, countIn, recordFault, thenPlayed, withRecord, stopped, unlessFault, judged, withPart, readOn, unlessStopped, step, feed, readFile, recordsOf, accepted, ending, roundsPlayed, endsPlayed}
-use Rattle.run_spec.proofs.Taken.{length-then}
+use Rattle.run_spec.proofs.Reached.{length-then}
 use Rattle.run_spec.proofs.Whole.{stands, RoundsFit, kept-on, kept-read, kept}
 use Rattle.run_spec.proofs.Streaming.{feed-append}
 
@@ -44,8 +44,8 @@ module _ (P : File → ℕ → Type 0)
         go (suc c) e = stops F (suc c) k p
 
     -- a whole record has a header that may stand
-    may-stand : ltb (length s) 4 ≡ false → (eqb (length s) 4 && not (stands F s)) ≡ false → stands F s ≡ true
-    may-stand long place = go (decLe 4 (length (F .part)))
+    is-allowed : ltb (length s) 4 ≡ false → (eqb (length s) 4 && not (stands F s)) ≡ false → stands F s ≡ true
+    is-allowed long place = go (decLe 4 (length (F .part)))
       where
         go : Dec (4 ≤ length (F .part)) → stands F s ≡ true
         go (yes h) = kept-on F kept (x ∷ []) h .0
@@ -59,7 +59,7 @@ module _ (P : File → ℕ → Type 0)
             → P (cond few (withPart F s) (cond out (stopped F refusal.run-record) (cond all (judged (kindOf s) F s) (withPart F s)))) (suc k)
         go true out all f o a = parts F s k one p
         go false true all f o a = stops F refusal.run-record k p
-        go false false true f o a = judges (may-stand f o) (eqb-true (length s) (lengthOf s) a)
+        go false false true f o a = judges (is-allowed f o) (eqb-true (length s) (lengthOf s) a)
         go false false false f o a = parts F s k one p
 
   pub from : (F : File) (xs : List ℕ) (k : ℕ) → RoundsFit F → P F k → P (feed F xs) (k + length xs)

@@ -1,5 +1,5 @@
 -- Every run file: what holds of what is read, demand 3, the listing as it comes, and the records as they come.
-pub mod Taken
+pub mod Reached
 pub mod Demand3
 pub mod Streaming
 pub mod Whole

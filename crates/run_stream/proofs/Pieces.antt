@@ -53,7 +53,7 @@ none-then {a} {xs} {p} {q} {r} {used = used} bytes e f S =
     let (same, is) = f .advances .idle (ap (λ (x : List ℕ). accepted (readFile x)) nothing) in
     let s = S (rw nothing at (f .advances .state)) in
     record {
-      follows =
+      advances =
           shows-there (s .advances .state) (s .advances .shows)
           (λ z. let (same′, is′) = s .advances .idle z in (same′ ∙ same, is′ ∙ ap (λ (x : Player). halted x (r .have) (r .fault)) is));
       grown = s .grown;
@@ -77,7 +77,7 @@ module _ {bytes : List ℕ} {p : Player} {carry₀ : List ℕ} {M₀ : Memory} w
   at-first =
       record {
         within = omega arith;
-        follows =
+        advances =
             λ a L. shows-there (rw (append-nil a) L) (rw (append-nil a) (sym (append-nil (shown (readFile a))))) (λ e. (refl, refl));
       }
 
@@ -89,7 +89,7 @@ module _ {bytes : List ℕ} {p : Player} {carry₀ : List ℕ} {M₀ : Memory} w
     one-more {text′} used within S =
         record {
           within = within;
-          follows =
+          advances =
               λ a L.
               let before = R .advances a L in
               let f = S (a ++ take at bytes) (before .state) .advances in

@@ -19,7 +19,7 @@ use Rattle.ring_spec.proofs.Counts.{counted}
 use Rattle.run_spec.specs.RunFile.{File, unread, RecordKind, start, round, plant, other, kindOf, lengthOf, isAllowed, thenPlayed, withRecord, feed, readFile, endsSoFar, ending, roundsPlayed, endsPlayed}
 use Rattle.run_spec.specs.Listing.{title, shown, listing}
 use Rattle.run_spec.proofs.Streaming.{feed-append}
-use Rattle.run_spec.proofs.Taken.{taken}
+use Rattle.run_spec.proofs.Reached.{taken}
 use Rattle.run_spec.proofs.Demand3.{every-file}
 use Rattle.run_spec.proofs.Whole.{kept}
 use Rattle.run_spec.proofs.Bytes.{from, cost, few-ends}

@@ -8,7 +8,7 @@ use mir.Syntax.{w32}
 use mir.Val.{SFits}
 use borrow.Author.Needs.{needs}
 use Rattle.run_spec.specs.Listing.{decimal, whole}
-use Rattle.run_listing.specs.Inner.{heightOf}
+use Rattle.run_listing.specs.Heights.{heightOf}
 use Rattle.run_listing.proofs.Heights.{height-read}
 use Rattle.run_listing.proofs.Writing.{longer-then, longer-as}
 use Rattle.run_listing.proofs.put_position.Statement.{statement}

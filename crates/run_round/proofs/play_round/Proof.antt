@@ -2,7 +2,7 @@
 use mathlib.Core.Path.{refl}
 use native.Mathlib.Omega.{arith}
 use borrow.Author.Needs.{needs}
-use Rattle.run_spec.proofs.Taken.{taken}
+use Rattle.run_spec.proofs.Reached.{taken}
 use Rattle.run_round.proofs.Rounds.{collection-played, confession-played}
 use Rattle.run_round.proofs.play_round.Statement.{statement}
 use Rattle.run_round.proofs.play_round.Tie as tie

@@ -2,7 +2,7 @@
 use mathlib.Core.Path.{refl, sym, _∙_}
 use native.Mathlib.Omega.{arith}
 use borrow.Author.Needs.{needs}
-use Rattle.run_spec.proofs.Taken.{length-then}
+use Rattle.run_spec.proofs.Reached.{length-then}
 use Rattle.run_state.proofs.Told.{round-before}
 use Rattle.run_state.proofs.given_round.Statement.{statement}
 use Rattle.run_state.proofs.given_round.Tie as tie

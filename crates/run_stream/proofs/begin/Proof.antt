@@ -14,7 +14,7 @@ returns c carry M =
       player = e .0;
       part = rw (e .1);
       have = e .1;
-      holds =
+      memory =
           record {
             keeps = λ b. absurd (true≢false (sym b));
             slots = λ b. absurd (true≢false (sym b));

@@ -21,8 +21,8 @@ returns-5 c F b w =
     let r = c .match .rest in
     simp (ne-eqb _ _ (r .0 .0 .1), ne-eqb _ _ (r .0 .1), ne-eqb _ _ (r .1))
 
-pub may-stand-spec : {M : Type 1} → statement M
-may-stand-spec =
+pub is-allowed-spec : {M : Type 1} → statement M
+is-allowed-spec =
     tie.close
     (tie.spec
     (λ c κs. search needs)
