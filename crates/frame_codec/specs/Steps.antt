@@ -8,18 +8,15 @@ use Rattle.frame_check.specs.Check.{Kind, senderField, phaseField}
 use Rattle.frame_spec.specs.declared.Said.{Said}
 use Rattle.frame_spec.specs.Said.{roundOf, countFits, rangeFits, meaning, unlessRefused, saidOf}
 
--- 10, 11
+-- 10, 11, of the rest t
 abbrev pub fromMarks : Kind → ℕ → List ℕ → ℕ
-fromMarks K n s = check (countFits K n s) refusal.marks (check (rangeFits K n s) refusal.entry 0)
+fromMarks K n t = check (countFits K n t) refusal.marks (check (rangeFits K n t) refusal.entry 0)
 
--- 23, 10, 11
-abbrev pub fromPhase : Kind → ℕ → ℕ → List ℕ → ℕ
-fromPhase K n p s = check (eqb (phaseField s) p) refusal.other-phase (fromMarks K n s)
+-- 22, 9, 23, and 0 if none of them
+unfoldable pub commonRefusal : Kind → ℕ → ℕ → ℕ → List ℕ → ℕ
+commonRefusal K p r k s =
+    check (eqb (roundOf K) r) refusal.round (check (eqb (senderField s) k) refusal.sender (check (eqb (phaseField s) p) refusal.other-phase 0))
 
--- 22, 9, 23, 10, 11
-abbrev pub fromRound : Kind → ℕ → ℕ → ℕ → ℕ → List ℕ → ℕ
-fromRound K n p r k s = check (eqb (roundOf K) r) refusal.round (check (eqb (senderField s) k) refusal.sender (fromPhase K n p s))
-
--- what a frame of a kind says where checks gave a number
+-- what a frame of a kind says, if checks gave a number
 abbrev pub saidUnless : ℕ → Kind → ℕ → List ℕ → Said
-saidUnless number K n s = saidOf (unlessRefused number (meaning K n s))
+saidUnless number K n t = saidOf (unlessRefused number (meaning K n t))

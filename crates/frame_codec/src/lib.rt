@@ -1,8 +1,8 @@
 // Frames read: what a frame says to a head.
 ghost use mathlib.Core.Path.{_≡_};
 ghost use Rattle.frame_check.specs.Check.{kindOf, position, list};
-ghost use Rattle.frame_spec.specs.Said.{roundOf, entriesField, said, saidOf, tableIn, meant};
-ghost use Rattle.frame_codec.specs.Steps.{fromMarks, fromPhase, fromRound, saidUnless};
+ghost use Rattle.frame_spec.specs.Said.{roundOf, restField, entriesIn, said, saidOf, tableIn, meant};
+ghost use Rattle.frame_codec.specs.Steps.{fromMarks, commonRefusal, saidUnless};
 ghost use mathlib.Core.List.{[]};
 ghost use Prim.Native.Nat.{_≤_};
 ghost use lib.ListN.{length, getD, drop};
@@ -28,94 +28,94 @@ fn round_of(kind: u16) -> u8
     }
 }
 
-// The bytes of a list's entries; none where the frame is shorter.
-fn entries_of(frame: &[u8]) -> &[u8]
-    ensures { λ r. ⌜ now r ≡ entriesField (now (frame .entry)) ⌝ }
+// The bytes of a list's entries, of the rest of a list frame; none if it is shorter.
+fn entries_of(rest: &[u8]) -> &[u8]
+    ensures { λ r. ⌜ now r ≡ entriesIn (now (rest .entry)) ⌝ }
 {
-    fields::bytes_from(frame, 12)
+    fields::bytes_from(rest, 5)
 }
 
-// A position: 11, and what it says, the same for every count of heads.
-fn read_position(frame: &[u8]) -> Said
-    ensures { λ r. ⌜ r ≡ saidUnless (fromMarks position 0 (now (frame .entry))) position 0 (now (frame .entry)) ⌝ }
+// The rest of a position frame: 11, and what it says, the same for every count of heads.
+fn read_position(rest: &[u8]) -> Said
+    ensures { λ r. ⌜ r ≡ saidUnless (fromMarks position 0 (now (rest .entry))) position 0 (now (rest .entry)) ⌝ }
 {
-    let word = fields::word_at(frame, 7);
+    let word = fields::word_at(rest, 0);
     if entries::is_position_word(word) {
         return Said::Collection(Entry::Position(fields::signed(word)));
     }
     Said::Refused(refusal::ENTRY)
 }
 
-// A list: 10, 11.
-fn read_list(frame: &[u8], n: u8) -> Said
-    ensures { λ r. ⌜ r ≡ saidUnless (fromMarks list n (now (frame .entry))) list n (now (frame .entry)) ⌝ }
+// The rest of a list frame: 10, 11.
+fn read_list(rest: &[u8], n: u8) -> Said
+    ensures { λ r. ⌜ r ≡ saidUnless (fromMarks list n (now (rest .entry))) list n (now (rest .entry)) ⌝ }
 {
-    if fields::byte_at(frame, 7) != n {
+    if fields::byte_at(rest, 0) != n {
         return Said::Refused(refusal::MARKS);
     }
-    let marks = fields::word_at(frame, 8);
+    let marks = fields::word_at(rest, 1);
     if !marks::marks_below(marks, n as usize) {
         return Said::Refused(refusal::MARKS);
     }
-    if entries::entries_fit(marks, entries_of(frame), n) {
+    if entries::entries_fit(marks, entries_of(rest), n) {
         return Said::List;
     }
     Said::Refused(refusal::ENTRY)
 }
 
 // 10 and 11, by the kind, and what the frame says.
-fn read_rest(frame: &[u8], kind: u16, n: u8) -> Said
-    ensures { λ r. ⌜ r ≡ saidUnless (fromMarks (kindOf kind) n (now (frame .entry))) (kindOf kind) n (now (frame .entry)) ⌝ }
+fn read_rest(rest: &[u8], kind: u16, n: u8) -> Said
+    ensures { λ r. ⌜ r ≡ saidUnless (fromMarks (kindOf kind) n (now (rest .entry))) (kindOf kind) n (now (rest .entry)) ⌝ }
 {
     match kind {
-        frame_check::POSITION => read_position(frame),
+        frame_check::POSITION => read_position(rest),
         frame_check::SILENCE => Said::Collection(Entry::Null),
-        frame_check::LIST => read_list(frame, n),
+        frame_check::LIST => read_list(rest, n),
         frame_check::CONFESSION => Said::Confession,
         _ => Said::Refused(refusal::KIND),
     }
 }
 
-// 23, and what follows it.
-fn read_phase(frame: &[u8], kind: u16, n: u8, phase: u16) -> Said
-    ensures { λ r. ⌜ r ≡ saidUnless (fromPhase (kindOf kind) n phase (now (frame .entry))) (kindOf kind) n (now (frame .entry)) ⌝ }
-{
-    if fields::half_at(frame, 5) != phase {
-        return Said::Refused(refusal::OTHER_PHASE);
-    }
-    read_rest(frame, kind, n)
-}
-
-// 22, 9, and what follows them.
-fn read_round(frame: &[u8], kind: u16, n: u8, phase: u16, round: u8, link: u8) -> Said
-    ensures { λ r. ⌜ r ≡ saidUnless (fromRound (kindOf kind) n phase round link (now (frame .entry))) (kindOf kind) n (now (frame .entry)) ⌝ }
+// 22, 9, 23, before the checks of the rest: the round of the kind, the sender and the phase.
+fn common_refusal(frame: &[u8], kind: u16, phase: u16, round: u8, link: u8) -> u8
+    ensures { λ r. ⌜ r ≡ commonRefusal (kindOf kind) phase round link (now (frame .entry)) ⌝ }
 {
     if round_of(kind) != round {
-        return Said::Refused(refusal::ROUND);
+        return refusal::ROUND;
     }
     if fields::byte_at(frame, 4) != link {
-        return Said::Refused(refusal::SENDER);
+        return refusal::SENDER;
     }
-    read_phase(frame, kind, n, phase)
+    if fields::half_at(frame, 5) != phase {
+        return refusal::OTHER_PHASE;
+    }
+    0
 }
 
 // What a frame says on a link, to a head of a ring of n heads in this phase and round. Refusals 6, 7, 8, 22, 9, 23, 10, 11.
 pub fn read(frame: &[u8], n: u8, phase: u16, round: u8, link: u8) -> Said
     ensures { λ r. ⌜ r ≡ saidOf (said n phase round link (now (frame .entry))) ⌝ }
 {
-    let refused = frame_check::frame_refusal(frame);
+    let mut refused = 0u8;
+    let rest = frame_check::check(frame, &mut refused);
     if refused != 0 {
         return Said::Refused(refused);
     }
-    read_round(frame, fields::half_at(frame, 2), n, phase, round, link)
+    let kind = fields::half_at(frame, 2);
+    let common = common_refusal(frame, kind, phase, round, link);
+    if common != 0 {
+        return Said::Refused(common);
+    }
+    read_rest(rest, kind, n)
 }
 
 // The table of a list frame.
 pub fn table_in(frame: &[u8], n: u8) -> Table
-    ensures { λ r. ⌜ r ≡ tableIn n (now (frame .entry)) ⌝ }
+    ensures { λ r. ⌜ r ≡ tableIn n (restField (now (frame .entry))) ⌝ }
 {
-    let marks = fields::word_at(frame, 8);
-    let entries = entries::numbers_at(entries_of(frame), n);
+    let rest = fields::bytes_from(frame, 7);
+    let marks = fields::word_at(rest, 1);
+    let entries = entries::numbers_at(entries_of(rest), n);
     Table { marks, entries }
 }
 

@@ -8,7 +8,7 @@ use Prim.Native.Nat.{ℕ, zero, suc, _+_, _*_, _^_, _≤_}
 use native.Mathlib.Omega.{arith}
 use lib.Dec.{eqb}
 use lib.ListN.{length, drop, length-drop, drop-of-length-le}
-use lib.Seq.{drop-cons}
+use lib.Seq.{drop-cons, getD-drop}
 use borrow.Author.Tests.{eqb-true, ltb-true}
 use Rattle.terms.specs.Refusals as refusal
 use Rattle.fields.specs.Bytes.{at2, at4, put4}
@@ -17,7 +17,7 @@ use Rattle.fields.proofs.Bytes.{word-back}
 use Rattle.entries.proofs.Entries.{numbers-length}
 use Rattle.frame_check.specs.Check.{Kind, position, silence, list, confession, unknown, kindOf, isKnown, lengthOf, kindField, countField, checkFrame}
 use Rattle.frame_check.proofs.Laws.{accepted-whole, accepted-known, accepted-length, accepted-long}
-use Rattle.frame_spec.specs.Said.{roundOf, marksField, entriesField, countFits, rangeFits, refusalOf, Meaning, refused, tableIn, meaning, unlessRefused, said, saidOf, meant}
+use Rattle.frame_spec.specs.Said.{roundOf, restField, countIn, marksIn, entriesIn, countFits, rangeFits, refusalOf, Meaning, refused, tableIn, meaning, unlessRefused, said, saidOf, meant}
 use Rattle.frame_spec.specs.Written.{header, frameOf}
 use Rattle.frame_spec.specs.Proper.{AllBytes, AcceptedMeaning, ProperTable, Proper, roundOfMeaning}
 use Rattle.frame_spec.proofs.Accepting.{Passed, accepted}
@@ -26,13 +26,13 @@ use Rattle.frame_spec.proofs.FieldByField.{word-small, four, common, en
 
 -- ---- what is said
 
-proper-table : (n : ℕ) (s : List ℕ) → n ≤ 32 → countFits list n s ≡ true → rangeFits list n s ≡ true → ProperTable n (tableIn n s)
+proper-table : (n : ℕ) (t : List ℕ) → n ≤ 32 → countFits list n t ≡ true → rangeFits list n t ≡ true → ProperTable n (tableIn n t)
 unfolding tableIn marksBelow
-proper-table n s size c h =
-    let m = marksField s in
-    let rest = entriesField s in
+proper-table n t size c h =
+    let m = marksIn t in
+    let rest = entriesIn t in
     record {
-      below = ltb-true m (2 ^ n) (and-both (eqb (countField s) n) _ c .1);
+      below = ltb-true m (2 ^ n) (and-both (eqb (countIn t) n) _ c .1);
       long = numbers-length rest n;
       fit = λ j l. rw (numbers-read rest n j size l) (each-fits m rest n h j l);
       none = λ j l. numbers-none rest n j l;
@@ -56,17 +56,17 @@ module _ (n p r k : ℕ) (s : List ℕ) {m : Meaning} (e : said n p r k s ≡ m)
   pub said-proper : n ≤ 32 → Proper n m
   said-proper size =
       let P = accepted n p r k s e a in
-      rw (sym (P .1)) (proper-kind (kindField s) n s size (accepted-known s (P .0 .frame)) (P .0 .count) (P .0 .range))
+      rw (sym (P .1)) (proper-kind (kindField s) n (restField s) size (accepted-known s (P .0 .frame)) (P .0 .count) (P .0 .range))
 
   pub said-round : roundOfMeaning m ≡ r
-  said-round = let P = accepted n p r k s e a in rw (sym (P .1)) (round-kind (kindField s) n s ∙ P .0 .ofRound)
+  said-round = let P = accepted n p r k s e a in rw (sym (P .1)) (round-kind (kindField s) n (restField s) ∙ P .0 .ofRound)
 
 -- the enum, with the table beside it, is the whole meaning
-pub meant-said : (n p r k : ℕ) (s : List ℕ) → meant (saidOf (said n p r k s)) (tableIn n s) ≡ said n p r k s
+pub meant-said : (n p r k : ℕ) (s : List ℕ) → meant (saidOf (said n p r k s)) (tableIn n (restField s)) ≡ said n p r k s
 unfolding said
 meant-said n p r k s = go (refusalOf n p r k s) (kindField s)
   where
-    go : (c : ℕ) (K : Kind) → meant (saidOf (unlessRefused c (meaning K n s))) (tableIn n s) ≡ unlessRefused c (meaning K n s)
+    go : (c : ℕ) (K : Kind) → meant (saidOf (unlessRefused c (meaning K n (restField s)))) (tableIn n (restField s)) ≡ unlessRefused c (meaning K n (restField s))
     go zero position = refl
     go zero silence = refl
     go zero list = refl
@@ -108,24 +108,31 @@ module _ (n p r k : ℕ) (s : List ℕ) (size : n ≤ 32) (B : AllBytes s) (P : 
       let fields = common s B (accepted-long s (P .frame)) in
       rw (accepted-whole s (P .frame) ∙ l, e, P .sender, P .ofPhase) at fields
 
-  by-kind : (K : Kind) → isKnown K ≡ true → at2 s 2 ≡ numberOf K → length s ≡ lengthOf K (countField s) → countFits K n s ≡ true → s ≡ frameOf n k p (meaning K n s)
+  by-kind : (K : Kind) → isKnown K ≡ true → at2 s 2 ≡ numberOf K → length s ≡ lengthOf K (countField s) → countFits K n (restField s) ≡ true → s ≡ frameOf n k p (meaning K n (restField s))
   unfolding tableIn
   by-kind position t e l c =
+      let t = restField s in
+      let C = drop-bytes s 7 B in
+      let size : length t ≡ 4 = length-drop 7 s ∙ omega arith in
       front position e l
-      ∙ ap (header 11 1 k p) (four s B 7 (omega arith) ∙ ap₂ put4 (sym (word-back (at4 s 7) (word-small s B 7))) (drop-of-length-le s {i = 11} (omega arith)))
+      ∙ ap (header 11 1 k p) (four t C 0 (omega arith) ∙ ap₂ put4 (sym (word-back (at4 t 0) (word-small t C 0))) (drop-of-length-le t {i = 4} (omega arith)))
   by-kind silence t e l c = front silence e l ∙ ap (header 7 2 k p) (drop-of-length-le s {i = 7} (omega arith))
   by-kind list t e l c =
-      let q : countField s ≡ n = eqb-true (countField s) n (and-both (eqb (countField s) n) _ c .0) in
+      let t = restField s in
+      let r : countIn t ≡ n = eqb-true (countIn t) n (and-both (eqb (countIn t) n) _ c .0) in
+      let q : countField s ≡ n = sym (getD-drop 7 s 0 0) ∙ r in
+      let C = drop-bytes s 7 B in
+      let long : length t ≡ 5 + 4 * n = length-drop 7 s ∙ omega arith in
       front list e l
       ∙ ap₂ (λ (x : ℕ) (rest : List ℕ). header (12 + 4 * x) 3 k p rest) q
-      (drop-cons s 7 0 (omega arith)
-      ∙ ap₂ (λ (x : ℕ) (rest : List ℕ). x ∷ rest) q
-      (four s B 8 (omega arith)
-      ∙ ap (put4 (marksField s)) (entries-whole (entriesField s) (drop-bytes s 12 B) n size (length-drop 12 s ∙ omega arith))))
+      (drop-cons t 0 0 (omega arith)
+      ∙ ap₂ (λ (x : ℕ) (rest : List ℕ). x ∷ rest) r
+      (four t C 1 (omega arith)
+      ∙ ap (put4 (marksIn t)) (entries-whole (entriesIn t) (drop-bytes t 5 C) n size (length-drop 5 t ∙ omega arith))))
   by-kind confession t e l c = front confession e l ∙ ap (header 7 4 k p) (drop-of-length-le s {i = 7} (omega arith))
   by-kind unknown t e l c = absurd (true≢false (sym t))
 
-  written : s ≡ frameOf n k p (meaning (kindField s) n s)
+  written : s ≡ frameOf n k p (meaning (kindField s) n (restField s))
   written =
       let known = accepted-known s (P .frame) in
       by-kind (kindField s) known (kind-number (at2 s 2) known) (accepted-length s (P .frame)) (P .count)

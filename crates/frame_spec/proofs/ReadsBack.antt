@@ -20,7 +20,7 @@ use Rattle.entries.specs.Entries.{numbers}
 use Rattle.fields.proofs.Bytes.{back2, back4, signed-back, word-below}
 use Rattle.entries.proofs.Entries.{numbers-length}
 use Rattle.frame_check.specs.Check.{checkFrame, frameRefusal}
-use Rattle.frame_spec.specs.Said.{Meaning, refused, collected, listed, confessed, marksField, tableIn, said}
+use Rattle.frame_spec.specs.Said.{Meaning, refused, collected, listed, confessed, restField, marksIn, tableIn, said}
 use Rattle.frame_spec.specs.Written.{entryBytes, positionFrame, silenceFrame, listFrame, confessionFrame, frameOf}
 use Rattle.frame_spec.specs.Proper.{ProperTable, Proper, roundOfMeaning}
 use Rattle.frame_spec.proofs.Accepting.{says}
@@ -50,7 +50,7 @@ module _ (n k p : ℕ) (small : p < 65536) where
     abbrev bytes : List ℕ
     bytes = entryBytes (t .entries) n
 
-    marks-back : marksField (listFrame n k p t) ≡ t .marks
+    marks-back : marksIn (restField (listFrame n k p t)) ≡ t .marks
     marks-back = back4 (t .marks) (omega (arith, P .below, pow-mono size))
 
     -- entry j of the bytes, as a number

@@ -3,7 +3,8 @@ use mathlib.Core.Bool.{Bool, true, _&&_}
 use mathlib.Core.List.{List}
 use Prim.Native.Nat.{ℕ, zero, suc}
 use lib.Dec.{eqb}
-use lib.ListN.{drop}
+use lib.ListN.{getD, drop}
+use lib.IntN.{ℤ}
 use Rattle.terms.specs.Refusals as refusal
 use Rattle.terms.specs.Refusals.{check}
 use Rattle.terms.specs.Positions.{isPosition}
@@ -12,7 +13,7 @@ use Rattle.terms.specs.declared.Table.{Table}
 use Rattle.fields.specs.Bytes.{at4, signedAt}
 use Rattle.marks.specs.Marks.{marksBelow}
 use Rattle.entries.specs.Entries.{entriesFit, numbers}
-use Rattle.frame_check.specs.Check.{Kind, position, silence, list, confession, unknown, kindField, senderField, phaseField, countField, checkFrame}
+use Rattle.frame_check.specs.Check.{Kind, position, silence, list, confession, unknown, kindField, senderField, phaseField, checkFrame}
 use Rattle.frame_spec.specs.declared.Said.{Said}
 
 -- the round that a kind belongs to
@@ -23,28 +24,37 @@ roundOf list = 1
 roundOf confession = 1
 roundOf unknown = 2
 
--- the fields of a list's rest: count (1 byte), marks (4 bytes), entries
-abbrev pub marksField : List ℕ → ℕ
-marksField s = at4 s 8
+-- what follows the common fields: of a position its number; of a list its count (1 byte), marks (4 bytes) and entries
+abbrev pub restField : List ℕ → List ℕ
+restField s = drop 7 s
 
-abbrev pub entriesField : List ℕ → List ℕ
-entriesField s = drop 12 s
+abbrev pub numberIn : List ℕ → ℤ
+numberIn t = signedAt t 0
 
--- 10: list count n, and no mark at n or above
+abbrev pub countIn : List ℕ → ℕ
+countIn t = getD t 0 0
+
+abbrev pub marksIn : List ℕ → ℕ
+marksIn t = at4 t 1
+
+abbrev pub entriesIn : List ℕ → List ℕ
+entriesIn t = drop 5 t
+
+-- 10, of the rest t: list count n, and no mark at n or above
 abbrev pub countFits : Kind → ℕ → List ℕ → Bool
-countFits position n s = true
-countFits silence n s = true
-countFits list n s = eqb (countField s) n && marksBelow (marksField s) n
-countFits confession n s = true
-countFits unknown n s = true
+countFits position n t = true
+countFits silence n t = true
+countFits list n t = eqb (countIn t) n && marksBelow (marksIn t) n
+countFits confession n t = true
+countFits unknown n t = true
 
--- 11: entries in range, and 0 where null; the position of a collection frame is an entry
+-- 11, of the rest t: entries in range, and 0 where null; the position of a collection frame is an entry
 abbrev pub rangeFits : Kind → ℕ → List ℕ → Bool
-rangeFits position n s = isPosition (signedAt s 7)
-rangeFits silence n s = true
-rangeFits list n s = entriesFit (marksField s) (entriesField s) n
-rangeFits confession n s = true
-rangeFits unknown n s = true
+rangeFits position n t = isPosition (numberIn t)
+rangeFits silence n t = true
+rangeFits list n t = entriesFit (marksIn t) (entriesIn t) n
+rangeFits confession n t = true
+rangeFits unknown n t = true
 
 -- 6, 7, 8, 22, 9, 23, 10, 11
 unfoldable pub refusalOf : ℕ → ℕ → ℕ → ℕ → List ℕ → ℕ
@@ -53,8 +63,8 @@ refusalOf n p r k s =
     (check (eqb (roundOf (kindField s)) r) refusal.round
     (check (eqb (senderField s) k) refusal.sender
     (check (eqb (phaseField s) p) refusal.other-phase
-    (check (countFits (kindField s) n s) refusal.marks
-    (check (rangeFits (kindField s) n s) refusal.entry 0)))))
+    (check (countFits (kindField s) n (restField s)) refusal.marks
+    (check (rangeFits (kindField s) n (restField s)) refusal.entry 0)))))
 
 -- ---- what it says
 
@@ -64,23 +74,23 @@ pub data Meaning : Type 0 where
   listed : Table → Meaning
   confessed : Meaning
 
--- the table of a list frame
+-- the table in the rest t of a list frame
 unfoldable pub tableIn : ℕ → List ℕ → Table
-tableIn n s = record { marks = marksField s; entries = numbers (entriesField s) n }
+tableIn n t = record { marks = marksIn t; entries = numbers (entriesIn t) n }
 
 abbrev pub meaning : Kind → ℕ → List ℕ → Meaning
-meaning position n s = collected (Entry.Position (signedAt s 7))
-meaning silence n s = collected Entry.Null
-meaning list n s = listed (tableIn n s)
-meaning confession n s = confessed
-meaning unknown n s = refused refusal.kind
+meaning position n t = collected (Entry.Position (numberIn t))
+meaning silence n t = collected Entry.Null
+meaning list n t = listed (tableIn n t)
+meaning confession n t = confessed
+meaning unknown n t = refused refusal.kind
 
 abbrev pub unlessRefused : ℕ → Meaning → Meaning
 unlessRefused zero m = m
 unlessRefused (suc c) m = refused (suc c)
 
 unfoldable pub said : ℕ → ℕ → ℕ → ℕ → List ℕ → Meaning
-said n p r k s = unlessRefused (refusalOf n p r k s) (meaning (kindField s) n s)
+said n p r k s = unlessRefused (refusalOf n p r k s) (meaning (kindField s) n (restField s))
 
 -- ---- as the code has it: an enum, and beside it the table of a list
 
