@@ -1,9 +1,9 @@
 -- Fields of two and four bytes, the lowest byte first; a byte past the end of a slice counts as 0.
 use mathlib.Core.Bool.{cond}
-use mathlib.Core.List.{List, [], _∷_}
+use mathlib.Core.List.{List, [], _∷_, _++_}
 use Prim.Native.Nat.{ℕ, _+_, _-_, _*_, _/_, _%_}
-use lib.Dec.{ltb}
-use lib.ListN.{getD, set}
+use lib.Dec.{ltb, leb}
+use lib.ListN.{length, getD, set, take, drop}
 use lib.IntN.{ℤ, pos, negsuc}
 
 -- two bytes from place i on
@@ -38,3 +38,7 @@ put4 x rest = x % 256 ∷ x / 256 % 256 ∷ x / 65536 % 256 ∷ x / 16777216 % 2
 unfoldable pub over : List ℕ → ℕ → List ℕ → List ℕ
 over [] i s = s
 over (b ∷ bs) i s = over bs (i + 1) (set s i b)
+
+-- bytes copied over a slice from place i on, if they fit there
+unfoldable pub copied : List ℕ → ℕ → List ℕ → List ℕ
+copied s i b = cond (leb (i + length b) (length s)) (take i s ++ b ++ drop (i + length b) s) s

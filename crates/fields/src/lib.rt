@@ -1,9 +1,10 @@
 // Fields of a slice of bytes, read: little-endian numbers, with a sign and without. A byte past the end reads as 0.
 ghost use mathlib.Core.Path.{_≡_};
-ghost use Prim.Native.Nat.{_+_, _*_, _<_};
+ghost use Prim.Native.Nat.{_+_, _*_, _≤_, _<_};
 ghost use lib.ListN.{length, getD, drop, set};
-ghost use Rattle.fields.specs.Bytes.{at2, at4, signedOf, signedAt, wordOf, put2, put4, over};
+ghost use Rattle.fields.specs.Bytes.{at2, at4, signedOf, signedAt, wordOf, put2, put4, over, copied};
 ghost use mathlib.Core.List.{[]};
+ghost use lib.Seq.{paste};
 
 // The byte at a place.
 pub fn byte_at(s: &[u8], at: usize) -> u8
@@ -143,4 +144,30 @@ pub fn put_word(s: &mut [u8], at: usize, x: u32)
             put_byte(s, at + 3, d);
         }
     }
+}
+
+// Copies bytes over a slice from a place on, all of which is there.
+fn copy_within(s: &mut [u8], at: usize, bytes: &[u8])
+    requires { ⌜ at + length (now bytes) ≤ length (now s) ⌝ }
+    ensures { λ _. ⌜ now (s .exit) ≡ paste (now (s .entry)) at (now (bytes .entry)) (length (now (bytes .entry))) ⌝ }
+{
+    let mut j: usize = 0;
+    while j < bytes.len() {
+        s[at + j] = bytes[j];
+        j += 1;
+    }
+}
+
+// Copies bytes over a slice from a place on, if they fit there.
+pub fn put_bytes(s: &mut [u8], at: usize, bytes: &[u8])
+    ensures { λ _. ⌜ now (s .exit) ≡ copied (now (s .entry)) at (now (bytes .entry)) ⌝ }
+{
+    let size = s.len();
+    if size < at {
+        return;
+    }
+    if size - at < bytes.len() {
+        return;
+    }
+    copy_within(s, at, bytes);
 }
