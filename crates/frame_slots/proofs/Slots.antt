@@ -1,16 +1,17 @@
 -- Bytes pasted into a list stand where they were pasted, and each part before or behind them is as it was. So a slot holds the bytes stored in it, and
 -- any other slot, of at most 140 bytes, what it held.
 use mathlib.Core.Path.{_≡_, refl, ap, sym, _∙_}
-use mathlib.Core.Bool.{Bool, true, false, cond, _&&_}
+use mathlib.Core.Bool.{Bool, true, false, cond, _&&_, and-false}
 use mathlib.Core.List.{List, [], _++_, append-assoc, append-nil}
 use Prim.Native.Nat.{ℕ, zero, suc, _+_, _*_, _-_, _≤_, _<_}
 use native.Mathlib.Omega.{arith}
 use native.Mathlib.Decide.{decLt}
-use borrow.Author.Tests.{eqb-true, eqb-false}
+use borrow.Author.Tests.{eqb-true, eqb-false, ne-eqb, lt-ltb, le-ltb, le-leb, lt-leb}
 use lib.Dec.{eqb}
 use lib.ListN.{length, getD, set, take, drop, replicate, length-take, length-drop, take-append-drop, drop-of-length-le}
 use lib.Seq.{take-append-le, drop-append-le, take-append-seam, drop-at, take-length, length-take-le, drop-drop, getD-set-same, getD-set-other, paste, drop-paste}
-use Rattle.frame_slots.specs.Slots.{slot, plantedIn}
+use Rattle.fields.proofs.Copying.{copied-fits}
+use Rattle.frame_slots.specs.Slots.{slot, plantedIn, isPlantable, withPlanted, withLength}
 
 zeros : (n j : ℕ) → getD (replicate {A = ℕ} n 0) j 0 ≡ 0
 zeros zero j = refl
@@ -79,3 +80,35 @@ module _ (d l b : List ℕ) (k i : ℕ) (hd : length d ≡ 143360) (hl : length 
       go true true e q = there (eqb-true k j e) (eqb-true i m q)
       go true false e q = elsewhere (λ s. eqb-false i m q (omega arith)) short
       go false y e q = elsewhere (λ s. eqb-false k j e (omega arith)) short
+
+-- ---- what planting makes of the slots
+
+-- whether bytes can be planted, by what the code tests
+module _ (k i : ℕ) (b : List ℕ) where
+  pub plantable : k < 32 → i < 32 → length b ≤ 140 → isPlantable k i b ≡ true
+  plantable hk hi hb = rw (lt-ltb k 32 hk, lt-ltb i 32 hi, le-leb (length b) 140 hb)
+
+  pub no-sender : 32 ≤ k → isPlantable k i b ≡ false
+  no-sender h = rw (le-ltb k 32 h)
+
+  pub no-receiver : 32 ≤ i → isPlantable k i b ≡ false
+  no-receiver h = rw (le-ltb i 32 h, and-false)
+
+  pub too-long : 140 < length b → isPlantable k i b ≡ false
+  too-long h = rw (lt-leb (length b) 140 h, and-false)
+
+-- a slot of at most 140 bytes holds what was planted on its link, and else what it held
+pub planted-then : (d l b : List ℕ) (k i : ℕ) → length d ≡ 143360 → length l ≡ 1024 → length b ≤ 140
+    → (j m : ℕ) → j < 32 → m < 32 → length (plantedIn d l j m) ≤ 140
+    → plantedIn (withPlanted d k i b) (withLength l k i b) j m ≡ cond (eqb k j && eqb i m) b (plantedIn d l j m)
+unfolding withPlanted withLength
+planted-then d l b k i hd hl hb j m hj hm short = go (decLt k 32) (decLt i 32)
+  where
+    after : Type 0
+    after = plantedIn (withPlanted d k i b) (withLength l k i b) j m ≡ cond (eqb k j && eqb i m) b (plantedIn d l j m)
+
+    go : Dec (k < 32) → Dec (i < 32) → after
+    go (yes hk) (yes hi) =
+        rw (plantable k i b hk hi hb, copied-fits d (140 * (32 * k + i)) b (omega arith)) (planted-after d l b k i hd hl hk hi hb j m hm short)
+    go (yes hk) (no hi) = rw (no-receiver k i b (omega arith), ne-eqb i m (omega arith), and-false)
+    go (no hk) x = rw (no-sender k i b (omega arith), ne-eqb k j (omega arith))

@@ -1,7 +1,10 @@
 -- Frames side by side: a slot of 140 bytes, the longest frame, and a length for each.
+use mathlib.Core.Bool.{Bool, cond, _&&_}
 use mathlib.Core.List.{List}
 use Prim.Native.Nat.{ℕ, _+_, _*_}
-use lib.ListN.{getD, take, drop}
+use lib.Dec.{ltb, leb}
+use lib.ListN.{length, getD, set, take, drop}
+use Rattle.fields.specs.Bytes.{copied}
 
 -- slot k: its first bytes, as many as its length says
 unfoldable pub slot : List ℕ → List ℕ → ℕ → List ℕ
@@ -10,3 +13,14 @@ slot bytes lengths k = take (getD lengths k 0) (drop (140 * k) bytes)
 -- the bytes planted on the link from k to i: slot 32 k + i
 abbrev pub plantedIn : List ℕ → List ℕ → ℕ → ℕ → List ℕ
 plantedIn bytes lengths k i = slot bytes lengths (32 * k + i)
+
+-- whether bytes are planted on the link from k to i: the links of 32 heads, and 140 bytes at most
+abbrev pub isPlantable : ℕ → ℕ → List ℕ → Bool
+isPlantable k i b = ltb k 32 && ltb i 32 && leb (length b) 140
+
+-- the bytes of all slots, and their lengths, with b planted on that link; as they were if it cannot be
+unfoldable pub withPlanted : List ℕ → ℕ → ℕ → List ℕ → List ℕ
+withPlanted bytes k i b = cond (isPlantable k i b) (copied bytes (140 * (32 * k + i)) b) bytes
+
+unfoldable pub withLength : List ℕ → ℕ → ℕ → List ℕ → List ℕ
+withLength lengths k i b = cond (isPlantable k i b) (set lengths (32 * k + i) (length b)) lengths

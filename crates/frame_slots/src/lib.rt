@@ -1,12 +1,10 @@
 // Frames side by side: a slot of 140 bytes and a length for each. The bytes planted in a round have a slot for each link.
-ghost use mathlib.Core.Bool.{true, cond, _&&_};
+ghost use mathlib.Core.Bool.{true};
 ghost use mathlib.Core.List.{List, []};
 ghost use mathlib.Core.Path.{_≡_};
-ghost use Prim.Native.Nat.{ℕ, _+_, _*_, _≤_, _<_};
-ghost use lib.Dec.{eqb};
+ghost use Prim.Native.Nat.{ℕ, _+_, _*_, _<_};
 ghost use lib.ListN.{length, getD, set};
-ghost use lib.Seq.{paste};
-ghost use Rattle.frame_slots.specs.Slots.{slot, plantedIn};
+ghost use Rattle.frame_slots.specs.Slots.{slot, plantedIn, withPlanted, withLength};
 
 // The bytes of slot k, as many as its length says, and are there.
 pub fn slot<'a, 'b>(bytes: &'a [u8], lengths: &'b [u8], k: u16) -> &'a [u8]
@@ -76,18 +74,6 @@ pub fn clear(lengths: &mut [u8; 1024])
     wipe(lengths);
 }
 
-// The bytes of a slice from an index on.
-fn put_bytes(planted: &mut [u8], at: usize, bytes: &[u8])
-    requires { ⌜ at + length (now bytes) ≤ length (now planted) ⌝ }
-    ensures { λ _. ⌜ now (planted .exit) ≡ paste (now (planted .entry)) at (now (bytes .entry)) (length (now (bytes .entry))) ⌝ }
-{
-    let mut j: usize = 0;
-    while j < bytes.len() {
-        planted[at + j] = bytes[j];
-        j += 1;
-    }
-}
-
 // The length of a slot.
 fn put_length(lengths: &mut [u8], slot: usize, len: u8)
     requires { ⌜ slot < length (now lengths) ⌝ }
@@ -96,12 +82,10 @@ fn put_length(lengths: &mut [u8], slot: usize, len: u8)
     lengths[slot] = len;
 }
 
-// Plants bytes on the link from k to i: at most 140 bytes, on the links of 32 heads. What is planted on any other link stays.
+// Plants bytes on the link from k to i: at most 140 bytes, on the links of 32 heads; else nothing changes.
 pub fn plant(planted: &mut [u8; 143360], lengths: &mut [u8; 1024], k: u8, i: u8, bytes: &[u8])
-    ensures { λ _. ⌜ (length (now (bytes .entry)) ≤ 140 → (j m : ℕ) → j < 32 → m < 32
-        → length (plantedIn (now (planted .entry)) (now (lengths .entry)) j m) ≤ 140
-        → plantedIn (now (planted .exit)) (now (lengths .exit)) j m
-        ≡ cond (eqb k j && eqb i m) (now (bytes .entry)) (plantedIn (now (planted .entry)) (now (lengths .entry)) j m)) ⌝ }
+    ensures bytes { λ _. ⌜ now (planted .exit) ≡ withPlanted (now (planted .entry)) k i (now (bytes .entry)) ⌝ }
+    ensures lengths { λ _. ⌜ now (lengths .exit) ≡ withLength (now (lengths .entry)) k i (now (bytes .entry)) ⌝ }
 {
     if 32 <= k {
         return;
@@ -114,6 +98,6 @@ pub fn plant(planted: &mut [u8; 143360], lengths: &mut [u8; 1024], k: u8, i: u8,
         return;
     }
     let slot = 32 * (k as usize) + (i as usize);
-    put_bytes(planted, 140 * slot, bytes);
+    fields::put_bytes(planted, 140 * slot, bytes);
     put_length(lengths, slot, len as u8);
 }

@@ -1,30 +1,30 @@
--- `frame_slots::plant` meets its contract: slot 32 k + i is stored. A head past the 32 has no slot, so nothing changes, and longer bytes are outside what it
--- promises.
-use mathlib.Core.Bool.{and-false}
-use native.Mathlib.Omega.{arith}
-use borrow.Author.Needs.{needs}
-use borrow.Author.Tests.{ne-eqb}
+-- `frame_slots::plant` meets its contract: if each test holds, slot 32 k + i is stored; if one fails, nothing is.
 use denote.Ref.{now}
-use Rattle.frame_slots.proofs.Slots.{planted-after}
+use borrow.Author.Needs.{needs}
+use Rattle.frame_slots.specs.Slots.{withPlanted, withLength}
+use Rattle.frame_slots.proofs.Slots.{plantable, no-sender, no-receiver, too-long}
 use Rattle.frame_slots.proofs.plant.Statement.{statement}
 use Rattle.frame_slots.proofs.plant.Tie as tie
 
 returns : tie.Need-returns
-returns c = λ hb j m hj hm short. rw (ne-eqb (c .before .before .args .k) j (omega arith))
+unfolding withPlanted withLength
+returns c = let a = c .before .before .args in let e = no-sender (a .k) (a .i) (now (a .bytes)) (search needs) in (rw e, rw e)
 
 returns-2 : tie.Need-returns-2
-returns-2 c = λ hb j m hj hm short. rw (ne-eqb (c .before .before .before .args .i) m (omega arith), and-false)
+unfolding withPlanted withLength
+returns-2 c = let a = c .before .before .before .args in let e = no-receiver (a .k) (a .i) (now (a .bytes)) (search needs) in (rw e, rw e)
 
 returns-3 : tie.Need-returns-3
-returns-3 c = λ hb j m hj hm short. absurd (omega arith)
+unfolding withPlanted withLength
+returns-3 c = let a = c .before .before .before .before .args in let e = too-long (a .k) (a .i) (now (a .bytes)) (search needs) in (rw e, rw e)
 
 returns-4 : tie.Need-returns-4
+unfolding withPlanted withLength
 returns-4 c =
-    λ hb j m hj hm short.
     let p = c .before .before in
     let a = p .before .before .before .before .before .before .args in
-    rw (c .put-length .ensures, p .put-bytes .ensures)
-    (planted-after (now (a .planted)) (now (a .lengths)) (now (a .bytes)) (a .k) (a .i) (search needs) (search needs) (search needs) (search needs) hb j m hm short)
+    let e = plantable (a .k) (a .i) (now (a .bytes)) (search needs) (search needs) (search needs) in
+    (rw e (p .put-bytes .ensures), rw e (c .put-length .ensures))
 
 pub plant-spec : {M : Type 1} → statement M
 plant-spec =
