@@ -42,9 +42,9 @@ fn has_place(place: bool, len: u16, low: u16, high: u16) -> bool
     len <= high
 }
 
-// Whether a record of this kind and length may stand where a start was or was not accepted, and a round does or does not wait.
+// Whether a record of this kind and length may stand where a start was or was not accepted, and a round is or is not pending.
 pub fn is_allowed(kind: u16, len: u16, begun: bool, pending: bool) -> bool
-    ensures { λ r. ⌜ ((F : File) → F .begun ≡ begun → F .pending ≡ pending → r ≡ isAllowed (recordKind kind) F len) ⌝ }
+    ensures { λ r. ⌜ ((F : File) → F .setup .begun ≡ begun → F .rounds .pending ≡ pending → r ≡ isAllowed (recordKind kind) F len) ⌝ }
 {
     match kind {
         START => has_place(!begun, len, 6, 1026),
@@ -108,7 +108,7 @@ fn few_marks(n: u8, f: u8, m: u32) -> bool
 
 // A whole round record, after a number of rounds: 14, 26.
 pub fn round_fault(bytes: &[u8], n: u8, f: u8, rounds: u32) -> u8
-    ensures { λ r. ⌜ ((F : File) → F .n ≡ n → F .f ≡ f → given F ≡ rounds → r ≡ recordFault round F (now (bytes .entry))) ⌝ }
+    ensures { λ r. ⌜ ((F : File) → F .setup .n ≡ n → F .setup .f ≡ f → given F ≡ rounds → r ≡ recordFault round F (now (bytes .entry))) ⌝ }
 {
     if !few_marks(n, f, fields::word_at(bytes, 4)) {
         return refusal::STRUCK;
@@ -134,7 +134,8 @@ fn comes_after(last: Pair, from: u8, to: u8) -> bool
 
 // Whether a pair may be planted: a struck sender, a receiver that is not, both among n heads, after the last pair.
 fn pair_fits(from: u8, to: u8, n: u8, struck: u32, last: Pair) -> bool
-    ensures { λ r. ⌜ ((F : File) → F .n ≡ n → F .last .struck ≡ struck → lastPair (F .last .plants) ≡ last → r ≡ pairFits F from to) ⌝ }
+    ensures { λ r. ⌜ ((F : File) → F .setup .n ≡ n → F .rounds .last .struck ≡ struck → lastPair (F .rounds .last .plants) ≡ last
+        → r ≡ pairFits F from to) ⌝ }
 {
     if n <= from {
         return false;
@@ -153,7 +154,8 @@ fn pair_fits(from: u8, to: u8, n: u8, struck: u32, last: Pair) -> bool
 
 // A whole planted record, after the last pair of its round: 13.
 pub fn plant_fault(bytes: &[u8], n: u8, struck: u32, last: Pair) -> u8
-    ensures { λ r. ⌜ ((F : File) → F .n ≡ n → F .last .struck ≡ struck → lastPair (F .last .plants) ≡ last → r ≡ recordFault plant F (now (bytes .entry))) ⌝ }
+    ensures { λ r. ⌜ ((F : File) → F .setup .n ≡ n → F .rounds .last .struck ≡ struck → lastPair (F .rounds .last .plants) ≡ last
+        → r ≡ recordFault plant F (now (bytes .entry))) ⌝ }
 {
     let from = fields::byte_at(bytes, 4);
     let to = fields::byte_at(bytes, 5);

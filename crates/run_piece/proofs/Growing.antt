@@ -1,4 +1,4 @@
--- What a record adds to the phase ends played: a start the first, a round record that of the round that waited, where that was a confession round, and no other
+-- What a record adds to the phase ends played: a start the first, a round record that of the pending round, where that was a confession round, and no other
 -- record any. What it shows is the line of that end.
 use mathlib.Core.Path.{_≡_, refl, ap, sym, _∙_}
 use mathlib.Core.Bool.{Bool, true, false}
@@ -9,7 +9,7 @@ use lib.ListN.{length, drop, length-append}
 use lib.Seq.{drop-at}
 use lib.IntN.{ℤ}
 use Rattle.ring_spec.specs.Rounds.{Round, Ring, roundThen, afterRound, PhaseEnd, withEnd, firstHeads, ringAfter, endsAfter}
-use Rattle.run_spec.specs.RunFile.{File, RecordKind, start, round, plant, other, isAllowed, countIn, limitIn, positionIn, struckIn, recordFault, thenPlayed, withRecord, stopped, unlessFault, judged, endsSoFar}
+use Rattle.run_spec.specs.RunFile.{File, between, RecordKind, start, round, plant, other, isAllowed, countIn, limitIn, positionIn, struckIn, recordFault, thenPlayed, withRecord, stopped, unlessFault, judged, endsSoFar}
 use Rattle.run_spec.specs.Listing.{title, line, lines, shown}
 use Rattle.run_spec.proofs.Streaming.{start-shows, plant-shows, stop-shows}
 use Rattle.run_record.proofs.Records.{start-place, round-place}
@@ -51,21 +51,10 @@ module _ (n f : ℕ) (v : ℕ → ℤ) (ws : List Round) (w : Round) {text : Lis
 
 -- the file after an accepted round record s, with the rounds ws played
 abbrev with-rounds : File → List ℕ → List Round → File
-with-rounds F s ws =
-    record {
-      part = [];
-      begun = F .begun;
-      n = F .n;
-      f = F .f;
-      first = F .first;
-      played = ws;
-      pending = true;
-      last = record { struck = struckIn s; plants = [] };
-      fault = 0;
-    }
+with-rounds F s ws = between (F .setup) (record { played = ws; pending = true; last = record { struck = struckIn s; plants = [] } })
 
 module _ (F : File) (s : List ℕ) {text : List ℕ} where
-  start-grown : F .begun ≡ false → shown (withRecord start F s) ≡ shown F ++ text → GrownTo F (withRecord start F s) text
+  start-grown : F .setup .begun ≡ false → shown (withRecord start F s) ≡ shown F ++ text → GrownTo F (withRecord start F s) text
   unfolding ringAfter endsAfter
   start-grown begun t =
       let empty : [] ≡ endsSoFar F = rw begun in
@@ -73,16 +62,18 @@ module _ (F : File) (s : List ℕ) {text : List ℕ} where
       one 0 refl (ap (λ (es : List PhaseEnd). first ∷ es) empty)
       (same-after (shown F) (sym t ∙ start-shows F s begun) ∙ ap (λ (es : List PhaseEnd). line (countIn s) (length es) first) empty)
 
-  round-grown : (b : Bool) → F .begun ≡ true → let G = with-rounds F s (thenPlayed b (F .played) (F .last)) in shown G ≡ shown F ++ text → GrownTo F G text
+  round-grown : (b : Bool) → F .setup .begun ≡ true → let G = with-rounds F s (thenPlayed b (F .rounds .played) (F .rounds .last)) in
+      shown G ≡ shown F ++ text → GrownTo F G text
   unfolding shown
-  round-grown false begun t = grown-none F (with-rounds F s (F .played)) refl refl t
+  round-grown false begun t = grown-none F (with-rounds F s (F .rounds .played)) refl refl t
   round-grown true begun t =
       let t′ = rw begun at t in
-      rw begun (next-grown (F .n) (F .f) (F .first) (F .played) (F .last) (same-after title (t′ ∙ append-assoc title _ text)))
+      rw begun
+      (next-grown (F .setup .n) (F .setup .f) (F .setup .first) (F .rounds .played) (F .rounds .last) (same-after title (t′ ∙ append-assoc title _ text)))
 
   taken-grown : (K : RecordKind) (len : ℕ) → isAllowed K F len ≡ true → shown (withRecord K F s) ≡ shown F ++ text → GrownTo F (withRecord K F s) text
   taken-grown start len may t = start-grown (start-place F len may) t
-  taken-grown round len may t = round-grown (F .pending) (round-place F len may) t
+  taken-grown round len may t = round-grown (F .rounds .pending) (round-place F len may) t
   taken-grown plant len may t = grown-none F (withRecord plant F s) refl (plant-shows F s) t
   taken-grown other len may t = grown-none F F refl refl t
 

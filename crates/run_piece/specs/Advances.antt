@@ -25,7 +25,7 @@ pub record Advances (a b : List ℕ) (p : Player) (M : Memory) (q : Player) (tex
   pub state : StateAt (a ++ b) q carry M′
   pub shows : shown (readFile (a ++ b)) ≡ shown (readFile a) ++ text
   pub idle : accepted (readFile (a ++ b)) ≡ accepted (readFile a) → (M′ ≡ M) × (q ≡ halted p (q .have) (q .fault))
-  pub demand3 : ConvergedIn (readFile (a ++ b)) (readFile (a ++ b) .played) (M′ .positions)
+  pub demand3 : ConvergedIn (readFile (a ++ b)) (readFile (a ++ b) .rounds .played) (M′ .positions)
 
 -- the phase end at which a ring stands after a confession round; collect: the heads struck in the round before that
 abbrev pub endHere : ℕ → Ring → PhaseEnd
@@ -38,7 +38,7 @@ pub data Grown (n : ℕ) (es es′ : List PhaseEnd) (R : Ring) (text : List ℕ)
 
 -- as the file F becomes G
 abbrev pub GrownTo : File → File → List ℕ → Type 0
-GrownTo F G text = Grown (G .n) (endsSoFar F) (endsSoFar G) (ringBefore G) text
+GrownTo F G text = Grown (G .setup .n) (endsSoFar F) (endsSoFar G) (ringBefore G) text
 
 -- and one phase end was played at most
 pub record AdvancesOnce (a b : List ℕ) (p : Player) (M : Memory) (q : Player) (text carry : List ℕ) (M′ : Memory) : Type 0 where

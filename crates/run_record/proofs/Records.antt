@@ -51,14 +51,14 @@ module _ (K : RecordKind) (F : File) (s : List ℕ) where
 -- ---- where a record may stand, and what one without a fault shows of the file
 
 module _ (F : File) (len : ℕ) where
-  pub start-place : isAllowed start F len ≡ true → F .begun ≡ false
-  start-place e = not-true (F .begun) (and-both (not (F .begun)) _ (and-both (not (F .begun) && leb 6 len) _ e .0) .0)
+  pub start-place : isAllowed start F len ≡ true → F .setup .begun ≡ false
+  start-place e = not-true (F .setup .begun) (and-both (not (F .setup .begun)) _ (and-both (not (F .setup .begun) && leb 6 len) _ e .0) .0)
 
-  pub round-place : isAllowed round F len ≡ true → F .begun ≡ true
-  round-place e = and-both (F .begun) _ e .0
+  pub round-place : isAllowed round F len ≡ true → F .setup .begun ≡ true
+  round-place e = and-both (F .setup .begun) _ e .0
 
   pub plant-place : isAllowed plant F len ≡ true → len ≤ 146
-  plant-place e = leb-true len 146 (and-both (F .pending && leb 6 len) _ e .1)
+  plant-place e = leb-true len 146 (and-both (F .rounds .pending && leb 6 len) _ e .1)
 
 start-small : (F : File) (s : List ℕ) → recordFault start F s ≡ 0 → countIn s ≤ 32
 unfolding isCount
@@ -67,12 +67,12 @@ start-small F s sound =
     leb-true (countIn s) 32 (and-both (leb 1 (countIn s)) _ count .1)
 
 pub round-room : (F : File) (s : List ℕ) → recordFault round F s ≡ 0 → given F < 131070
-round-room F s sound = ltb-true (given F) _ (both-passed (fewMarks (F .n) (F .f) (struckIn s)) _ 13 25 sound .1)
+round-room F s sound = ltb-true (given F) _ (both-passed (fewMarks (F .setup .n) (F .setup .f) (struckIn s)) _ 13 25 sound .1)
 
 -- ---- a round record
 
 module _ {F : File} {t : Text} {M : Memory} (s : List ℕ) where
-  pub played-turns : F .begun ≡ true → F .pending ≡ true → Played F t M → Turned F s t M
+  pub played-turns : F .setup .begun ≡ true → F .rounds .pending ≡ true → Played F t M → Turned F s t M
   unfolding shown ringAfter
   played-turns begun pending P =
       record {
@@ -80,7 +80,7 @@ module _ {F : File} {t : Text} {M : Memory} (s : List ℕ) where
         shows = rw (pending, begun, P .shows) (sym (append-assoc title _ _));
       }
 
-  pub none-turns : F .pending ≡ false → HeadsOf (F .n) (ringBefore F) M → t .len ≡ 0 → Turned F s t M
+  pub none-turns : F .rounds .pending ≡ false → HeadsOf (F .setup .n) (ringBefore F) M → t .len ≡ 0 → Turned F s t M
   unfolding shown
   none-turns pending K none = record { keeps = rw pending K; shows = rw (pending, empty-text t none) (sym (append-nil _)) }
 
@@ -144,7 +144,8 @@ module _ {F : File} {p : Player} {M : Memory} {r : RecordResult} where
         }
 
     -- a start: the first positions
-    pub start-next : {M′ : Memory} → F .begun ≡ false → recordFault start F s ≡ 0 → ((j : ℕ) → j < 32 → getD (M′ .positions) j (pos 0) ≡ positionIn s j)
+    pub start-next : {M′ : Memory} → F .setup .begun ≡ false → recordFault start F s ≡ 0
+        → ((j : ℕ) → j < 32 → getD (M′ .positions) j (pos 0) ≡ positionIn s j)
         → r .player ≡ freshPlayer true (countIn s) (limitIn s) → bytesOf (r .text) ≡ endLine (countIn s) 0 (M′ .positions) 0 0 → r .text .len ≤ 64
         → Next F (withRecord start F s) p M r M′
     start-next {M′} begun sound first is text room =

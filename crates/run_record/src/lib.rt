@@ -32,7 +32,7 @@ fn refuse(p: Player, number: u8) -> RecordResult
 
 // A start record.
 fn take_start(p: Player, bytes: &[u8], positions: &mut [i32; 32]) -> RecordResult
-    ensures { λ r. ⌜ ((F : File) (M : Memory) → F .begun ≡ false → PlayerOf p F → MemoryOf F (withPositions M (now (positions .entry)))
+    ensures { λ r. ⌜ ((F : File) (M : Memory) → F .setup .begun ≡ false → PlayerOf p F → MemoryOf F (withPositions M (now (positions .entry)))
         → Next F (judged start F (now (bytes .entry))) p (withPositions M (now (positions .entry))) r (withPositions M (now (positions .exit)))) ⌝ }
     ensures { λ r. ⌜ r .text .len ≤ 64 ⌝ }
 {
@@ -48,7 +48,7 @@ fn take_start(p: Player, bytes: &[u8], positions: &mut [i32; 32]) -> RecordResul
     }
 }
 
-// Plays the round that pending, if one does, and answers the line of the phase that it ends, if it ends one.
+// Plays the pending round, if there is one, and answers the line of the phase that it ends, if it ends one.
 fn play_waiting(
     p: Player,
     positions: &mut [i32; 32],
@@ -57,7 +57,7 @@ fn play_waiting(
     planted: &[u8; 143360],
     lengths: &[u8; 1024],
 ) -> Text
-    ensures { λ r. ⌜ ((a s : List ℕ) → readFile a .begun ≡ true → PlayerOf p (readFile a)
+    ensures { λ r. ⌜ ((a s : List ℕ) → readFile a .setup .begun ≡ true → PlayerOf p (readFile a)
         → MemoryOf (readFile a) (before positions marks lists planted lengths)
         → Turned (readFile a) s r (after positions marks lists planted lengths)) ⌝ }
     ensures { λ r. ⌜ r .len ≤ 64 ⌝ }
@@ -68,7 +68,7 @@ fn play_waiting(
     run_round::play_round(p, positions, marks, lists, planted, lengths)
 }
 
-// A round record: the round that waited is played.
+// A round record: the pending round is played.
 fn take_round(
     p: Player,
     bytes: &[u8],
@@ -78,7 +78,7 @@ fn take_round(
     planted: &[u8; 143360],
     lengths: &mut [u8; 1024],
 ) -> RecordResult
-    ensures { λ r. ⌜ ((a : List ℕ) → readFile a .begun ≡ true → PlayerOf p (readFile a)
+    ensures { λ r. ⌜ ((a : List ℕ) → readFile a .setup .begun ≡ true → PlayerOf p (readFile a)
         → MemoryOf (readFile a) (before positions marks lists planted lengths)
         → Next (readFile a) (judged round (readFile a) (now (bytes .entry))) p (before positions marks lists planted lengths) r (after positions marks lists planted lengths)) ⌝ }
     ensures { λ r. ⌜ r .text .len ≤ 64 ⌝ }

@@ -12,7 +12,7 @@ use Rattle.convergence.specs.Phases.{spread}
 use Rattle.ring_spec.specs.Rounds.{Round, roundThen, afterRound, PhaseEnd, asEnd, withEnd, ringAfter, endsAfter}
 use Rattle.ring_spec.specs.Converges.{noEnd, AnyTwo}
 use Rattle.ring_spec.proofs.OnePhase.{endAt}
-use Rattle.run_spec.specs.RunFile.{readFile}
+use Rattle.run_spec.specs.RunFile.{readFile, ringFrom}
 use Rattle.run_spec.proofs.Reached.{taken}
 use Rattle.run_spec.proofs.Demand3.{playedWith, played-converges}
 use Rattle.run_listing.specs.Held.{endIn}
@@ -44,7 +44,9 @@ module _ (n f : ℕ) (v : ℕ → ℤ) where
       let same = found-held n (R .before) (λ i. R .heads i .position) (M .positions) (K .collection c) in
       record { range = λ i l q. rw (← K .collection c i l q) (D .range i l q); halving = λ h. rw (← same .is-low, ← same .is-high) (D .halving h) }
 
--- of the file read, when its rounds are played, with the one that pending or without it
+-- of the file read, when its rounds are played, with the pending one or without it
 pub held-converges : (b : Bool) (a : List ℕ) {M : Memory} → let F = readFile a in
-    (F .begun ≡ true → HeadsOf (F .n) (ringAfter (F .n) (F .f) (F .first) (playedWith b F)) M) → ConvergedIn F (playedWith b F) (M .positions)
-held-converges b a K begun = let F = readFile a in converged (F .n) (F .f) (F .first) (playedWith b F) (played-converges F (taken a begun) b) (K begun)
+    (F .setup .begun ≡ true → HeadsOf (F .setup .n) (ringFrom (F .setup) (playedWith b F)) M) → ConvergedIn F (playedWith b F) (M .positions)
+held-converges b a K begun =
+    let F = readFile a in
+    converged (F .setup .n) (F .setup .f) (F .setup .first) (playedWith b F) (played-converges F (taken a begun) b) (K begun)

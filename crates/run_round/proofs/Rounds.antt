@@ -1,4 +1,4 @@
--- The round that pending, played. What the player tells of the file is the stage that its round needs, and the memory holds the planted bytes and the records, so
+-- The pending round, played. What the player tells of the file is the stage that its round needs, and the memory holds the planted bytes and the records, so
 -- the memory keeps step with the ring; given an odd number of rounds it is a collection round, which shows nothing, else a confession round, whose line is
 -- made of the new positions.
 use mathlib.Core.Path.{_≡_, ap, sym, _∙_}
@@ -10,9 +10,9 @@ use lib.ListN.{getD}
 use lib.IntN.{pos}
 use Rattle.entries.specs.Tables.{tableOf}
 use Rattle.convergence.specs.Counting.{bit}
-use Rattle.ring_spec.specs.Rounds.{Round, Ring, endsAfter}
+use Rattle.ring_spec.specs.Rounds.{Round, Ring}
 use Rattle.ring_spec.proofs.Counts.{counted}
-use Rattle.run_spec.specs.RunFile.{File}
+use Rattle.run_spec.specs.RunFile.{File, endsFrom}
 use Rattle.run_spec.specs.Listing.{lines}
 use Rattle.run_spec.proofs.Reached.{Reached}
 use Rattle.run_spec.proofs.Streaming.{roundLine, lines-next}
@@ -34,19 +34,21 @@ use Rattle.run_round.proofs.Shown.{collection-line, confession-line, ma
 use Rattle.run_listing.proofs.Writing.{empty-text}
 
 module _ {F : File} {p : Player} {s : Stage} {M : Memory}
-    (I : Reached F) (begun : F .begun ≡ true) (pending : F .pending ≡ true) (T : PlayerOf p F) (H : MemoryOf F M)
+    (I : Reached F) (begun : F .setup .begun ≡ true) (pending : F .rounds .pending ≡ true) (T : PlayerOf p F) (H : MemoryOf F M)
     (is : p .given ≤ 131070 → s ≡ stageOf p) where
   abbrev R : Ring
   R = ringBefore F
 
   -- the round and the phase, by the number of rounds given
   stands : (p .given + 1 ≡ 2 * R .phase + R .round) × (R .round < 2) × (p .given ≤ 131070)
-  stands = let C = counted (F .n) (F .f) (F .first) (F .played) in omega (arith, C .played, C .small, I .count, T .given, ap bit pending)
+  stands =
+      let C = counted (F .setup .n) (F .setup .f) (F .setup .first) (F .rounds .played) in
+      omega (arith, C .played, C .small, I .count, T .given, ap bit pending)
 
   abbrev plant : ℕ → ℕ → List ℕ
   plant = plantedIn (M .planted) (M .lengths)
 
-  plays : Plays (F .n) (F .f) R (F .last) s plant
+  plays : Plays (F .setup .n) (F .setup .f) R (F .rounds .last) s plant
   plays =
       rw (is (stands .2))
       record {
@@ -59,10 +61,13 @@ module _ {F : File} {p : Player} {s : Stage} {M : Memory}
       }
 
   abbrev linesOf : List Round → List ℕ
-  linesOf ws = lines (F .n) (endsAfter (F .n) (F .f) (F .first) ws)
+  linesOf ws = lines (F .setup .n) (endsFrom (F .setup) ws)
 
-  shows : {text : List ℕ} → roundLine (F .n) (F .f) R (F .last) ≡ text → linesOf (F .last ∷ F .played) ≡ linesOf (F .played) ++ text
-  shows e = lines-next (F .n) (F .f) (F .first) (F .played) (F .last) ∙ ap (λ (l : List ℕ). linesOf (F .played) ++ l) e
+  shows : {text : List ℕ} → roundLine (F .setup .n) (F .setup .f) R (F .rounds .last) ≡ text
+      → linesOf (F .rounds .last ∷ F .rounds .played) ≡ linesOf (F .rounds .played) ++ text
+  shows e =
+      lines-next (F .setup .n) (F .setup .f) (F .setup .first) (F .rounds .played) (F .rounds .last)
+      ∙ ap (λ (l : List ℕ). linesOf (F .rounds .played) ++ l) e
 
   module _ (odd : p .given % 2 ≡ 1) where
     collection : R .round ≡ 0
@@ -76,7 +81,7 @@ module _ {F : File} {p : Player} {s : Stage} {M : Memory}
     collection-played {t} same new none =
         record {
           keeps = collect-keeps plays (H .keeps begun) (waiting-playable F I pending .ready) collection same new;
-          shows = shows (collection-line (F .n) (F .f) R (F .last) collection ∙ sym (empty-text t none));
+          shows = shows (collection-line (F .setup .n) (F .setup .f) R (F .rounds .last) collection ∙ sym (empty-text t none));
           room = omega arith;
         }
 
@@ -93,9 +98,9 @@ module _ {F : File} {p : Player} {s : Stage} {M : Memory}
     confession-played {t} {M′} new text room =
         let A = waiting-playable F I pending in
         let held = confess-positions plays (H .keeps begun) A (I .waiting) confession M′ new in
-        let is-line = line-is (F .n) (R .phase) (madeBy (F .n) (F .f) R (F .last) R) (M′ .positions) held in
+        let is-line = line-is (F .setup .n) (R .phase) (madeBy (F .setup .n) (F .setup .f) R (F .rounds .last) R) (M′ .positions) held in
         record {
           keeps = confess-keeps plays (H .keeps begun) A (I .waiting) confession M′ new;
-          shows = shows (confession-line (F .n) (F .f) R (F .last) confession ∙ is-line ∙ cc (plays .phase));
+          shows = shows (confession-line (F .setup .n) (F .setup .f) R (F .rounds .last) confession ∙ is-line ∙ cc (plays .phase));
           room = room;
         }

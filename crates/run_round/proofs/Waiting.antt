@@ -1,19 +1,19 @@
--- The round of a file that pending can be played: it was counted before it was taken, so the rounds before it leave room, and these were within the limits.
+-- The pending round of a file can be played: it was counted before it was taken, so the rounds before it leave room, and these were within the limits.
 -- Whoever it strikes, at most f heads (`waiting` of `Reached`), no closing in it is refused.
 use mathlib.Core.Path.{_≡_, ap}
 use mathlib.Core.Bool.{true}
 use native.Mathlib.Omega.{arith}
 use lib.ListN.{getD}
 use Rattle.convergence.specs.Counting.{bit}
-use Rattle.ring_spec.specs.Rounds.{asEnd, endsAfter}
+use Rattle.ring_spec.specs.Rounds.{asEnd}
 use Rattle.ring_spec.specs.Converges.{noEnd}
 use Rattle.ring_spec.proofs.Demand3.{Playable, playable}
-use Rattle.run_spec.specs.RunFile.{File}
+use Rattle.run_spec.specs.RunFile.{File, endsFrom}
 use Rattle.run_spec.proofs.Reached.{Reached}
 use Rattle.run_spec.proofs.Streaming.{ringOf}
 
 -- `taken` gives Reached of every file that was read and has begun
-pub waiting-playable : (F : File) → Reached F → F .pending ≡ true
-    → Playable (F .n) (F .f) (asEnd (getD (endsAfter (F .n) (F .f) (F .first) (F .played)) 0 noEnd)) (ringOf F)
+pub waiting-playable : (F : File) → Reached F → F .rounds .pending ≡ true
+    → Playable (F .setup .n) (F .setup .f) (asEnd (getD (endsFrom (F .setup) (F .rounds .played)) 0 noEnd)) (ringOf F)
 waiting-playable F I pending =
-    playable (F .n) (F .f) (F .first) (I .size) (I .ranges) (F .played) (I .rounds) (omega (arith, I .count, ap bit pending))
+    playable (F .setup .n) (F .setup .f) (F .setup .first) (I .size) (I .ranges) (F .rounds .played) (I .rounds) (omega (arith, I .count, ap bit pending))

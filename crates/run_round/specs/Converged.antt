@@ -19,4 +19,4 @@ Converged n f v ws positions =
 
 -- of a file that has begun, when its rounds ws were played
 abbrev pub ConvergedIn : File → List Round → List ℤ → Type 0
-ConvergedIn F ws positions = F .begun ≡ true → Converged (F .n) (F .f) (F .first) ws positions
+ConvergedIn F ws positions = F .setup .begun ≡ true → Converged (F .setup .n) (F .setup .f) (F .setup .first) ws positions

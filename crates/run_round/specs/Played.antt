@@ -1,9 +1,9 @@
--- What playing the round that pending changes.
+-- What playing the pending round changes.
 use mathlib.Core.List.{_∷_, _++_}
 use mathlib.Core.Path.{_≡_}
 use Prim.Native.Nat.{_≤_}
-use Rattle.ring_spec.specs.Rounds.{afterRound, endsAfter}
-use Rattle.run_spec.specs.RunFile.{File}
+use Rattle.ring_spec.specs.Rounds.{afterRound}
+use Rattle.run_spec.specs.RunFile.{File, endsFrom}
 use Rattle.run_spec.specs.Listing.{lines}
 use Rattle.run_listing.specs.declared.Text.{Text}
 use Rattle.run_listing.specs.Texts.{bytesOf}
@@ -11,9 +11,9 @@ use Rattle.run_state.specs.Memory.{Memory}
 use Rattle.run_state.specs.Heads.{HeadsOf}
 use Rattle.run_state.specs.State.{ringBefore}
 
--- the round that pending is played: the memory after it, and the text by which the listing grows
+-- the pending round is played: the memory after it, and the text by which the listing grows
 pub record Played (F : File) (text : Text) (M : Memory) : Type 0 where
-  pub keeps : HeadsOf (F .n) (afterRound (F .n) (F .f) (ringBefore F) (F .last)) M
-  pub shows : lines (F .n) (endsAfter (F .n) (F .f) (F .first) (F .last ∷ F .played))
-      ≡ lines (F .n) (endsAfter (F .n) (F .f) (F .first) (F .played)) ++ bytesOf text
+  pub keeps : HeadsOf (F .setup .n) (afterRound (F .setup .n) (F .setup .f) (ringBefore F) (F .rounds .last)) M
+  pub shows : lines (F .setup .n) (endsFrom (F .setup) (F .rounds .last ∷ F .rounds .played))
+      ≡ lines (F .setup .n) (endsFrom (F .setup) (F .rounds .played)) ++ bytesOf text
   pub room : text .len ≤ 64

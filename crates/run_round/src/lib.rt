@@ -1,4 +1,4 @@
-// The round that pending, played on the heads' memory: when the next round record is accepted, or the file ends well.
+// The pending round, played on the heads' memory: when the next round record is accepted, or the file ends well.
 ghost use mathlib.Core.Bool.{true};
 ghost use mathlib.Core.List.{List};
 ghost use mathlib.Core.Path.{_≡_};
@@ -12,7 +12,7 @@ use ring_round::Stage;
 use run_listing::Text;
 use run_state::Player;
 
-// The phase of the round that pending.
+// The phase of the pending round.
 fn phase_of(given: u32) -> u16
     ensures { λ r. ⌜ (given ≤ 131070 → r ≡ (given + 1) / 2) ⌝ }
 {
@@ -22,7 +22,7 @@ fn phase_of(given: u32) -> u16
     ((given + 1) / 2) as u16
 }
 
-// The ring in the round that pending.
+// The ring in the pending round.
 fn stage_of(p: Player) -> Stage
     ensures { λ r. ⌜ (p .given ≤ 131070 → r ≡ stageOf p) ⌝ }
 {
@@ -35,7 +35,7 @@ fn stage_of(p: Player) -> Stage
     }
 }
 
-// Plays the round that pending, and answers the line of the phase that it ends, if it ends one.
+// Plays the pending round, and answers the line of the phase that it ends, if it ends one.
 pub fn play_round(
     p: Player,
     positions: &mut [i32; 32],
@@ -44,7 +44,7 @@ pub fn play_round(
     planted: &[u8; 143360],
     lengths: &[u8; 1024],
 ) -> Text
-    ensures { λ r. ⌜ ((a : List ℕ) → readFile a .begun ≡ true → readFile a .pending ≡ true → PlayerOf p (readFile a)
+    ensures { λ r. ⌜ ((a : List ℕ) → readFile a .setup .begun ≡ true → readFile a .rounds .pending ≡ true → PlayerOf p (readFile a)
         → MemoryOf (readFile a) (before positions marks lists planted lengths)
         → Played (readFile a) r (after positions marks lists planted lengths)) ⌝ }
     ensures { λ r. ⌜ r .len ≤ 64 ⌝ }

@@ -1,5 +1,5 @@
 -- What holds of every file read, by what a byte does to it: after a fault nothing, or it is one byte more of a record, or it stops the file, or it makes a
--- record whole that is accepted. So no round pending before a start, and the bytes read are at least those of the records that were accepted.
+-- record whole that is accepted. So no round is pending before a start, and the bytes read are at least those of the records that were accepted.
 use mathlib.Core.Path.{_≡_, refl, sym, subst, _∙_}
 use mathlib.Core.Bool.{Bool, true, false, not, cond, _&&_, true≢false}
 use mathlib.Core.List.{List, [], _∷_, _++_}
@@ -14,9 +14,9 @@ use Rattle.terms.specs.Refusals as refusal
 use Rattle.terms.specs.Sizes.{isCount}
 use Rattle.frame_spec.proofs.Listing.{and-both}
 use Rattle.head_spec.proofs.Proper.{both-passed}
-use Rattle.ring_spec.specs.Rounds.{Round, endsAfter}
+use Rattle.ring_spec.specs.Rounds.{Round}
 use Rattle.ring_spec.proofs.Counts.{counted}
-use Rattle.run_spec.specs.RunFile.{File, unread, given, RecordKind, start, round, plant, other, lengthOf, kindOf, isAllowed, countIn, recordFault, thenPlayed, withRecord, stopped, unlessFault, judged, withPart, readOn, unlessStopped, step, feed, readFile, recordsOf, accepted, ending, roundsPlayed, endsPlayed}
+use Rattle.run_spec.specs.RunFile.{File, unread, given, RecordKind, start, round, plant, other, lengthOf, kindOf, isAllowed, countIn, recordFault, withRecord, stopped, unlessFault, judged, withPart, readOn, unlessStopped, step, feed, readFile, recordsOf, accepted, ending, roundsPlayed, endsPlayed, endsFrom, allRounds}
 use Rattle.run_spec.proofs.Reached.{length-then}
 use Rattle.run_spec.proofs.Whole.{stands, RoundsFit, kept-on, kept-read, kept}
 use Rattle.run_spec.proofs.Streaming.{feed-append}
@@ -81,9 +81,9 @@ module _ (P : File → ℕ → Type 0)
 -- ---- the bytes that the records took
 
 pub record Cost (F : File) (k : ℕ) : Type 0 where
-  pub begun : F .pending ≡ true → F .begun ≡ true
+  pub begun : F .rounds .pending ≡ true → F .setup .begun ≡ true
   pub part : length (F .part) ≤ k
-  pub records : F .begun ≡ true → 10 + 8 * given F + length (F .part) ≤ k
+  pub records : F .setup .begun ≡ true → 10 + 8 * given F + length (F .part) ≤ k
 
 start-long : (F : File) (s : List ℕ) → recordFault start F s ≡ 0 → 10 ≤ length s
 unfolding isCount
@@ -97,11 +97,11 @@ costs-more : (K : RecordKind) (F : File) (s : List ℕ) (k : ℕ) → length s �
 costs-more start F s k one may all sound C =
     record { begun = λ w. refl; part = omega arith; records = λ b. omega (arith, start-long F s sound, C .part) }
 costs-more round F s k one may all sound C =
-    let (begun, eight) = and-both (F .begun) _ may in
+    let (begun, eight) = and-both (F .setup .begun) _ may in
     record {
       begun = λ w. begun;
       part = omega arith;
-      records = λ b. omega (arith, C .records begun, eqb-true (lengthOf s) 8 eight, length-then (F .pending) (F .played) (F .last));
+      records = λ b. omega (arith, C .records begun, eqb-true (lengthOf s) 8 eight, length-then (F .rounds .pending) (F .rounds .played) (F .rounds .last));
     }
 costs-more plant F s k one may all sound C =
     record { begun = C .begun; part = omega arith; records = λ b. omega (arith, C .records b) }
@@ -123,45 +123,45 @@ cost s =
 -- the start took 10 bytes at least, and each phase 16
 pub few-ends : (s : List ℕ) → 16 * length (endsPlayed (readFile s)) ≤ length s + 6
 unfolding endsPlayed roundsPlayed
-few-ends s = go (F .begun) (eqb (ending F) 0) refl
+few-ends s = go (F .setup .begun) (eqb (ending F) 0) refl
   where
     F : File
     F = readFile s
 
     ends : List Round → ℕ
-    ends ws = length (endsAfter (F .n) (F .f) (F .first) ws)
+    ends ws = length (endsFrom (F .setup) ws)
 
-    few : (b : Bool) → F .begun ≡ true → 16 * ends (cond b (thenPlayed (F .pending) (F .played) (F .last)) (F .played)) ≤ length s + 6
+    few : (b : Bool) → F .setup .begun ≡ true → 16 * ends (cond b (allRounds (F .rounds)) (F .rounds .played)) ≤ length s + 6
     few true begun =
-        let ws = thenPlayed (F .pending) (F .played) (F .last) in
-        let C = counted (F .n) (F .f) (F .first) ws in
-        omega (arith, cost s .records begun, C .played, C .counts, length-then (F .pending) (F .played) (F .last))
+        let ws = allRounds (F .rounds) in
+        let C = counted (F .setup .n) (F .setup .f) (F .setup .first) ws in
+        omega (arith, cost s .records begun, C .played, C .counts, length-then (F .rounds .pending) (F .rounds .played) (F .rounds .last))
     few false begun =
-        let C = counted (F .n) (F .f) (F .first) (F .played) in
+        let C = counted (F .setup .n) (F .setup .f) (F .setup .first) (F .rounds .played) in
         omega (arith, cost s .records begun, C .played, C .counts)
 
-    go : (begun b : Bool) → F .begun ≡ begun
-        → 16 * length (cond begun (endsAfter (F .n) (F .f) (F .first) (cond b (thenPlayed (F .pending) (F .played) (F .last)) (F .played))) []) ≤ length s + 6
+    go : (begun b : Bool) → F .setup .begun ≡ begun
+        → 16 * length (cond begun (endsFrom (F .setup) (cond b (allRounds (F .rounds)) (F .rounds .played))) []) ≤ length s + 6
     go true b e = few b e
     go false b e = omega arith
 
 -- ---- the records accepted
 
 -- each is one more
-pub one-accepted : (K : RecordKind) (F : File) (s : List ℕ) (len : ℕ) → isAllowed K F len ≡ true → (F .pending ≡ true → F .begun ≡ true)
+pub one-accepted : (K : RecordKind) (F : File) (s : List ℕ) (len : ℕ) → isAllowed K F len ≡ true → (F .rounds .pending ≡ true → F .setup .begun ≡ true)
     → accepted (withRecord K F s) ≡ suc (accepted F)
 unfolding accepted recordsOf
 one-accepted start F s len may W =
-    let none = not-true (F .begun) (and-both (not (F .begun)) _ (and-both (not (F .begun) && leb 6 len) _ may .0) .0) in
+    let none = not-true (F .setup .begun) (and-both (not (F .setup .begun)) _ (and-both (not (F .setup .begun) && leb 6 len) _ may .0) .0) in
     rw none refl
-one-accepted round F s len may W = rw (and-both (F .begun) _ may .0) (omega arith)
+one-accepted round F s len may W = rw (and-both (F .setup .begun) _ may .0) (omega arith)
 one-accepted plant F s len may W =
-    let pending = and-both (F .pending) _ (and-both (F .pending && leb 6 len) _ may .0) .0 in
+    let pending = and-both (F .rounds .pending) _ (and-both (F .rounds .pending && leb 6 len) _ may .0) .0 in
     rw (W pending, pending) (omega arith)
 one-accepted other F s len may W = absurd (true≢false (sym may))
 
 -- and where none is, a record that was judged has a fault
-pub none-accepted : (K : RecordKind) (F : File) (s : List ℕ) (len : ℕ) → isAllowed K F len ≡ true → (F .pending ≡ true → F .begun ≡ true)
+pub none-accepted : (K : RecordKind) (F : File) (s : List ℕ) (len : ℕ) → isAllowed K F len ≡ true → (F .rounds .pending ≡ true → F .setup .begun ≡ true)
     → accepted (judged K F s) ≡ accepted F → judged K F s .fault ≡ 0 → ⊥
 unfolding judged
 none-accepted K F s len may W = go (recordFault K F s)
@@ -170,15 +170,15 @@ none-accepted K F s len may W = go (recordFault K F s)
     go zero e z = omega (arith, one-accepted K F s len may W)
     go (suc c) e z = omega arith
 
--- at least m, and no round pending before a start
+-- at least m, and no round is pending before a start
 record Least (m : ℕ) (F : File) (k : ℕ) : Type 0 where
-  begun : F .pending ≡ true → F .begun ≡ true
+  begun : F .rounds .pending ≡ true → F .setup .begun ≡ true
   least : m ≤ accepted F
 
 least-more : (m : ℕ) (K : RecordKind) (F : File) (s : List ℕ) (k : ℕ) → isAllowed K F (lengthOf s) ≡ true → Least m F k → Least m (withRecord K F s) (suc k)
 least-more m start F s k may L = record { begun = λ w. refl; least = omega (arith, one-accepted start F s (lengthOf s) may (L .begun), L .least) }
 least-more m round F s k may L =
-    record { begun = λ w. and-both (F .begun) _ may .0; least = omega (arith, one-accepted round F s (lengthOf s) may (L .begun), L .least) }
+    record { begun = λ w. and-both (F .setup .begun) _ may .0; least = omega (arith, one-accepted round F s (lengthOf s) may (L .begun), L .least) }
 least-more m plant F s k may L = record { begun = L .begun; least = omega (arith, one-accepted plant F s (lengthOf s) may (L .begun), L .least) }
 least-more m other F s k may L = absurd (true≢false (sym may))
 

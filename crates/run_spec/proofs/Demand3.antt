@@ -6,37 +6,37 @@ use Prim.Native.Nat.{_≤_}
 use native.Mathlib.Omega.{arith}
 use lib.Dec.{eqb}
 use lib.ListN.{length}
-use Rattle.ring_spec.specs.Rounds.{Round, endsAfter}
+use Rattle.ring_spec.specs.Rounds.{Round}
 use Rattle.ring_spec.specs.Converges.{FewStruckIn, AnyTwo}
 use Rattle.ring_spec.proofs.Demand3.{ring-converges}
-use Rattle.run_spec.specs.RunFile.{File, thenPlayed, readFile, ending, roundsPlayed, endsPlayed}
+use Rattle.run_spec.specs.RunFile.{File, readFile, ending, roundsPlayed, endsPlayed, endsFrom, allRounds}
 use Rattle.run_spec.specs.EveryFile.{EveryFile}
 use Rattle.run_spec.proofs.Reached.{Reached, taken, within-then, length-then}
 
--- the rounds played, with the one that pending or without it
+-- the rounds played, with the pending one or without it
 abbrev pub playedWith : Bool → File → List Round
-playedWith b F = cond b (thenPlayed (F .pending) (F .played) (F .last)) (F .played)
+playedWith b F = cond b (allRounds (F .rounds)) (F .rounds .played)
 
 module _ (F : File) (I : Reached F) where
-  played-within : (b : Bool) → FewStruckIn (F .n) (F .f) (playedWith b F) × (length (playedWith b F) ≤ 131070)
+  played-within : (b : Bool) → FewStruckIn (F .setup .n) (F .setup .f) (playedWith b F) × (length (playedWith b F) ≤ 131070)
   played-within true = (
-    within-then (F .n) (F .f) (F .pending) (F .played) (F .last) (I .rounds) (I .waiting),
-    omega (arith, length-then (F .pending) (F .played) (F .last), I .count),
+    within-then (F .setup .n) (F .setup .f) (F .rounds .pending) (F .rounds .played) (F .rounds .last) (I .rounds) (I .waiting),
+    omega (arith, length-then (F .rounds .pending) (F .rounds .played) (F .rounds .last), I .count),
   )
   played-within false = (I .rounds, omega (arith, I .count))
 
-  pub played-converges : (b : Bool) → AnyTwo (F .n) (F .f) (endsAfter (F .n) (F .f) (F .first) (playedWith b F))
+  pub played-converges : (b : Bool) → AnyTwo (F .setup .n) (F .setup .f) (endsFrom (F .setup) (playedWith b F))
   played-converges b =
       let (within, most) = played-within b in
-      ring-converges (F .n) (F .f) (F .first) (playedWith b F) (I .size .most) (I .size .limit) (I .ranges) within most
+      ring-converges (F .setup .n) (F .setup .f) (F .setup .first) (playedWith b F) (I .size .most) (I .size .limit) (I .ranges) within most
 
 pub every-file : EveryFile
 unfolding endsPlayed roundsPlayed
-every-file s = go (readFile s .begun) refl
+every-file s = go (readFile s .setup .begun) refl
   where
     F : File
     F = readFile s
 
-    go : (b : Bool) → F .begun ≡ b → AnyTwo (F .n) (F .f) (cond b (endsAfter (F .n) (F .f) (F .first) (roundsPlayed F)) [])
+    go : (b : Bool) → F .setup .begun ≡ b → AnyTwo (F .setup .n) (F .setup .f) (cond b (endsFrom (F .setup) (roundsPlayed F)) [])
     go true e = played-converges F (taken s e) (eqb (ending F) 0)
     go false e = λ i k l. absurd (omega arith)

@@ -31,13 +31,13 @@ pub record TakenSo (n f : ℕ) (first : ℕ → ℤ) (played : List Round) (pend
   pub count : length played + bit pending ≤ 131070
 
 abbrev pub Reached : File → Type 0
-Reached F = TakenSo (F .n) (F .f) (F .first) (F .played) (F .pending) (F .last .struck)
+Reached F = TakenSo (F .setup .n) (F .setup .f) (F .setup .first) (F .rounds .played) (F .rounds .pending) (F .rounds .last .struck)
 
 -- before a start there is nothing to hold
 abbrev Good : File → Type 0
-Good F = F .begun ≡ true → Reached F
+Good F = F .setup .begun ≡ true → Reached F
 
--- ---- the rounds, with the waiting one played
+-- ---- the rounds, with the pending one played
 
 pub within-then : (n f : ℕ) (b : Bool) (ws : List Round) (w : Round) → FewStruckIn n f ws → AtMost f n (bitOf (w .struck))
     → FewStruckIn n f (thenPlayed b ws w)
@@ -67,15 +67,15 @@ module _ (F : File) (G : Good F) where
   good-round : (s : List ℕ) → recordFault round F s ≡ 0 → Good (withRecord round F s)
   unfolding fewMarks
   good-round s e b =
-      let (few, more, done) = both-passed (fewMarks (F .n) (F .f) (struckIn s)) _ 13 25 e in
+      let (few, more, done) = both-passed (fewMarks (F .setup .n) (F .setup .f) (struckIn s)) _ 13 25 e in
       let k : given F < 131070 = ltb-true (given F) _ more in
       let I = G b in
       record {
         size = I .size;
         ranges = I .ranges;
-        rounds = within-then (F .n) (F .f) (F .pending) (F .played) (F .last) (I .rounds) (I .waiting);
-        waiting = leb-true _ (F .f) (and-both (marksBelow (struckIn s) (F .n)) _ few .1);
-        count = omega (arith, length-then (F .pending) (F .played) (F .last));
+        rounds = within-then (F .setup .n) (F .setup .f) (F .rounds .pending) (F .rounds .played) (F .rounds .last) (I .rounds) (I .waiting);
+        waiting = leb-true _ (F .setup .f) (and-both (marksBelow (struckIn s) (F .setup .n)) _ few .1);
+        count = omega (arith, length-then (F .rounds .pending) (F .rounds .played) (F .rounds .last));
       }
 
   good-record : (K : RecordKind) (s : List ℕ) → recordFault K F s ≡ 0 → Good (withRecord K F s)
@@ -115,6 +115,6 @@ unfolding feed
 good-feed F [] G = G
 good-feed F (x ∷ s) G = good-feed (step F x) s (good-step F G x)
 
-pub taken : (s : List ℕ) → readFile s .begun ≡ true → Reached (readFile s)
+pub taken : (s : List ℕ) → readFile s .setup .begun ≡ true → Reached (readFile s)
 unfolding unread
 taken s = good-feed unread s (λ b. absurd (true≢false (sym b)))

@@ -8,7 +8,7 @@ use lib.Dec.{eqb}
 use lib.IntN.{ℤ}
 use Rattle.ring_spec.specs.Rounds.{Round, Ring, afterRound, PhaseEnd, withEnd, firstHeads, ringAfter, endsAfter}
 use Rattle.ring_spec.proofs.Counts.{counted}
-use Rattle.run_spec.specs.RunFile.{File, start, round, plant, countIn, limitIn, positionIn, thenPlayed, withRecord, stopped, withPart, step, feed, ending, roundsPlayed, endsPlayed}
+use Rattle.run_spec.specs.RunFile.{File, start, round, plant, countIn, limitIn, positionIn, thenPlayed, withRecord, stopped, withPart, step, feed, ending, roundsPlayed, endsPlayed, ringFrom, endsFrom, allRounds}
 use Rattle.run_spec.specs.Listing.{title, line, lines, verdict, shown, listingOf}
 
 -- ---- bytes in pieces
@@ -43,34 +43,34 @@ lines-next n f v ws w = go (ringAfter n f v ws .round) _
 
 -- the ring of the rounds played
 abbrev pub ringOf : File → Ring
-ringOf F = ringAfter (F .n) (F .f) (F .first) (F .played)
+ringOf F = ringFrom (F .setup) (F .rounds .played)
 
--- what the waiting round will show
+-- what the pending round will show
 abbrev pub waitingLine : File → List ℕ
-waitingLine F = cond (F .begun) (cond (F .pending) (roundLine (F .n) (F .f) (ringOf F) (F .last)) []) []
+waitingLine F = cond (F .setup .begun) (cond (F .rounds .pending) (roundLine (F .setup .n) (F .setup .f) (ringOf F) (F .rounds .last)) []) []
 
 module _ (F : File) where
-  -- with the waiting round played
+  -- with the pending round played
   with-last : (b : Bool)
-      → lines (F .n) (endsAfter (F .n) (F .f) (F .first) (thenPlayed b (F .played) (F .last)))
-      ≡ lines (F .n) (endsAfter (F .n) (F .f) (F .first) (F .played)) ++ cond b (roundLine (F .n) (F .f) (ringOf F) (F .last)) []
-  with-last true = lines-next (F .n) (F .f) (F .first) (F .played) (F .last)
+      → lines (F .setup .n) (endsFrom (F .setup) (thenPlayed b (F .rounds .played) (F .rounds .last)))
+      ≡ lines (F .setup .n) (endsFrom (F .setup) (F .rounds .played)) ++ cond b (roundLine (F .setup .n) (F .setup .f) (ringOf F) (F .rounds .last)) []
+  with-last true = lines-next (F .setup .n) (F .setup .f) (F .setup .first) (F .rounds .played) (F .rounds .last)
   with-last false = sym (append-nil _)
 
   -- the text after a start or not, then a line more
-  shown-more : (b : Bool) (es es′ : List PhaseEnd) (more : List ℕ) → lines (F .n) es′ ≡ lines (F .n) es ++ more
-      → title ++ lines (F .n) (cond b es′ []) ≡ title ++ lines (F .n) (cond b es []) ++ cond b more []
+  shown-more : (b : Bool) (es es′ : List PhaseEnd) (more : List ℕ) → lines (F .setup .n) es′ ≡ lines (F .setup .n) es ++ more
+      → title ++ lines (F .setup .n) (cond b es′ []) ≡ title ++ lines (F .setup .n) (cond b es []) ++ cond b more []
   unfolding lines
-  shown-more true es es′ more e = rw e (sym (append-assoc title (lines (F .n) es) more))
+  shown-more true es es′ more e = rw e (sym (append-assoc title (lines (F .setup .n) es) more))
   shown-more false es es′ more e = sym (append-nil _)
 
   -- ---- what each record shows
 
   pub round-shows : (s : List ℕ) → shown (withRecord round F s) ≡ shown F ++ waitingLine F
   unfolding shown
-  round-shows s = shown-more (F .begun) _ _ _ (with-last (F .pending))
+  round-shows s = shown-more (F .setup .begun) _ _ _ (with-last (F .rounds .pending))
 
-  pub start-shows : (s : List ℕ) → F .begun ≡ false
+  pub start-shows : (s : List ℕ) → F .setup .begun ≡ false
       → shown (withRecord start F s)
       ≡ shown F ++ line (countIn s) 0 (record { collect = 0; confess = 0; heads = firstHeads (countIn s) (limitIn s) (positionIn s) })
   unfolding shown lines endsAfter
@@ -88,19 +88,21 @@ module _ (F : File) where
   unfolding shown
   stop-shows c = refl
 
-  -- the ring that an accepted round record leaves: the waiting round is played
-  pub round-plays : (s : List ℕ) → ringOf (withRecord round F s) ≡ cond (F .pending) (afterRound (F .n) (F .f) (ringOf F) (F .last)) (ringOf F)
+  -- the ring that an accepted round record leaves: the pending round is played
+  pub round-plays : (s : List ℕ) → ringOf (withRecord round F s)
+      ≡ cond (F .rounds .pending) (afterRound (F .setup .n) (F .setup .f) (ringOf F) (F .rounds .last)) (ringOf F)
   unfolding ringAfter
-  round-plays s = go (F .pending)
+  round-plays s = go (F .rounds .pending)
     where
       go : (b : Bool)
-          → ringAfter (F .n) (F .f) (F .first) (thenPlayed b (F .played) (F .last)) ≡ cond b (afterRound (F .n) (F .f) (ringOf F) (F .last)) (ringOf F)
+          → ringFrom (F .setup) (thenPlayed b (F .rounds .played) (F .rounds .last))
+          ≡ cond b (afterRound (F .setup .n) (F .setup .f) (ringOf F) (F .rounds .last)) (ringOf F)
       go true = refl
       go false = refl
 
   -- ---- the whole listing
 
-  -- what is left to show at the end: the waiting round's line, where the file ends without fault
+  -- what is left to show at the end: the pending round's line, where the file ends without fault
   abbrev pub lastLine : List ℕ
   lastLine = cond (eqb (ending F) 0) (waitingLine F) []
 
@@ -109,10 +111,10 @@ module _ (F : File) where
   listing-parts = ap (λ (l : List ℕ). l ++ verdict (ending F)) (go (eqb (ending F) 0))
     where
       ends : List Round → List PhaseEnd
-      ends ws = cond (F .begun) (endsAfter (F .n) (F .f) (F .first) ws) []
+      ends ws = cond (F .setup .begun) (endsFrom (F .setup) ws) []
 
       go : (b : Bool)
-          → title ++ lines (F .n) (ends (cond b (thenPlayed (F .pending) (F .played) (F .last)) (F .played)))
-          ≡ title ++ lines (F .n) (ends (F .played)) ++ cond b (waitingLine F) []
-      go true = shown-more (F .begun) _ _ _ (with-last (F .pending))
+          → title ++ lines (F .setup .n) (ends (cond b (allRounds (F .rounds)) (F .rounds .played)))
+          ≡ title ++ lines (F .setup .n) (ends (F .rounds .played)) ++ cond b (waitingLine F) []
+      go true = shown-more (F .setup .begun) _ _ _ (with-last (F .rounds .pending))
       go false = sym (append-nil _)

@@ -46,9 +46,9 @@ within place low high len e =
 
 -- the lengths that some record has
 pub stands-long : (K : RecordKind) (F : File) (len : ℕ) → isAllowed K F len ≡ true → (6 ≤ len) × (len ≤ 1026)
-stands-long start F len e = within (not (F .begun)) 6 1026 len e
-stands-long round F len e = let is = eqb-true len 8 (and-both (F .begun) (eqb len 8) e .1) in (omega arith, omega arith)
-stands-long plant F len e = let (least, most) = within (F .pending) 6 146 len e in (least, omega arith)
+stands-long start F len e = within (not (F .setup .begun)) 6 1026 len e
+stands-long round F len e = let is = eqb-true len 8 (and-both (F .setup .begun) (eqb len 8) e .1) in (omega arith, omega arith)
+stands-long plant F len e = let (least, most) = within (F .rounds .pending) 6 146 len e in (least, omega arith)
 stands-long other F len e = absurd (true≢false (sym e))
 
 -- ---- a front of a record

@@ -6,7 +6,7 @@ use Rattle.run_spec.specs.RunFile.{File, readFile, endsPlayed}
 
 -- any two phase ends that were played, the start among them
 abbrev pub Demand3Of : File → Type 0
-Demand3Of F = AnyTwo (F .n) (F .f) (endsPlayed F)
+Demand3Of F = AnyTwo (F .setup .n) (F .setup .f) (endsPlayed F)
 
 abbrev pub EveryFile : Type 0
 EveryFile = (s : List ℕ) → Demand3Of (readFile s)

@@ -75,13 +75,13 @@ abbrev pub verdict : ℕ → List ℕ
 verdict zero = 101 ∷ 110 ∷ 100 ∷ 10 ∷ []
 verdict (suc c) = 114 ∷ 101 ∷ 102 ∷ 117 ∷ 115 ∷ 101 ∷ 100 ∷ 32 ∷ decimal (suc c) ++ (10 ∷ [])
 
--- what has been printed when the bytes so far are read: the lines of the rounds that were played, the waiting round not
+-- what has been printed when the bytes so far are read: the lines of the rounds that were played, the pending round not
 unfoldable pub shown : File → List ℕ
-shown F = title ++ lines (F .n) (endsSoFar F)
+shown F = title ++ lines (F .setup .n) (endsSoFar F)
 
 -- what is printed in all
 unfoldable pub listingOf : File → List ℕ
-listingOf F = title ++ lines (F .n) (endsPlayed F) ++ verdict (ending F)
+listingOf F = title ++ lines (F .setup .n) (endsPlayed F) ++ verdict (ending F)
 
 abbrev pub listing : List ℕ → List ℕ
 listing s = listingOf (readFile s)

@@ -12,40 +12,47 @@ use Rattle.terms.specs.Positions.{isPosition}
 use Rattle.fields.specs.Bytes.{at2, at4, signedAt}
 use Rattle.marks.specs.Marks.{bitOf, marksBelow}
 use Rattle.convergence.specs.Counting.{sum, bit}
-use Rattle.ring_spec.specs.Rounds.{Plant, Round, PhaseEnd, endsAfter}
+use Rattle.ring_spec.specs.Rounds.{Plant, Round, Ring, PhaseEnd, ringAfter, endsAfter}
 
--- What has been read: the start, the rounds played (the latest first), the round that pending to be played, and the bytes of the record that is not yet whole.
-pub record File : Type 0 where
-  pub part : List ℕ
+-- what the start record gives
+pub record Setup : Type 0 where
   pub begun : Bool  -- a start was accepted
   pub n : ℕ
   pub f : ℕ
   pub first : ℕ → ℤ  -- the positions of the start record
+
+-- the rounds given: those played, the latest first, and the last one, if it is pending
+pub record Rounds : Type 0 where
   pub played : List Round
-  pub pending : Bool  -- a round was given, and is not yet played
+  pub pending : Bool  -- the last round was given, and is not yet played
   pub last : Round
+
+-- what has been read
+pub record File : Type 0 where
+  pub part : List ℕ  -- the bytes of the record that is not yet whole
   pub fault : ℕ  -- the number of the first fault, 0 for none
+  pub setup : Setup
+  pub rounds : Rounds
+
+abbrev pub noSetup : Setup
+noSetup = record { begun = false; n = 0; f = 0; first = λ i. pos 0 }
 
 abbrev pub noRound : Round
 noRound = record { struck = 0; plants = [] }
 
+abbrev pub noRounds : Rounds
+noRounds = record { played = []; pending = false; last = noRound }
+
+-- between two records, without a fault
+abbrev pub between : Setup → Rounds → File
+between S R = record { part = []; fault = 0; setup = S; rounds = R }
+
 unfoldable pub unread : File
-unread =
-    record {
-      part = [];
-      begun = false;
-      n = 0;
-      f = 0;
-      first = λ i. pos 0;
-      played = [];
-      pending = false;
-      last = noRound;
-      fault = 0;
-    }
+unread = between noSetup noRounds
 
 -- the number of rounds given
 abbrev pub given : File → ℕ
-given F = length (F .played) + bit (F .pending)
+given F = length (F .rounds .played) + bit (F .rounds .pending)
 
 -- ---- records: kinds, and where each may stand, with what length
 
@@ -67,9 +74,9 @@ kindOf s = recordKind (at2 s 2)
 
 -- By its first four bytes: a start first and once, a round after it, a planted record after a round; the lengths that some record of that kind has.
 abbrev pub isAllowed : RecordKind → File → ℕ → Bool
-isAllowed start F len = not (F .begun) && leb 6 len && leb len 1026
-isAllowed round F len = F .begun && eqb len 8
-isAllowed plant F len = F .pending && leb 6 len && leb len 146
+isAllowed start F len = not (F .setup .begun) && leb 6 len && leb len 1026
+isAllowed round F len = F .setup .begun && eqb len 8
+isAllowed plant F len = F .rounds .pending && leb 6 len && leb len 146
 isAllowed other F len = false
 
 -- ---- a start: n, f (a byte each), n positions
@@ -109,7 +116,8 @@ rises (x ∷ xs) k i = ltb (x .from) k || eqb (x .from) k && ltb (x .to) i
 
 unfoldable pub pairFits : File → ℕ → ℕ → Bool
 pairFits F k i =
-    ltb k (F .n) && ltb i (F .n) && bitOf (F .last .struck) k && not (bitOf (F .last .struck) i) && rises (F .last .plants) k i
+    ltb k (F .setup .n) && ltb i (F .setup .n) && bitOf (F .rounds .last .struck) k && not (bitOf (F .rounds .last .struck) i)
+    && rises (F .rounds .last .plants) k i
 
 -- ---- a whole record: the number of its fault, 0 for none; 13, then 1, 2, 4, 14, 26
 
@@ -119,73 +127,45 @@ recordFault start F s =
     (checkSize (countIn s) (limitIn s)
     (check (positionsFit s (countIn s)) refusal.position 0))
 recordFault round F s =
-    check (fewMarks (F .n) (F .f) (struckIn s)) refusal.struck (check (ltb (given F) 131070) refusal.ended 0)
+    check (fewMarks (F .setup .n) (F .setup .f) (struckIn s)) refusal.struck (check (ltb (given F) 131070) refusal.ended 0)
 recordFault plant F s = check (pairFits F (senderIn s) (receiverIn s)) refusal.run-record 0
 recordFault other F s = refusal.run-record
 
--- the waiting round is played
+-- the setup that a start record gives
+abbrev pub setupIn : List ℕ → Setup
+setupIn s = record { begun = true; n = countIn s; f = limitIn s; first = positionIn s }
+
+-- the rounds played, with the last one if it is pending
 abbrev pub thenPlayed : Bool → List Round → Round → List Round
 thenPlayed true ws w = w ∷ ws
 thenPlayed false ws w = ws
 
+-- all rounds given, the pending one too
+abbrev pub allRounds : Rounds → List Round
+allRounds R = thenPlayed (R .pending) (R .played) (R .last)
+
+-- a round more, which has the pending one played
+abbrev pub withRound : Rounds → ℕ → Rounds
+withRound R struck = record { played = allRounds R; pending = true; last = record { struck = struck; plants = [] } }
+
+-- bytes planted in the last round
+abbrev pub withPlant : Rounds → Plant → Rounds
+withPlant R x = record { played = R .played; pending = R .pending; last = record { struck = R .last .struck; plants = x ∷ R .last .plants } }
+
+-- what a planted record plants
+abbrev pub plantIn : List ℕ → Plant
+plantIn s = record { from = senderIn s; to = receiverIn s; bytes = drop 6 s }
+
 -- what an accepted record changes
 abbrev pub withRecord : RecordKind → File → List ℕ → File
-withRecord start F s =
-    record {
-      part = [];
-      begun = true;
-      n = countIn s;
-      f = limitIn s;
-      first = positionIn s;
-      played = [];
-      pending = false;
-      last = noRound;
-      fault = 0;
-    }
-withRecord round F s =
-    record {
-      part = [];
-      begun = F .begun;
-      n = F .n;
-      f = F .f;
-      first = F .first;
-      played = thenPlayed (F .pending) (F .played) (F .last);
-      pending = true;
-      last = record { struck = struckIn s; plants = [] };
-      fault = 0;
-    }
-withRecord plant F s =
-    record {
-      part = [];
-      begun = F .begun;
-      n = F .n;
-      f = F .f;
-      first = F .first;
-      played = F .played;
-      pending = F .pending;
-      last =
-          record {
-            struck = F .last .struck;
-            plants = record { from = senderIn s; to = receiverIn s; bytes = drop 6 s } ∷ F .last .plants;
-          };
-      fault = 0;
-    }
+withRecord start F s = between (setupIn s) noRounds
+withRecord round F s = between (F .setup) (withRound (F .rounds) (struckIn s))
+withRecord plant F s = between (F .setup) (withPlant (F .rounds) (plantIn s))
 withRecord other F s = F
 
 -- a fault ends the file: nothing after it is read
 abbrev pub stopped : File → ℕ → File
-stopped F c =
-    record {
-      part = [];
-      begun = F .begun;
-      n = F .n;
-      f = F .f;
-      first = F .first;
-      played = F .played;
-      pending = F .pending;
-      last = F .last;
-      fault = c;
-    }
+stopped F c = record { part = []; fault = c; setup = F .setup; rounds = F .rounds }
 
 abbrev pub unlessFault : ℕ → File → File → File
 unlessFault zero good F = good
@@ -197,18 +177,7 @@ judged K F s = unlessFault (recordFault K F s) (withRecord K F s) F
 -- ---- byte by byte
 
 abbrev pub withPart : File → List ℕ → File
-withPart F s =
-    record {
-      part = s;
-      begun = F .begun;
-      n = F .n;
-      f = F .f;
-      first = F .first;
-      played = F .played;
-      pending = F .pending;
-      last = F .last;
-      fault = F .fault;
-    }
+withPart F s = record { part = s; fault = F .fault; setup = F .setup; rounds = F .rounds }
 
 -- s: the bytes of the record so far. It is judged by its first four bytes, and again when it is whole.
 unfoldable pub readOn : File → List ℕ → File
@@ -238,7 +207,7 @@ recordsOf [] = 0
 recordsOf (w ∷ ws) = suc (length (w .plants) + recordsOf ws)
 
 unfoldable pub accepted : File → ℕ
-accepted F = cond (F .begun) (suc (recordsOf (thenPlayed (F .pending) (F .played) (F .last)))) 0
+accepted F = cond (F .setup .begun) (suc (recordsOf (allRounds (F .rounds)))) 0
 
 -- ---- the end
 
@@ -248,16 +217,23 @@ isEmpty (x ∷ xs) = false
 
 -- the first fault, or 13: no start, a record cut short, or inside a phase; 0 where the file is played to its end
 unfoldable pub ending : File → ℕ
-ending F = check (eqb (F .fault) 0) (F .fault) (check (F .begun && isEmpty (F .part) && eqb (given F % 2) 0) refusal.run-record 0)
+ending F = check (eqb (F .fault) 0) (F .fault) (check (F .setup .begun && isEmpty (F .part) && eqb (given F % 2) 0) refusal.run-record 0)
+
+-- the ring of a setup after the rounds ws, and its phase ends
+abbrev pub ringFrom : Setup → List Round → Ring
+ringFrom S ws = ringAfter (S .n) (S .f) (S .first) ws
+
+abbrev pub endsFrom : Setup → List Round → List PhaseEnd
+endsFrom S ws = endsAfter (S .n) (S .f) (S .first) ws
 
 -- the phase ends played when the bytes so far are read, the latest first; none before an accepted start
 abbrev pub endsSoFar : File → List PhaseEnd
-endsSoFar F = cond (F .begun) (endsAfter (F .n) (F .f) (F .first) (F .played)) []
+endsSoFar F = cond (F .setup .begun) (endsFrom (F .setup) (F .rounds .played)) []
 
--- the waiting round is played where the file ends without fault
+-- the pending round is played where the file ends without fault
 unfoldable pub roundsPlayed : File → List Round
-roundsPlayed F = cond (eqb (ending F) 0) (thenPlayed (F .pending) (F .played) (F .last)) (F .played)
+roundsPlayed F = cond (eqb (ending F) 0) (allRounds (F .rounds)) (F .rounds .played)
 
 -- the phase ends played, the latest first; none before an accepted start
 unfoldable pub endsPlayed : File → List PhaseEnd
-endsPlayed F = cond (F .begun) (endsAfter (F .n) (F .f) (F .first) (roundsPlayed F)) []
+endsPlayed F = cond (F .setup .begun) (endsFrom (F .setup) (roundsPlayed F)) []

@@ -5,7 +5,7 @@ use mathlib.Core.List.{List, []}
 use Prim.Native.Nat.{ℕ}
 use borrow.Author.Needs.{needs}
 use Rattle.ring_spec.specs.Rounds.{afterRound, ringAfter}
-use Rattle.run_spec.specs.RunFile.{File, unread, start, round, countIn, limitIn, thenPlayed, withRecord, feed, readFile}
+use Rattle.run_spec.specs.RunFile.{File, unread, start, round, countIn, limitIn, thenPlayed, withRecord, feed, readFile, ringFrom}
 use Rattle.run_state.specs.declared.Player.{Player}
 use Rattle.run_state.specs.State.{ringBefore, PlayerOf}
 use Rattle.run_state.specs.Inner.{freshPlayer}
@@ -21,8 +21,8 @@ start-tells F s = search needs
 -- the heads struck before the round that it gives
 pub round-before : (F : File) (s : List ℕ) {p : Player} → PlayerOf p F → ringBefore (withRecord round F s) .before ≡ cond (p .pending) (p .struck) (p .before)
 unfolding ringAfter afterRound
-round-before F s T = rw (← T .pending, ← T .struck, ← T .before) (go (F .pending))
+round-before F s T = rw (← T .pending, ← T .struck, ← T .before) (go (F .rounds .pending))
   where
-    go : (b : Bool) → ringAfter (F .n) (F .f) (F .first) (thenPlayed b (F .played) (F .last)) .before ≡ cond b (F .last .struck) (ringBefore F .before)
+    go : (b : Bool) → ringFrom (F .setup) (thenPlayed b (F .rounds .played) (F .rounds .last)) .before ≡ cond b (F .rounds .last .struck) (ringBefore F .before)
     go true = refl
     go false = refl

@@ -10,8 +10,8 @@ use lib.ListN.{length}
 use borrow.Author.Tests.{eqb-true, eqb-false, eq-eqb, ne-eqb}
 use Rattle.terms.specs.Refusals as refusal
 use Rattle.terms.specs.Refusals.{check}
-use Rattle.ring_spec.specs.Rounds.{Round, ringAfter, endsAfter}
-use Rattle.run_spec.specs.RunFile.{File, isEmpty, thenPlayed, readFile, endsSoFar, ending, roundsPlayed, endsPlayed}
+use Rattle.ring_spec.specs.Rounds.{Round, ringAfter}
+use Rattle.run_spec.specs.RunFile.{File, isEmpty, thenPlayed, readFile, endsSoFar, ending, roundsPlayed, endsPlayed, ringFrom, endsFrom}
 use Rattle.run_spec.specs.Listing.{title, lines, verdict, shown, listingOf}
 use Rattle.run_listing.specs.declared.Text.{Text}
 use Rattle.run_listing.specs.Texts.{bytesOf}
@@ -57,11 +57,11 @@ module _ {a : List ℕ} {p : Player} {carry : List ℕ} {M : Memory} (L : StateA
 
   -- the rounds ws are played in all, and the memory holds what they leave
   ends : {n : ℕ} {line v : Text} {M′ : Memory} (ws : List Round) → roundsPlayed F ≡ ws
-      → title ++ lines (F .n) (cond (F .begun) (endsAfter (F .n) (F .f) (F .first) ws) []) ≡ shown F ++ bytesOf line
+      → title ++ lines (F .setup .n) (cond (F .setup .begun) (endsFrom (F .setup) ws) []) ≡ shown F ++ bytesOf line
       → n ≡ endingOf p → bytesOf v ≡ verdict n
-      → (F .begun ≡ true → HeadsOf (F .n) (ringAfter (F .n) (F .f) (F .first) ws) M′)
-      → (ws ≡ F .played → M′ ≡ M)
-      → Grown (F .n) (endsSoFar F) (cond (F .begun) (endsAfter (F .n) (F .f) (F .first) ws) []) (ringAfter (F .n) (F .f) (F .first) ws) (bytesOf line)
+      → (F .setup .begun ≡ true → HeadsOf (F .setup .n) (ringFrom (F .setup) ws) M′)
+      → (ws ≡ F .rounds .played → M′ ≡ M)
+      → Grown (F .setup .n) (endsSoFar F) (cond (F .setup .begun) (endsFrom (F .setup) ws) []) (ringFrom (F .setup) ws) (bytesOf line)
       → Ends a M (record { number = n; line = line; verdict = v }) M′
   unfolding listingOf endsPlayed roundsPlayed
   ends ws e l i v K U G =
@@ -74,23 +74,26 @@ module _ {a : List ℕ} {p : Player} {carry : List ℕ} {M : Memory} (L : StateA
         demand3 = held-converges (eqb (ending F) 0) a (rw (← e) at K);
       }
 
-  -- the round that pending is played
+  -- the pending round is played
   pub ends-played : {line v : Text} {M′ : Memory} {n : ℕ} → n ≡ endingOf p → n ≡ 0 → p .pending ≡ true
-      → bytesOf v ≡ verdict n → (F .begun ≡ true → F .pending ≡ true → Played F line M′)
+      → bytesOf v ≡ verdict n → (F .setup .begun ≡ true → F .rounds .pending ≡ true → Played F line M′)
       → Ends a M (record { number = n; line = line; verdict = v }) M′
   unfolding shown roundsPlayed ringAfter
   ends-played {line} {n} e z w v P =
       let begun = L .player .begun ∙ begun-by p (sym e ∙ z) in
       let pending = L .player .pending ∙ w in
       let played = P begun pending in
-      ends (F .last ∷ F .played) (rw (eq-eqb (ending F) 0 (ends-by ∙ sym e ∙ z), pending)) (rw (begun, played .shows) (sym (append-assoc title _ (bytesOf line))))
+      ends (F .rounds .last ∷ F .rounds .played) (rw (eq-eqb (ending F) 0 (ends-by ∙ sym e ∙ z), pending))
+      (rw (begun, played .shows) (sym (append-assoc title _ (bytesOf line))))
       e v (λ b. played .keeps) (λ same. absurd (omega (arith, ap length same)))
-      (rw begun (next-grown (F .n) (F .f) (F .first) (F .played) (F .last) (played .shows)))
+      (rw begun (next-grown (F .setup .n) (F .setup .f) (F .setup .first) (F .rounds .played) (F .rounds .last) (played .shows)))
 
   -- no round is played
   pub ends-unplayed : {line v : Text} {n : ℕ} → n ≡ endingOf p → (n ≡ 0 → p .pending ≡ false) → bytesOf v ≡ verdict n → line .len ≡ 0
       → Ends a M (record { number = n; line = line; verdict = v }) M
   unfolding shown roundsPlayed
   ends-unplayed {line} {n} e idle v empty =
-      let same = unplayed (eqb (ending F) 0) (F .pending) (F .played) (F .last) (λ t. L .player .pending ∙ idle (e ∙ sym ends-by ∙ eqb-true (ending F) 0 t)) in
-      ends (F .played) same (unshown line refl empty) e v (L .memory .keeps) (λ same. refl) (none refl (empty-text line empty))
+      let same =
+      unplayed (eqb (ending F) 0) (F .rounds .pending) (F .rounds .played) (F .rounds .last)
+      (λ t. L .player .pending ∙ idle (e ∙ sym ends-by ∙ eqb-true (ending F) 0 t)) in
+      ends (F .rounds .played) same (unshown line refl empty) e v (L .memory .keeps) (λ same. refl) (none refl (empty-text line empty))

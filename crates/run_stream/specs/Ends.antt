@@ -4,8 +4,8 @@ use mathlib.Core.Bool.{true}
 use mathlib.Core.List.{List, _++_}
 use mathlib.Core.Path.{_≡_}
 use Prim.Native.Nat.{ℕ}
-use Rattle.ring_spec.specs.Rounds.{Ring, ringAfter}
-use Rattle.run_spec.specs.RunFile.{File, readFile, endsSoFar, ending, roundsPlayed, endsPlayed}
+use Rattle.ring_spec.specs.Rounds.{Ring}
+use Rattle.run_spec.specs.RunFile.{File, readFile, endsSoFar, ending, roundsPlayed, endsPlayed, ringFrom}
 use Rattle.run_spec.specs.Listing.{shown, listing}
 use Rattle.run_listing.specs.Texts.{bytesOf}
 use Rattle.run_state.specs.Memory.{Memory}
@@ -16,13 +16,13 @@ use Rattle.run_stream.specs.declared.FinishResult.{FinishResult}
 
 -- the ring when all rounds that are played are played
 abbrev pub ringAtEnd : File → Ring
-ringAtEnd F = ringAfter (F .n) (F .f) (F .first) (roundsPlayed F)
+ringAtEnd F = ringFrom (F .setup) (roundsPlayed F)
 
 -- the file ends after a: from the memory M to the memory M′, which is the same where no round was left to play
 pub record Ends (a : List ℕ) (M : Memory) (r : FinishResult) (M′ : Memory) : Type 0 where
   pub number : r .number ≡ ending (readFile a)
   pub shows : listing a ≡ shown (readFile a) ++ bytesOf (r .line) ++ bytesOf (r .verdict)
-  pub held : readFile a .begun ≡ true → HeadsOf (readFile a .n) (ringAtEnd (readFile a)) M′
-  pub unplayed : roundsPlayed (readFile a) ≡ readFile a .played → M′ ≡ M
-  pub grown : Grown (readFile a .n) (endsSoFar (readFile a)) (endsPlayed (readFile a)) (ringAtEnd (readFile a)) (bytesOf (r .line))
+  pub held : readFile a .setup .begun ≡ true → HeadsOf (readFile a .setup .n) (ringAtEnd (readFile a)) M′
+  pub unplayed : roundsPlayed (readFile a) ≡ readFile a .rounds .played → M′ ≡ M
+  pub grown : Grown (readFile a .setup .n) (endsSoFar (readFile a)) (endsPlayed (readFile a)) (ringAtEnd (readFile a)) (bytesOf (r .line))
   pub demand3 : ConvergedIn (readFile a) (roundsPlayed (readFile a)) (M′ .positions)

@@ -132,7 +132,7 @@ fn ending(p: Player) -> u8
     refusal::RUN_RECORD
 }
 
-// The end of the file: the round that pending is played where it ends well.
+// The end of the file: the pending round is played where it ends well.
 pub fn finish(
     p: Player,
     positions: &mut [i32; 32],

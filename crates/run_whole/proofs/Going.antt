@@ -14,9 +14,9 @@ use Rattle.convergence.specs.Phases.{spread}
 use Rattle.convergence.specs.Demand3.{Demand3}
 use Rattle.run_listing.specs.Held.{endIn}
 use Rattle.run_listing.proofs.Lowest.{found-held}
-use Rattle.ring_spec.specs.Rounds.{PhaseEnd, asEnd, ringAfter, afterRound, endsAfter}
+use Rattle.ring_spec.specs.Rounds.{PhaseEnd, asEnd, ringAfter, afterRound}
 use Rattle.ring_spec.proofs.Counts.{counted}
-use Rattle.run_spec.specs.RunFile.{File, unread, RecordKind, start, round, plant, other, kindOf, lengthOf, isAllowed, thenPlayed, withRecord, feed, readFile, endsSoFar, ending, roundsPlayed, endsPlayed}
+use Rattle.run_spec.specs.RunFile.{File, unread, RecordKind, start, round, plant, other, kindOf, lengthOf, isAllowed, thenPlayed, withRecord, feed, readFile, endsSoFar, ending, roundsPlayed, endsPlayed, ringFrom, endsFrom}
 use Rattle.run_spec.specs.Listing.{title, shown, listing}
 use Rattle.run_spec.proofs.Streaming.{feed-append}
 use Rattle.run_spec.proofs.Reached.{taken}
@@ -46,19 +46,19 @@ use Rattle.run_whole.proofs.Telling.{roomy, AtEnd, told-put, told-more,
 
 -- how many phase ends it can have
 few-so-far : (s : List ℕ) → 16 * length (endsSoFar (readFile s)) ≤ length s + 6
-few-so-far s = go (F .begun) refl
+few-so-far s = go (F .setup .begun) refl
   where
     F : File
     F = readFile s
 
-    go : (b : Bool) → F .begun ≡ b → 16 * length (cond b (endsAfter (F .n) (F .f) (F .first) (F .played)) []) ≤ length s + 6
-    go true e = let C = counted (F .n) (F .f) (F .first) (F .played) in omega (arith, cost s .records e, C .played, C .counts)
+    go : (b : Bool) → F .setup .begun ≡ b → 16 * length (cond b (endsFrom (F .setup) (F .rounds .played)) []) ≤ length s + 6
+    go true e = let C = counted (F .setup .n) (F .setup .f) (F .setup .first) (F .rounds .played) in omega (arith, cost s .records e, C .played, C .counts)
     go false e = omega arith
 
 -- a start gives the number of heads, and nothing after it another
 record Counts (m : ℕ) (F : File) (k : ℕ) : Type 0 where
-  begun : F .begun ≡ true
-  same : F .n ≡ m
+  begun : F .setup .begun ≡ true
+  same : F .setup .n ≡ m
 
 counts-on : (m : ℕ) (K : RecordKind) (F : File) (s : List ℕ) (k : ℕ) → isAllowed K F (lengthOf s) ≡ true → Counts m F k → Counts m (withRecord K F s) (suc k)
 counts-on m start F s k may C = absurd (true≢false (sym (C .begun) ∙ start-place F (lengthOf s) may))
@@ -66,9 +66,9 @@ counts-on m round F s k may C = record { begun = C .begun; same = C .same }
 counts-on m plant F s k may C = record { begun = C .begun; same = C .same }
 counts-on m other F s k may C = absurd (true≢false (sym may))
 
-same-heads : (a b : List ℕ) → readFile a .begun ≡ true → readFile (a ++ b) .n ≡ readFile a .n
+same-heads : (a b : List ℕ) → readFile a .setup .begun ≡ true → readFile (a ++ b) .setup .n ≡ readFile a .setup .n
 same-heads a b begun =
-    let m = readFile a .n in
+    let m = readFile a .setup .n in
     rw (feed-append unread a b)
     (from (Counts m)
     (λ F k C. record { begun = C .begun; same = C .same })
@@ -78,24 +78,24 @@ same-heads a b begun =
     (readFile a) b (length a) (kept a) (record { begun = begun; same = refl }) .same)
 
 -- before a start there is no row
-rows-then : (a b : List ℕ) (ends : List ℤ) (words : List ℕ) → Rows (readFile a .n) (endsSoFar (readFile a)) ends words
-    → Rows (readFile (a ++ b) .n) (endsSoFar (readFile a)) ends words
+rows-then : (a b : List ℕ) (ends : List ℤ) (words : List ℕ) → Rows (readFile a .setup .n) (endsSoFar (readFile a)) ends words
+    → Rows (readFile (a ++ b) .setup .n) (endsSoFar (readFile a)) ends words
 unfolding Rows
-rows-then a b ends words = go (F .begun) refl
+rows-then a b ends words = go (F .setup .begun) refl
   where
     F : File
     F = readFile a
 
-    go : (c : Bool) → F .begun ≡ c → let es = cond c (endsAfter (F .n) (F .f) (F .first) (F .played)) [] in
-        Rows (F .n) es ends words → Rows (readFile (a ++ b) .n) es ends words
+    go : (c : Bool) → F .setup .begun ≡ c → let es = cond c (endsFrom (F .setup) (F .rounds .played)) [] in
+        Rows (F .setup .n) es ends words → Rows (readFile (a ++ b) .setup .n) es ends words
     go true e R = rw (same-heads a b e) R
     go false e R = tt
 
 -- where there is a phase end, there was a start
-begun-so : (F : File) (x : PhaseEnd) (es : List PhaseEnd) → endsSoFar F ≡ x ∷ es → F .begun ≡ true
-begun-so F x es = go (F .begun)
+begun-so : (F : File) (x : PhaseEnd) (es : List PhaseEnd) → endsSoFar F ≡ x ∷ es → F .setup .begun ≡ true
+begun-so F x es = go (F .setup .begun)
   where
-    go : (b : Bool) → cond b (endsAfter (F .n) (F .f) (F .first) (F .played)) [] ≡ x ∷ es → b ≡ true
+    go : (b : Bool) → cond b (endsFrom (F .setup) (F .rounds .played)) [] ≡ x ∷ es → b ≡ true
     go true e = refl
     go false e = absurd (omega (arith, ap length e))
 
@@ -113,7 +113,7 @@ unfolding unread feed
 going-first {file} {t} B room L text short P =
     let R = roomy (length file) B room in
     let (is, put) = P .puts short (omega (arith, R .out)) in
-    let told = told-put (none-told (readFile [] .n) B) (bytesOf t) (t .len) (P .long short) put in
+    let told = told-put (none-told (readFile [] .setup .n) B) (bytesOf t) (t .len) (P .long short) put in
     record {
       room = room;
       within = omega arith;
@@ -129,7 +129,7 @@ module _ {file : List ℕ} {at : Place} {carry : List ℕ} {M : Memory} {B₀ B 
   a = take (at .used) file
 
   -- the number of heads as it is after more bytes
-  told-then : (b : List ℕ) → Told (readFile (a ++ b) .n) (shown (readFile a)) (endsSoFar (readFile a)) (at .len) (at .count) B₀ B
+  told-then : (b : List ℕ) → Told (readFile (a ++ b) .setup .n) (shown (readFile a)) (endsSoFar (readFile a)) (at .len) (at .count) B₀ B
   told-then b =
       let T = G .told in
       record {
@@ -155,7 +155,8 @@ module _ {file : List ℕ} {at : Place} {carry : List ℕ} {M : Memory} {B₀ B 
       let F = readFile (a ++ b) in
       let long = ap length is ∙ length-take-le (at .used + used) file within in
       let few : length (endsSoFar F) ≤ mostEnds (length file) = omega (arith, few-so-far (a ++ b)) in
-      let ended : (x : PhaseEnd) → endsSoFar F ≡ x ∷ endsSoFar (readFile a) → ringBefore F .round ≡ 0 → AtEnd (F .n) (ringBefore F) (q .before) (M′ .positions) =
+      let ended : (x : PhaseEnd) → endsSoFar F ≡ x ∷ endsSoFar (readFile a) → ringBefore F .round ≡ 0
+      → AtEnd (F .setup .n) (ringBefore F) (q .before) (M′ .positions) =
       λ x e r.
       let begun = begun-so F x _ e in
       record { is = sym (L .player .before); most = taken (a ++ b) begun .size .most; held = L .memory .keeps begun .collection r } in
@@ -172,24 +173,24 @@ module _ {file : List ℕ} {at : Place} {carry : List ℕ} {M : Memory} {B₀ B 
 -- ---- the end of the file
 
 -- where there is a phase end at last, there was a start
-begun-at : (F : File) (x : PhaseEnd) (es : List PhaseEnd) → endsPlayed F ≡ x ∷ es → F .begun ≡ true
+begun-at : (F : File) (x : PhaseEnd) (es : List PhaseEnd) → endsPlayed F ≡ x ∷ es → F .setup .begun ≡ true
 unfolding endsPlayed
-begun-at F x es = go (F .begun)
+begun-at F x es = go (F .setup .begun)
   where
-    go : (b : Bool) → cond b (endsAfter (F .n) (F .f) (F .first) (roundsPlayed F)) [] ≡ x ∷ es → b ≡ true
+    go : (b : Bool) → cond b (endsFrom (F .setup) (roundsPlayed F)) [] ≡ x ∷ es → b ≡ true
     go true e = refl
     go false e = absurd (omega (arith, ap length e))
 
--- where the end of the file plays a round, its mark word is that of the round that waited
-last-struck : (F : File) (x : PhaseEnd) → endsPlayed F ≡ x ∷ endsSoFar F → ringAtEnd F .before ≡ F .last .struck
+-- where the end of the file plays a round, its mark word is that of the pending round
+last-struck : (F : File) (x : PhaseEnd) → endsPlayed F ≡ x ∷ endsSoFar F → ringAtEnd F .before ≡ F .rounds .last .struck
 unfolding endsPlayed roundsPlayed ringAfter afterRound
-last-struck F x = go (eqb (ending F) 0) (F .pending)
+last-struck F x = go (eqb (ending F) 0) (F .rounds .pending)
   where
     more : (es : List PhaseEnd) → es ≡ x ∷ es → ⊥
     more es e = omega (arith, ap length e)
 
-    go : (b w : Bool) → let ws = cond b (thenPlayed w (F .played) (F .last)) (F .played) in
-        cond (F .begun) (endsAfter (F .n) (F .f) (F .first) ws) [] ≡ x ∷ endsSoFar F → ringAfter (F .n) (F .f) (F .first) ws .before ≡ F .last .struck
+    go : (b w : Bool) → let ws = cond b (thenPlayed w (F .rounds .played) (F .rounds .last)) (F .rounds .played) in
+        cond (F .setup .begun) (endsFrom (F .setup) ws) [] ≡ x ∷ endsSoFar F → ringFrom (F .setup) ws .before ≡ F .rounds .last .struck
     go true true e = refl
     go true false e = absurd (more (endsSoFar F) e)
     go false w e = absurd (more (endsSoFar F) e)
@@ -208,13 +209,13 @@ rows-converge {n} x y {ps} {qs} H I D =
     }
 
 module _ (s : List ℕ) {r : PlayResult} {B₀ B : Buffers} (number : r .number ≡ ending (readFile s))
-    (T : Told (readFile s .n) (listing s) (endsPlayed (readFile s)) (r .len) (r .ends) B₀ B) where
+    (T : Told (readFile s .setup .n) (listing s) (endsPlayed (readFile s)) (r .len) (r .ends) B₀ B) where
   whole-told : Whole s r B₀ B
   whole-told =
       let F = readFile s in
       let es = endsPlayed F in
-      let at : (e : ℕ) → e < r .ends → HoldsEnd (F .n) (endNumber es e) (row e (B .ends)) (getD (B .words) e 0) =
-      λ e l. rows-at (F .n) es (B .ends) (B .words) (T .rows) e (omega (arith, T .count)) in
+      let at : (e : ℕ) → e < r .ends → HoldsEnd (F .setup .n) (endNumber es e) (row e (B .ends)) (getD (B .words) e 0) =
+      λ e l. rows-at (F .setup .n) es (B .ends) (B .words) (T .rows) e (omega (arith, T .count)) in
       record {
         number = number;
         len = T .len;
@@ -247,7 +248,8 @@ module _ {file : List ℕ} {at : Place} {carry : List ℕ} {M : Memory} {B₀ B 
       let room = roomy (length file) B₀ (G .room) in
       let n-s = ap length is in
       let few : length (endsPlayed F) ≤ mostEnds (length file) = omega (arith, few-ends s) in
-      let ended : (x : PhaseEnd) → endsPlayed F ≡ x ∷ endsSoFar F → ringAtEnd F .round ≡ 0 → AtEnd (F .n) (ringAtEnd F) (at .player .struck) (M′ .positions) =
+      let ended : (x : PhaseEnd) → endsPlayed F ≡ x ∷ endsSoFar F → ringAtEnd F .round ≡ 0
+      → AtEnd (F .setup .n) (ringAtEnd F) (at .player .struck) (M′ .positions) =
       λ x e z.
       let begun = begun-at F x _ e in
       record { is = sym (last-struck F x e ∙ L .player .struck); most = taken s begun .size .most; held = E .held begun .collection z } in

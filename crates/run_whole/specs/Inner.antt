@@ -59,5 +59,5 @@ pub record Going (file : List ℕ) (at : Place) (carry : List ℕ) (M : Memory) 
   pub room : hasRoom (length file) (length (B₀ .out)) (length (B₀ .ends)) (length (B₀ .words)) ≡ true
   pub within : at .used ≤ length file
   pub state : StateAt (take (at .used) file) (at .player) carry M
-  pub told : let F = readFile (take (at .used) file) in Told (F .n) (shown F) (endsSoFar F) (at .len) (at .count) B₀ B
+  pub told : let F = readFile (take (at .used) file) in Told (F .setup .n) (shown F) (endsSoFar F) (at .len) (at .count) B₀ B
   pub small : at .len ≤ 64 * (at .count + 1)

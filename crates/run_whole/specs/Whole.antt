@@ -46,10 +46,10 @@ pub record Whole (s : List ℕ) (r : PlayResult) (B B′ : Buffers) : Type 0 whe
   pub len : r .len ≡ length (listing s)
   pub out : B′ .out ≡ listing s ++ drop (r .len) (B .out)
   pub count : r .ends ≡ length (endsPlayed (readFile s))
-  pub rows : (e : ℕ) → e < r .ends → HoldsEnd (readFile s .n) (endNumber (endsPlayed (readFile s)) e) (row e (B′ .ends)) (getD (B′ .words) e 0)
+  pub rows : (e : ℕ) → e < r .ends → HoldsEnd (readFile s .setup .n) (endNumber (endsPlayed (readFile s)) e) (row e (B′ .ends)) (getD (B′ .words) e 0)
   pub more-rows : drop (32 * r .ends) (B′ .ends) ≡ drop (32 * r .ends) (B .ends)
   pub more-words : drop (r .ends) (B′ .words) ≡ drop (r .ends) (B .words)
-  pub demand3 : (e k : ℕ) → e + k < r .ends → Demand3 (readFile s .n) (readFile s .f) k (endAt B′ e) (endAt B′ (e + k))
+  pub demand3 : (e k : ℕ) → e + k < r .ends → Demand3 (readFile s .setup .n) (readFile s .setup .f) k (endAt B′ e) (endAt B′ (e + k))
 
 -- by whether the buffers have room: if not, 24, and they are as they were
 abbrev pub Plays : Bool → List ℕ → PlayResult → Buffers → Buffers → Type 0

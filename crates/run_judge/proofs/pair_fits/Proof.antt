@@ -37,7 +37,7 @@ returns-5 c F p q e =
     let d = b .before .before in
     let m = sym (b .before .marked .ensures) ∙ not-false _ (b .if3 .left) in
     let k = sym (c .before .before .marked2 .ensures) ∙ c .before .if4 .left in
-    rw (p, q, lt-ltb _ _ (d .before .if1 .left), lt-ltb _ _ (d .if2 .left), m, k) (c .comes-after .ensures (F .last .plants) e)
+    rw (p, q, lt-ltb _ _ (d .before .if1 .left), lt-ltb _ _ (d .if2 .left), m, k) (c .comes-after .ensures (F .rounds .last .plants) e)
 
 pub pair-fits-spec : {M : Type 1} → statement M
 pair-fits-spec =

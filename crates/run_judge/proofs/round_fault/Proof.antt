@@ -8,8 +8,8 @@ use Rattle.run_judge.proofs.round_fault.Statement.{statement}
 use Rattle.run_judge.proofs.round_fault.Tie as tie
 
 -- what `few_marks` says of the word read is the definition's first test
-few : (c : tie.After-few-marks) (F : File) → F .n ≡ c .before .before .before .args .n → F .f ≡ c .before .before .before .args .f
-    → fewMarks (F .n) (F .f) (struckIn (now (c .before .before .before .args .bytes))) ≡ c .few-marks .result
+few : (c : tie.After-few-marks) (F : File) → F .setup .n ≡ c .before .before .before .args .n → F .setup .f ≡ c .before .before .before .args .f
+    → fewMarks (F .setup .n) (F .setup .f) (struckIn (now (c .before .before .before .args .bytes))) ≡ c .few-marks .result
 few c F p q = rw (p, q, ← c .before .word-at .ensures) (sym (c .few-marks .ensures))
 
 returns : tie.Need-returns

@@ -1,4 +1,4 @@
--- `run_record::play_waiting` meets its contract: what the player tells says whether a round pending.
+-- `run_record::play_waiting` meets its contract: what the player tells says whether a round is pending.
 use mathlib.Core.Path.{_∙_}
 use native.Mathlib.Omega.{arith}
 use borrow.Author.Needs.{needs}

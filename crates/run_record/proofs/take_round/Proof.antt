@@ -1,4 +1,4 @@
--- `run_record::take_round` meets its contract: a fault stops the file, and else the round that waited is played and what was planted in it is cleared.
+-- `run_record::take_round` meets its contract: a fault stops the file, and else the pending round is played and what was planted in it is cleared.
 use mathlib.Core.Path.{sym, _∙_}
 use denote.Ref.{now}
 use borrow.Author.Needs.{needs}

@@ -1,4 +1,4 @@
--- `run_round::play_round` meets its contract: the stage is that of the round that pending, and an odd number of rounds given says which of the two rounds it is.
+-- `run_round::play_round` meets its contract: the stage is that of the pending round, and an odd number of rounds given says which of the two rounds it is.
 use mathlib.Core.Path.{refl}
 use native.Mathlib.Omega.{arith}
 use borrow.Author.Needs.{needs}

@@ -1,4 +1,4 @@
--- `run_state::given_round` meets its contract: one round more is given, and the heads struck before it are those of the round that waited, or of the one before.
+-- `run_state::given_round` meets its contract: one round more is given, and the heads struck before it are those of the pending round, or of the one before.
 use mathlib.Core.Path.{refl, sym, _∙_}
 use native.Mathlib.Omega.{arith}
 use borrow.Author.Needs.{needs}
@@ -15,7 +15,7 @@ returns c = (
         begun = T .begun;
         n = T .n;
         f = T .f;
-        given = omega (arith, length-then (F .pending) (F .played) (F .last), T .given, c .before .before .one-more .ensures (omega (arith, T .given)));
+        given = omega (arith, length-then (F .rounds .pending) (F .rounds .played) (F .rounds .last), T .given, c .before .before .one-more .ensures (omega (arith, T .given)));
         pending = refl;
         before = round-before F s T ∙ sym (c .before .struck-before .ensures);
         struck = sym e;

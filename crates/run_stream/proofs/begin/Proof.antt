@@ -1,4 +1,4 @@
--- `run_stream::begin` meets its contract: before the first byte no start was accepted and no round pending, so the memory has nothing to hold.
+-- `run_stream::begin` meets its contract: before the first byte no start was accepted and no round is pending, so the memory has nothing to hold.
 use mathlib.Core.Path.{refl, sym}
 use mathlib.Core.Bool.{true≢false}
 use borrow.Author.Needs.{needs}
