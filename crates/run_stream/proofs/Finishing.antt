@@ -22,7 +22,7 @@ use Rattle.run_round.specs.Played.{Played}
 use Rattle.run_piece.specs.Advances.{StateAt, Grown, none}
 use Rattle.run_piece.proofs.Growing.{next-grown}
 use Rattle.run_listing.proofs.Writing.{empty-text}
-use Rattle.run_stream.specs.Ends.{Ends}
+use Rattle.run_stream.specs.Ends.{EndsWith}
 use Rattle.run_stream.specs.Inner.{endingOf}
 use Rattle.run_round.proofs.Converging.{held-converges}
 use Rattle.run_piece.proofs.Feeding.{unshown}
@@ -62,22 +62,25 @@ module _ {a : List ℕ} {p : Player} {carry : List ℕ} {M : Memory} (L : StateA
       → (F .setup .begun ≡ true → HeadsOf (F .setup .n) (ringFrom (F .setup) ws) M′)
       → (ws ≡ F .rounds .played → M′ ≡ M)
       → Grown (F .setup .n) (endsSoFar F) (cond (F .setup .begun) (endsFrom (F .setup) ws) []) (ringFrom (F .setup) ws) (bytesOf line)
-      → Ends a M (record { number = n; line = line; verdict = v }) M′
+      → EndsWith a M (record { number = n; line = line; verdict = v }) M′
   unfolding listingOf endsPlayed roundsPlayed
   ends ws e l i v K U G =
       record {
         number = i ∙ sym ends-by;
-        shows = rw (e, l, v, i, ends-by);
-        held = rw (← e) at K;
-        unplayed = rw (← e) at U;
+        ends =
+            record {
+              shows = rw (e, l, v, i, ends-by);
+              held = rw (← e) at K;
+              unplayed = rw (← e) at U;
+              demand3 = held-converges (eqb (ending F) 0) a (rw (← e) at K);
+            };
         grown = rw (← e) at G;
-        demand3 = held-converges (eqb (ending F) 0) a (rw (← e) at K);
       }
 
   -- the pending round is played
   pub ends-played : {line v : Text} {M′ : Memory} {n : ℕ} → n ≡ endingOf p → n ≡ 0 → p .pending ≡ true
       → bytesOf v ≡ verdict n → (F .setup .begun ≡ true → F .rounds .pending ≡ true → Played F line M′)
-      → Ends a M (record { number = n; line = line; verdict = v }) M′
+      → EndsWith a M (record { number = n; line = line; verdict = v }) M′
   unfolding shown roundsPlayed ringAfter
   ends-played {line} {n} e z w v P =
       let begun = L .player .begun ∙ begun-by p (sym e ∙ z) in
@@ -90,7 +93,7 @@ module _ {a : List ℕ} {p : Player} {carry : List ℕ} {M : Memory} (L : StateA
 
   -- no round is played
   pub ends-unplayed : {line v : Text} {n : ℕ} → n ≡ endingOf p → (n ≡ 0 → p .pending ≡ false) → bytesOf v ≡ verdict n → line .len ≡ 0
-      → Ends a M (record { number = n; line = line; verdict = v }) M
+      → EndsWith a M (record { number = n; line = line; verdict = v }) M
   unfolding shown roundsPlayed
   ends-unplayed {line} {n} e idle v empty =
       let same =

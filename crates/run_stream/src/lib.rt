@@ -7,7 +7,8 @@ ghost use Rattle.run_listing.specs.Texts.{bytesOf};
 ghost use Rattle.run_state.specs.Memory.{before, after, Memory};
 ghost use Rattle.run_piece.specs.Advances.{StateAt, AdvancesOnce, Advances};
 ghost use Rattle.run_piece.specs.Inner.{Used, Reads, Passes};
-ghost use Rattle.run_stream.specs.Ends.{Ends};
+ghost use Rattle.run_stream.specs.Ends.{Ends, EndsWith};
+ghost use Rattle.run_spec.specs.Listing.{title};
 ghost use Rattle.run_stream.specs.Inner.{endingOf};
 use run_listing::Text;
 use run_piece::FeedResult;
@@ -143,7 +144,7 @@ pub fn finish(
 ) -> FinishResult
     ensures { λ r. ⌜ (r .line .len ≤ 64) × (r .verdict .len ≤ 64) ⌝ }
     ensures { λ r. ⌜ ((a carry : List ℕ) → StateAt a p carry (before positions marks lists planted lengths)
-        → Ends a (before positions marks lists planted lengths) r (after positions marks lists planted lengths)) ⌝ }
+        → EndsWith a (before positions marks lists planted lengths) r (after positions marks lists planted lengths)) ⌝ }
 {
     let number = ending(p);
     let verdict = run_listing::verdict_line(number);
@@ -231,4 +232,32 @@ pub fn fill(
         len = put(page, len, text);
     }
     FillResult { player, used, len }
+}
+
+// The first page: the title.
+pub fn first_page(page: &mut [u8; 4096]) -> usize
+    ensures { λ r. ⌜ (r ≤ 4096) × (take r (now (page .exit)) ≡ title) ⌝ }
+{
+    put(page, 0, run_listing::title_line())
+}
+
+// The last page: what is left to show when the file has ended.
+pub fn last_page(
+    p: Player,
+    page: &mut [u8; 4096],
+    positions: &mut [i32; 32],
+    marks: &mut [u32; 32],
+    lists: &mut [[i32; 32]; 32],
+    planted: &[u8; 143360],
+    lengths: &[u8; 1024],
+) -> usize
+    ensures { λ r. ⌜ r ≤ 4096 ⌝ }
+    ensures { λ r. ⌜ ((a carry : List ℕ) → StateAt a p carry (before positions marks lists planted lengths)
+        → Ends a (before positions marks lists planted lengths) (take r (now (page .exit))) (after positions marks lists planted lengths)) ⌝ }
+{
+    let end = finish(p, positions, marks, lists, planted, lengths);
+    let line = end.line;
+    let verdict = end.verdict;
+    let len = put(page, 0, line);
+    put(page, len, verdict)
 }

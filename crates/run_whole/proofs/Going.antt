@@ -31,7 +31,7 @@ use Rattle.run_state.specs.Memory.{Memory}
 use Rattle.run_state.specs.State.{ringBefore}
 use Rattle.run_piece.specs.Advances.{StateAt, AdvancesOnce}
 use Rattle.run_stream.specs.declared.FinishResult.{FinishResult}
-use Rattle.run_stream.specs.Ends.{ringAtEnd, Ends}
+use Rattle.run_stream.specs.Ends.{ringAtEnd, EndsWith}
 use Rattle.run_stream.proofs.Pieces.{rest, joined}
 use Rattle.run_stream.proofs.Cutting.{shown-first}
 use Rattle.run_whole.specs.declared.Place.{Place}
@@ -235,7 +235,7 @@ module _ (s : List ℕ) {r : PlayResult} {B₀ B : Buffers} (number : r .number 
 
 module _ {file : List ℕ} {at : Place} {carry : List ℕ} {M : Memory} {B₀ B : Buffers} (G : Going file at carry M B₀ B) (all : at .used ≡ length file) where
   pub closes : {r : FinishResult} {M′ : Memory} {l l′ c : ℕ} {out out′ : List ℕ} {ends : List ℤ} {words : List ℕ} {some : Bool}
-      → Ends (take (at .used) file) M r M′ → r .line .len ≤ 64 → r .verdict .len ≤ 64
+      → EndsWith (take (at .used) file) M r M′ → r .line .len ≤ 64 → r .verdict .len ≤ 64
       → Put (r .line) (at .len) l (B .out) out → some ≡ not (eqb (r .line .len) 0)
       → EndKept some (at .player .n) (at .player .struck) (M′ .positions) (at .count) c (B .ends) (B .words) ends words
       → Put (r .verdict) l l′ out out′
@@ -252,10 +252,10 @@ module _ {file : List ℕ} {at : Place} {carry : List ℕ} {M : Memory} {B₀ B 
       → AtEnd (F .setup .n) (ringAtEnd F) (at .player .struck) (M′ .positions) =
       λ x e z.
       let begun = begun-at F x _ e in
-      record { is = sym (last-struck F x e ∙ L .player .struck); most = taken s begun .size .most; held = E .held begun .collection z } in
+      record { is = sym (last-struck F x e ∙ L .player .struck); most = taken s begun .size .most; held = E .ends .held begun .collection z } in
       let (told, small) = told-more (G .told) room (G .small) short few {R = ringAtEnd F} ended P flag (rw (← L .player .n) at K) (E .grown) in
       let (len, put) = Q .puts short′ (omega (arith, out-long told (omega (arith, told .count, room .out)), told .count, room .out)) in
       let whole =
       whole-told s {r = record { number = r .number; len = l′; ends = c }} {B₀ = B₀} {B = record { out = out′; ends = ends; words = words }} (E .number)
-      (rw (E .shows, len) (told-put told (bytesOf (r .verdict)) (r .verdict .len) (Q .long short′) put)) in
+      (rw (E .ends .shows, len) (told-put told (bytesOf (r .verdict)) (r .verdict .len) (Q .long short′) put)) in
       rw (← is) whole
