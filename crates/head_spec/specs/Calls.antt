@@ -12,10 +12,8 @@ use Rattle.terms.specs.Positions.{isPosition}
 use Rattle.terms.specs.declared.Entry.{Entry}
 use Rattle.terms.specs.declared.Table.{Table}
 use Rattle.marks.specs.Marks.{bitOf, withMark}
-use Rattle.convergence.specs.Settling.{enough}
 use Rattle.convergence.specs.Phases.{rounding}
 use Rattle.settle_midpoint.specs.Answers.{settling}
-use Rattle.settle_midpoint.specs.declared.Kept.{Kept}
 use Rattle.settle_midpoint.specs.declared.Settled.{Settled}
 use Rattle.settle_midpoint.specs.declared.Settled.the-variants as settled
 use Rattle.frame_spec.specs.Said.{Meaning, refused, collected, listed, confessed, refusalOf, said}
