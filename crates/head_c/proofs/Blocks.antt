@@ -36,15 +36,19 @@ rows-back (r ∷ l) = ap (λ (m : List Row). r ∷ m) (rows-back l)
 pub block-back : (h : Head) → headOf (focusOf h) ≡ h
 unfolding headOf focusOf
 block-back h = λ i.
+    let s = h .seat in
     record {
-      n = h .n;
-      f = h .f;
-      number = h .number;
-      phase = h .phase;
-      round = h .round;
-      healed = flag-back (h .healed) i;
-      ended = flag-back (h .ended) i;
-      position = entry-back (h .position) i;
+      seat =
+          record {
+            n = s .n;
+            f = s .f;
+            number = s .number;
+            phase = s .phase;
+            round = s .round;
+            healed = flag-back (s .healed) i;
+            ended = flag-back (s .ended) i;
+            position = entry-back (s .position) i;
+          };
       heard = h .heard;
       list = h .list;
       links = h .links;
@@ -85,7 +89,7 @@ after-settled c (settled.New k) = block-back (closedPhase (headOf c) (k .positio
 after-round : (c : FocusHead) (r : ℕ) → headOf (after c (closedAnswer (closeIn r (headOf c)))) ≡ closeIn r (headOf c) .head
 unfolding after
 after-round c zero = block-back (closedCollection (headOf c))
-after-round c (suc r) = after-settled c (settling (rounding (headOf c .phase)) (headOf c .n) (headOf c .f) (trustedBy (headOf c)))
+after-round c (suc r) = after-settled c (let s = headOf c .seat in settling (rounding (s .phase)) (s .n) (s .f) (trustedBy (headOf c)))
 
 after-either : (c : FocusHead) (b : Bool) (x y : Closing) → headOf (after c (closedAnswer x)) ≡ x .head → headOf (after c (closedAnswer y)) ≡ y .head
     → headOf (after c (closedAnswer (cond b x y))) ≡ cond b x y .head
@@ -96,4 +100,5 @@ pub after-close : (c : FocusHead) → headOf (after c (closedAnswer (close (head
 unfolding close
 after-close c =
     let h : Head = headOf c in
-    after-either c (h .ended) (closing (Closed.Refused ended) h) (closeIn (h .round) h) (after-refused c ended) (after-round c (h .round))
+    let r : ℕ = h .seat .round in
+    after-either c (h .seat .ended) (closing (Closed.Refused ended) h) (closeIn r h) (after-refused c ended) (after-round c r)

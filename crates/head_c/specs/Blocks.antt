@@ -32,14 +32,17 @@ listOf l = record { entries = l .entries }
 abbrev pub recordOf : FocusHead → Entry → List Row → Head
 recordOf c e l =
     record {
-      n = c .n;
-      f = c .f;
-      number = c .number;
-      phase = c .phase;
-      round = c .round;
-      healed = flag (c .healed);
-      ended = flag (c .ended);
-      position = e;
+      seat =
+          record {
+            n = c .n;
+            f = c .f;
+            number = c .number;
+            phase = c .phase;
+            round = c .round;
+            healed = flag (c .healed);
+            ended = flag (c .ended);
+            position = e;
+          };
       heard = c .heard;
       list = record { marks = c .marks; entries = c .entries };
       links = record { confessed = c .confessed; listed = c .listed; marks = c .words };
@@ -53,11 +56,11 @@ headOf c = recordOf c (entryIn (c .held) (c .position)) (map rowOf (c .lists))
 abbrev pub blockOf : Head → ℕ → ℕ → ℕ → ℤ → List FocusList → FocusHead
 blockOf h healed ended held v l =
     record {
-      n = h .n;
-      f = h .f;
-      number = h .number;
-      round = h .round;
-      phase = h .phase;
+      n = h .seat .n;
+      f = h .seat .f;
+      number = h .seat .number;
+      round = h .seat .round;
+      phase = h .seat .phase;
       healed = healed;
       ended = ended;
       held = held;
@@ -73,7 +76,8 @@ blockOf h healed ended held v l =
 
 unfoldable pub focusOf : Head → FocusHead
 focusOf h =
-    blockOf h (bit (h .healed)) (bit (h .ended)) (heldNumber (h .position)) (heldOr (h .position) (pos 0)) (map listOf (h .lists))
+    let s = h .seat in
+    blockOf h (bit (s .healed)) (bit (s .ended)) (heldNumber (s .position)) (heldOr (s .position) (pos 0)) (map listOf (h .lists))
 
 -- what is left in a block after a call: the record changed, or on a refusal what stood there
 abbrev pub left : ℕ → FocusHead → FocusHead → FocusHead

@@ -8,6 +8,7 @@ ghost use Rattle.head_spec.specs.Calls.{start, restart, hear, writeAnswer, writ
 use head_spec::Answer;
 use head_spec::Head;
 use head_spec::Row;
+use head_spec::Seat;
 use settle_trust::Links;
 use terms::Entry;
 use terms::Table;
@@ -128,7 +129,7 @@ pub fn head_of(c: FocusHead) -> Head
     let lists = c.lists;
     let rows = rows_of(lists);
     let position = entry_in(c.held, c.position);
-    Head {
+    let seat = Seat {
         n: c.n,
         f: c.f,
         number: c.number,
@@ -137,6 +138,9 @@ pub fn head_of(c: FocusHead) -> Head
         healed: c.healed != 0,
         ended: c.ended != 0,
         position: position,
+    };
+    Head {
+        seat: seat,
         heard: c.heard,
         list: list,
         links: links,
@@ -148,23 +152,24 @@ pub fn head_of(c: FocusHead) -> Head
 pub fn focus_of(h: Head) -> FocusHead
     ensures { λ r. ⌜ r ≡ focusOf h ⌝ }
 {
+    let seat = h.seat;
     let list = h.list;
     let entries = list.entries;
     let links = h.links;
     let marks = links.marks;
     let rows = h.lists;
     let lists = lists_of(rows);
-    let e = h.position;
+    let e = seat.position;
     let held = is_held(e);
     let position = number_of(e);
     FocusHead {
-        n: h.n,
-        f: h.f,
-        number: h.number,
-        round: h.round,
-        phase: h.phase,
-        healed: h.healed as u8,
-        ended: h.ended as u8,
+        n: seat.n,
+        f: seat.f,
+        number: seat.number,
+        round: seat.round,
+        phase: seat.phase,
+        healed: seat.healed as u8,
+        ended: seat.ended as u8,
         held: held,
         position: position,
         heard: h.heard,
@@ -237,7 +242,8 @@ pub fn written(c: FocusHead, buffer: &mut [u8], length: &mut usize) -> u8
 }
 
 pub fn held(c: FocusHead, position: &mut i32) -> u8
-    ensures { λ r. ⌜ (r ≡ heldNumber (headOf c .position)) × (now (position .exit) ≡ heldOr (headOf c .position) (now (position .entry))) ⌝ }
+    ensures { λ r. ⌜ (r ≡ heldNumber (headOf c .seat .position))
+        × (now (position .exit) ≡ heldOr (headOf c .seat .position) (now (position .entry))) ⌝ }
 {
     head_lent::held(head_of(c), position)
 }
@@ -314,8 +320,8 @@ pub extern "C" fn focus_head_write(h: &FocusHead, buffer: &mut [u8], length: &mu
 // The position that the head holds: 1, or 0 where it holds none.
 #[no_mangle]
 pub extern "C" fn focus_head_position(h: &FocusHead, position: &mut i32) -> u8
-    ensures { λ r. ⌜ (r ≡ heldNumber (headOf (now (h .entry)) .position))
-        × (now (position .exit) ≡ heldOr (headOf (now (h .entry)) .position) (now (position .entry))) ⌝ }
+    ensures { λ r. ⌜ (r ≡ heldNumber (headOf (now (h .entry)) .seat .position))
+        × (now (position .exit) ≡ heldOr (headOf (now (h .entry)) .seat .position) (now (position .entry))) ⌝ }
 {
     held(*h, position)
 }

@@ -7,6 +7,7 @@ use Rattle.terms.specs.Refusals.{check}
 use Rattle.terms.specs.Sizes.{checkSize}
 use Rattle.terms.specs.declared.Entry.{Entry}
 use Rattle.frame_spec.specs.declared.Said.{Said}
+use Rattle.head_spec.specs.declared.Seat.{Seat}
 
 -- 1, 2, 3, before the checks that follow
 abbrev pub checkMember : ℕ → ℕ → ℕ → ℕ → ℕ
@@ -17,6 +18,6 @@ abbrev pub isTime : ℕ → ℕ → Bool
 isTime p r = leb 1 p && leb p 65535 && ltb r 2
 
 -- what a head has to say, as the code has it: a list stands beside this
-abbrev pub saidBy : ℕ → Bool → Entry → Said
-saidBy zero healed x = Said.Collection (cond healed Entry.Null x)
-saidBy (suc r) healed x = cond healed Said.Confession Said.List
+abbrev pub saidBy : ℕ → Seat → Said
+saidBy zero s = Said.Collection (cond (s .healed) Entry.Null (s .position))
+saidBy (suc r) s = cond (s .healed) Said.Confession Said.List

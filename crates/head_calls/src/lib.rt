@@ -3,6 +3,7 @@
 ghost use mathlib.Core.Path.{_≡_};
 ghost use Rattle.terms.specs.Refusals.{check};
 ghost use Rattle.head_spec.specs.Record.{noEntries, opened, rows};
+ghost use Rattle.head_spec.specs.Seats.{firstSeat, healedSeat, confessionSeat, nextSeat};
 ghost use Rattle.head_spec.specs.Calls.{start, restart, writeAnswer, writeBuffer, closedCollection, closedPhase, closeIn, close};
 ghost use Rattle.head_calls.specs.Steps.{checkMember, isTime, saidBy};
 use frame_spec::Said;
@@ -12,6 +13,7 @@ use head_spec::Closed;
 use head_spec::Closing;
 use head_spec::Head;
 use head_spec::Row;
+use head_spec::Seat;
 use settle_midpoint::Settled;
 use settle_trust::Links;
 use terms::Entry;
@@ -27,18 +29,8 @@ pub fn no_entries() -> Table
 }
 
 // The record with nothing heard. Start, restart and closing make a record here and nowhere else.
-pub fn opened(
-    n: u8,
-    f: u8,
-    number: u8,
-    phase: u16,
-    round: u8,
-    healed: bool,
-    ended: bool,
-    position: Entry,
-    list: Table,
-) -> Head
-    ensures { λ r. ⌜ r ≡ opened n f number phase round healed ended position list ⌝ }
+pub fn opened(seat: Seat, list: Table) -> Head
+    ensures { λ r. ⌜ r ≡ opened seat list ⌝ }
 {
     let marks = [0u32; 32];
     let links = Links {
@@ -50,20 +42,85 @@ pub fn opened(
     let row = Row { entries };
     let lists = [row; 32];
     Head {
-        n,
-        f,
-        number,
-        phase,
-        round,
-        healed,
-        ended,
-        position,
+        seat,
         heard: 0,
         list,
         links,
         lists,
     }
 }
+
+// ---- The seats that calls make.
+
+// A start, at a position: phase 1 opens.
+fn first_seat(n: u8, f: u8, number: u8, position: i32) -> Seat
+    ensures { λ r. ⌜ r ≡ firstSeat n f number position ⌝ }
+{
+    let held = Entry::Position(position);
+    Seat {
+        n,
+        f,
+        number,
+        phase: 1,
+        round: 0,
+        healed: false,
+        ended: false,
+        position: held,
+    }
+}
+
+// A restart: the head is healed, with no position.
+fn healed_seat(n: u8, f: u8, number: u8, phase: u16, round: u8) -> Seat
+    ensures { λ r. ⌜ r ≡ healedSeat n f number phase round ⌝ }
+{
+    let none = Entry::Null;
+    Seat {
+        n,
+        f,
+        number,
+        phase,
+        round,
+        healed: true,
+        ended: false,
+        position: none,
+    }
+}
+
+// The collection round is closed.
+fn confession_seat(seat: Seat) -> Seat
+    ensures { λ r. ⌜ r ≡ confessionSeat seat ⌝ }
+{
+    let mut next = seat;
+    next.round = 1;
+    next.healed = false;
+    next.ended = false;
+    next
+}
+
+// The phase has ended with a position; after phase 65,535 phase and round stay, and the head has ended.
+fn next_seat(seat: Seat, position: i32) -> Seat
+    ensures { λ r. ⌜ r ≡ nextSeat seat position ⌝ }
+{
+    let held = Entry::Position(position);
+    let mut next = Seat {
+        n: seat.n,
+        f: seat.f,
+        number: seat.number,
+        phase: seat.phase,
+        round: 1,
+        healed: false,
+        ended: true,
+        position: held,
+    };
+    if seat.phase < 65535 {
+        next.phase = seat.phase + 1;
+        next.round = 0;
+        next.ended = false;
+    }
+    next
+}
+
+// ---- The calls.
 
 // One check: its number where it fails, and else what the checks that follow gave.
 fn check(holds: bool, number: u8, rest: u8) -> u8
@@ -108,18 +165,8 @@ pub fn start(h: Head, n: u32, f: u32, number: u32, position: i32) -> Answer
             head: h,
         };
     }
-    let held = Entry::Position(position);
-    let head = opened(
-        n as u8,
-        f as u8,
-        number as u8,
-        1,
-        0,
-        false,
-        false,
-        held,
-        no_entries(),
-    );
+    let seat = first_seat(n as u8, f as u8, number as u8, position);
+    let head = opened(seat, no_entries());
     Answer { refusal: 0, head }
 }
 
@@ -135,31 +182,27 @@ pub fn restart(h: Head, n: u32, f: u32, number: u32, phase: u32, round: u32) -> 
             head: h,
         };
     }
-    let head = opened(
-        n as u8,
-        f as u8,
-        number as u8,
-        phase as u16,
-        round as u8,
-        true,
-        false,
-        Entry::Null,
-        no_entries(),
-    );
+    let seat = healed_seat(n as u8, f as u8, number as u8, phase as u16, round as u8);
+    let head = opened(seat, no_entries());
     Answer { refusal: 0, head }
 }
 
 // What a head has to say; a list stands beside this.
-fn spoken(round: u8, healed: bool, position: Entry) -> Said
-    ensures { λ r. ⌜ r ≡ saidBy round healed position ⌝ }
+fn spoken(seat: Seat) -> Said
+    ensures { λ r. ⌜ r ≡ saidBy (seat .round) seat ⌝ }
 {
-    if round == 0 {
-        if healed {
+    if seat.round == 0 {
+        if seat.healed {
             return Said::Collection(Entry::Null);
         }
+        let position = seat.position;
         return Said::Collection(position);
     }
-    if healed { Said::Confession } else { Said::List }
+    if seat.healed {
+        Said::Confession
+    } else {
+        Said::List
+    }
 }
 
 // Writes what the head has to say at the front of the buffer.
@@ -167,19 +210,12 @@ pub fn write(h: Head, buffer: &mut [u8]) -> Written
     ensures answer { λ r. ⌜ r ≡ writeAnswer h (now (buffer .entry)) ⌝ }
     ensures bytes { λ r. ⌜ now (buffer .exit) ≡ writeBuffer h (now (buffer .entry)) ⌝ }
 {
-    if h.ended {
+    let seat = h.seat;
+    if seat.ended {
         return Written::Refused(refusal::ENDED);
     }
-    let position = h.position;
     let list = h.list;
-    frame_codec::write(
-        spoken(h.round, h.healed, position),
-        list,
-        h.n,
-        h.number,
-        h.phase,
-        buffer,
-    )
+    frame_codec::write(spoken(seat), list, seat.n, seat.number, seat.phase, buffer)
 }
 
 // ---- Closing a round, on a record by value. The promise is one equation with a definition of record's specs/Calls.antt; a refusal gives its number and leaves the
@@ -205,30 +241,27 @@ fn laid_out(lists: [Row; 32]) -> [[i32; 32]; 32]
 fn closed_collection(h: Head) -> Head
     ensures { λ r. ⌜ r ≡ closedCollection h ⌝ }
 {
-    let position = h.position;
+    let seat = h.seat;
     let list = h.list;
-    opened(h.n, h.f, h.number, h.phase, 1, false, false, position, list)
+    opened(confession_seat(seat), list)
 }
 
-// The phase has ended with a position; after phase 65,535 phase and round stay, and the head has ended.
+// The phase has ended with a position.
 fn closed_phase(h: Head, position: i32) -> Head
     ensures { λ r. ⌜ r ≡ closedPhase h position ⌝ }
 {
-    let at = Entry::Position(position);
-    let list = no_entries();
-    if h.phase == 65535 {
-        return opened(h.n, h.f, h.number, h.phase, 1, false, true, at, list);
-    }
-    opened(h.n, h.f, h.number, h.phase + 1, 0, false, false, at, list)
+    let seat = h.seat;
+    opened(next_seat(seat, position), no_entries())
 }
 
 // Closes a confession round.
 fn close_confession(h: Head) -> Closing
     ensures { λ r. ⌜ r ≡ closeIn 1 h ⌝ }
 {
+    let seat = h.seat;
     let lists = h.lists;
     let links = h.links;
-    match settle_position::settle(laid_out(lists), links, h.n, h.f) {
+    match settle_position::settle(laid_out(lists), links, seat.n, seat.f) {
         Settled::Refused(refused) => Closing {
             closed: Closed::Refused(refused),
             head: h,
@@ -247,13 +280,14 @@ fn close_confession(h: Head) -> Closing
 pub fn close(h: Head) -> Closing
     ensures { λ r. ⌜ r ≡ close h ⌝ }
 {
-    if h.ended {
+    let seat = h.seat;
+    if seat.ended {
         return Closing {
             closed: Closed::Refused(refusal::ENDED),
             head: h,
         };
     }
-    if h.round == 0 {
+    if seat.round == 0 {
         let head = closed_collection(h);
         return Closing {
             closed: Closed::Listed,

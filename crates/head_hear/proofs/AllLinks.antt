@@ -11,16 +11,16 @@ use lib.Seq.{set-out}
 use Rattle.terms.specs.declared.Entry.{Entry}
 use Rattle.marks.specs.Marks.{withMark}
 use Rattle.marks.proofs.Marks.{with-past}
-use Rattle.frame_spec.specs.Said.{Meaning, refused, collected, listed, confessed, said}
+use Rattle.frame_spec.specs.Said.{Meaning, refused, collected, listed, confessed}
 use Rattle.head_spec.specs.declared.Head.{Head}
 use Rattle.head_spec.specs.declared.Answer.{Answer}
-use Rattle.head_spec.specs.Calls.{answer, hearRefusal, taken, hear, hearAll}
+use Rattle.head_spec.specs.Calls.{answer, saidTo, hearRefusal, taken, hear, hearAll}
 use Rattle.head_hear.proofs.Held.{Full}
 
 module _ (h : Head) (k : ℕ) (s : List ℕ) (F : Full h) where
   full-hear : Full (hear h k s .head)
   unfolding hear
-  full-hear = go (hearRefusal h k s) (said (h .n) (h .phase) (h .round) k s)
+  full-hear = go (hearRefusal h k s) (saidTo (h .seat) k s)
     where
       go : (c : ℕ) (m : Meaning) → Full (answer c (taken h k m) h .head)
       go zero (refused c) = F
@@ -38,7 +38,7 @@ module _ (h : Head) (k : ℕ) (s : List ℕ) (F : Full h) where
 
   past-hear : 32 ≤ k → hear h k s .head ≡ h
   unfolding hear
-  past-hear b = go (hearRefusal h k s) (said (h .n) (h .phase) (h .round) k s)
+  past-hear b = go (hearRefusal h k s) (saidTo (h .seat) k s)
     where
       unmarked : (m : ℕ) → withMark m k ≡ m
       unmarked m = with-past m k b

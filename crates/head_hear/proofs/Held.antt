@@ -1,4 +1,5 @@
--- A record as the machine holds it: each of its arrays has 32 elements, as its type says. The record's fields follow one another, and its list is the tenth.
+-- A record as the machine holds it: each of its arrays has 32 elements, as its type says. The record's fields follow one another, and its list is
+-- the third.
 use mathlib.Core.Path.{_≡_, sym, _∙_}
 use mathlib.Core.List.{List}
 use Prim.Native.Nat.{ℕ}
@@ -20,9 +21,9 @@ Full h = Long (h .list .entries) (h .links .marks) (h .lists)
 
 pub full : {vs : List Val} (h : Head) → Is the-row h vs → Full h
 full h is =
-    let tenth = is .1 .1 .1 .1 .1 .1 .1 .1 .1 .1 .1 in
+    let third = is .1 .1 .1 .1 in
     record {
-      entries-long = sym (length-map (h .list .entries) _) ∙ tenth .0 .1 .1 .1 .0 .1 .0 .1;
-      marks-long = sym (length-map (h .links .marks) _) ∙ tenth .1 .0 .1 .1 .1 .1 .0 .1 .0 .1;
-      lists-long = sym (length-map (h .lists) _) ∙ tenth .1 .1 .0 .1 .0 .1;
+      entries-long = sym (length-map (h .list .entries) _) ∙ third .0 .1 .1 .1 .0 .1 .0 .1;
+      marks-long = sym (length-map (h .links .marks) _) ∙ third .1 .0 .1 .1 .1 .1 .0 .1 .0 .1;
+      lists-long = sym (length-map (h .lists) _) ∙ third .1 .1 .0 .1 .0 .1;
     }

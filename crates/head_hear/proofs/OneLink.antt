@@ -22,7 +22,7 @@ use Rattle.settle_trust.specs.declared.Links.{Links}
 use Rattle.head_spec.specs.declared.Row.{Row}
 use Rattle.head_spec.specs.declared.Head.{Head}
 use Rattle.head_spec.specs.declared.Answer.{Answer}
-use Rattle.head_spec.specs.Calls.{answer, hearRefusal, withEntry, withConfession, withList, taken, hear}
+use Rattle.head_spec.specs.Calls.{answer, saidTo, refusalTo, hearRefusal, withEntry, withConfession, withList, taken, hear}
 use Rattle.head_hear.specs.Steps.{linkRefusal, saidOn}
 
 -- ---- a frame that is not refused says something
@@ -46,7 +46,7 @@ says-something n p r k s e =
 
 -- what link k says
 abbrev pub linkSays : Head → ℕ → List ℕ → Meaning
-linkSays h k s = saidOn (h .ended) (h .n) (h .phase) (h .round) (h .heard) k s
+linkSays h k s = saidOn (h .seat) (h .heard) k s
 
 abbrev answered : Head → ℕ → Meaning → Answer
 answered h k (refused c) = record { refusal = c; head = h }
@@ -56,10 +56,10 @@ answered h k confessed = record { refusal = 0; head = taken h k confessed }
 
 module _ (h : Head) (k : ℕ) (s : List ℕ) where
   -- the checks of the frame alone
-  frame-answered : let m = said (h .n) (h .phase) (h .round) k s in answer (refusalOf (h .n) (h .phase) (h .round) k s) (taken h k m) h ≡ answered h k m
+  frame-answered : let m = saidTo (h .seat) k s in answer (refusalTo (h .seat) k s) (taken h k m) h ≡ answered h k m
   unfolding said
   frame-answered =
-      go (refusalOf (h .n) (h .phase) (h .round) k s) (meaning (kindField s) (h .n) s) (says-something (h .n) (h .phase) (h .round) k s)
+      go (refusalTo (h .seat) k s) (meaning (kindField s) (h .seat .n) s) (says-something (h .seat .n) (h .seat .phase) (h .seat .round) k s)
     where
       go : (c : ℕ) (m : Meaning) → (c ≡ 0 → AcceptedMeaning m) → answer c (taken h k (unlessRefused c m)) h ≡ answered h k (unlessRefused c m)
       go zero (refused d) a = absurd (a refl)
@@ -71,50 +71,36 @@ module _ (h : Head) (k : ℕ) (s : List ℕ) where
   -- before them those of the link
   link-answered : answered h k (linkSays h k s) ≡ hear h k s
   unfolding hear hearRefusal
-  link-answered = sym (go (not (h .ended)) (ltb k (h .n)) (not (bitOf (h .heard) k)))
+  link-answered = sym (go (not (h .seat .ended)) (ltb k (h .seat .n)) (not (bitOf (h .heard) k)))
     where
       row : Bool → Bool → Bool → ℕ → ℕ
       row a b c rest = check a refusal.ended (check b refusal.number (check c refusal.heard rest))
 
-      go : (a b c : Bool) → let m = said (h .n) (h .phase) (h .round) k s in
-          answer (row a b c (refusalOf (h .n) (h .phase) (h .round) k s)) (taken h k m) h ≡ answered h k (unlessRefused (row a b c 0) m)
+      go : (a b c : Bool) → let m = saidTo (h .seat) k s in
+          answer (row a b c (refusalTo (h .seat) k s)) (taken h k m) h ≡ answered h k (unlessRefused (row a b c 0) m)
       go true true true = frame-answered
       go true true false = refl
       go true false c = refl
       go false b c = refl
 
   -- the code has what is said as an enum, with the table of a list beside it
-  meant-link : meant (saidOf (linkSays h k s)) (tableIn (h .n) s) ≡ linkSays h k s
-  meant-link = go (linkRefusal (h .ended) (h .n) (h .heard) k)
+  meant-link : meant (saidOf (linkSays h k s)) (tableIn (h .seat .n) s) ≡ linkSays h k s
+  meant-link = go (linkRefusal (h .seat) (h .heard) k)
     where
-      go : (c : ℕ) → let m = unlessRefused c (said (h .n) (h .phase) (h .round) k s) in meant (saidOf m) (tableIn (h .n) s) ≡ m
-      go zero = meant-said (h .n) (h .phase) (h .round) k s
+      go : (c : ℕ) → let m = unlessRefused c (saidTo (h .seat) k s) in meant (saidOf m) (tableIn (h .seat .n) s) ≡ m
+      go zero = meant-said (h .seat .n) (h .seat .phase) (h .seat .round) k s
       go (suc c) = refl
 
 -- ---- what the code makes of the record
 
 -- with the links heard, the list that is being filled, and what the links gave
 abbrev pub holding : Head → ℕ → Table → Links → List Row → Head
-holding h heard t g l =
-    record {
-      n = h .n;
-      f = h .f;
-      number = h .number;
-      phase = h .phase;
-      round = h .round;
-      healed = h .healed;
-      ended = h .ended;
-      position = h .position;
-      heard = heard;
-      list = t;
-      links = g;
-      lists = l;
-    }
+holding h heard t g l = record { seat = h .seat; heard = heard; list = t; links = g; lists = l }
 
 -- it is what hearing makes of it, by what was said
 module _ (h : Head) (k : ℕ) (s : List ℕ) {what : Said} (e : what ≡ saidOf (linkSays h k s)) where
-  as-said : {w : Said} → what ≡ w → answered h k (meant w (tableIn (h .n) s)) ≡ hear h k s
-  as-said q = ap (answered h k) (ap (λ (w : Said). meant w (tableIn (h .n) s)) (sym q ∙ e) ∙ meant-link h k s) ∙ link-answered h k s
+  as-said : {w : Said} → what ≡ w → answered h k (meant w (tableIn (h .seat .n) s)) ≡ hear h k s
+  as-said q = ap (answered h k) (ap (λ (w : Said). meant w (tableIn (h .seat .n) s)) (sym q ∙ e) ∙ meant-link h k s) ∙ link-answered h k s
 
   pub refused-heard : {c : ℕ} → what ≡ Said.Refused c → record { refusal = c; head = h } ≡ hear h k s
   refused-heard q = as-said q
@@ -124,7 +110,7 @@ module _ (h : Head) (k : ℕ) (s : List ℕ) {what : Said} (e : what ≡ saidOf 
         → record { refusal = 0; head = holding h heard t (h .links) (h .lists) } ≡ hear h k s
     entry-heard q a = rw (m, a) (as-said q)
 
-    pub list-heard : {t : Table} {g : Links} {l : List Row} → what ≡ Said.List → t ≡ tableIn (h .n) s → g ≡ withList (h .links) k t
+    pub list-heard : {t : Table} {g : Links} {l : List Row} → what ≡ Said.List → t ≡ tableIn (h .seat .n) s → g ≡ withList (h .links) k t
         → l ≡ set (h .lists) k (record { entries = t .entries }) → record { refusal = 0; head = holding h heard (h .list) g l } ≡ hear h k s
     list-heard q a b d = rw (m, d, b, a) (as-said q)
 

@@ -1,18 +1,20 @@
 -- Hearing, cut into the steps of the code.
-use mathlib.Core.Bool.{Bool, not}
+use mathlib.Core.Bool.{not}
 use mathlib.Core.List.{List}
 use Prim.Native.Nat.{ℕ}
 use lib.Dec.{ltb}
 use Rattle.terms.specs.Refusals as refusal
 use Rattle.terms.specs.Refusals.{check}
 use Rattle.marks.specs.Marks.{bitOf}
-use Rattle.frame_spec.specs.Said.{Meaning, unlessRefused, said}
+use Rattle.frame_spec.specs.Said.{Meaning, unlessRefused}
+use Rattle.head_spec.specs.declared.Seat.{Seat}
+use Rattle.head_spec.specs.Calls.{saidTo}
 
 -- 26, 3, 21
-abbrev pub linkRefusal : Bool → ℕ → ℕ → ℕ → ℕ
-linkRefusal ended n heard k =
-    check (not ended) refusal.ended (check (ltb k n) refusal.number (check (not (bitOf heard k)) refusal.heard 0))
+abbrev pub linkRefusal : Seat → ℕ → ℕ → ℕ
+linkRefusal x heard k =
+    check (not (x .ended)) refusal.ended (check (ltb k (x .n)) refusal.number (check (not (bitOf heard k)) refusal.heard 0))
 
 -- what link k says to a head that has heard these links
-abbrev pub saidOn : Bool → ℕ → ℕ → ℕ → ℕ → ℕ → List ℕ → Meaning
-saidOn ended n p r heard k s = unlessRefused (linkRefusal ended n heard k) (said n p r k s)
+abbrev pub saidOn : Seat → ℕ → ℕ → List ℕ → Meaning
+saidOn x heard k s = unlessRefused (linkRefusal x heard k) (saidTo x k s)

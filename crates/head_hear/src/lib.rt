@@ -10,20 +10,21 @@ use frame_spec::Said;
 use head_spec::Answer;
 use head_spec::Head;
 use head_spec::Row;
+use head_spec::Seat;
 use settle_trust::Links;
 use terms::Entry;
 use terms::Table;
 use terms::refusal;
 
 // Refusals 26, 3 and 21 of a link.
-fn link_refusal(ended: bool, n: u8, heard: u32, link: u32) -> u8
-    ensures { λ r. ⌜ r ≡ linkRefusal ended n heard link ⌝ }
+fn link_refusal(seat: Seat, heard: u32, link: u32) -> u8
+    ensures { λ r. ⌜ r ≡ linkRefusal seat heard link ⌝ }
 {
     let again = marks::marked(heard, link as usize);
-    if ended {
+    if seat.ended {
         return refusal::ENDED;
     }
-    if n as u32 <= link {
+    if seat.n as u32 <= link {
         return refusal::NUMBER;
     }
     if again {
@@ -33,14 +34,14 @@ fn link_refusal(ended: bool, n: u8, heard: u32, link: u32) -> u8
 }
 
 // What a link says to a head that has heard these links: refused for itself, or what its frame says.
-fn said_on(ended: bool, n: u8, phase: u16, round: u8, heard: u32, link: u32, frame: &[u8]) -> Said
-    ensures { λ r. ⌜ r ≡ saidOf (saidOn ended n phase round heard link (now (frame .entry))) ⌝ }
+fn said_on(seat: Seat, heard: u32, link: u32, frame: &[u8]) -> Said
+    ensures { λ r. ⌜ r ≡ saidOf (saidOn seat heard link (now (frame .entry))) ⌝ }
 {
-    let refused = link_refusal(ended, n, heard, link);
+    let refused = link_refusal(seat, heard, link);
     if refused != 0 {
         return Said::Refused(refused);
     }
-    frame_codec::read(frame, n, phase, round, link as u8)
+    frame_codec::read(frame, seat.n, seat.phase, seat.round, link as u8)
 }
 
 // A list with position v at k, where it has such a place.
@@ -90,10 +91,11 @@ fn with_list(links: Links, k: usize, table: Table) -> Links
 pub fn hear(h: Head, link: u32, frame: &[u8]) -> Answer
     ensures { λ r. ⌜ r ≡ hear h link (now (frame .entry)) ⌝ }
 {
+    let seat = h.seat;
     let k = link as usize;
     let mut next = h;
     next.heard = marks::with_mark(h.heard, k);
-    match said_on(h.ended, h.n, h.phase, h.round, h.heard, link, frame) {
+    match said_on(seat, h.heard, link, frame) {
         Said::Refused(refused) => {
             return Answer {
                 refusal: refused,
@@ -106,7 +108,7 @@ pub fn hear(h: Head, link: u32, frame: &[u8]) -> Answer
             next.list = filled;
         }
         Said::List => {
-            let table = frame_codec::table_in(frame, h.n);
+            let table = frame_codec::table_in(frame, seat.n);
             let links = h.links;
             let listed = with_list(links, k, table);
             next.links = listed;
@@ -129,15 +131,16 @@ pub fn hear(h: Head, link: u32, frame: &[u8]) -> Answer
 
 // Hears all links of a round: link k's frame is the first lengths[k] bytes of its slot, the 140 bytes of `frames` from 140 k on. Refused frames give nothing.
 pub fn hear_all(h: Head, frames: &[u8], lengths: &[u8; 32]) -> Head
-    ensures { λ r. ⌜ r ≡ hearAll h (slot (now (frames .entry)) (now (lengths .entry))) (h .n) ⌝ }
+    ensures { λ r. ⌜ r ≡ hearAll h (slot (now (frames .entry)) (now (lengths .entry))) (h .seat .n) ⌝ }
 {
-    let count = settle_trust::link_count(h.n);
+    let seat = h.seat;
+    let count = settle_trust::link_count(seat.n);
     let mut next = h;
     let mut k: usize = 0;
     while k < count {
         let frame = frame_slots::slot(frames, lengths, k as u16);
         let heard = next.heard;
-        match said_on(h.ended, h.n, h.phase, h.round, heard, k as u32, frame) {
+        match said_on(seat, heard, k as u32, frame) {
             Said::Refused(_) => {}
             Said::Collection(entry) => {
                 next.heard = marks::with_mark(heard, k);
@@ -147,7 +150,7 @@ pub fn hear_all(h: Head, frames: &[u8], lengths: &[u8; 32]) -> Head
             }
             Said::List => {
                 next.heard = marks::with_mark(heard, k);
-                let table = frame_codec::table_in(frame, h.n);
+                let table = frame_codec::table_in(frame, seat.n);
                 let links = next.links;
                 let listed = with_list(links, k, table);
                 next.links = listed;

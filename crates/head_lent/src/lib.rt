@@ -95,9 +95,10 @@ pub fn write(h: &Head, buffer: &mut [u8], length: &mut usize) -> u8
 
 // The position of a record by value, where it was lent: 1, or 0 where there is none.
 pub fn held(h: Head, position: &mut i32) -> u8
-    ensures { λ r. ⌜ (r ≡ heldNumber (h .position)) × (now (position .exit) ≡ heldOr (h .position) (now (position .entry))) ⌝ }
+    ensures { λ r. ⌜ (r ≡ heldNumber (h .seat .position)) × (now (position .exit) ≡ heldOr (h .seat .position) (now (position .entry))) ⌝ }
 {
-    let e = h.position;
+    let seat = h.seat;
+    let e = seat.position;
     match e {
         Entry::Null => 0,
         Entry::Position(v) => {
@@ -109,7 +110,8 @@ pub fn held(h: Head, position: &mut i32) -> u8
 
 // The position that the record holds: 1, or 0 where it holds none.
 pub fn position(h: &Head, position: &mut i32) -> u8
-    ensures { λ r. ⌜ (r ≡ heldNumber (now (h .entry) .position)) × (now (position .exit) ≡ heldOr (now (h .entry) .position) (now (position .entry))) ⌝ }
+    ensures { λ r. ⌜ (r ≡ heldNumber (now (h .entry) .seat .position))
+        × (now (position .exit) ≡ heldOr (now (h .entry) .seat .position) (now (position .entry))) ⌝ }
 {
     held(*h, position)
 }

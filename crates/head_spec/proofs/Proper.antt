@@ -28,8 +28,10 @@ use Rattle.frame_spec.specs.Proper.{ProperTable, Proper}
 use Rattle.frame_spec.proofs.Listing.{and-both, numbers-none}
 use Rattle.settle_trust.specs.declared.Links.{Links}
 use Rattle.head_spec.specs.declared.Row.{Row}
+use Rattle.head_spec.specs.declared.Seat.{Seat}
 use Rattle.head_spec.specs.declared.Head.{Head}
 use Rattle.head_spec.specs.Record.{noEntries, noLinks, noLists, opened, rows}
+use Rattle.head_spec.specs.Seats.{firstSeat, healedSeat}
 use Rattle.head_spec.specs.Calls.{startRefusal, started, restartRefusal, restarted}
 
 -- the list held of link k
@@ -52,17 +54,20 @@ pub record Sized (n f : ℕ) : Type 0 where
   pub limit : AcceptedSize n f
 
 -- A head in a collection round that is not healed holds a position; in a confession round it may have none.
+pub record ProperSeat (s : Seat) : Type 0 where
+  pub size : Sized (s .n) (s .f)
+  pub number : s .number < s .n
+  pub from-first : 1 ≤ s .phase
+  pub to-last : s .phase ≤ 65535
+  pub round : s .round < 2
+  pub position : Proper (s .n) (collected (s .position))
+  pub holds : s .round ≡ 0 → s .healed ≡ false → s .position ≢ Entry.Null
+
 pub record ProperHead (h : Head) : Type 0 where
-  pub size : Sized (h .n) (h .f)
-  pub number : h .number < h .n
-  pub from-first : 1 ≤ h .phase
-  pub to-last : h .phase ≤ 65535
-  pub round : h .round < 2
-  pub position : Proper (h .n) (collected (h .position))
-  pub holds : h .round ≡ 0 → h .healed ≡ false → h .position ≢ Entry.Null
-  pub heard : h .heard < 2 ^ h .n
-  pub list : ProperTable (h .n) (h .list)
-  pub links : ProperLinks (h .n) (h .heard) (h .links) (h .lists)
+  pub seat : ProperSeat (h .seat)
+  pub heard : h .heard < 2 ^ h .seat .n
+  pub list : ProperTable (h .seat .n) (h .list)
+  pub links : ProperLinks (h .seat .n) (h .heard) (h .links) (h .lists)
 
 -- ---- nothing heard
 
@@ -88,21 +93,8 @@ no-links n size =
       unheard = λ k e. (bit-none k, bit-none k);
     }
 
-pub proper-opened : {n f i p r : ℕ} {healed ended : Bool} {x : Entry} {t : Table} → Sized n f → i < n → 1 ≤ p → p ≤ 65535 → r < 2 → Proper n (collected x)
-    → (r ≡ 0 → healed ≡ false → x ≢ Entry.Null) → ProperTable n t → ProperHead (opened n f i p r healed ended x t)
-proper-opened {n} S number from-first to-last round position holds list =
-    record {
-      size = S;
-      number = number;
-      from-first = from-first;
-      to-last = to-last;
-      round = round;
-      position = position;
-      holds = holds;
-      heard = pow-pos n;
-      list = list;
-      links = no-links n (S .most);
-    }
+pub proper-opened : {s : Seat} {t : Table} → ProperSeat s → ProperTable (s .n) t → ProperHead (opened s t)
+proper-opened {s} S list = record { seat = S; heard = pow-pos (s .n); list = list; links = no-links (s .n) (S .size .most) }
 
 -- ---- start and restart
 
@@ -127,21 +119,45 @@ unfolding isCount isLimit
 sized-passes n f rest S = rw (le-leb 1 n (S .some), le-leb n 32 (S .most), le-leb (7 * f + 2) (2 * n) (S .limit))
 
 module _ (n f i : ℕ) where
-  pub proper-started : (v : ℤ) → startRefusal n f i v ≡ 0 → ProperHead (started n f i v)
-  unfolding startRefusal started
-  proper-started v e =
+  proper-first : (v : ℤ) → startRefusal n f i v ≡ 0 → ProperSeat (firstSeat n f i v)
+  unfolding startRefusal
+  proper-first v e =
       let (S, rest) = sized n f e in
       let (number, range, done) = both-passed (ltb i n) (isPosition v) 2 3 rest in
-      proper-opened S (ltb-true i n number) (omega arith) (omega arith) (omega arith) range (λ r h q. not-null q refl) (no-entries n)
+      record {
+        size = S;
+        number = ltb-true i n number;
+        from-first = omega arith;
+        to-last = omega arith;
+        round = omega arith;
+        position = range;
+        holds = λ r h q. not-null q refl;
+      }
 
-  pub proper-restarted : (p r : ℕ) → restartRefusal n f i p r ≡ 0 → ProperHead (restarted n f i p r)
-  unfolding restartRefusal restarted
-  proper-restarted p r e =
+  pub proper-started : (v : ℤ) → startRefusal n f i v ≡ 0 → ProperHead (started n f i v)
+  unfolding started
+  proper-started v e = proper-opened (proper-first v e) (no-entries n)
+
+  proper-healed : (p r : ℕ) → restartRefusal n f i p r ≡ 0 → ProperSeat (healedSeat n f i p r)
+  unfolding restartRefusal
+  proper-healed p r e =
       let (S, rest) = sized n f e in
       let (number, times, done) = both-passed (ltb i n) (leb 1 p && leb p 65535 && ltb r 2) 2 4 rest in
       let (phase, round) = and-both (leb 1 p && leb p 65535) (ltb r 2) times in
       let (first, last) = and-both (leb 1 p) (leb p 65535) phase in
-      proper-opened S (ltb-true i n number) (leb-true 1 p first) (leb-true p 65535 last) (ltb-true r 2 round) tt (λ z h q. true≢false h) (no-entries n)
+      record {
+        size = S;
+        number = ltb-true i n number;
+        from-first = leb-true 1 p first;
+        to-last = leb-true p 65535 last;
+        round = ltb-true r 2 round;
+        position = tt;
+        holds = λ z h q. true≢false h;
+      }
+
+  pub proper-restarted : (p r : ℕ) → restartRefusal n f i p r ≡ 0 → ProperHead (restarted n f i p r)
+  unfolding restarted
+  proper-restarted p r e = proper-opened (proper-healed p r e) (no-entries n)
 
   -- in a ring of an accepted size no start at a position is refused, and no restart in phases 1 to 65,535
   module _ (S : Sized n f) (l : i < n) where

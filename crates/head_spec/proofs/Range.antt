@@ -95,13 +95,14 @@ listed-position n t P j l u e = go (bitOf (t .marks) j) (getD (t .entries) j (po
     go false v f q = absurd (not-null refl q)
 
 module _ (h : Head) (P : ProperHead h) where
-  pub trusted-positions : InRange (h .n) (trustedBy h)
+  pub trusted-positions : InRange (h .seat .n) (trustedBy h)
   unfolding givenBy
   trusted-positions j l u e =
-      trusted-in-range (h .n) (h .f) (given h) j (λ k m w. says k m w (bitOf (h .links .confessed) k) (bitOf (h .links .listed) k)) u .0 e .0 .within
+      let G = h .links in
+      trusted-in-range (h .seat .n) (h .seat .f) (given h) j (λ k m w. says k m w (bitOf (G .confessed) k) (bitOf (G .listed) k)) u .0 e .0 .within
     where
-      says : (k : ℕ) → k < h .n → (w : ℤ) (a b : Bool)
+      says : (k : ℕ) → k < h .seat .n → (w : ℤ) (a b : Bool)
           → saysOf j (cond a confessed (cond b (gave (tableAt (listFrom (h .links) (h .lists) k))) nothing)) ≡ Position w → isPosition w ≡ true
       says k m w true b q = absurd (not-null refl q)
-      says k m w false true q = listed-position (h .n) (listFrom (h .links) (h .lists) k) (P .links .tables k m) j l w q
+      says k m w false true q = listed-position (h .seat .n) (listFrom (h .links) (h .lists) k) (P .links .tables k m) j l w q
       says k m w false false q = absurd (not-null refl q)

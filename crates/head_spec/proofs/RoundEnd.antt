@@ -16,28 +16,30 @@ use Rattle.convergence.proofs.Support.{not-null}
 use Rattle.settle_midpoint.specs.Answers.{kept, settling}
 use Rattle.settle_midpoint.specs.declared.Kept.{Kept}
 use Rattle.settle_midpoint.specs.declared.Settled.{Settled}
+use Rattle.head_spec.specs.declared.Seat.{Seat}
 use Rattle.head_spec.specs.declared.Head.{Head}
 use Rattle.head_spec.specs.declared.Closed.{Closed}
-use Rattle.head_spec.specs.Record.{noEntries, opened, trustedBy}
-use Rattle.head_spec.specs.Calls.{isLast, closedCollection, closedPhase, closing, closeSettled, closeIn, close}
-use Rattle.head_spec.proofs.Proper.{ProperHead, no-entries, proper-opened}
+use Rattle.head_spec.specs.Record.{trustedBy}
+use Rattle.head_spec.specs.Seats.{confessionSeat, isLast, nextSeat}
+use Rattle.head_spec.specs.Calls.{closedCollection, closedPhase, closing, closeSettled, closeIn, close}
+use Rattle.head_spec.proofs.Proper.{ProperSeat, ProperHead, no-entries, proper-opened}
 use Rattle.head_spec.proofs.Hearing.{Fresh}
 use Rattle.head_spec.proofs.Range.{midpoint-position, trusted-positions}
 
 -- what is settled from what was heard
 abbrev pub settledBy : Head → Kept
-settledBy h = kept (rounding (h .phase)) (trim (h .f) (nulls (h .n) (trustedBy h))) (ordered (h .n) (trustedBy h))
+settledBy h = kept (rounding (h .seat .phase)) (trim (h .seat .f) (nulls (h .seat .n) (trustedBy h))) (ordered (h .seat .n) (trustedBy h))
 
 -- not more than 3f nulls among the trusted entries
 abbrev pub enoughTrusted : Head → Bool
-enoughTrusted h = enough (h .n) (h .f) (trustedBy h)
+enoughTrusted h = enough (h .seat .n) (h .seat .f) (trustedBy h)
 
-module _ (h : Head) (runs : h .ended ≡ false) where
-  pub closes-collection : h .round ≡ 0 → close h ≡ closing Closed.Listed (closedCollection h)
+module _ (h : Head) (runs : h .seat .ended ≡ false) where
+  pub closes-collection : h .seat .round ≡ 0 → close h ≡ closing Closed.Listed (closedCollection h)
   unfolding close
   closes-collection r = rw (runs, r)
 
-  module _ (confession : h .round ≡ 1) where
+  module _ (confession : h .seat .round ≡ 1) where
     pub closes-phase : enoughTrusted h ≡ true → close h ≡ closing (Closed.Settled (settledBy h)) (closedPhase h (settledBy h .position))
     unfolding close settling
     closes-phase e = rw (runs, confession, e)
@@ -47,14 +49,14 @@ module _ (h : Head) (runs : h .ended ≡ false) where
     too-few-trusted e = rw (runs, confession, e)
 
 -- the new position is the midpoint
-pub settled-midpoint : (h : Head) → settledBy h .position ≡ midpoint (rounding (h .phase)) (h .n) (h .f) (trustedBy h)
+pub settled-midpoint : (h : Head) → settledBy h .position ≡ midpoint (rounding (h .seat .phase)) (h .seat .n) (h .seat .f) (trustedBy h)
 unfolding midpoint
 settled-midpoint h = refl
 
 -- phase 65,535 is the last
-pub last-ended : (h : Head) (v : ℤ) → 65535 ≤ h .phase → closedPhase h v .ended ≡ true
+pub last-ended : (h : Head) (v : ℤ) → 65535 ≤ h .seat .phase → closedPhase h v .seat .ended ≡ true
 unfolding closedPhase
-last-ended h v l = le-leb 65535 (h .phase) l
+last-ended h v l = le-leb 65535 (h .seat .phase) l
 
 -- ---- what is answered, and what is held
 
@@ -65,7 +67,7 @@ Answers (Closed.Settled k) h h′ = h′ ≡ closedPhase h (k .position)
 
 answers : (h : Head) → Answers (close h .closed) h (close h .head)
 unfolding close
-answers h = go (h .ended) (h .round)
+answers h = go (h .seat .ended) (h .seat .round)
   where
     settles : (s : Settled) → Answers (closeSettled s h .closed) h (closeSettled s h .head)
     settles (Settled.Refused c) = refl
@@ -74,42 +76,64 @@ answers h = go (h .ended) (h .round)
     go : (b : Bool) (r : ℕ) → let a = cond b (closing (Closed.Refused refusal.ended) h) (closeIn r h) in Answers (a .closed) h (a .head)
     go true r = refl
     go false zero = refl
-    go false (suc r) = settles (settling (rounding (h .phase)) (h .n) (h .f) (trustedBy h))
+    go false (suc r) = settles (settling (rounding (h .seat .phase)) (h .seat .n) (h .seat .f) (trustedBy h))
 
 -- a closing that settles: the record holds the position answered
-pub settled-held : (h : Head) {k : Kept} → close h .closed ≡ Closed.Settled k → close h .head .position ≡ Entry.Position (k .position)
+pub settled-held : (h : Head) {k : Kept} → close h .closed ≡ Closed.Settled k → close h .head .seat .position ≡ Entry.Position (k .position)
 unfolding closedPhase
-settled-held h e = ap (λ (x : Head). x .position) (rw e at (answers h))
+settled-held h e = ap (λ (x : Head). x .seat .position) (rw e at (answers h))
 
 pub refused-kept : (h : Head) {c : ℕ} → close h .closed ≡ Closed.Refused c → close h .head ≡ h
 refused-kept h e = rw e at (answers h)
 
 -- ---- a proper record stays proper, and a round that is closed opens the next
 
+proper-confession : {s : Seat} → ProperSeat s → ProperSeat (confessionSeat s)
+proper-confession P =
+    record {
+      size = P .size;
+      number = P .number;
+      from-first = P .from-first;
+      to-last = P .to-last;
+      round = omega arith;
+      position = P .position;
+      holds = λ r. absurd (omega arith);
+    }
+
+proper-next : {s : Seat} (v : ℤ) → ProperSeat s → isPosition v ≡ true → ProperSeat (nextSeat s v)
+proper-next {s} v P k =
+    let (first, last, round) = times (isLast s) refl in
+    record {
+      size = P .size;
+      number = P .number;
+      from-first = first;
+      to-last = last;
+      round = round;
+      position = k;
+      holds = λ r t q. not-null q refl;
+    }
+  where
+    times : (b : Bool) → isLast s ≡ b → let p = cond b (s .phase) (s .phase + 1) in (1 ≤ p) × (p ≤ 65535) × (cond b 1 0 < 2)
+    times true e = (P .from-first, P .to-last, omega arith)
+    times false e = let more = leb-false 65535 (s .phase) e in (omega arith, omega arith, omega arith)
+
 module _ (h : Head) (P : ProperHead h) where
   proper-collection : ProperHead (closedCollection h)
   unfolding closedCollection
-  proper-collection =
-      proper-opened (P .size) (P .number) (P .from-first) (P .to-last) (omega arith) (P .position) (λ r. absurd (omega arith)) (P .list)
+  proper-collection = proper-opened (proper-confession (P .seat)) (P .list)
 
   proper-phase : (v : ℤ) → isPosition v ≡ true → ProperHead (closedPhase h v)
   unfolding closedPhase
-  proper-phase v k = go (isLast h) refl
-    where
-      go : (b : Bool) → isLast h ≡ b
-          → ProperHead (opened (h .n) (h .f) (h .number) (cond b (h .phase) (h .phase + 1)) (cond b 1 0) false b (Entry.Position v) noEntries)
-      go true e = proper-opened (P .size) (P .number) (P .from-first) (P .to-last) (omega arith) k (λ r. absurd (omega arith)) (no-entries (h .n))
-      go false e =
-          let more = leb-false 65535 (h .phase) e in
-          proper-opened (P .size) (P .number) (omega arith) (omega arith) (omega arith) k (λ r t q. not-null q refl) (no-entries (h .n))
+  proper-phase v k = proper-opened (proper-next v (P .seat) k) (no-entries (h .seat .n))
 
   settled-position : isPosition (settledBy h .position) ≡ true
   settled-position =
-      rw (settled-midpoint h) (midpoint-position (rounding (h .phase)) (h .n) (h .f) (trustedBy h) (rounding-le (h .phase)) (trusted-positions h P))
+      let s = h .seat in
+      rw (settled-midpoint h) (midpoint-position (rounding (s .phase)) (s .n) (s .f) (trustedBy h) (rounding-le (s .phase)) (trusted-positions h P))
 
   pub proper-close : ProperHead (close h .head)
   unfolding close settling
-  proper-close = go (h .ended) (h .round)
+  proper-close = go (h .seat .ended) (h .seat .round)
     where
       settles : (c : Bool) → ProperHead (closeSettled (cond c (Settled.New (settledBy h)) (Settled.Refused refusal.trusted)) h .head)
       settles true = proper-phase (settledBy h .position) settled-position
@@ -124,7 +148,8 @@ module _ (h : Head) (P : ProperHead h) where
   unfolding closedCollection
   fresh-collection = record { proper = proper-collection; runs = refl; unheard = refl; empty = λ r. absurd (omega arith) }
 
-  pub fresh-phase : h .phase < 65535 → Fresh (closedPhase h (settledBy h .position))
+  pub fresh-phase : h .seat .phase < 65535 → Fresh (closedPhase h (settledBy h .position))
   unfolding closedPhase
   fresh-phase l =
-      record { proper = proper-phase (settledBy h .position) settled-position; runs = lt-leb 65535 (h .phase) l; unheard = refl; empty = λ r. refl }
+      let proper = proper-phase (settledBy h .position) settled-position in
+      record { proper = proper; runs = lt-leb 65535 (h .seat .phase) l; unheard = refl; empty = λ r. refl }

@@ -9,50 +9,51 @@ use lib.ListN.{length, take, drop}
 use lib.Seq.{take-append-seam}
 use Rattle.terms.specs.Refusals as refusal
 use Rattle.terms.specs.declared.Entry.{Entry}
-use Rattle.frame_spec.specs.Said.{collected, listed, confessed, said}
+use Rattle.frame_spec.specs.Said.{collected, listed, confessed}
 use Rattle.frame_spec.specs.Written.{fitsIn, written, buffered}
 use Rattle.frame_spec.specs.declared.Written.{Written}
 use Rattle.frame_spec.specs.Proper.{Proper, roundOfMeaning}
 use Rattle.frame_spec.proofs.ReadsBack.{reads-back}
 use Rattle.head_spec.specs.declared.Head.{Head}
-use Rattle.head_spec.specs.Calls.{spokenIn, spoken, frameFor, writeAnswer, writeBuffer}
+use Rattle.head_spec.specs.Calls.{saidTo, spokenIn, spoken, frameFor, writeAnswer, writeBuffer}
 use Rattle.head_spec.proofs.Proper.{ProperHead}
 
 module _ (h : Head) (P : ProperHead h) where
-  proper-spoken : Proper (h .n) (spoken h) × (roundOfMeaning (spoken h) ≡ h .round)
+  proper-spoken : Proper (h .seat .n) (spoken h) × (roundOfMeaning (spoken h) ≡ h .seat .round)
   unfolding spoken
-  proper-spoken = go (h .round) (P .round)
+  proper-spoken = go (h .seat .round) (P .seat .round)
     where
-      collecting : (b : Bool) → Proper (h .n) (collected (cond b Entry.Null (h .position)))
+      collecting : (b : Bool) → Proper (h .seat .n) (collected (cond b Entry.Null (h .seat .position)))
       collecting true = tt
-      collecting false = P .position
+      collecting false = P .seat .position
 
-      confessing : (b : Bool) → let m = cond b confessed (listed (h .list)) in Proper (h .n) m × (roundOfMeaning m ≡ 1)
+      confessing : (b : Bool) → let m = cond b confessed (listed (h .list)) in Proper (h .seat .n) m × (roundOfMeaning m ≡ 1)
       confessing true = (tt, refl)
       confessing false = (P .list, refl)
 
-      go : (r : ℕ) → r < 2 → Proper (h .n) (spokenIn r h) × (roundOfMeaning (spokenIn r h) ≡ r)
-      go zero l = (collecting (h .healed), refl)
-      go (suc zero) l = confessing (h .healed)
+      go : (r : ℕ) → r < 2 → Proper (h .seat .n) (spokenIn r h) × (roundOfMeaning (spokenIn r h) ≡ r)
+      go zero l = (collecting (h .seat .healed), refl)
+      go (suc zero) l = confessing (h .seat .healed)
       go (suc (suc r)) l = absurd (omega arith)
 
-  pub spoken-reads-back : said (h .n) (h .phase) (h .round) (h .number) (frameFor h) ≡ spoken h
+  pub spoken-reads-back : saidTo (h .seat) (h .seat .number) (frameFor h) ≡ spoken h
   spoken-reads-back =
       let (proper, round) = proper-spoken in
-      rw round at (reads-back (h .n) (h .number) (h .phase) (spoken h) (P .size .most) (omega (arith, P .to-last)) proper)
+      let S = P .seat in
+      rw round at (reads-back (h .seat .n) (h .seat .number) (h .seat .phase) (spoken h) (S .size .most) (omega (arith, S .to-last)) proper)
 
   -- written into a lent buffer
   pub written-reads-back : (buffer : List ℕ) {len : ℕ} → writeAnswer h buffer ≡ Written.Length len
-      → said (h .n) (h .phase) (h .round) (h .number) (take len (writeBuffer h buffer)) ≡ spoken h
+      → saidTo (h .seat) (h .seat .number) (take len (writeBuffer h buffer)) ≡ spoken h
   unfolding writeAnswer writeBuffer written buffered
-  written-reads-back buffer {len} = go (h .ended) (fitsIn (frameFor h) buffer)
+  written-reads-back buffer {len} = go (h .seat .ended) (fitsIn (frameFor h) buffer)
     where
       s : List ℕ
       s = frameFor h
 
       go : (a b : Bool)
           → cond a (Written.Refused refusal.ended) (cond b (Written.Length (length s)) (Written.Refused refusal.buffer)) ≡ Written.Length len
-          → said (h .n) (h .phase) (h .round) (h .number) (take len (cond a buffer (cond b (s ++ drop (length s) buffer) buffer))) ≡ spoken h
+          → saidTo (h .seat) (h .seat .number) (take len (cond a buffer (cond b (s ++ drop (length s) buffer) buffer))) ≡ spoken h
       go true b e = let z : _≡_ {A = ℕ} 0 1 = cc in absurd (omega arith)
       go false true e = let z : len ≡ length s = cc in rw (z, take-append-seam s (drop (length s) buffer)) spoken-reads-back
       go false false e = let z : _≡_ {A = ℕ} 0 1 = cc in absurd (omega arith)

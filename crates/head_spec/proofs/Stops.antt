@@ -34,7 +34,7 @@ restarts-anew h n f i p r e = rw e
 
 -- ---- phase 65,535 has ended
 
-module _ (h : Head) (over : h .ended ≡ true) where
+module _ (h : Head) (over : h .seat .ended ≡ true) where
   pub ended-hears : (k : ℕ) (s : List ℕ) → hear h k s ≡ record { refusal = refusal.ended; head = h }
   unfolding hear hearRefusal
   ended-hears k s = rw over

@@ -19,8 +19,7 @@ use Rattle.marks.specs.Marks.{bitOf, withMark}
 use Rattle.entries.specs.Entries.{entryAt, fits}
 use Rattle.entries.specs.Tables.{tableAt}
 use Rattle.marks.proofs.Marks.{with-same, with-other, with-below}
-use Rattle.convergence.specs.Trust as Trust
-use Rattle.frame_spec.specs.Said.{Meaning, refused, collected, listed, confessed, said}
+use Rattle.frame_spec.specs.Said.{Meaning, refused, collected, listed, confessed}
 use Rattle.frame_spec.specs.Proper.{ProperTable, Proper}
 use Rattle.frame_spec.proofs.OneMeaning.{said-proper}
 use Rattle.settle_trust.specs.declared.Links.{Links}
@@ -28,7 +27,7 @@ use Rattle.settle_trust.specs.Received.{givenBy}
 use Rattle.head_spec.specs.declared.Row.{Row}
 use Rattle.head_spec.specs.declared.Head.{Head}
 use Rattle.head_spec.specs.Record.{rows, given, heardEntry, givenOf}
-use Rattle.head_spec.specs.Calls.{hold, withEntry, withConfession, withList, taken, answer, hearRefusal, hear}
+use Rattle.head_spec.specs.Calls.{hold, withEntry, withConfession, withList, taken, saidTo, answer, hearRefusal, hear}
 use Rattle.head_spec.proofs.Proper.{listFrom, ProperLinks, ProperHead, both-passed}
 
 -- the other lists stay
@@ -40,9 +39,12 @@ row-other l k j E h =
 
 -- ---- one link
 
-module _ (h : Head) (k : ℕ) (P : ProperHead h) (l : k < h .n) where
+module _ (h : Head) (k : ℕ) (P : ProperHead h) (l : k < h .seat .n) where
+  abbrev n : ℕ
+  n = h .seat .n
+
   small : k < 32
-  small = omega (arith, P .size .most)
+  small = omega (arith, P .seat .size .most)
 
   -- what is stored at place k reads back
   entry-read : (v : ℤ) → getD (set (h .list .entries) k v) k (pos 0) ≡ v
@@ -99,14 +101,14 @@ module _ (h : Head) (k : ℕ) (P : ProperHead h) (l : k < h .n) where
 
   -- ---- it stays proper
 
-  with-bit : {m : ℕ} → m < 2 ^ h .n → withMark m k < 2 ^ h .n
-  with-bit {m} b = with-below m k small (h .n) b l
+  with-bit : {m : ℕ} → m < 2 ^ n → withMark m k < 2 ^ n
+  with-bit {m} b = with-below m k small n b l
 
   -- a link that is unheard still was so before, and is another one
   still : (j : ℕ) → bitOf (withMark (h .heard) k) j ≡ false → (j ≢ k) × (bitOf (h .heard) j ≡ false)
   still j e = let d : j ≢ k = λ q. true≢false (sym (with-same (h .heard) k small) ∙ rw q at e) in (d, sym (with-other (h .heard) k small j d) ∙ e)
 
-  proper-entry : (x : Entry) → Proper (h .n) (collected x) → ProperTable (h .n) (withEntry (h .list) k x)
+  proper-entry : (x : Entry) → Proper n (collected x) → ProperTable n (withEntry (h .list) k x)
   proper-entry Null p = P .list
   proper-entry (Position v) p =
       record {
@@ -122,22 +124,10 @@ module _ (h : Head) (k : ℕ) (P : ProperHead h) (l : k < h .n) where
       fit-same = rw (with-same (h .list .marks) k small, entry-read v) p
 
   -- the record, and what the links gave, after link k said something
-  held : (t : Table) (g : Links) (r : List Row) → ProperTable (h .n) t → ProperLinks (h .n) (withMark (h .heard) k) g r → ProperHead (hold h k t g r)
-  held t g r T L =
-      record {
-        size = P .size;
-        number = P .number;
-        from-first = P .from-first;
-        to-last = P .to-last;
-        round = P .round;
-        position = P .position;
-        holds = P .holds;
-        heard = with-bit (P .heard);
-        list = T;
-        links = L;
-      }
+  held : (t : Table) (g : Links) (r : List Row) → ProperTable n t → ProperLinks n (withMark (h .heard) k) g r → ProperHead (hold h k t g r)
+  held t g r T L = record { seat = P .seat; heard = with-bit (P .heard); list = T; links = L }
 
-  links-kept : ProperLinks (h .n) (withMark (h .heard) k) (h .links) (h .lists)
+  links-kept : ProperLinks n (withMark (h .heard) k) (h .links) (h .lists)
   links-kept =
       let L = P .links in
       record {
@@ -149,7 +139,7 @@ module _ (h : Head) (k : ℕ) (P : ProperHead h) (l : k < h .n) where
         unheard = λ j e. L .unheard j (still j e .1);
       }
 
-  links-confessed : ProperLinks (h .n) (withMark (h .heard) k) (withConfession (h .links) k) (h .lists)
+  links-confessed : ProperLinks n (withMark (h .heard) k) (withConfession (h .links) k) (h .lists)
   links-confessed =
       let L = P .links in
       record {
@@ -161,8 +151,8 @@ module _ (h : Head) (k : ℕ) (P : ProperHead h) (l : k < h .n) where
         unheard = λ j e. let (d, u) = still j e in let (a, b) = L .unheard j u in (with-other (h .links .confessed) k small j d ∙ a, b);
       }
 
-  links-listed : (t : Table) → ProperTable (h .n) t
-      → ProperLinks (h .n) (withMark (h .heard) k) (withList (h .links) k t) (set (h .lists) k (record { entries = t .entries }))
+  links-listed : (t : Table) → ProperTable n t
+      → ProperLinks n (withMark (h .heard) k) (withList (h .links) k t) (set (h .lists) k (record { entries = t .entries }))
   links-listed t T =
       let L = P .links in
       record {
@@ -176,13 +166,13 @@ module _ (h : Head) (k : ℕ) (P : ProperHead h) (l : k < h .n) where
         unheard = λ j e. let (d, u) = still j e in let (a, b) = L .unheard j u in (a, with-other (h .links .listed) k small j d ∙ b);
       }
     where
-      table-same : ProperTable (h .n) (listFrom (withList (h .links) k t) (set (h .lists) k (record { entries = t .entries })) k)
+      table-same : ProperTable n (listFrom (withList (h .links) k t) (set (h .lists) k (record { entries = t .entries })) k)
       table-same = rw (marks-read (t .marks), row-read (t .entries)) T
 
-  proper-taken : (m : Meaning) (s : List ℕ) → said (h .n) (h .phase) (h .round) k s ≡ m → ProperHead (taken h k m)
+  proper-taken : (m : Meaning) (s : List ℕ) → saidTo (h .seat) k s ≡ m → ProperHead (taken h k m)
   proper-taken (refused c) s e = P
-  proper-taken (collected x) s e = held _ _ _ (proper-entry x (said-proper (h .n) (h .phase) (h .round) k s e tt (P .size .most))) links-kept
-  proper-taken (listed t) s e = held _ _ _ (P .list) (links-listed t (said-proper (h .n) (h .phase) (h .round) k s e tt (P .size .most)))
+  proper-taken (collected x) s e = held _ _ _ (proper-entry x (said-proper n _ _ k s e tt (P .seat .size .most))) links-kept
+  proper-taken (listed t) s e = held _ _ _ (P .list) (links-listed t (said-proper n _ _ k s e tt (P .seat .size .most)))
   proper-taken confessed s e = held _ _ _ (P .list) links-confessed
 
 -- hearing any bytes on any link
@@ -190,6 +180,9 @@ pub proper-hear : (h : Head) (k : ℕ) (s : List ℕ) → ProperHead h → Prope
 unfolding hear hearRefusal
 proper-hear h k s P = go (hearRefusal h k s) refl
   where
-    go : (c : ℕ) → hearRefusal h k s ≡ c → ProperHead (answer c (taken h k (said (h .n) (h .phase) (h .round) k s)) h .head)
-    go zero e = let (a, b, c) = both-passed (not (h .ended)) (ltb k (h .n)) 25 2 e in proper-taken h k P (ltb-true k (h .n) b) _ s refl
+    go : (c : ℕ) → hearRefusal h k s ≡ c → ProperHead (answer c (taken h k (saidTo (h .seat) k s)) h .head)
+    go zero e =
+        let n = h .seat .n in
+        let (a, b, c) = both-passed (not (h .seat .ended)) (ltb k n) 25 2 e in
+        proper-taken h k P (ltb-true k n b) _ s refl
     go (suc c) e = P

@@ -1,7 +1,7 @@
 -- What each call answers and what it makes of the record. A refusal gives its number and leaves the record as it was.
-use mathlib.Core.Bool.{Bool, true, false, not, cond, _&&_}
+use mathlib.Core.Bool.{not, cond, _&&_}
 use mathlib.Core.List.{List}
-use Prim.Native.Nat.{ℕ, zero, suc, _+_}
+use Prim.Native.Nat.{ℕ, zero, suc}
 use lib.Dec.{ltb, leb}
 use lib.ListN.{set}
 use lib.IntN.{ℤ}
@@ -12,10 +12,8 @@ use Rattle.terms.specs.Positions.{isPosition}
 use Rattle.terms.specs.declared.Entry.{Entry}
 use Rattle.terms.specs.declared.Table.{Table}
 use Rattle.marks.specs.Marks.{bitOf, withMark}
-use Rattle.convergence.specs.Settling.{enough}
 use Rattle.convergence.specs.Phases.{rounding}
 use Rattle.settle_midpoint.specs.Answers.{settling}
-use Rattle.settle_midpoint.specs.declared.Kept.{Kept}
 use Rattle.settle_midpoint.specs.declared.Settled.{Settled}
 use Rattle.settle_midpoint.specs.declared.Settled.the-variants as settled
 use Rattle.frame_spec.specs.Said.{Meaning, refused, collected, listed, confessed, refusalOf, said}
@@ -23,11 +21,13 @@ use Rattle.frame_spec.specs.Written.{frameOf, written, buffered}
 use Rattle.frame_spec.specs.declared.Written.{Written}
 use Rattle.settle_trust.specs.declared.Links.{Links}
 use Rattle.head_spec.specs.declared.Row.{Row}
+use Rattle.head_spec.specs.declared.Seat.{Seat}
 use Rattle.head_spec.specs.declared.Head.{Head}
 use Rattle.head_spec.specs.declared.Answer.{Answer}
 use Rattle.head_spec.specs.declared.Closed.{Closed}
 use Rattle.head_spec.specs.declared.Closing.{Closing}
 use Rattle.head_spec.specs.Record.{noEntries, opened, trustedBy}
+use Rattle.head_spec.specs.Seats.{firstSeat, healedSeat, confessionSeat, nextSeat}
 
 -- the record changed where nothing was refused
 abbrev pub answer : ℕ → Head → Head → Answer
@@ -40,7 +40,7 @@ unfoldable pub startRefusal : ℕ → ℕ → ℕ → ℤ → ℕ
 startRefusal n f i v = checkSize n f (check (ltb i n) refusal.number (check (isPosition v) refusal.position 0))
 
 unfoldable pub started : ℕ → ℕ → ℕ → ℤ → Head
-started n f i v = opened n f i 1 0 false false (Entry.Position v) noEntries
+started n f i v = opened (firstSeat n f i v) noEntries
 
 unfoldable pub start : Head → ℕ → ℕ → ℕ → ℤ → Answer
 start h n f i v = answer (startRefusal n f i v) (started n f i v) h
@@ -52,37 +52,30 @@ restartRefusal n f i p r =
     checkSize n f (check (ltb i n) refusal.number (check (leb 1 p && leb p 65535 && ltb r 2) refusal.phase 0))
 
 unfoldable pub restarted : ℕ → ℕ → ℕ → ℕ → ℕ → Head
-restarted n f i p r = opened n f i p r true false Entry.Null noEntries
+restarted n f i p r = opened (healedSeat n f i p r) noEntries
 
 unfoldable pub restart : Head → ℕ → ℕ → ℕ → ℕ → ℕ → Answer
 restart h n f i p r = answer (restartRefusal n f i p r) (restarted n f i p r) h
 
 -- ---- hearing a frame on link k; checks 26, 3, 21, then those of the frame
 
+-- what bytes s on link k say to a head in this seat, and which check refuses them
+abbrev pub saidTo : Seat → ℕ → List ℕ → Meaning
+saidTo x k s = said (x .n) (x .phase) (x .round) k s
+
+abbrev pub refusalTo : Seat → ℕ → List ℕ → ℕ
+refusalTo x k s = refusalOf (x .n) (x .phase) (x .round) k s
+
 unfoldable pub hearRefusal : Head → ℕ → List ℕ → ℕ
 hearRefusal h k s =
-    check (not (h .ended)) refusal.ended
-    (check (ltb k (h .n)) refusal.number
+    check (not (h .seat .ended)) refusal.ended
+    (check (ltb k (h .seat .n)) refusal.number
     (check (not (bitOf (h .heard) k)) refusal.heard
-    (refusalOf (h .n) (h .phase) (h .round) k s)))
+    (refusalTo (h .seat) k s)))
 
 -- link k heard: the list that is being filled, which links confessed or gave a list, and the lists
 abbrev pub hold : Head → ℕ → Table → Links → List Row → Head
-hold h k t g l =
-    record {
-      n = h .n;
-      f = h .f;
-      number = h .number;
-      phase = h .phase;
-      round = h .round;
-      healed = h .healed;
-      ended = h .ended;
-      position = h .position;
-      heard = withMark (h .heard) k;
-      list = t;
-      links = g;
-      lists = l;
-    }
+hold h k t g l = record { seat = h .seat; heard = withMark (h .heard) k; list = t; links = g; lists = l }
 
 -- entry k of the list that is being filled
 abbrev pub withEntry : Table → ℕ → Entry → Table
@@ -102,7 +95,7 @@ taken h k (listed t) = hold h k (h .list) (withList (h .links) k t) (set (h .lis
 taken h k confessed = hold h k (h .list) (withConfession (h .links) k) (h .lists)
 
 unfoldable pub hear : Head → ℕ → List ℕ → Answer
-hear h k s = answer (hearRefusal h k s) (taken h k (said (h .n) (h .phase) (h .round) k s)) h
+hear h k s = answer (hearRefusal h k s) (taken h k (saidTo (h .seat) k s)) h
 
 -- links 0 .. k - 1, each with its frame, one after the other, going on past a refused one
 unfoldable pub hearAll : Head → (ℕ → List ℕ) → ℕ → Head
@@ -113,36 +106,30 @@ hearAll h g (suc k) = hear (hearAll h g k) k (g k) .head
 
 -- what a head has to say: in collection its position, or silence where it is healed; in confession its list, or a confession where it is healed
 abbrev pub spokenIn : ℕ → Head → Meaning
-spokenIn zero h = collected (cond (h .healed) Entry.Null (h .position))
-spokenIn (suc r) h = cond (h .healed) confessed (listed (h .list))
+spokenIn zero h = collected (cond (h .seat .healed) Entry.Null (h .seat .position))
+spokenIn (suc r) h = cond (h .seat .healed) confessed (listed (h .list))
 
 unfoldable pub spoken : Head → Meaning
-spoken h = spokenIn (h .round) h
+spoken h = spokenIn (h .seat .round) h
 
 abbrev pub frameFor : Head → List ℕ
-frameFor h = frameOf (h .n) (h .number) (h .phase) (spoken h)
+frameFor h = frameOf (h .seat .n) (h .seat .number) (h .seat .phase) (spoken h)
 
 unfoldable pub writeAnswer : Head → List ℕ → Written
-writeAnswer h buffer = cond (h .ended) (Written.Refused refusal.ended) (written (frameFor h) buffer)
+writeAnswer h buffer = cond (h .seat .ended) (Written.Refused refusal.ended) (written (frameFor h) buffer)
 
 unfoldable pub writeBuffer : Head → List ℕ → List ℕ
-writeBuffer h buffer = cond (h .ended) buffer (buffered (frameFor h) buffer)
+writeBuffer h buffer = cond (h .seat .ended) buffer (buffered (frameFor h) buffer)
 
 -- ---- closing; checks 26, 25
 
--- after phase 65,535 phase and round stay, and the head has ended
-abbrev pub isLast : Head → Bool
-isLast h = leb 65535 (h .phase)
-
 -- the collection round is closed: the list stands
 unfoldable pub closedCollection : Head → Head
-closedCollection h = opened (h .n) (h .f) (h .number) (h .phase) 1 false false (h .position) (h .list)
+closedCollection h = opened (confessionSeat (h .seat)) (h .list)
 
 -- the phase has ended with the position v
 unfoldable pub closedPhase : Head → ℤ → Head
-closedPhase h v =
-    opened (h .n) (h .f) (h .number) (cond (isLast h) (h .phase) (h .phase + 1)) (cond (isLast h) 1 0) false (isLast h)
-    (Entry.Position v) noEntries
+closedPhase h v = opened (nextSeat (h .seat) v) noEntries
 
 abbrev pub closing : Closed → Head → Closing
 closing c h = record { closed = c; head = h }
@@ -153,7 +140,7 @@ closeSettled (settled.New k) h = closing (Closed.Settled k) (closedPhase h (k .p
 
 abbrev pub closeIn : ℕ → Head → Closing
 closeIn zero h = closing Closed.Listed (closedCollection h)
-closeIn (suc r) h = closeSettled (settling (rounding (h .phase)) (h .n) (h .f) (trustedBy h)) h
+closeIn (suc r) h = closeSettled (settling (rounding (h .seat .phase)) (h .seat .n) (h .seat .f) (trustedBy h)) h
 
 unfoldable pub close : Head → Closing
-close h = cond (h .ended) (closing (Closed.Refused refusal.ended) h) (closeIn (h .round) h)
+close h = cond (h .seat .ended) (closing (Closed.Refused refusal.ended) h) (closeIn (h .seat .round) h)

@@ -1,5 +1,4 @@
 -- The head's record as it stands when a round opens, and how what it received is read.
-use mathlib.Core.Bool.{Bool, true, false}
 use mathlib.Core.List.{List, map}
 use Prim.Native.Nat.{ℕ}
 use lib.ListN.{replicate}
@@ -14,6 +13,7 @@ use Rattle.frame_spec.specs.Said.{Meaning, refused, collected, listed, confesse
 use Rattle.settle_trust.specs.declared.Links.{Links}
 use Rattle.settle_trust.specs.Received.{givenBy}
 use Rattle.head_spec.specs.declared.Row.{Row}
+use Rattle.head_spec.specs.declared.Seat.{Seat}
 use Rattle.head_spec.specs.declared.Head.{Head}
 
 -- all entries null
@@ -27,24 +27,9 @@ noLinks = record { confessed = 0; listed = 0; marks = replicate 32 0 }
 unfoldable pub noLists : List Row
 noLists = replicate 32 (record { entries = zeros })
 
--- The record with nothing heard: ring, number, phase and round, whether it is healed in this round, whether phase 65,535 has ended, its position
--- or none, and its list. Start, restart and closing make a record here and nowhere else.
-abbrev pub opened : ℕ → ℕ → ℕ → ℕ → ℕ → Bool → Bool → Entry → Table → Head
-opened n f i p r healed ended x t =
-    record {
-      n = n;
-      f = f;
-      number = i;
-      phase = p;
-      round = r;
-      healed = healed;
-      ended = ended;
-      position = x;
-      heard = 0;
-      list = t;
-      links = noLinks;
-      lists = noLists;
-    }
+-- The record with nothing heard, in this seat and with this list. Start, restart and closing make a record here and nowhere else.
+abbrev pub opened : Seat → Table → Head
+opened s t = record { seat = s; heard = 0; list = t; links = noLinks; lists = noLists }
 
 -- the lists received, without their marks
 abbrev pub rows : List Row → List (List ℤ)
@@ -56,7 +41,7 @@ given h = givenBy (h .links) (rows (h .lists))
 
 -- the trusted entries
 abbrev pub trustedBy : Head → ℕ → Entry
-trustedBy h = trusted (h .n) (h .f) (given h)
+trustedBy h = trusted (h .seat .n) (h .seat .f) (given h)
 
 -- ---- what a frame that was heard amounts to
 

@@ -10,8 +10,8 @@ pub struct Row {
     pub entries: [i32; 32],
 }
 
-// All that a head remembers.
-pub struct Head {
+// Where a head stands: its ring, its number, the phase and round, and the position that it holds.
+pub struct Seat {
     pub n: u8,
     pub f: u8,
     pub number: u8,
@@ -20,6 +20,11 @@ pub struct Head {
     pub healed: bool, // in this round
     pub ended: bool, // phase 65,535 has ended
     pub position: Entry,
+}
+
+// All that a head remembers: its seat, and what it has heard in this phase.
+pub struct Head {
+    pub seat: Seat,
     pub heard: u32, // the links heard in this round
     pub list: Table, // in collection what is heard so far, in confession the list of this phase
     pub links: Links, // which links confessed or gave a list, and the lists' marks

@@ -1,6 +1,6 @@
 -- What an unstruck head's record is when the round is closed: after collection its list stands, and after confession, where enough entries are
 -- trusted, it holds the midpoint of what it trusts. Either way the next round can open, up to the last phase.
-use mathlib.Core.Path.{_≡_, ap, sym, subst, _∙_}
+use mathlib.Core.Path.{_≡_, refl, ap, sym, subst, _∙_}
 use mathlib.Core.Bool.{true, false}
 use Prim.Native.Nat.{ℕ, _+_, _<_}
 use native.Mathlib.Omega.{arith}
@@ -16,21 +16,17 @@ use Rattle.head_spec.specs.declared.Closed.{Closed}
 use Rattle.head_spec.specs.declared.Closing.{Closing}
 use Rattle.head_spec.specs.Record.{given}
 use Rattle.head_spec.specs.Calls.{closing, closedCollection, closedPhase, close}
-use Rattle.head_spec.proofs.Hearing.{HeardKept, keptOf}
 use Rattle.head_spec.proofs.RoundEnd.{settledBy, closes-collection, closes-phase, settled-midpoint, fresh-collection, fresh-phase}
-use Rattle.ring_spec.specs.Rounds.{Round, Ring, openedAt, closedAt, phaseThen, roundThen, afterRound}
-use Rattle.ring_spec.proofs.OneRound.{recordOf, Ready, RingReady, heardAt, heard-proper, heard-is}
+use Rattle.ring_spec.specs.Rounds.{Round, Ring, closedAt, phaseThen, roundThen, afterRound}
+use Rattle.ring_spec.proofs.OneRound.{SeatedAt, Ready, RingReady, heardAt, heard-proper, heard-at}
 
 module _ (n f : ℕ) (R : Ring) (w : Round) (S : RingReady n f R) where
   module _ (i : ℕ) (l : i < n) (q : bitOf (w .struck) i ≡ false) where
     abbrev T : Head
     T = heardAt n f R w i
 
-    is : keptOf T ≡ recordOf n f i (R .phase) (R .round) (bitOf (R .before) i) (openedAt n f R w i .position)
-    is = heard-is n f R w S i l q
-
-    round-is : {r : ℕ} → R .round ≡ r → T .round ≡ r
-    round-is c = ap (λ (x : HeardKept). x .round) is ∙ c
+    A : SeatedAt n f i (R .phase) (R .round) (bitOf (R .before) i) (T .seat)
+    A = heard-at n f R w S i l q
 
     closed-is : (c : Closed) (h : Head) → close T ≡ closing c h → closedAt n f R w i ≡ h
     unfolding closedAt
@@ -38,7 +34,7 @@ module _ (n f : ℕ) (R : Ring) (w : Round) (S : RingReady n f R) where
 
     module _ (collection : R .round ≡ 0) where
       pub collection-closes : close T ≡ closing Closed.Listed (closedCollection T)
-      collection-closes = closes-collection T (ap (λ (x : HeardKept). x .ended) is) (round-is collection)
+      collection-closes = closes-collection T (A .runs) (A .round ∙ collection)
 
       pub collection-closed : closedAt n f R w i ≡ closedCollection T
       collection-closed = closed-is Closed.Listed (closedCollection T) collection-closes
@@ -49,36 +45,41 @@ module _ (n f : ℕ) (R : Ring) (w : Round) (S : RingReady n f R) where
           rw collection-closed
           (record {
             fresh = fresh-collection T (heard-proper n f R w S i l q);
-            is = ap (λ (x : HeardKept). recordOf (x .n) (x .f) (x .number) (x .phase) 1 false (T .position)) is;
+            seat =
+                record { count = A .count; limit = A .limit; number = A .number; phase = A .phase; round = refl; healed = refl; runs = refl };
           })
 
     -- a confession round in which enough entries are trusted
     module _ (confession : R .round ≡ 1) (calm : enough n f (trusted n f (given T)) ≡ true) where
       pub confession-closes : close T ≡ closing (Closed.Settled (settledBy T)) (closedPhase T (settledBy T .position))
-      confession-closes =
-          closes-phase T (ap (λ (x : HeardKept). x .ended) is) (round-is confession)
-          (ap (λ (x : HeardKept). enough (x .n) (x .f) (trusted (x .n) (x .f) (given T))) is ∙ calm)
+      confession-closes = closes-phase T (A .runs) (A .round ∙ confession) (rw (A .count, A .limit) calm)
 
       confession-closed : closedAt n f R w i ≡ closedPhase T (settledBy T .position)
       confession-closed = closed-is (Closed.Settled (settledBy T)) (closedPhase T (settledBy T .position)) confession-closes
 
-      pub confession-settles : closedAt n f R w i .position ≡ Entry.Position (midpoint (rounding (R .phase)) n f (trusted n f (given T)))
+      pub confession-settles : closedAt n f R w i .seat .position ≡ Entry.Position (midpoint (rounding (R .phase)) n f (trusted n f (given T)))
       unfolding closedPhase
       confession-settles =
-          ap (λ (x : Head). x .position) confession-closed
-          ∙ ap Entry.Position (settled-midpoint T)
-          ∙ ap (λ (x : HeardKept). Entry.Position (midpoint (rounding (x .phase)) (x .n) (x .f) (trusted (x .n) (x .f) (given T)))) is
+          ap (λ (x : Head). x .seat .position) confession-closed ∙ ap Entry.Position (settled-midpoint T) ∙ rw (A .count, A .limit, A .phase)
 
       pub confession-ready : R .phase < 65535 → Ready n f i (R .phase + 1) 0 false (closedAt n f R w i)
       unfolding closedPhase
       confession-ready more =
-          let p : T .phase ≡ R .phase = ap (λ (x : HeardKept). x .phase) is in
+          let p : T .seat .phase ≡ R .phase = A .phase in
+          let runs = lt-leb 65535 (T .seat .phase) (omega arith) in
           rw confession-closed
           (record {
             fresh = fresh-phase T (heard-proper n f R w S i l q) (omega arith);
-            is =
-                rw (lt-leb 65535 (T .phase) (omega arith))
-                (ap (λ (x : HeardKept). recordOf (x .n) (x .f) (x .number) (x .phase + 1) 0 false (Entry.Position (settledBy T .position))) is);
+            seat =
+                record {
+                  count = A .count;
+                  limit = A .limit;
+                  number = A .number;
+                  phase = rw (runs, p);
+                  round = rw runs;
+                  healed = refl;
+                  runs = runs;
+                };
           })
 
   -- ---- the ring

@@ -97,7 +97,11 @@ module _ (n f : ℕ) (v : ℕ → ℤ) (S : Sized n f) (range : Each n (λ i. is
               from-first = omega arith;
               to-last = omega arith;
               round = omega arith;
-              heads = λ i l q. record { fresh = fresh-started n f i (v i) (start-accepted n f i S l (v i) (range i l)); is = refl };
+              heads =
+                  λ i l q. record {
+                    fresh = fresh-started n f i (v i) (start-accepted n f i S l (v i) (range i l));
+                    seat = record { count = refl; limit = refl; number = refl; phase = refl; round = refl; healed = refl; runs = refl };
+                  };
             };
         last = λ c. refl;
         settles = λ c. absurd (omega arith);

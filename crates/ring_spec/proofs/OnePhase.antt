@@ -26,7 +26,6 @@ use Rattle.frame_spec.specs.Said.{collected, listed, confessed, said}
 use Rattle.head_spec.specs.declared.Head.{Head}
 use Rattle.head_spec.specs.Record.{given, heardEntry, givenOf}
 use Rattle.head_spec.specs.Calls.{closedCollection}
-use Rattle.head_spec.proofs.Hearing.{HeardKept}
 use Rattle.ring_spec.specs.Rounds.{Round, planted, Ring, openedAt, afterRound}
 use Rattle.ring_spec.proofs.OneRound.{RingReady, says-entry, says-list, saidIn, heardAt, said-planted, opened-same, opened-in, said-spoken, heard-given, heard-list}
 use Rattle.ring_spec.proofs.Closings.{collection-closed, confession-settles, after-collection, collection-next}
@@ -43,7 +42,7 @@ faultsOf n p a b =
 
 -- the phase end that a ring stands at before a collection round
 abbrev pub endAt : Ring → End
-endAt R = record { struck = bitOf (R .before); at = λ i. R .heads i .position }
+endAt R = record { struck = bitOf (R .before); at = λ i. R .heads i .seat .position }
 
 held : (x : Entry) → x ≢ Null → x ≡ Position (number x)
 held Null d = absurd (d refl)
@@ -80,7 +79,7 @@ module _ (n f : ℕ) (R : Ring) (a b : Round) (S : RingReady n f R) (collection 
   pub ring-holds : AllHold n (endAt R)
   ring-holds i l q =
       let H = S .heads i l q in
-      held (R .heads i .position) (H .fresh .proper .holds (ap (λ (x : HeardKept). x .round) (H .is) ∙ collection) (ap (λ (x : HeardKept). x .healed) (H .is)))
+      held (R .heads i .seat .position) (H .fresh .proper .seat .holds (H .seat .round ∙ collection) (H .seat .healed))
 
   -- ---- the collection round
 
@@ -92,10 +91,11 @@ module _ (n f : ℕ) (R : Ring) (a b : Round) (S : RingReady n f R) (collection 
       told : Entry
       told = heardEntry (said n (R .phase) 0 j (planted (a .plants) j i))
 
-      spoke : bitOf (a .struck) j ≡ false → saidIn n f R a i j ≡ collected (cond (bitOf (R .before) j) Null (openedAt n f R a j .position))
+      spoke : bitOf (a .struck) j ≡ false → saidIn n f R a i j ≡ collected (cond (bitOf (R .before) j) Null (openedAt n f R a j .seat .position))
       spoke q = said-spoken n f R a S i j l q ∙ says-entry (opened-in n f R a S j l q collection)
 
-      go : (c p : Bool) → bitOf (a .struck) j ≡ c → bitOf (R .before) j ≡ p → heardEntry (saidIn n f R a i j) ≡ gives c p told Null (R .heads j .position)
+      go : (c p : Bool) → bitOf (a .struck) j ≡ c → bitOf (R .before) j ≡ p
+          → heardEntry (saidIn n f R a i j) ≡ gives c p told Null (R .heads j .seat .position)
       go true p q e = ap heardEntry (said-planted n f R a i j q) ∙ rw collection
       go false true q e = ap heardEntry (spoke q) ∙ rw e
       go false false q e = ap heardEntry (spoke q) ∙ rw (e, opened-same n f R a j q e)
@@ -163,7 +163,7 @@ module _ (n f : ℕ) (R : Ring) (a b : Round) (S : RingReady n f R) (collection 
       calm = le-leb (nulls n (trusted n f (given (heardAt n f R₁ b i)))) (3 * f) (omega (arith, nulls-same n _ _ trusted-same, few))
 
       -- and the new position is that of `convergence`
-      pub settles-as : afterRound n f R₁ b .heads i .position ≡ after (rounding (R .phase)) n f (endAt R) F .at i
+      pub settles-as : afterRound n f R₁ b .heads i .seat .position ≡ after (rounding (R .phase)) n f (endAt R) F .at i
       unfolding afterRound after
       settles-as =
           confession-settles n f R₁ b S₁ i l q confession calm

@@ -1,6 +1,6 @@
 -- One round of a ring. Every unstruck head opens it with nothing heard and says what its record has to say, and every other hears it say so; a struck
 -- head says what is planted, if anything. So these alone tell what an unstruck record holds when all is heard.
-use mathlib.Core.Path.{_≡_, refl, ap, sym, subst, _∙_}
+use mathlib.Core.Path.{_≡_, refl, sym, subst, _∙_}
 use mathlib.Core.Bool.{Bool, true, false, cond}
 use mathlib.Core.List.{List}
 use Prim.Native.Nat.{ℕ, _≤_, _<_}
@@ -9,22 +9,29 @@ use Rattle.marks.specs.Marks.{bitOf}
 use Rattle.entries.specs.Tables.{tableAt}
 use Rattle.convergence.specs.Counting.{Each}
 use Rattle.frame_spec.specs.Said.{Meaning, collected, listed, confessed, said}
+use Rattle.head_spec.specs.declared.Seat.{Seat}
 use Rattle.head_spec.specs.declared.Head.{Head}
 use Rattle.head_spec.specs.Record.{given, heardEntry, givenOf}
-use Rattle.head_spec.specs.Calls.{restarted, hearAll, spokenIn, spoken, frameFor}
+use Rattle.head_spec.specs.Calls.{restarted, saidTo, hearAll, spoken, frameFor}
 use Rattle.head_spec.proofs.Proper.{Sized, ProperHead, restart-accepted}
-use Rattle.head_spec.proofs.Hearing.{HeardKept, keptOf, all-keep, proper-all, Fresh, fresh-restarted, gave-as-said, listed-as-said}
+use Rattle.head_spec.proofs.Hearing.{all-keep, proper-all, Fresh, fresh-restarted, gave-as-said, listed-as-said}
 use Rattle.head_spec.proofs.Speaking.{spoken-reads-back}
 use Rattle.ring_spec.specs.Rounds.{Round, planted, Ring, openedAt, carried}
 
--- what hearing keeps of the record of head i, in round r of phase p, with position x; b: it is healed
-abbrev pub recordOf : ℕ → ℕ → ℕ → ℕ → ℕ → Bool → Entry → HeardKept
-recordOf n f i p r b x = record { n = n; f = f; number = i; phase = p; round = r; healed = b; ended = false; position = x }
+-- the seat of head i in round r of phase p; b: it is healed
+pub record SeatedAt (n f i p r : ℕ) (b : Bool) (s : Seat) : Type 0 where
+  pub count : s .n ≡ n
+  pub limit : s .f ≡ f
+  pub number : s .number ≡ i
+  pub phase : s .phase ≡ p
+  pub round : s .round ≡ r
+  pub healed : s .healed ≡ b
+  pub runs : s .ended ≡ false
 
 -- the record of head i as round r of phase p opens
 pub record Ready (n f i p r : ℕ) (b : Bool) (h : Head) : Type 0 where
   pub fresh : Fresh h
-  pub is : keptOf h ≡ recordOf n f i p r b (h .position)
+  pub seat : SeatedAt n f i p r b (h .seat)
 
 -- a ring as the next round finds it: every head whose record is not lost can open it
 pub record RingReady (n f : ℕ) (R : Ring) : Type 0 where
@@ -36,14 +43,20 @@ pub record RingReady (n f : ℕ) (R : Ring) : Type 0 where
 
 -- what a record says, by its round
 module _ {n f i p : ℕ} {b : Bool} {h : Head} where
-  pub says-entry : Ready n f i p 0 b h → spoken h ≡ collected (cond b Entry.Null (h .position))
+  pub says-entry : Ready n f i p 0 b h → spoken h ≡ collected (cond b Entry.Null (h .seat .position))
   unfolding spoken
-  says-entry H =
-      ap (λ (x : HeardKept). spokenIn (x .round) h) (H .is) ∙ ap (λ (x : HeardKept). collected (cond (x .healed) Entry.Null (h .position))) (H .is)
+  says-entry H = rw (H .seat .round, H .seat .healed)
 
   pub says-list : Ready n f i p 1 b h → spoken h ≡ cond b confessed (listed (h .list))
   unfolding spoken
-  says-list H = ap (λ (x : HeardKept). spokenIn (x .round) h) (H .is) ∙ ap (λ (x : HeardKept). cond (x .healed) confessed (listed (h .list))) (H .is)
+  says-list H = rw (H .seat .round, H .seat .healed)
+
+  -- its frame says that to every head in this round
+  frame-says : {r : ℕ} → Ready n f i p r b h → said n p r i (frameFor h) ≡ spoken h
+  frame-says {r} H = sym same ∙ spoken-reads-back h (H .fresh .proper)
+    where
+      same : saidTo (h .seat) (h .seat .number) (frameFor h) ≡ said n p r i (frameFor h)
+      same = let A = H .seat in λ t. said (A .count t) (A .phase t) (A .round t) (A .number t) (frameFor h)
 
 module _ (n f : ℕ) (R : Ring) (w : Round) where
   -- what head i hears on link k
@@ -68,7 +81,10 @@ module _ (n f : ℕ) (R : Ring) (w : Round) where
     unfolding restarted
     restarted-ready i l =
         let accepted = restart-accepted n f i (S .size) l (R .phase) (R .round) (S .from-first) (S .to-last) (S .round) in
-        record { fresh = fresh-restarted n f i (R .phase) (R .round) accepted; is = refl }
+        record {
+          fresh = fresh-restarted n f i (R .phase) (R .round) accepted;
+          seat = record { count = refl; limit = refl; number = refl; phase = refl; round = refl; healed = refl; runs = refl };
+        }
 
     module _ (i : ℕ) (l : i < n) (q : bitOf (w .struck) i ≡ false) where
       pub opened-ready : Ready n f i (R .phase) (R .round) (bitOf (R .before) i) (openedAt n f R w i)
@@ -86,10 +102,7 @@ module _ (n f : ℕ) (R : Ring) (w : Round) where
     -- every head hears an unstruck one say what its record has to say
     pub said-spoken : (i k : ℕ) → k < n → bitOf (w .struck) k ≡ false → saidIn i k ≡ spoken (openedAt n f R w k)
     unfolding carried
-    said-spoken i k l q =
-        let h = openedAt n f R w k in
-        let H = opened-ready k l q in
-        rw q (ap (λ (x : HeardKept). said (x .n) (x .phase) (x .round) (x .number) (frameFor h)) (sym (H .is)) ∙ spoken-reads-back h (H .fresh .proper))
+    said-spoken i k l q = rw q (frame-says (opened-ready k l q))
 
     -- ---- when all is heard
 
@@ -106,15 +119,14 @@ module _ (n f : ℕ) (R : Ring) (w : Round) where
       pub heard-proper : ProperHead (heardAt i)
       heard-proper = proper-all h g n (H .fresh .proper)
 
-      pub heard-is : keptOf (heardAt i) ≡ recordOf n f i (R .phase) (R .round) (bitOf (R .before) i) (h .position)
-      heard-is = all-keep h g n ∙ H .is
+      pub heard-seat : heardAt i .seat ≡ h .seat
+      heard-seat = all-keep h g n
+
+      pub heard-at : SeatedAt n f i (R .phase) (R .round) (bitOf (R .before) i) (heardAt i .seat)
+      heard-at = rw heard-seat (H .seat)
 
       pub heard-given : Each n (λ k. given (heardAt i) k ≡ givenOf (saidIn i k))
-      heard-given =
-          subst (λ (x : HeardKept). Each (x .n) (λ k. given (hearAll h g (x .n)) k ≡ givenOf (said (x .n) (x .phase) (x .round) k (g k)))) (H .is)
-          (gave-as-said h (H .fresh) g)
+      heard-given = let A = H .seat in simp (A .count, A .phase, A .round) at (gave-as-said h (H .fresh) g)
 
       pub heard-list : R .round ≡ 0 → Each n (λ k. tableAt (heardAt i .list) k ≡ heardEntry (saidIn i k))
-      heard-list c =
-          subst (λ (x : HeardKept). Each (x .n) (λ k. tableAt (hearAll h g (x .n) .list) k ≡ heardEntry (said (x .n) (x .phase) (x .round) k (g k)))) (H .is)
-          (listed-as-said h (H .fresh) g (ap (λ (x : HeardKept). x .round) (H .is) ∙ c))
+      heard-list c = let A = H .seat in simp (A .count, A .phase, A .round) at (listed-as-said h (H .fresh) g (A .round ∙ c))

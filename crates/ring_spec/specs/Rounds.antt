@@ -1,5 +1,5 @@
 -- Document 01, "Strikes", for the records of a whole ring: memory lost, healed heads restarted, frames sent and delivered, rounds closed.
-use mathlib.Core.Bool.{Bool, false, cond, _&&_}
+use mathlib.Core.Bool.{false, cond, _&&_}
 use mathlib.Core.List.{List, [], _∷_}
 use Prim.Native.Nat.{ℕ, zero, suc, _+_}
 use lib.Dec.{eqb}
@@ -9,6 +9,7 @@ use Rattle.marks.specs.Marks.{bitOf}
 use Rattle.convergence.specs.Phases.{End}
 use Rattle.head_spec.specs.Record.{noEntries, opened}
 use Rattle.head_spec.specs.Calls.{started, restarted, hearAll, frameFor, close}
+use Rattle.head_spec.specs.declared.Seat.{Seat}
 use Rattle.head_spec.specs.declared.Head.{Head}
 
 -- bytes planted on the link from a struck sender to a receiver
@@ -27,9 +28,12 @@ abbrev pub planted : List Plant → ℕ → ℕ → List ℕ
 planted [] k i = []
 planted (x ∷ xs) k i = cond (eqb (x .from) k && eqb (x .to) i) (x .bytes) (planted xs k i)
 
--- a record whose memory is lost
+-- a record whose memory is lost, and its seat
+abbrev pub noSeat : Seat
+noSeat = record { n = 0; f = 0; number = 0; phase = 0; round = 0; healed = false; ended = false; position = Entry.Null }
+
 unfoldable pub lost : Head
-lost = opened 0 0 0 0 0 false false Entry.Null noEntries
+lost = opened noSeat noEntries
 
 -- the ring as the next round finds it: that round's phase and number (0 collection, 1 confession), the heads struck in the round before, and the records
 pub record Ring : Type 0 where
@@ -82,7 +86,7 @@ pub record PhaseEnd : Type 0 where
 
 -- what is compared: who was struck in the confession round, and the position that each record holds
 abbrev pub asEnd : PhaseEnd → End
-asEnd e = record { struck = bitOf (e .confess); at = λ i. e .heads i .position }
+asEnd e = record { struck = bitOf (e .confess); at = λ i. e .heads i .seat .position }
 
 -- a confession round ends a phase
 abbrev pub withEnd : ℕ → PhaseEnd → List PhaseEnd → List PhaseEnd

@@ -19,10 +19,11 @@ byte-bit : (b : Bool) → boolByte b ≡ bit b
 byte-bit true = refl
 byte-bit false = refl
 
-made : (h : Head) {n : ℕ} {v : ℤ} {l : List FocusList} → n ≡ heldNumber (h .position) → v ≡ heldOr (h .position) (pos 0) → l ≡ map listOf (h .lists)
-    → blockOf h (boolByte (h .healed)) (boolByte (h .ended)) n v l ≡ focusOf h
+made : (h : Head) {n : ℕ} {v : ℤ} {l : List FocusList} → n ≡ heldNumber (h .seat .position) → v ≡ heldOr (h .seat .position) (pos 0)
+    → l ≡ map listOf (h .lists)
+    → blockOf h (boolByte (h .seat .healed)) (boolByte (h .seat .ended)) n v l ≡ focusOf h
 unfolding focusOf
-made h p q r = λ i. blockOf h (byte-bit (h .healed) i) (byte-bit (h .ended) i) (p i) (q i) (r i)
+made h p q r = λ i. blockOf h (byte-bit (h .seat .healed) i) (byte-bit (h .seat .ended) i) (p i) (q i) (r i)
 
 returns : tie.Need-returns
 returns c =

@@ -13,9 +13,9 @@ use Rattle.head_calls.proofs.close.Statement.{statement}
 use Rattle.head_calls.proofs.close.Tie as tie
 
 -- any round but 0 is a confession round
-closes-confession : (h : Head) → h .ended ≡ false → h .round ≢ 0 → closeIn 1 h ≡ close h
+closes-confession : (h : Head) → h .seat .ended ≡ false → h .seat .round ≢ 0 → closeIn 1 h ≡ close h
 unfolding close
-closes-confession h runs d = go (h .round) d ∙ runs-on _ _ runs
+closes-confession h runs d = go (h .seat .round) d ∙ runs-on _ _ runs
   where
     go : (r : ℕ) → r ≢ 0 → closeIn 1 h ≡ closeIn r h
     go zero d = absurd (d refl)

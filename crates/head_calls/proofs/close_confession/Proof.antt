@@ -17,15 +17,15 @@ use Rattle.head_calls.proofs.close_confession.Statement.{statement}
 use Rattle.head_calls.proofs.close_confession.Tie as tie
 
 settles : (h : Head) {lists : List (List ℤ)} {a : Settled} → lists ≡ rows (h .lists)
-    → a ≡ settling 0 (h .n) (h .f) (trusted (h .n) (h .f) (givenBy (h .links) lists))
-    → a ≡ settling (rounding (h .phase)) (h .n) (h .f) (trustedBy h)
+    → a ≡ settling 0 (h .seat .n) (h .seat .f) (trusted (h .seat .n) (h .seat .f) (givenBy (h .links) lists))
+    → a ≡ settling (rounding (h .seat .phase)) (h .seat .n) (h .seat .f) (trustedBy h)
 unfolding rounding
 settles h p q = rw p at q
 
 returns : tie.Need-returns
 returns c =
     let d = c .before .before .before in
-    let h = d .before .before .before .before .args .h in
+    let h = d .before .before .before .before .before .args .h in
     let e = settles h (d .before .laid-out .ensures) (d .settle .ensures) in
     rw (← e, c .before .refused .given .1)
 
@@ -33,7 +33,7 @@ returns-2 : tie.Need-returns-2
 returns-2 c =
     let t = c .before .before .before in
     let d = t .before .before in
-    let h = d .before .before .before .before .args .h in
+    let h = d .before .before .before .before .before .args .h in
     let e = settles h (d .before .laid-out .ensures) (d .settle .ensures) in
     let f : SFits w32 (t .kept .given .0 .0 .position) = search needs in
     rw (← e, t .kept .given .1, c .closed-phase .ensures, toZ-ofZ f)

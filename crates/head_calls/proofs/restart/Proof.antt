@@ -30,31 +30,31 @@ module _ (c : tie.Else1) where
   proper : let a = first .args in ProperHead (restarted (a .n) (a .f) (a .number) (a .phase) (a .round))
   proper = proper-restarted _ _ _ _ _ accepted
 
-cast-opened : tie.Need-cast-opened
+cast-healed-seat : tie.Need-cast-healed-seat
 unfolding restarted
-cast-opened c = omega (arith, proper c .size .most)
+cast-healed-seat c = omega (arith, proper c .seat .size .most)
 
-cast-opened-2 : tie.Need-cast-opened-2
+cast-healed-seat-2 : tie.Need-cast-healed-seat-2
 unfolding restarted
-cast-opened-2 c = omega (arith, proper c .size .most, proper c .size .limit)
+cast-healed-seat-2 c = omega (arith, proper c .seat .size .most, proper c .seat .size .limit)
 
-cast-opened-3 : tie.Need-cast-opened-3
+cast-healed-seat-3 : tie.Need-cast-healed-seat-3
 unfolding restarted
-cast-opened-3 c = omega (arith, proper c .size .most, proper c .number)
+cast-healed-seat-3 c = omega (arith, proper c .seat .size .most, proper c .seat .number)
 
-cast-opened-4 : tie.Need-cast-opened-4
+cast-healed-seat-4 : tie.Need-cast-healed-seat-4
 unfolding restarted
-cast-opened-4 c = omega (arith, proper c .to-last)
+cast-healed-seat-4 c = omega (arith, proper c .seat .to-last)
 
-cast-opened-5 : tie.Need-cast-opened-5
+cast-healed-seat-5 : tie.Need-cast-healed-seat-5
 unfolding restarted
-cast-opened-5 c = omega (arith, proper c .round)
+cast-healed-seat-5 c = omega (arith, proper c .seat .round)
 
 returns-2 : tie.Need-returns-2
 unfolding restarted
 returns-2 c =
-    let d = c .before in
-    rw (restarts-anew _ _ _ _ _ _ (accepted (d .before)), c .opened .ensures, d .no-entries .ensures)
+    let d = c .before .before in
+    rw (restarts-anew _ _ _ _ _ _ (accepted (d .before)), c .opened .ensures, c .before .no-entries .ensures, d .healed-seat .ensures)
 
 pub restart-spec : {M : Type 1} → statement M
 restart-spec =
@@ -64,11 +64,12 @@ restart-spec =
     (λ c κs. search needs)
     (λ c κs. search needs)
     returns
-    cast-opened
-    cast-opened-2
-    cast-opened-3
-    cast-opened-4
-    cast-opened-5
+    cast-healed-seat
+    cast-healed-seat-2
+    cast-healed-seat-3
+    cast-healed-seat-4
+    cast-healed-seat-5
+    (λ c κs. search needs)
     (λ c κs. search needs)
     (λ c κs. search needs)
     returns-2)

@@ -35,23 +35,24 @@ module _ (c : tie.Else1) where
   proper : let a = first .args in ProperHead (started (a .n) (a .f) (a .number) (a .position))
   proper = proper-started _ _ _ _ accepted
 
-cast-opened : tie.Need-cast-opened
+cast-first-seat : tie.Need-cast-first-seat
 unfolding started
-cast-opened c = omega (arith, proper c .size .most)
+cast-first-seat c = omega (arith, proper c .seat .size .most)
 
-cast-opened-2 : tie.Need-cast-opened-2
+cast-first-seat-2 : tie.Need-cast-first-seat-2
 unfolding started
-cast-opened-2 c = omega (arith, proper c .size .most, proper c .size .limit)
+cast-first-seat-2 c = omega (arith, proper c .seat .size .most, proper c .seat .size .limit)
 
-cast-opened-3 : tie.Need-cast-opened-3
+cast-first-seat-3 : tie.Need-cast-first-seat-3
 unfolding started
-cast-opened-3 c = omega (arith, proper c .size .most, proper c .number)
+cast-first-seat-3 c = omega (arith, proper c .seat .size .most, proper c .seat .number)
 
 returns-2 : tie.Need-returns-2
 unfolding started
 returns-2 c =
-    let d = c .before in
-    rw (starts-anew _ _ _ _ _ (accepted (d .before)), c .opened .ensures, d .no-entries .ensures, toZ-ofZ (first (d .before) .fits .position))
+    let d = c .before .before in
+    rw (starts-anew _ _ _ _ _ (accepted (d .before)), c .opened .ensures, c .before .no-entries .ensures, d .first-seat .ensures)
+    (rw (toZ-ofZ (first (d .before) .fits .position)))
 
 pub start-spec : {M : Type 1} → statement M
 start-spec =
@@ -61,9 +62,10 @@ start-spec =
     (λ c κs. search needs)
     (λ c κs. search needs)
     returns
-    cast-opened
-    cast-opened-2
-    cast-opened-3
+    cast-first-seat
+    cast-first-seat-2
+    cast-first-seat-3
+    (λ c κs. search needs)
     (λ c κs. search needs)
     (λ c κs. search needs)
     returns-2)

@@ -18,26 +18,26 @@ use Rattle.head_calls.proofs.Answers.{runs-on}
 use Rattle.head_calls.proofs.write.Statement.{statement}
 use Rattle.head_calls.proofs.write.Tie as tie
 
-module _ (h : Head) {what : Said} (e : what ≡ saidBy (h .round) (h .healed) (h .position)) where
+module _ (h : Head) {what : Said} (e : what ≡ saidBy (h .seat .round) (h .seat)) where
   meant-spoken : meant what (h .list) ≡ spoken h
   unfolding spoken
-  meant-spoken = rw e (go (h .round))
+  meant-spoken = rw e (go (h .seat .round))
     where
       confesses : (b : Bool) → meant (cond b Said.Confession Said.List) (h .list) ≡ cond b confessed (listed (h .list))
       confesses true = refl
       confesses false = refl
 
-      go : (r : ℕ) → meant (saidBy r (h .healed) (h .position)) (h .list) ≡ spokenIn r h
+      go : (r : ℕ) → meant (saidBy r (h .seat)) (h .list) ≡ spokenIn r h
       go zero = refl
-      go (suc r) = confesses (h .healed)
+      go (suc r) = confesses (h .seat .healed)
 
   abbrev frame : List ℕ
-  frame = frameOf (h .n) (h .number) (h .phase) (meant what (h .list))
+  frame = frameOf (h .seat .n) (h .seat .number) (h .seat .phase) (meant what (h .list))
 
   same : frame ≡ frameFor h
-  same = ap (frameOf (h .n) (h .number) (h .phase)) meant-spoken
+  same = ap (frameOf (h .seat .n) (h .seat .number) (h .seat .phase)) meant-spoken
 
-  writes : (buffer : List ℕ) {r : Written} {out : List ℕ} → h .ended ≡ false → (r ≡ written frame buffer) × (out ≡ buffered frame buffer)
+  writes : (buffer : List ℕ) {r : Written} {out : List ℕ} → h .seat .ended ≡ false → (r ≡ written frame buffer) × (out ≡ buffered frame buffer)
       → (r ≡ writeAnswer h buffer) × (out ≡ writeBuffer h buffer)
   unfolding writeAnswer writeBuffer
   writes buffer runs p =
@@ -45,14 +45,14 @@ module _ (h : Head) {what : Said} (e : what ≡ saidBy (h .round) (h .healed) (h
 
 returns : tie.Need-returns
 returns c =
-    let a = c .before .before .args in
+    let a = c .before .before .before .args in
     let e = ended-writes (a .h) (c .if1 .taken) (now (a .buffer)) in
     (sym (e .0), sym (e .1))
 
 returns-2 : tie.Need-returns-2
 returns-2 c =
     let w = c .before .before in
-    let a = w .before .before .before .before .before .before .args in
+    let a = w .before .before .before .before .before .before .before .args in
     let q = w .before .before in
     writes (a .h) (q .spoken .ensures) (now (a .buffer)) (q .before .before .if1 .left) (w .write .ensures)
 

@@ -29,7 +29,7 @@ returns-4 c =
     let l = c .before in
     let t = l .before .before in
     let d = t .before .before .before in
-    let f = d .before .before .before in
+    let f = d .before .before .before .before in
     list-heard _ _ _ (d .said-on .ensures) (d .before .with-mark .ensures) (t .before .enum-told .given .1) (t .table-in .ensures) (l .with-list .ensures)
     (sym (set-out (f .args .h .lists) (f .args .link) _ (omega (arith, full (f .args .h) (f .good .0) .lists-long, c .if1 .left))))
 

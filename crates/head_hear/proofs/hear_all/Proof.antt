@@ -9,10 +9,11 @@ use denote.Ref.{now}
 use borrow.Author.Needs.{needs}
 use Rattle.terms.specs.declared.Table.{Table}
 use Rattle.frame_spec.specs.Said.{tableIn, saidOf}
+use Rattle.head_spec.specs.declared.Seat.{Seat}
 use Rattle.head_spec.specs.declared.Head.{Head}
 use Rattle.head_spec.specs.declared.Answer.{Answer}
 use Rattle.head_spec.specs.Calls.{hear, hearAll}
-use Rattle.head_spec.proofs.Hearing.{HeardKept, keptOf, all-keep}
+use Rattle.head_spec.proofs.Hearing.{all-keep}
 use Rattle.frame_slots.specs.Slots.{slot}
 use Rattle.head_hear.specs.Steps.{saidOn}
 use Rattle.head_hear.proofs.Held.{full}
@@ -22,10 +23,10 @@ use Rattle.head_hear.proofs.hear_all.Statement.{statement}
 use Rattle.head_hear.proofs.hear_all.Tie as tie
 
 abbrev Inv-loop : tie.InvT-loop
-Inv-loop h frames lengths count next₀ k₀ next k = (k ≤ count) × (next ≡ hearAll h (slot frames lengths) k)
+Inv-loop frames lengths seat count next₀ k₀ next k = (k ≤ count) × (next ≡ hearAll next₀ (slot frames lengths) k)
 
 abbrev μ-loop : tie.MeasureT-loop
-μ-loop h frames lengths count next₀ k₀ next k = count - k
+μ-loop frames lengths seat count next₀ k₀ next k = count - k
 
 loop-holds : tie.Need-loop-holds Inv-loop μ-loop
 unfolding hearAll
@@ -37,7 +38,7 @@ module _ (c : tie.After-said-on Inv-loop μ-loop) where
   here = c .before .before .before .before
 
   abbrev first : tie.Start Inv-loop μ-loop
-  first = here .before .before .before
+  first = here .before .before .before .before
 
   abbrev h : Head
   h = first .args .h
@@ -51,14 +52,14 @@ module _ (c : tie.After-said-on Inv-loop μ-loop) where
   abbrev s : List ℕ
   s = now (c .before .slot .result)
 
-  kept : keptOf h ≡ keptOf T
-  kept = sym (ap keptOf (here .loop .inv .1) ∙ all-keep h _ k)
+  kept : h .seat ≡ T .seat
+  kept = sym (ap (λ (x : Head). x .seat) (here .loop .inv .1) ∙ all-keep h _ k)
 
   said : c .said-on .result ≡ saidOf (linkSays T k s)
-  said = c .said-on .ensures ∙ ap (λ (x : HeardKept). saidOf (saidOn (x .ended) (x .n) (x .phase) (x .round) (T .heard) k s)) kept
+  said = c .said-on .ensures ∙ ap (λ (x : Seat). saidOf (saidOn x (T .heard) k s)) kept
 
-  table : {t : Table} → t ≡ tableIn (h .n) s → t ≡ tableIn (T .n) s
-  table e = e ∙ ap (λ (x : HeardKept). tableIn (x .n) s) kept
+  table : {t : Table} → t ≡ tableIn (h .seat .n) s → t ≡ tableIn (T .seat .n) s
+  table e = e ∙ ap (λ (x : Seat). tableIn (x .n) s) kept
 
   more : {a : Answer} → a ≡ hear T k s → a .head ≡ hearAll h (slot (now (first .args .frames)) (now (first .args .lengths))) (k + 1)
   more e = next-link h _ k (here .loop .inv .1) (c .before .slot .ensures) e
@@ -81,8 +82,8 @@ returns : tie.Need-returns Inv-loop μ-loop
 returns c =
     let l = c .before .loop in
     let n = c .before .before in
-    let f = n .before .before in
-    let e : l .k ≡ min (f .args .h .n) 32 = omega (arith, n .link-count .ensures) in
+    let f = n .before .before .before in
+    let e : l .k ≡ min (f .args .h .seat .n) 32 = omega (arith, n .link-count .ensures) in
     l .inv .1 ∙ ap (hearAll _ _) e ∙ first-32 _ _ (full (f .args .h) (f .good .0)) _
 
 pub hear-all-spec : {M : Type 1} → statement M

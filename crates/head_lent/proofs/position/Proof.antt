@@ -19,6 +19,6 @@ pub position-spec : {M : Type 1} → stated.statement M
 unfolding code.routine
 position-spec 𝓤 H 𝓜 𝓖 𝓡 =
     reads-number 𝓤 H (𝓖 .A) (givenOf 𝓤 H 𝓜 𝓖) heads (f.clauses 𝓤 H (𝓖 .A) (𝓜 .mem) (𝓡 .run)) (core.clauses 𝓤 H (𝓖 .A) (𝓜 .mem) (𝓡 .run)) code.function #core (λ κs a. tt) (λ κs a. id⊢ 𝓤 _)
-    (λ h old r v. (r ≡ heldNumber (h .position)) × (v ≡ heldOr (h .position) old)) (λ κs a r z. id⊢ 𝓤 _)
+    (λ h old r v. (r ≡ heldNumber (h .seat .position)) × (v ≡ heldOr (h .seat .position) old)) (λ κs a r z. id⊢ 𝓤 _)
     (λ κs a ghost r v e. factI 𝓤 _ (emp 𝓤) e)
     code.env #f 𝓜 𝓡 (code.unfolded 𝓤 H 𝓜 𝓡) core-def.routine code.calls-head-lent·held (core-thm.met 𝓤 H 𝓜 𝓖 𝓡)

@@ -1,0 +1,48 @@
+-- The seats that calls make: where a head stands after a start, a restart and the closing of each round. Calls make a seat here and nowhere else.
+use mathlib.Core.Bool.{Bool, true, false, cond}
+use Prim.Native.Nat.{ℕ, _+_}
+use lib.Dec.{leb}
+use lib.IntN.{ℤ}
+use Rattle.terms.specs.declared.Entry.{Entry}
+use Rattle.head_spec.specs.declared.Seat.{Seat}
+
+-- a start, at position v: phase 1 opens
+abbrev pub firstSeat : ℕ → ℕ → ℕ → ℤ → Seat
+firstSeat n f i v =
+    record { n = n; f = f; number = i; phase = 1; round = 0; healed = false; ended = false; position = Entry.Position v }
+
+-- a restart, in round r of phase p: the head is healed, with no position
+abbrev pub healedSeat : ℕ → ℕ → ℕ → ℕ → ℕ → Seat
+healedSeat n f i p r =
+    record { n = n; f = f; number = i; phase = p; round = r; healed = true; ended = false; position = Entry.Null }
+
+-- the collection round is closed
+abbrev pub confessionSeat : Seat → Seat
+confessionSeat s =
+    record {
+      n = s .n;
+      f = s .f;
+      number = s .number;
+      phase = s .phase;
+      round = 1;
+      healed = false;
+      ended = false;
+      position = s .position;
+    }
+
+abbrev pub isLast : Seat → Bool
+isLast s = leb 65535 (s .phase)
+
+-- the phase has ended with position v; after phase 65,535 phase and round stay, and the head has ended
+abbrev pub nextSeat : Seat → ℤ → Seat
+nextSeat s v =
+    record {
+      n = s .n;
+      f = s .f;
+      number = s .number;
+      phase = cond (isLast s) (s .phase) (s .phase + 1);
+      round = cond (isLast s) 1 0;
+      healed = false;
+      ended = isLast s;
+      position = Entry.Position v;
+    }
