@@ -15,7 +15,7 @@ use Rattle.marks.specs.Marks.{bitOf, withMark}
 use Rattle.frame_check.specs.Check.{Kind, position, silence, list, confession, unknown, isKnown, kindField, lengthField, checkFrame}
 use Rattle.frame_check.proofs.Checks.{passed}
 use Rattle.frame_spec.specs.declared.Said.{Said}
-use Rattle.frame_spec.specs.Said.{Meaning, refused, collected, listed, confessed, refusalOf, tableIn, meaning, unlessRefused, said, saidOf, meant}
+use Rattle.frame_spec.specs.Said.{Meaning, refused, collected, listed, confessed, refusalOf, tableIn, meaning, unlessRefused, said, saidOf, meant, restField}
 use Rattle.frame_spec.specs.Proper.{AcceptedMeaning}
 use Rattle.frame_spec.proofs.OneMeaning.{meant-said}
 use Rattle.settle_trust.specs.declared.Links.{Links}
@@ -34,7 +34,7 @@ known-says list n s e = tt
 known-says confession n s e = tt
 known-says unknown n s e = absurd (true≢false (sym e))
 
-says-something : (n p r k : ℕ) (s : List ℕ) → refusalOf n p r k s ≡ 0 → AcceptedMeaning (meaning (kindField s) n s)
+says-something : (n p r k : ℕ) (s : List ℕ) → refusalOf n p r k s ≡ 0 → AcceptedMeaning (meaning (kindField s) n (restField s))
 unfolding refusalOf checkFrame
 says-something n p r k s e =
     let first = passed (leb 4 (length s)) _ e in
@@ -59,7 +59,7 @@ module _ (h : Head) (k : ℕ) (s : List ℕ) where
   frame-answered : let m = saidTo (h .seat) k s in answer (refusalTo (h .seat) k s) (taken h k m) h ≡ answered h k m
   unfolding said
   frame-answered =
-      go (refusalTo (h .seat) k s) (meaning (kindField s) (h .seat .n) s) (says-something (h .seat .n) (h .seat .phase) (h .seat .round) k s)
+      go (refusalTo (h .seat) k s) (meaning (kindField s) (h .seat .n) (restField s)) (says-something (h .seat .n) (h .seat .phase) (h .seat .round) k s)
     where
       go : (c : ℕ) (m : Meaning) → (c ≡ 0 → AcceptedMeaning m) → answer c (taken h k (unlessRefused c m)) h ≡ answered h k (unlessRefused c m)
       go zero (refused d) a = absurd (a refl)
@@ -84,10 +84,10 @@ module _ (h : Head) (k : ℕ) (s : List ℕ) where
       go false b c = refl
 
   -- the code has what is said as an enum, with the table of a list beside it
-  meant-link : meant (saidOf (linkSays h k s)) (tableIn (h .seat .n) s) ≡ linkSays h k s
+  meant-link : meant (saidOf (linkSays h k s)) (tableIn (h .seat .n) (restField s)) ≡ linkSays h k s
   meant-link = go (linkRefusal (h .seat) (h .heard) k)
     where
-      go : (c : ℕ) → let m = unlessRefused c (saidTo (h .seat) k s) in meant (saidOf m) (tableIn (h .seat .n) s) ≡ m
+      go : (c : ℕ) → let m = unlessRefused c (saidTo (h .seat) k s) in meant (saidOf m) (tableIn (h .seat .n) (restField s)) ≡ m
       go zero = meant-said (h .seat .n) (h .seat .phase) (h .seat .round) k s
       go (suc c) = refl
 
@@ -99,8 +99,8 @@ holding h heard t g l = record { seat = h .seat; heard = heard; list = t; links 
 
 -- it is what hearing makes of it, by what was said
 module _ (h : Head) (k : ℕ) (s : List ℕ) {what : Said} (e : what ≡ saidOf (linkSays h k s)) where
-  as-said : {w : Said} → what ≡ w → answered h k (meant w (tableIn (h .seat .n) s)) ≡ hear h k s
-  as-said q = ap (answered h k) (ap (λ (w : Said). meant w (tableIn (h .seat .n) s)) (sym q ∙ e) ∙ meant-link h k s) ∙ link-answered h k s
+  as-said : {w : Said} → what ≡ w → answered h k (meant w (tableIn (h .seat .n) (restField s))) ≡ hear h k s
+  as-said q = ap (answered h k) (ap (λ (w : Said). meant w (tableIn (h .seat .n) (restField s))) (sym q ∙ e) ∙ meant-link h k s) ∙ link-answered h k s
 
   pub refused-heard : {c : ℕ} → what ≡ Said.Refused c → record { refusal = c; head = h } ≡ hear h k s
   refused-heard q = as-said q
@@ -110,7 +110,7 @@ module _ (h : Head) (k : ℕ) (s : List ℕ) {what : Said} (e : what ≡ saidOf 
         → record { refusal = 0; head = holding h heard t (h .links) (h .lists) } ≡ hear h k s
     entry-heard q a = rw (m, a) (as-said q)
 
-    pub list-heard : {t : Table} {g : Links} {l : List Row} → what ≡ Said.List → t ≡ tableIn (h .seat .n) s → g ≡ withList (h .links) k t
+    pub list-heard : {t : Table} {g : Links} {l : List Row} → what ≡ Said.List → t ≡ tableIn (h .seat .n) (restField s) → g ≡ withList (h .links) k t
         → l ≡ set (h .lists) k (record { entries = t .entries }) → record { refusal = 0; head = holding h heard (h .list) g l } ≡ hear h k s
     list-heard q a b d = rw (m, d, b, a) (as-said q)
 

@@ -1,5 +1,6 @@
-// rigplay: a run file from standard input, its listing to standard output. What each page holds is promised by run_stream::fill, and what is left at the end by
-// run_stream::finish; the lines of a piece are written before more input is waited for. Where a read or a write fails it ends, and no last line is written.
+// rigplay: a run file from standard input, its listing to standard output. Every write is handed a page that run_stream filled: the first page, a page for
+// each fill, the last page; the law `any-cutting` (crates/run_stream/proofs/Cutting.antt) says that these pages are the listing. The lines of a piece are written before
+// more input is waited for. If a read or a write fails, the program ends, and no last line is written.
 ghost use mathlib.Core.Bool.{true};
 ghost use mathlib.Core.List.{List, _++_};
 ghost use mathlib.Core.Path.{_≡_};
@@ -8,7 +9,6 @@ ghost use Rattle.run_state.specs.Memory.{before, after};
 ghost use Rattle.run_piece.specs.Advances.{StateAt};
 use libc::STDIN_FILENO;
 use libc::STDOUT_FILENO;
-use run_listing::Text;
 use run_state::Player;
 
 // What comes of a piece: the player after it, and whether all that it shows is written.
@@ -30,11 +30,6 @@ fn write_front(bytes: &[u8], n: usize) -> bool {
         return false;
     }
     io::write_all(STDOUT_FILENO, &bytes[..n])
-}
-
-fn write_text(t: Text) -> bool {
-    let bytes = t.bytes;
-    write_front(&bytes, t.len)
 }
 
 fn write_page(page: &[u8; 4096], n: usize) -> bool {
@@ -160,7 +155,9 @@ fn main() {
     let mut lists = [none; 32];
     let mut planted = [0u8; 143360];
     let mut lengths = [0u8; 1024];
-    if !write_text(run_listing::title_line()) {
+    let mut page = io::buffer();
+    let first = run_stream::first_page(&mut page);
+    if !write_page(&page, first) {
         return;
     }
     let turn = play_all(
@@ -176,15 +173,14 @@ fn main() {
     if !turn.ended {
         return;
     }
-    let finale = run_stream::finish(
+    let last = run_stream::last_page(
         turn.player,
+        &mut page,
         &mut positions,
         &mut marks,
         &mut lists,
         &planted,
         &lengths,
     );
-    if write_text(finale.line) {
-        write_text(finale.verdict);
-    }
+    write_page(&page, last);
 }

@@ -10,7 +10,7 @@ use borrow.Author.Tests.{le-leb}
 use Rattle.terms.specs.declared.Entry.{Entry}
 use Rattle.frame_spec.specs.declared.Said.{Said}
 use Rattle.frame_spec.specs.declared.Written.{Written}
-use Rattle.frame_spec.specs.Said.{Meaning, refused, collected, listed, confessed, tableIn, said, saidOf, meant}
+use Rattle.frame_spec.specs.Said.{Meaning, refused, collected, listed, confessed, tableIn, said, saidOf, meant, restField}
 use Rattle.frame_spec.specs.Written.{frameOf, written, buffered}
 use Rattle.frame_spec.proofs.Listing.{list-length}
 use Rattle.frame_spec.proofs.OneMeaning.{meant-said}
@@ -48,5 +48,5 @@ front-written {n} k p m s {x} {out} same h l e f =
 -- ---- read
 
 -- x: what was read
-pub said-read : (n p r k : ℕ) (s : List ℕ) {x : Said} → x ≡ saidOf (said n p r k s) → said n p r k s ≡ meant x (tableIn n s)
-said-read n p r k s e = sym (meant-said n p r k s) ∙ ap (λ (x : Said). meant x (tableIn n s)) (sym e)
+pub said-read : (n p r k : ℕ) (s : List ℕ) {x : Said} → x ≡ saidOf (said n p r k s) → said n p r k s ≡ meant x (tableIn n (restField s))
+said-read n p r k s e = sym (meant-said n p r k s) ∙ ap (λ (x : Said). meant x (tableIn n (restField s))) (sym e)

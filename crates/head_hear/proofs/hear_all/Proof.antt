@@ -8,7 +8,7 @@ use native.Mathlib.Omega.{arith}
 use denote.Ref.{now}
 use borrow.Author.Needs.{needs}
 use Rattle.terms.specs.declared.Table.{Table}
-use Rattle.frame_spec.specs.Said.{tableIn, saidOf}
+use Rattle.frame_spec.specs.Said.{tableIn, saidOf, restField}
 use Rattle.head_spec.specs.declared.Seat.{Seat}
 use Rattle.head_spec.specs.declared.Head.{Head}
 use Rattle.head_spec.specs.declared.Answer.{Answer}
@@ -58,8 +58,8 @@ module _ (c : tie.After-said-on Inv-loop μ-loop) where
   said : c .said-on .result ≡ saidOf (linkSays T k s)
   said = c .said-on .ensures ∙ ap (λ (x : Seat). saidOf (saidOn x (T .heard) k s)) kept
 
-  table : {t : Table} → t ≡ tableIn (h .seat .n) s → t ≡ tableIn (T .seat .n) s
-  table e = e ∙ ap (λ (x : Seat). tableIn (x .n) s) kept
+  table : {t : Table} → t ≡ tableIn (h .seat .n) (restField s) → t ≡ tableIn (T .seat .n) (restField s)
+  table e = e ∙ ap (λ (x : Seat). tableIn (x .n) (restField s)) kept
 
   more : {a : Answer} → a ≡ hear T k s → a .head ≡ hearAll h (slot (now (first .args .frames)) (now (first .args .lengths))) (k + 1)
   more e = next-link h _ k (here .loop .inv .1) (c .before .slot .ensures) e

@@ -3,7 +3,7 @@ use mathlib.Core.Path.{_≡_, ap, sym, _∙_}
 use denote.Ref.{now}
 use borrow.Author.Needs.{needs}
 use Rattle.frame_spec.specs.declared.Said.{Said}
-use Rattle.frame_spec.specs.Said.{tableIn, said, meant}
+use Rattle.frame_spec.specs.Said.{tableIn, said, meant, restField}
 use Rattle.head_spec.specs.Record.{heardEntry}
 use Rattle.ring_round.proofs.Frames.{said-read}
 use Rattle.ring_collection.proofs.entry_in.Statement.{statement}
@@ -11,7 +11,7 @@ use Rattle.ring_collection.proofs.entry_in.Tie as tie
 
 by-what : (c : tie.After-read) {x : Said} → c .read .result ≡ x →
     let a = c .before .before .args in
-    heardEntry (meant x (tableIn (a .n) (now (a .frame)))) ≡ heardEntry (said (a .n) (a .phase) 0 (a .k) (now (a .frame)))
+    heardEntry (meant x (tableIn (a .n) (restField (now (a .frame))))) ≡ heardEntry (said (a .n) (a .phase) 0 (a .k) (now (a .frame)))
 by-what c e = let a = c .before .before .args in ap heardEntry (sym (said-read (a .n) (a .phase) 0 (a .k) (now (a .frame)) (sym e ∙ c .read .ensures)))
 
 returns : tie.Need-returns

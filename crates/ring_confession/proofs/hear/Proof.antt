@@ -3,14 +3,14 @@ use mathlib.Core.Path.{_≡_, refl, sym, _∙_}
 use denote.Ref.{now}
 use borrow.Author.Needs.{needs}
 use Rattle.frame_spec.specs.declared.Said.{Said}
-use Rattle.frame_spec.specs.Said.{tableIn, said, meant}
+use Rattle.frame_spec.specs.Said.{tableIn, said, meant, restField}
 use Rattle.ring_round.proofs.Frames.{said-read}
 use Rattle.ring_confession.proofs.hear.Statement.{statement}
 use Rattle.ring_confession.proofs.hear.Tie as tie
 
 by-what : (c : tie.After-read) {x : Said} → c .read .result ≡ x →
     let a = c .before .before .args in
-    said (a .n) (a .phase) 1 (a .k) (now (a .frame)) ≡ meant x (tableIn (a .n) (now (a .frame)))
+    said (a .n) (a .phase) 1 (a .k) (now (a .frame)) ≡ meant x (tableIn (a .n) (restField (now (a .frame))))
 by-what c e = let a = c .before .before .args in said-read (a .n) (a .phase) 1 (a .k) (now (a .frame)) (sym e ∙ c .read .ensures)
 
 returns : tie.Need-returns
