@@ -33,9 +33,9 @@ fields-are p collect confess ps f w =
     rw (w, ← f .is-low, ← f .is-high, spelled-hex 8 collect, spelled-hex 8 confess) (simp append-snoc)
 
 pub line-is : (n p : ℕ) (e : PhaseEnd) (positions : List ℤ)
-    → Each n (λ i. bitOf (e .confess) i ≡ false → e .heads i .position ≡ Entry.Position (getD positions i (pos 0)))
+    → Each n (λ i. bitOf (e .confess) i ≡ false → e .heads i .seat .position ≡ Entry.Position (getD positions i (pos 0)))
     → line n p e ≡ endLine n p positions (e .collect) (e .confess)
 unfolding line endLine fields spread
 line-is n p e positions h =
-    let f = found-held n (e .confess) (λ i. e .heads i .position) positions h in
+    let f = found-held n (e .confess) (λ i. e .heads i .seat .position) positions h in
     rw (f .is-low, f .is-high)

@@ -11,7 +11,6 @@ use Rattle.frame_spec.specs.Said.{Meaning, said}
 use Rattle.frame_spec.specs.Written.{frameOf}
 use Rattle.head_spec.specs.declared.Head.{Head}
 use Rattle.head_spec.specs.Calls.{spoken, frameFor}
-use Rattle.head_spec.proofs.Hearing.{HeardKept}
 use Rattle.ring_spec.specs.Rounds.{Round, planted, Ring, openedAt, carried}
 use Rattle.ring_spec.proofs.OneRound.{RingReady, saidIn, opened-ready}
 use Rattle.ring_round.specs.declared.Stage.{Stage}
@@ -46,8 +45,8 @@ module _ {n f : ℕ} {R : Ring} {w : Round} {s : Stage} {plant : ℕ → ℕ →
           go : (c : Bool) → bitOf (w .struck) k ≡ c → cond c (plant k i) (frameOf n k (R .phase) m) ≡ cond c (planted (w .plants) k i) (frameFor h)
           go true e = P .plants k i b l e q
           go false e =
-              ap (frameOf n k (R .phase)) (sym (says e))
-              ∙ sym (ap (λ (x : HeardKept). frameOf (x .n) (x .number) (x .phase) (spoken h)) (opened-ready n f R w S k b e .is))
+              let A = opened-ready n f R w S k b e .seat in
+              ap (frameOf n k (R .phase)) (sym (says e)) ∙ rw (A .count, A .number, A .phase)
 
       pub said-same : {r : ℕ} → R .round ≡ r → said (heads s) (s .phase) r k (carries s plant i k m) ≡ saidIn n f R w i k
       said-same c = rw (carries-same, heads-are, P .phase, c)

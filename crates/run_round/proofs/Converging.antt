@@ -41,7 +41,7 @@ module _ (n f : ℕ) (v : ℕ → ℤ) where
   converged ws {M} A K c k l =
       let R = ringAfter n f v ws in
       let D = rw (zero-add, latest ws c) at (A 0 k (rw zero-add l)) in
-      let same = found-held n (R .before) (λ i. R .heads i .position) (M .positions) (K .collection c) in
+      let same = found-held n (R .before) (λ i. R .heads i .seat .position) (M .positions) (K .collection c) in
       record { range = λ i l q. rw (← K .collection c i l q) (D .range i l q); halving = λ h. rw (← same .is-low, ← same .is-high) (D .halving h) }
 
 -- of the file read, when its rounds are played, with the pending one or without it

@@ -1,7 +1,7 @@
 -- The memory keeps step with the ring. Before a round it settles what each record that is neither struck nor healed has to say, so that each unstruck
 -- head hears the same in both, and makes the same of it: in collection its list, its position left as it is, in confession its new position, since no closing is
 -- refused.
-use mathlib.Core.Path.{_≡_, refl, ap, ap₂, sym, subst, _∙_}
+use mathlib.Core.Path.{_≡_, refl, ap, ap₂, sym, _∙_}
 use mathlib.Core.Bool.{Bool, true, false, cond}
 use mathlib.Core.List.{List, []}
 use Prim.Native.Nat.{ℕ, _<_}
@@ -17,14 +17,14 @@ use Rattle.convergence.specs.Trust.{Given, trusted}
 use Rattle.convergence.specs.Phases.{End, rounding}
 use Rattle.convergence.proofs.Same.{nulls-same, midpoint-same, trusted-same}
 use Rattle.frame_spec.specs.Said.{collected, listed, confessed}
-use Rattle.frame_spec.specs.Proper.{ProperTable}
 use Rattle.settle_midpoint.specs.Answers.{settling}
+use Rattle.head_spec.specs.declared.Seat.{Seat}
 use Rattle.head_spec.specs.declared.Head.{Head}
 use Rattle.head_spec.specs.Record.{given, heardEntry, givenOf}
 use Rattle.head_spec.specs.Calls.{started, restarted, closedCollection, spoken}
-use Rattle.head_spec.proofs.Hearing.{HeardKept}
 use Rattle.ring_spec.specs.Rounds.{Round, Ring, openedAt, afterRound, firstHeads, ringAfter}
-use Rattle.ring_spec.proofs.OneRound.{RingReady, says-entry, says-list, heardAt, opened-same, opened-in, heard-proper, heard-is, heard-given, heard-list}
+use Rattle.ring_spec.proofs.OneRound.{RingReady, says-entry, says-list, heardAt, opened-same, opened-in}
+use Rattle.ring_spec.proofs.OneRound.{heard-proper, heard-seat, heard-at, heard-given, heard-list}
 use Rattle.ring_spec.proofs.Closings.{collection-closed, confession-settles, after-collection, after-confession}
 use Rattle.ring_spec.proofs.Demand3.{Playable}
 use Rattle.ring_round.specs.declared.Stage.{Stage}
@@ -44,7 +44,7 @@ no-position p = let z : _≡_ {A = ℕ} 0 1 = cc in absurd (omega arith)
 -- ---- the start, with the positions of the start record
 
 module _ (n f : ℕ) (v : ℕ → ℤ) (M : Memory) (same : Each n (λ i. getD (M .positions) i (pos 0) ≡ v i)) where
-  pub start-positions : Each n (λ i. firstHeads n f v i .position ≡ Entry.Position (getD (M .positions) i (pos 0)))
+  pub start-positions : Each n (λ i. firstHeads n f v i .seat .position ≡ Entry.Position (getD (M .positions) i (pos 0)))
   unfolding firstHeads started
   start-positions i l = ap Entry.Position (sym (same i l))
 
@@ -80,7 +80,8 @@ module _ {n f : ℕ} {R : Ring} {w : Round} {s : Stage} {plant : ℕ → ℕ →
     says-position k l q = says-entry (opened-in n f R w S k l q collection) ∙ rw (P .before) (go (bitOf (R .before) k) refl)
       where
         go : (b : Bool) → bitOf (R .before) k ≡ b
-            → collected (cond b Entry.Null (openedAt n f R w k .position)) ≡ collected (cond b Entry.Null (Entry.Position (getD positions k (pos 0))))
+            → collected (cond b Entry.Null (openedAt n f R w k .seat .position))
+            ≡ collected (cond b Entry.Null (Entry.Position (getD positions k (pos 0))))
         go true e = refl
         go false e = rw (opened-same n f R w k q e, K .collection collection k l e)
 
@@ -96,7 +97,7 @@ module _ {n f : ℕ} {R : Ring} {w : Round} {s : Stage} {plant : ℕ → ℕ →
       -- its list when all is heard, which is proper
       heard-table : T .list ≡ tableOf (heads s) (listEntry s positions plant i)
       heard-table =
-          let proper = subst (λ (x : HeardKept). ProperTable (x .n) (T .list)) (heard-is n f R w S i l q) (heard-proper n f R w S i l q .list) in
+          let proper = rw (heard-at n f R w S i l q .count) at (heard-proper n f R w S i l q .list) in
           rw (heads-are P S)
           (sym (table-of-entries n (T .list) proper (S .size .most)) ∙ table-same n (tableAt (T .list)) (listEntry s positions plant i) heard-entries)
 
@@ -105,13 +106,14 @@ module _ {n f : ℕ} {R : Ring} {w : Round} {s : Stage} {plant : ℕ → ℕ →
       list-kept = ap (λ (h : Head). h .list) (collection-closed n f R w S i l q collection) ∙ heard-table
 
       -- its position, which a head that is healed in this round does not have
-      position-stays : (v : ℤ) → afterRound n f R w .heads i .position ≡ Entry.Position v → getD positions i (pos 0) ≡ v
+      position-stays : (v : ℤ) → afterRound n f R w .heads i .seat .position ≡ Entry.Position v → getD positions i (pos 0) ≡ v
       unfolding afterRound closedCollection openedAt restarted
       position-stays v e =
           go (bitOf (R .before) i) refl
-          (sym (ap (λ (h : Head). h .position) (collection-closed n f R w S i l q collection) ∙ ap (λ (x : HeardKept). x .position) (heard-is n f R w S i l q)) ∙ e)
+          (sym (ap (λ (h : Head). h .seat .position) (collection-closed n f R w S i l q collection)
+          ∙ ap (λ (x : Seat). x .position) (heard-seat n f R w S i l q)) ∙ e)
         where
-          go : (b : Bool) → bitOf (R .before) i ≡ b → openedAt n f R w i .position ≡ Entry.Position v → getD positions i (pos 0) ≡ v
+          go : (b : Bool) → bitOf (R .before) i ≡ b → openedAt n f R w i .seat .position ≡ Entry.Position v → getD positions i (pos 0) ≡ v
           go true b e = no-position (rw (q, b) at e)
           go false b e = K .always i l b v (rw (opened-same n f R w i q b) at e)
 
@@ -169,7 +171,7 @@ module _ {n f : ℕ} {R : Ring} {w : Round} {s : Stage} {plant : ℕ → ℕ →
           ap₂ (λ (a b : ℕ). positionOf (settling 0 a b (trusted a b G′))) (heads-are P S) (P .limit)
           ∙ settles-midpoint n f (trusted n f G′) still-calm
 
-      position-kept : afterRound n f R w .heads i .position ≡ Entry.Position (newPosition s marks lists plant i)
+      position-kept : afterRound n f R w .heads i .seat .position ≡ Entry.Position (newPosition s marks lists plant i)
       unfolding afterRound rounding
       position-kept =
           confession-settles n f R w S i l q confession calm ∙ ap Entry.Position (midpoint-same 0 n f _ _ trust-same ∙ sym new-position)
@@ -177,7 +179,8 @@ module _ {n f : ℕ} {R : Ring} {w : Round} {s : Stage} {plant : ℕ → ℕ →
     module _ (M′ : Memory)
         (new : (i : ℕ) → getD (M′ .positions) i (pos 0) ≡ cond (hears s i) (newPosition s marks lists plant i) (getD positions i (pos 0))) where
       -- in phase 65,535 too, where the ring ends
-      pub confess-positions : Each n (λ i. bitOf (w .struck) i ≡ false → afterRound n f R w .heads i .position ≡ Entry.Position (getD (M′ .positions) i (pos 0)))
+      pub confess-positions : Each n (λ i. bitOf (w .struck) i ≡ false
+          → afterRound n f R w .heads i .seat .position ≡ Entry.Position (getD (M′ .positions) i (pos 0)))
       confess-positions i l q = position-kept i l q ∙ ap Entry.Position (sym (new i ∙ rw (hears-unstruck P S i l q)))
 
       pub confess-keeps : HeadsOf n (afterRound n f R w) M′

@@ -14,6 +14,7 @@ use Rattle.run_state.specs.Memory.{Memory}
 
 -- of the heads that were not struck in the round before: a collection round finds each with a position; a head healed in it has none in the confession round
 pub record HeadsOf (n : ℕ) (R : Ring) (M : Memory) : Type 0 where
-  pub collection : R .round ≡ 0 → Each n (λ i. bitOf (R .before) i ≡ false → R .heads i .position ≡ Entry.Position (getD (M .positions) i (pos 0)))
+  pub collection : R .round ≡ 0
+      → Each n (λ i. bitOf (R .before) i ≡ false → R .heads i .seat .position ≡ Entry.Position (getD (M .positions) i (pos 0)))
   pub confession : R .round ≡ 1 → Each n (λ i. bitOf (R .before) i ≡ false → R .heads i .list ≡ rowIn (M .marks) (M .lists) i)
-  pub always : Each n (λ i. bitOf (R .before) i ≡ false → (v : ℤ) → R .heads i .position ≡ Entry.Position v → getD (M .positions) i (pos 0) ≡ v)
+  pub always : Each n (λ i. bitOf (R .before) i ≡ false → (v : ℤ) → R .heads i .seat .position ≡ Entry.Position v → getD (M .positions) i (pos 0) ≡ v)

@@ -39,7 +39,7 @@ module _ (n word : ℕ) (positions : List ℤ) where
 
   -- it holds a phase end whose sound heads hold these positions
   pub row-holds : (x : PhaseEnd) → word ≡ x .confess → n ≤ 32
-      → Each n (λ i. bitOf (x .confess) i ≡ false → x .heads i .position ≡ Entry.Position (getD positions i (pos 0)))
+      → Each n (λ i. bitOf (x .confess) i ≡ false → x .heads i .seat .position ≡ Entry.Position (getD positions i (pos 0)))
       → HoldsEnd n x (soundRow n word positions 32) word
   row-holds x e most held =
       record {

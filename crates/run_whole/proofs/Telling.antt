@@ -40,7 +40,7 @@ roomy k B h =
 pub record AtEnd (n : ℕ) (R : Ring) (word : ℕ) (positions : List ℤ) : Type 0 where
   pub is : word ≡ R .before
   pub most : n ≤ 32
-  pub held : Each n (λ i. bitOf (R .before) i ≡ false → R .heads i .position ≡ Entry.Position (getD positions i (pos 0)))
+  pub held : Each n (λ i. bitOf (R .before) i ≡ false → R .heads i .seat .position ≡ Entry.Position (getD positions i (pos 0)))
 
 module _ {n : ℕ} {text : List ℕ} {es : List PhaseEnd} {l c : ℕ} {B₀ B : Buffers} (T : Told n text es l c B₀ B) where
   pub out-long : l ≤ length (B₀ .out) → length (B .out) ≡ length (B₀ .out)
@@ -74,7 +74,7 @@ module _ {n : ℕ} {text : List ℕ} {es : List PhaseEnd} {l c : ℕ} {B₀ B : 
   -- ---- a phase end more
 
   module _ (x : PhaseEnd) (word : ℕ) (positions : List ℤ) (is : word ≡ x .confess) (most : n ≤ 32)
-      (held : Each n (λ i. bitOf (x .confess) i ≡ false → x .heads i .position ≡ Entry.Position (getD positions i (pos 0))))
+      (held : Each n (λ i. bitOf (x .confess) i ≡ false → x .heads i .seat .position ≡ Entry.Position (getD positions i (pos 0))))
       (ends-room : 32 * c + 32 ≤ length (B .ends)) (words-room : c < length (B .words)) where
     abbrev s : List ℤ
     s = soundRow n word positions 32

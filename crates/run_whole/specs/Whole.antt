@@ -32,7 +32,7 @@ isSound n word i = ltb i n && not (bitOf word i)
 -- holds, and 0 elsewhere
 pub record HoldsEnd (n : ℕ) (x : PhaseEnd) (row : List ℤ) (word : ℕ) : Type 0 where
   pub marks : word ≡ x .confess
-  pub held : Each n (λ i. bitOf (x .confess) i ≡ false → x .heads i .position ≡ Entry.Position (getD row i (pos 0)))
+  pub held : Each n (λ i. bitOf (x .confess) i ≡ false → x .heads i .seat .position ≡ Entry.Position (getD row i (pos 0)))
   pub others : (i : ℕ) → isSound n (x .confess) i ≡ false → getD row i (pos 0) ≡ pos 0
 
 -- the phase end that row e and word e are
