@@ -22,7 +22,7 @@ use Rattle.head_spec.specs.Record.{given}
 use Rattle.head_spec.specs.Calls.{started}
 use Rattle.head_spec.proofs.Proper.{Sized, start-accepted}
 use Rattle.head_spec.proofs.Hearing.{fresh-started}
-use Rattle.ring_spec.specs.Rounds.{Round, Ring, afterRound, PhaseEnd, asEnd, withEnd, firstHeads, ringAfter, endsAfter}
+use Rattle.ring_spec.specs.Rounds.{Round, Ring, afterRound, PhaseEnd, asEnd, withEnd, firstHeads, ringAfter, endsAfter, mostRounds}
 use Rattle.ring_spec.specs.Converges.{FewStruckIn, noEnd, AnyTwo, RingConverges}
 use Rattle.ring_spec.proofs.OneRound.{RingReady, heardAt}
 use Rattle.ring_spec.proofs.Closings.{after-collection, after-confession, collection-next, confession-next}
@@ -108,7 +108,7 @@ module _ (n f : ℕ) (v : ℕ → ℤ) (S : Sized n f) (range : Each n (λ i. is
         nears = λ c. absurd (omega arith);
       }
 
-  pub playable : (ws : List Round) → FewStruckIn n f ws → length ws < 131070 → Playable n f (asEnd (getD (E ws) 0 noEnd)) (R ws)
+  pub playable : (ws : List Round) → FewStruckIn n f ws → length ws < mostRounds → Playable n f (asEnd (getD (E ws) 0 noEnd)) (R ws)
   unfolding ringAfter endsAfter
   playable [] W l = start-playable
   playable (w ∷ ws) W l =
@@ -118,7 +118,7 @@ module _ (n f : ℕ) (v : ℕ → ℤ) (S : Sized n f) (range : Each n (λ i. is
   -- ---- the ends
 
   -- each is nearer than the one before
-  linked : (ws : List Round) → FewStruckIn n f ws → length ws ≤ 131070 → (j : ℕ) → suc j < length (E ws)
+  linked : (ws : List Round) → FewStruckIn n f ws → length ws ≤ mostRounds → (j : ℕ) → suc j < length (E ws)
       → Nearer n n f (Halves n f) (asEnd (getD (E ws) (suc j) noEnd)) (asEnd (getD (E ws) j noEnd))
   unfolding ringAfter endsAfter afterRound
   linked [] W l j m = absurd (omega arith)
@@ -151,7 +151,7 @@ module _ (n f : ℕ) (v : ℕ → ℤ) (S : Sized n f) (range : Each n (λ i. is
       go e zero l h = h
       go e (suc r) l h = let z : suc (length (E ws)) - 1 ≡ suc (length (E ws) - 1) = omega arith in rw z h
 
-  module _ (ws : List Round) (W : FewStruckIn n f ws) (l : length ws ≤ 131070) where
+  module _ (ws : List Round) (W : FewStruckIn n f ws) (l : length ws ≤ mostRounds) where
     abbrev K : ℕ
     K = length (E ws) - 1
 

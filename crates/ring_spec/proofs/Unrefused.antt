@@ -19,7 +19,7 @@ use Rattle.head_spec.specs.declared.Closed.{Closed}
 use Rattle.head_spec.specs.declared.Closing.{Closing}
 use Rattle.head_spec.specs.Calls.{restartRefusal, spoken, close}
 use Rattle.head_spec.proofs.Proper.{Sized, restart-accepted}
-use Rattle.ring_spec.specs.Rounds.{Round, Ring, openedAt, carried, asEnd, ringAfter, endsAfter}
+use Rattle.ring_spec.specs.Rounds.{Round, Ring, openedAt, carried, asEnd, ringAfter, endsAfter, mostRounds}
 use Rattle.ring_spec.specs.Converges.{FewStruckIn, noEnd}
 use Rattle.ring_spec.proofs.OneRound.{heardAt, said-spoken}
 use Rattle.ring_spec.proofs.Closings.{collection-closes, confession-closes}
@@ -34,7 +34,7 @@ module _ (n f : ℕ) (v : ℕ → ℤ) (ws : List Round) (most : n ≤ 32) (limi
   S = record { some = omega arith; most = most; limit = limit }
 
   -- another round may be played
-  module _ (l : length ws < 131070) where
+  module _ (l : length ws < mostRounds) where
     P : Playable n f (asEnd (getD (endsAfter n f v ws) 0 noEnd)) R
     P = playable n f v S range ws W l
 
@@ -69,5 +69,5 @@ module _ (n f : ℕ) (v : ℕ → ℤ) (ws : List Round) (most : n ≤ 32) (limi
         pub never-25 : closes .closed ≢ Closed.Refused refusal.trusted
         never-25 = never-refused refusal.trusted
 
-  pub sound-holds : length ws ≤ 131070 → (i : ℕ) → i < length (endsAfter n f v ws) → AllHold n (asEnd (getD (endsAfter n f v ws) i noEnd))
+  pub sound-holds : length ws ≤ mostRounds → (i : ℕ) → i < length (endsAfter n f v ws) → AllHold n (asEnd (getD (endsAfter n f v ws) i noEnd))
   sound-holds l i m j b q = held-position _ _ _ (ring-converges n f v ws most limit range W l i 0 (omega arith) .range j b q)

@@ -9,7 +9,7 @@ use Rattle.terms.specs.Positions.{isPosition}
 use Rattle.marks.specs.Marks.{bitOf}
 use Rattle.convergence.specs.Counting.{Each, AtMost}
 use Rattle.convergence.specs.Demand3.{Demand3, AcceptedSize}
-use Rattle.ring_spec.specs.Rounds.{Round, PhaseEnd, asEnd, endsAfter, lost}
+use Rattle.ring_spec.specs.Rounds.{Round, lost, mostRounds, PhaseEnd, asEnd, endsAfter}
 
 -- at most f heads are struck in each round
 abbrev pub FewStruckIn : ℕ → ℕ → List Round → Type 0
@@ -28,5 +28,5 @@ AnyTwo n f es =
 -- up to the last round of phase 65,535
 abbrev pub RingConverges : Type 0
 RingConverges =
-    (n f : ℕ) (v : ℕ → ℤ) (ws : List Round) → n ≤ 32 → AcceptedSize n f → Each n (λ i. isPosition (v i) ≡ true) → FewStruckIn n f ws → length ws ≤ 131070
+    (n f : ℕ) (v : ℕ → ℤ) (ws : List Round) → n ≤ 32 → AcceptedSize n f → Each n (λ i. isPosition (v i) ≡ true) → FewStruckIn n f ws → length ws ≤ mostRounds
     → AnyTwo n f (endsAfter n f v ws)

@@ -1,7 +1,7 @@
 -- Document 01, "Strikes", for the records of a whole ring: memory lost, healed heads restarted, frames sent and delivered, rounds closed.
 use mathlib.Core.Bool.{false, cond, _&&_}
 use mathlib.Core.List.{List, [], _∷_}
-use Prim.Native.Nat.{ℕ, zero, suc, _+_}
+use Prim.Native.Nat.{ℕ, zero, suc, _+_, _/_, _%_}
 use lib.Dec.{eqb}
 use lib.IntN.{ℤ}
 use Rattle.terms.specs.declared.Entry.{Entry}
@@ -58,6 +58,18 @@ module _ (n f : ℕ) (R : Ring) (w : Round) where
   -- record i as the round is closed: every unstruck head has heard all links, its own too
   unfoldable pub closedAt : ℕ → Head
   closedAt i = cond (bitOf (w .struck) i) lost (close (hearAll (openedAt i) (carried i) n) .head)
+
+-- A phase has two rounds, collection and confession: of rounds counted from 1, round k belongs to phase `phaseOf k`, and ends it if `endsPhase k`. The start,
+-- k = 0, counts as an end.
+abbrev pub phaseOf : ℕ → ℕ
+phaseOf k = (k + 1) / 2
+
+abbrev pub endsPhase : ℕ → Bool
+endsPhase k = eqb (k % 2) 0
+
+-- two for each of 65,535 phases
+abbrev pub mostRounds : ℕ
+mostRounds = 131070
 
 abbrev pub phaseThen : ℕ → ℕ → ℕ
 phaseThen zero p = p

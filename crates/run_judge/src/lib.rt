@@ -20,7 +20,7 @@ pub const ROUND: u16 = 0x11;
 pub const PLANT: u16 = 0x12;
 
 // Two rounds for each of 65,535 phases.
-const MOST_ROUNDS: u32 = 131070;
+pub const MOST_ROUNDS: u32 = 131070;
 
 // The sender and receiver of the last planted record of a round, if there was one.
 pub struct Pair {

@@ -12,7 +12,7 @@ use Rattle.terms.specs.Sizes.{isCount}
 use Rattle.convergence.specs.Counting.{Each}
 use Rattle.frame_spec.proofs.Listing.{and-both}
 use Rattle.head_spec.proofs.Proper.{both-passed}
-use Rattle.ring_spec.specs.Rounds.{Ring, ringAfter}
+use Rattle.ring_spec.specs.Rounds.{Ring, ringAfter, mostRounds}
 use Rattle.run_spec.specs.RunFile.{File, given, RecordKind, start, round, plant, isAllowed, countIn, limitIn, positionIn, struckIn, fewMarks, senderIn, receiverIn, recordFault, withRecord, stopped, judged}
 use Rattle.run_spec.specs.Listing.{title, shown}
 use Rattle.run_spec.proofs.Streaming.{start-shows, plant-shows, stop-shows}
@@ -66,7 +66,7 @@ start-small F s sound =
     let count = both-passed (eqb (length s) (6 + 4 * countIn s)) (isCount (countIn s)) 12 0 sound .1 in
     leb-true (countIn s) 32 (and-both (leb 1 (countIn s)) _ count .1)
 
-pub round-room : (F : File) (s : List ℕ) → recordFault round F s ≡ 0 → given F < 131070
+pub round-room : (F : File) (s : List ℕ) → recordFault round F s ≡ 0 → given F < mostRounds
 round-room F s sound = ltb-true (given F) _ (both-passed (fewMarks (F .setup .n) (F .setup .f) (struckIn s)) _ 13 25 sound .1)
 
 -- ---- a round record

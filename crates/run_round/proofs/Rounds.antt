@@ -1,17 +1,17 @@
 -- The pending round, played. What the player tells of the file is the stage that its round needs, and the memory holds the planted bytes and the records, so
--- the memory keeps step with the ring; given an odd number of rounds it is a collection round, which shows nothing, else a confession round, whose line is
+-- the memory keeps step with the ring; by its number it is a collection round, which shows nothing, or a confession round, whose line is
 -- made of the new positions.
 use mathlib.Core.Path.{_≡_, ap, sym, _∙_}
-use mathlib.Core.Bool.{true, cond}
+use mathlib.Core.Bool.{true, false, cond}
 use mathlib.Core.List.{List, _∷_, _++_}
-use Prim.Native.Nat.{ℕ, _+_, _%_, _*_, _≤_, _<_}
+use Prim.Native.Nat.{ℕ, _+_, _≤_, _<_}
 use native.Mathlib.Omega.{arith}
-use lib.ListN.{getD}
+use lib.ListN.{length, getD}
 use lib.IntN.{pos}
 use Rattle.entries.specs.Tables.{tableOf}
 use Rattle.convergence.specs.Counting.{bit}
-use Rattle.ring_spec.specs.Rounds.{Round, Ring}
-use Rattle.ring_spec.proofs.Counts.{counted}
+use Rattle.ring_spec.specs.Rounds.{Round, Ring, endsPhase}
+use Rattle.ring_spec.proofs.Counts.{next-phase, next-ends, next-opens}
 use Rattle.run_spec.specs.RunFile.{File, endsFrom}
 use Rattle.run_spec.specs.Listing.{lines}
 use Rattle.run_spec.proofs.Reached.{Reached}
@@ -35,26 +35,26 @@ use Rattle.run_listing.proofs.Writing.{empty-text}
 
 module _ {F : File} {p : Player} {s : Stage} {M : Memory}
     (I : Reached F) (begun : F .setup .begun ≡ true) (pending : F .rounds .pending ≡ true) (T : PlayerOf p F) (H : MemoryOf F M)
-    (is : p .given ≤ 131070 → s ≡ stageOf p) where
+    (is : s ≡ stageOf p) where
   abbrev R : Ring
   R = ringBefore F
 
-  -- the round and the phase, by the number of rounds given
-  stands : (p .given + 1 ≡ 2 * R .phase + R .round) × (R .round < 2) × (p .given ≤ 131070)
-  stands =
-      let C = counted (F .setup .n) (F .setup .f) (F .setup .first) (F .rounds .played) in
-      omega (arith, C .played, C .small, I .count, T .given, ap bit pending)
+  -- the number of the pending round
+  number : length (F .rounds .played) + 1 ≡ p .given
+  number = rw pending at (T .given)
 
   abbrev plant : ℕ → ℕ → List ℕ
   plant = plantedIn (M .planted) (M .lengths)
 
   plays : Plays (F .setup .n) (F .setup .f) R (F .rounds .last) s plant
   plays =
-      rw (is (stands .2))
+      rw is
       record {
         count = sym (T .n);
         limit = sym (T .f);
-        phase = omega (arith, stands);
+        phase =
+            let next = next-phase (F .setup .n) (F .setup .f) (F .setup .first) (F .rounds .played) in
+            omega (arith, next, number, I .count);
         before = sym (T .before);
         struck = sym (T .struck);
         plants = λ k i k-below i-below sent heard. H .slots pending k i (omega (arith, I .size .most)) (omega (arith, I .size .most));
@@ -69,9 +69,9 @@ module _ {F : File} {p : Player} {s : Stage} {M : Memory}
       lines-next (F .setup .n) (F .setup .f) (F .setup .first) (F .rounds .played) (F .rounds .last)
       ∙ ap (λ (l : List ℕ). linesOf (F .rounds .played) ++ l) e
 
-  module _ (odd : p .given % 2 ≡ 1) where
+  module _ (opens : endsPhase (p .given) ≡ false) where
     collection : R .round ≡ 0
-    collection = omega (arith, stands)
+    collection = next-opens (F .setup .n) (F .setup .f) (F .setup .first) (F .rounds .played) (ap endsPhase number ∙ opens)
 
     pub collection-played : {t : Text} {M′ : Memory} → M′ .positions ≡ M .positions
         → ((i : ℕ) → rowIn (M′ .marks) (M′ .lists) i
@@ -85,9 +85,9 @@ module _ {F : File} {p : Player} {s : Stage} {M : Memory}
           room = omega arith;
         }
 
-  module _ (even : p .given % 2 ≡ 1 → ⊥) where
+  module _ (ends : endsPhase (p .given) ≡ true) where
     confession : R .round ≡ 1
-    confession = omega (arith, stands)
+    confession = next-ends (F .setup .n) (F .setup .f) (F .setup .first) (F .rounds .played) (ap endsPhase number ∙ ends)
 
     pub confession-played : {t : Text} {M′ : Memory}
         → ((i : ℕ) → getD (M′ .positions) i (pos 0)

@@ -2,7 +2,7 @@
 ghost use mathlib.Core.Bool.{true};
 ghost use mathlib.Core.List.{List};
 ghost use mathlib.Core.Path.{_≡_};
-ghost use Prim.Native.Nat.{ℕ, _+_, _/_, _≤_, _<_};
+ghost use Prim.Native.Nat.{ℕ, _≤_};
 ghost use Rattle.run_spec.specs.RunFile.{given, readFile};
 ghost use Rattle.run_state.specs.Memory.{before, after};
 ghost use Rattle.run_state.specs.State.{PlayerOf, MemoryOf};
@@ -12,24 +12,14 @@ use ring_round::Stage;
 use run_listing::Text;
 use run_state::Player;
 
-// The phase of the pending round.
-fn phase_of(given: u32) -> u16
-    ensures { λ r. ⌜ (given ≤ 131070 → r ≡ (given + 1) / 2) ⌝ }
-{
-    if 131070 < given {
-        return 0;
-    }
-    ((given + 1) / 2) as u16
-}
-
 // The ring in the pending round.
 fn stage_of(p: Player) -> Stage
-    ensures { λ r. ⌜ (p .given ≤ 131070 → r ≡ stageOf p) ⌝ }
+    ensures { λ r. ⌜ r ≡ stageOf p ⌝ }
 {
     Stage {
         n: p.n,
         f: p.f,
-        phase: phase_of(p.given),
+        phase: run_state::phase_of(p.given),
         before: p.before,
         struck: p.struck,
     }
@@ -50,7 +40,7 @@ pub fn play_round(
     ensures { λ r. ⌜ r .len ≤ 64 ⌝ }
 {
     let s = stage_of(p);
-    if p.given % 2 == 1 {
+    if !run_state::ends_phase(p.given) {
         ring_collection::collect(s, positions, planted, lengths, marks, lists);
         return run_listing::empty();
     }

@@ -6,7 +6,7 @@ use Prim.Native.Nat.{_≤_}
 use native.Mathlib.Omega.{arith}
 use lib.Dec.{eqb}
 use lib.ListN.{length}
-use Rattle.ring_spec.specs.Rounds.{Round}
+use Rattle.ring_spec.specs.Rounds.{Round, mostRounds}
 use Rattle.ring_spec.specs.Converges.{FewStruckIn, AnyTwo}
 use Rattle.ring_spec.proofs.Demand3.{ring-converges}
 use Rattle.run_spec.specs.RunFile.{File, readFile, ending, roundsPlayed, endsPlayed, endsFrom, allRounds}
@@ -18,7 +18,7 @@ abbrev pub playedWith : Bool → File → List Round
 playedWith b F = cond b (allRounds (F .rounds)) (F .rounds .played)
 
 module _ (F : File) (I : Reached F) where
-  played-within : (b : Bool) → FewStruckIn (F .setup .n) (F .setup .f) (playedWith b F) × (length (playedWith b F) ≤ 131070)
+  played-within : (b : Bool) → FewStruckIn (F .setup .n) (F .setup .f) (playedWith b F) × (length (playedWith b F) ≤ mostRounds)
   played-within true = (
     within-then (F .setup .n) (F .setup .f) (F .rounds .pending) (F .rounds .played) (F .rounds .last) (I .rounds) (I .waiting),
     omega (arith, length-then (F .rounds .pending) (F .rounds .played) (F .rounds .last), I .count),

@@ -17,7 +17,7 @@ use Rattle.convergence.specs.Counting.{Each, bit, AtMost}
 use Rattle.convergence.proofs.Sums.{each-more}
 use Rattle.frame_spec.proofs.Listing.{and-both}
 use Rattle.head_spec.proofs.Proper.{Sized, both-passed, sized-by}
-use Rattle.ring_spec.specs.Rounds.{Round}
+use Rattle.ring_spec.specs.Rounds.{Round, mostRounds}
 use Rattle.ring_spec.specs.Converges.{FewStruckIn}
 use Rattle.ring_spec.proofs.Demand3.{none-struck}
 use Rattle.run_spec.specs.RunFile.{File, unread, given, RecordKind, start, round, plant, other, lengthOf, kindOf, isAllowed, countIn, limitIn, positionIn, positionsFit, struckIn, fewMarks, recordFault, thenPlayed, withRecord, stopped, unlessFault, judged, withPart, readOn, unlessStopped, step, feed, readFile}
@@ -28,7 +28,7 @@ pub record TakenSo (n f : ℕ) (first : ℕ → ℤ) (played : List Round) (pend
   pub ranges : Each n (λ i. isPosition (first i) ≡ true)
   pub rounds : FewStruckIn n f played
   pub waiting : AtMost f n (bitOf struck)
-  pub count : length played + bit pending ≤ 131070
+  pub count : length played + bit pending ≤ mostRounds
 
 abbrev pub Reached : File → Type 0
 Reached F = TakenSo (F .setup .n) (F .setup .f) (F .setup .first) (F .rounds .played) (F .rounds .pending) (F .rounds .last .struck)
@@ -68,7 +68,7 @@ module _ (F : File) (G : Good F) where
   unfolding fewMarks
   good-round s e b =
       let (few, more, done) = both-passed (fewMarks (F .setup .n) (F .setup .f) (struckIn s)) _ 13 25 e in
-      let k : given F < 131070 = ltb-true (given F) _ more in
+      let k : given F < mostRounds = ltb-true (given F) _ more in
       let I = G b in
       record {
         size = I .size;

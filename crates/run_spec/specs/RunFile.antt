@@ -1,7 +1,7 @@
 -- Document 01, "The run file": what bytes say, record by record, as they come; how a file ends; and which rounds are played.
 use mathlib.Core.Bool.{Bool, true, false, not, cond, _&&_, _||_}
 use mathlib.Core.List.{List, [], _∷_, _++_}
-use Prim.Native.Nat.{ℕ, zero, suc, _+_, _*_, _%_}
+use Prim.Native.Nat.{ℕ, zero, suc, _+_, _*_}
 use lib.Dec.{ltb, leb, eqb}
 use lib.ListN.{length, getD, drop}
 use lib.IntN.{ℤ, pos}
@@ -12,7 +12,7 @@ use Rattle.terms.specs.Positions.{isPosition}
 use Rattle.fields.specs.Bytes.{at2, at4, signedAt}
 use Rattle.marks.specs.Marks.{bitOf, marksBelow}
 use Rattle.convergence.specs.Counting.{sum, bit}
-use Rattle.ring_spec.specs.Rounds.{Plant, Round, Ring, PhaseEnd, ringAfter, endsAfter}
+use Rattle.ring_spec.specs.Rounds.{Plant, Round, Ring, endsPhase, mostRounds, PhaseEnd, ringAfter, endsAfter}
 
 -- what the start record gives
 pub record Setup : Type 0 where
@@ -127,7 +127,7 @@ recordFault start F s =
     (checkSize (countIn s) (limitIn s)
     (check (positionsFit s (countIn s)) refusal.position 0))
 recordFault round F s =
-    check (fewMarks (F .setup .n) (F .setup .f) (struckIn s)) refusal.struck (check (ltb (given F) 131070) refusal.ended 0)
+    check (fewMarks (F .setup .n) (F .setup .f) (struckIn s)) refusal.struck (check (ltb (given F) mostRounds) refusal.ended 0)
 recordFault plant F s = check (pairFits F (senderIn s) (receiverIn s)) refusal.run-record 0
 recordFault other F s = refusal.run-record
 
@@ -217,7 +217,7 @@ isEmpty (x ∷ xs) = false
 
 -- the first fault, or 13: no start, a record cut short, or inside a phase; 0 where the file is played to its end
 unfoldable pub ending : File → ℕ
-ending F = check (eqb (F .fault) 0) (F .fault) (check (F .setup .begun && isEmpty (F .part) && eqb (given F % 2) 0) refusal.run-record 0)
+ending F = check (eqb (F .fault) 0) (F .fault) (check (F .setup .begun && isEmpty (F .part) && endsPhase (given F)) refusal.run-record 0)
 
 -- the ring of a setup after the rounds ws, and its phase ends
 abbrev pub ringFrom : Setup → List Round → Ring

@@ -2,11 +2,13 @@
 ghost use mathlib.Core.Bool.{true, false, cond};
 ghost use mathlib.Core.List.{List, []};
 ghost use mathlib.Core.Path.{_≡_};
-ghost use Prim.Native.Nat.{ℕ, _+_, _<_};
+ghost use Prim.Native.Nat.{ℕ, _+_, _%_, _<_, min};
+ghost use Rattle.ring_spec.specs.Rounds.{phaseOf, endsPhase, mostRounds};
 ghost use Rattle.run_spec.specs.RunFile.{File, given, readFile, round, plant, struckIn, senderIn, receiverIn, withRecord, stopped};
 ghost use Rattle.run_judge.specs.Pairs.{lastPair};
 ghost use Rattle.run_state.specs.State.{PlayerOf, halted};
 ghost use Rattle.run_state.specs.Inner.{freshPlayer};
+use run_judge::MOST_ROUNDS;
 use run_judge::Pair;
 
 // What has been read of a run file, but for the heads' memory.
@@ -69,11 +71,29 @@ pub fn stop(p: Player, number: u8) -> Player
     out
 }
 
-// A round more than a number of rounds.
-fn one_more(given: u32) -> u32
-    ensures { λ r. ⌜ (given < 131070 → r ≡ given + 1) ⌝ }
+// The phase of round number `given`, counted from 1.
+pub fn phase_of(given: u32) -> u16
+    ensures { λ r. ⌜ r ≡ phaseOf given % 65536 ⌝ }
 {
-    if given < 131070 { given + 1 } else { 0 }
+    ((given / 2 + given % 2) % 65536) as u16
+}
+
+// Whether round number `given` ends its phase.
+pub fn ends_phase(given: u32) -> bool
+    ensures { λ r. ⌜ r ≡ endsPhase given ⌝ }
+{
+    given % 2 == 0
+}
+
+// A round more than a number of rounds, up to the last round of the last phase.
+fn one_more(given: u32) -> u32
+    ensures { λ r. ⌜ r ≡ min (given + 1) mostRounds ⌝ }
+{
+    if given < MOST_ROUNDS {
+        given + 1
+    } else {
+        MOST_ROUNDS
+    }
 }
 
 // The heads struck in the round before the next one.
@@ -85,7 +105,7 @@ fn struck_before(p: Player) -> u32
 
 // The player after an accepted round record.
 pub fn given_round(p: Player, struck: u32) -> Player
-    ensures { λ r. ⌜ (r .have ≡ 0) × ((F : File) (s : List ℕ) → struck ≡ struckIn s → given F < 131070 → PlayerOf p F → PlayerOf r (withRecord round F s)) ⌝ }
+    ensures { λ r. ⌜ (r .have ≡ 0) × ((F : File) (s : List ℕ) → struck ≡ struckIn s → given F < mostRounds → PlayerOf p F → PlayerOf r (withRecord round F s)) ⌝ }
 {
     Player {
         begun: p.begun,

@@ -10,7 +10,7 @@ use lib.ListN.{length}
 use borrow.Author.Tests.{eqb-true, eqb-false, eq-eqb, ne-eqb}
 use Rattle.terms.specs.Refusals as refusal
 use Rattle.terms.specs.Refusals.{check}
-use Rattle.ring_spec.specs.Rounds.{Round, ringAfter}
+use Rattle.ring_spec.specs.Rounds.{Round, endsPhase, ringAfter}
 use Rattle.run_spec.specs.RunFile.{File, isEmpty, thenPlayed, readFile, endsSoFar, ending, roundsPlayed, endsPlayed, ringFrom, endsFrom}
 use Rattle.run_spec.specs.Listing.{title, lines, verdict, shown, listingOf}
 use Rattle.run_listing.specs.declared.Text.{Text}
@@ -36,7 +36,7 @@ begun-by : (p : Player) → endingOf p ≡ 0 → p .begun ≡ true
 unfolding endingOf
 begun-by p e = go (p .begun) (eqb (p .fault) 0) refl e
   where
-    go : (b ok : Bool) → eqb (p .fault) 0 ≡ ok → check ok (p .fault) (check (b && eqb (p .have) 0 && eqb (p .given % 2) 0) refusal.run-record 0) ≡ 0 → b ≡ true
+    go : (b ok : Bool) → eqb (p .fault) 0 ≡ ok → check ok (p .fault) (check (b && eqb (p .have) 0 && endsPhase (p .given)) refusal.run-record 0) ≡ 0 → b ≡ true
     go true ok f e = refl
     go false true f e = absurd (omega arith)
     go false false f e = absurd (eqb-false (p .fault) 0 f e)

@@ -127,7 +127,7 @@ fn ending(p: Player) -> u8
     if fault != 0 {
         return fault;
     }
-    if p.begun && p.have == 0 && p.given % 2 == 0 {
+    if p.begun && p.have == 0 && run_state::ends_phase(p.given) {
         return 0;
     }
     refusal::RUN_RECORD

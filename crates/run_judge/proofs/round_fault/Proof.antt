@@ -18,12 +18,12 @@ returns c F p q g = let m = few (c .before) F p q ∙ not-true _ (c .if1 .taken)
 returns-2 : tie.Need-returns-2
 returns-2 c F p q g =
     let m = few (c .before .before) F p q ∙ not-false _ (c .before .if1 .left) in
-    rw (m, g, le-ltb _ 131070 (c .if2 .taken))
+    rw (m, g, le-ltb _ _ (c .if2 .taken))
 
 returns-3 : tie.Need-returns-3
 returns-3 c F p q g =
     let m = few (c .before .before) F p q ∙ not-false _ (c .before .if1 .left) in
-    rw (m, g, lt-ltb _ 131070 (c .if2 .left))
+    rw (m, g, lt-ltb _ _ (c .if2 .left))
 
 pub round-fault-spec : {M : Type 1} → statement M
 round-fault-spec =
