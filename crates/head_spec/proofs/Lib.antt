@@ -6,3 +6,4 @@ pub mod Range
 pub mod RoundEnd
 pub mod Speaking
 pub mod Stops
+pub mod Demand2

@@ -1,14 +1,12 @@
--- A proper record: what holds of every record that the calls make. Start and restart make one, since their checks ask for just that, and a record
--- with nothing heard is proper whatever the round.
+-- Start and restart make a proper record, since their checks ask for just that, and a record with nothing heard is proper whatever the round.
 use mathlib.Core.Path.{_≡_, refl, _∙_}
-use mathlib.Core.Logic.{_≢_}
 use mathlib.Core.Bool.{Bool, true, false, _&&_, true≢false}
-use mathlib.Core.List.{List, []}
-use Prim.Native.Nat.{ℕ, suc, _+_, _*_, _^_, _≤_, _<_}
+use mathlib.Core.List.{[]}
+use Prim.Native.Nat.{ℕ, suc, _+_, _*_, _≤_, _<_}
 use native.Mathlib.Omega.{arith}
 use lib.Dec.{leb, ltb}
 use lib.Pow.{pow-pos}
-use lib.ListN.{length, getD, getD-replicate}
+use lib.ListN.{getD-replicate}
 use lib.IntN.{ℤ}
 use borrow.Author.Tests.{leb-true, ltb-true, le-leb, lt-ltb}
 use Rattle.terms.specs.Refusals.{check}
@@ -16,58 +14,18 @@ use Rattle.terms.specs.Sizes.{isCount, isLimit, checkSize}
 use Rattle.terms.specs.Positions.{isPosition, eqZ}
 use Rattle.terms.specs.declared.Entry.{Entry}
 use Rattle.terms.specs.declared.Table.{Table}
-use Rattle.marks.specs.Marks.{bitOf}
-use Rattle.entries.specs.Entries.{zeros, numbers}
+use Rattle.entries.specs.Entries.{entryAt, zeros, numbers}
+use Rattle.entries.specs.Tables.{tableAt}
 use Rattle.marks.proofs.Marks.{bit-none}
 use Rattle.entries.proofs.Entries.{numbers-length}
-use Rattle.convergence.specs.Counting.{Each}
-use Rattle.convergence.specs.Demand3.{AcceptedSize}
 use Rattle.convergence.proofs.Support.{not-null}
-use Rattle.frame_spec.specs.Said.{collected}
-use Rattle.frame_spec.specs.Proper.{ProperTable, Proper}
+use Rattle.frame_spec.specs.Proper.{ProperTable}
 use Rattle.frame_spec.proofs.Listing.{and-both, numbers-none}
-use Rattle.settle_trust.specs.declared.Links.{Links}
-use Rattle.head_spec.specs.declared.Row.{Row}
 use Rattle.head_spec.specs.declared.Seat.{Seat}
-use Rattle.head_spec.specs.declared.Head.{Head}
-use Rattle.head_spec.specs.Record.{noEntries, noLinks, noLists, opened, rows}
+use Rattle.head_spec.specs.Record.{noEntries, noLinks, noLists, opened}
 use Rattle.head_spec.specs.Seats.{firstSeat, healedSeat}
 use Rattle.head_spec.specs.Calls.{startRefusal, started, restartRefusal, restarted}
-
--- the list held of link k
-abbrev pub listFrom : Links → List Row → ℕ → Table
-listFrom g l k = record { marks = getD (g .marks) k 0; entries = getD (rows l) k [] }
-
--- What the links gave: no mark at n or above, tables of n entries, and nothing from a link that was not heard.
-pub record ProperLinks (n heard : ℕ) (g : Links) (l : List Row) : Type 0 where
-  pub confessed-below : g .confessed < 2 ^ n
-  pub listed-below : g .listed < 2 ^ n
-  pub marks-long : length (g .marks) ≡ 32
-  pub lists-long : length l ≡ 32
-  pub tables : Each n (λ k. ProperTable n (listFrom g l k))
-  pub unheard : (k : ℕ) → bitOf heard k ≡ false → (bitOf (g .confessed) k ≡ false) × (bitOf (g .listed) k ≡ false)
-
--- an accepted size
-pub record Sized (n f : ℕ) : Type 0 where
-  pub some : 1 ≤ n
-  pub most : n ≤ 32
-  pub limit : AcceptedSize n f
-
--- A head in a collection round that is not healed holds a position; in a confession round it may have none.
-pub record ProperSeat (s : Seat) : Type 0 where
-  pub size : Sized (s .n) (s .f)
-  pub number : s .number < s .n
-  pub from-first : 1 ≤ s .phase
-  pub to-last : s .phase ≤ 65535
-  pub round : s .round < 2
-  pub position : Proper (s .n) (collected (s .position))
-  pub holds : s .round ≡ 0 → s .healed ≡ false → s .position ≢ Entry.Null
-
-pub record ProperHead (h : Head) : Type 0 where
-  pub seat : ProperSeat (h .seat)
-  pub heard : h .heard < 2 ^ h .seat .n
-  pub list : ProperTable (h .seat .n) (h .list)
-  pub links : ProperLinks (h .seat .n) (h .heard) (h .links) (h .lists)
+pub use Rattle.head_spec.specs.Proper.{Sized, ProperSeat, listFrom, ProperLinks, ProperHead}
 
 -- ---- nothing heard
 
@@ -81,6 +39,10 @@ no-entries n =
       none = λ j l. numbers-none [] 0 j (omega arith);
     }
 
+pub no-entry : (k : ℕ) → tableAt noEntries k ≡ Entry.Null
+unfolding noEntries entryAt
+no-entry k = rw (bit-none k)
+
 no-links : (n : ℕ) → n ≤ 32 → ProperLinks n 0 noLinks noLists
 unfolding noLinks noLists noEntries
 no-links n size =
@@ -93,8 +55,10 @@ no-links n size =
       unheard = λ k e. (bit-none k, bit-none k);
     }
 
-pub proper-opened : {s : Seat} {t : Table} → ProperSeat s → ProperTable (s .n) t → ProperHead (opened s t)
-proper-opened {s} S list = record { seat = S; heard = pow-pos (s .n); list = list; links = no-links (s .n) (S .size .most) }
+pub proper-opened : {s : Seat} {t : Table} → ProperSeat s → ProperTable (s .n) t → (s .round ≡ 0 → (k : ℕ) → tableAt t k ≡ Entry.Null)
+    → ProperHead (opened s t)
+proper-opened {s} S list blank =
+    record { seat = S; heard = pow-pos (s .n); list = list; blank = λ r k e. blank r k; links = no-links (s .n) (S .size .most) }
 
 -- ---- start and restart
 
@@ -136,7 +100,7 @@ module _ (n f i : ℕ) where
 
   pub proper-started : (v : ℤ) → startRefusal n f i v ≡ 0 → ProperHead (started n f i v)
   unfolding started
-  proper-started v e = proper-opened (proper-first v e) (no-entries n)
+  proper-started v e = proper-opened (proper-first v e) (no-entries n) (λ r. no-entry)
 
   proper-healed : (p r : ℕ) → restartRefusal n f i p r ≡ 0 → ProperSeat (healedSeat n f i p r)
   unfolding restartRefusal
@@ -157,7 +121,7 @@ module _ (n f i : ℕ) where
 
   pub proper-restarted : (p r : ℕ) → restartRefusal n f i p r ≡ 0 → ProperHead (restarted n f i p r)
   unfolding restarted
-  proper-restarted p r e = proper-opened (proper-healed p r e) (no-entries n)
+  proper-restarted p r e = proper-opened (proper-healed p r e) (no-entries n) (λ z. no-entry)
 
   -- in a ring of an accepted size no start at a position is refused, and no restart in phases 1 to 65,535
   module _ (S : Sized n f) (l : i < n) where

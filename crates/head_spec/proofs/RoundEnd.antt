@@ -22,7 +22,7 @@ use Rattle.head_spec.specs.declared.Closed.{Closed}
 use Rattle.head_spec.specs.Record.{trustedBy}
 use Rattle.head_spec.specs.Seats.{confessionSeat, isLast, nextSeat}
 use Rattle.head_spec.specs.Calls.{closedCollection, closedPhase, closing, closeSettled, closeIn, close}
-use Rattle.head_spec.proofs.Proper.{ProperSeat, ProperHead, no-entries, proper-opened}
+use Rattle.head_spec.proofs.Proper.{ProperSeat, ProperHead, no-entries, no-entry, proper-opened}
 use Rattle.head_spec.proofs.Hearing.{Fresh}
 use Rattle.head_spec.proofs.Range.{midpoint-position, trusted-positions}
 
@@ -40,6 +40,10 @@ module _ (h : Head) (runs : h .seat .ended ≡ false) where
   closes-collection r = rw (runs, r)
 
   module _ (confession : h .seat .round ≡ 1) where
+    pub closes-confession : close h ≡ closeSettled (settling (rounding (h .seat .phase)) (h .seat .n) (h .seat .f) (trustedBy h)) h
+    unfolding close
+    closes-confession = rw (runs, confession)
+
     pub closes-phase : enoughTrusted h ≡ true → close h ≡ closing (Closed.Settled (settledBy h)) (closedPhase h (settledBy h .position))
     unfolding close settling
     closes-phase e = rw (runs, confession, e)
@@ -120,11 +124,11 @@ proper-next {s} v P k =
 module _ (h : Head) (P : ProperHead h) where
   proper-collection : ProperHead (closedCollection h)
   unfolding closedCollection
-  proper-collection = proper-opened (proper-confession (P .seat)) (P .list)
+  proper-collection = proper-opened (proper-confession (P .seat)) (P .list) (λ r. absurd (omega arith))
 
   proper-phase : (v : ℤ) → isPosition v ≡ true → ProperHead (closedPhase h v)
   unfolding closedPhase
-  proper-phase v k = proper-opened (proper-next v (P .seat) k) (no-entries (h .seat .n))
+  proper-phase v k = proper-opened (proper-next v (P .seat) k) (no-entries (h .seat .n)) (λ r. no-entry)
 
   settled-position : isPosition (settledBy h .position) ≡ true
   settled-position =
@@ -146,10 +150,10 @@ module _ (h : Head) (P : ProperHead h) where
 
   pub fresh-collection : Fresh (closedCollection h)
   unfolding closedCollection
-  fresh-collection = record { proper = proper-collection; runs = refl; unheard = refl; empty = λ r. absurd (omega arith) }
+  fresh-collection = record { proper = proper-collection; runs = refl; unheard = refl }
 
   pub fresh-phase : h .seat .phase < 65535 → Fresh (closedPhase h (settledBy h .position))
   unfolding closedPhase
   fresh-phase l =
       let proper = proper-phase (settledBy h .position) settled-position in
-      record { proper = proper; runs = lt-leb 65535 (h .seat .phase) l; unheard = refl; empty = λ r. refl }
+      record { proper = proper; runs = lt-leb 65535 (h .seat .phase) l; unheard = refl }

@@ -2,7 +2,7 @@
 -- else changes, since each mark and each place of an array is written alone. A proper record stays proper, since what a frame says is proper.
 use mathlib.Core.Path.{_≡_, refl, ap, sym, _∙_}
 use mathlib.Core.Logic.{_≢_, by-cases}
-use mathlib.Core.Bool.{true, false, not, true≢false}
+use mathlib.Core.Bool.{Bool, true, false, not, true≢false}
 use mathlib.Core.List.{List, []}
 use Prim.Native.Nat.{ℕ, zero, suc, _^_, _<_}
 use native.Mathlib.Omega.{arith}
@@ -12,6 +12,8 @@ use lib.ListN.{getD, set, length-set, List·getD-map}
 use lib.Seq.{getD-set-same, getD-set-other}
 use lib.IntN.{ℤ, pos}
 use borrow.Author.Tests.{ltb-true}
+use Rattle.terms.specs.Refusals as refusal
+use Rattle.terms.specs.Refusals.{check}
 use Rattle.terms.specs.declared.Entry.{Entry}
 use Rattle.terms.specs.declared.Entry.the-variants.{Null, Position}
 use Rattle.terms.specs.declared.Table.{Table}
@@ -38,6 +40,12 @@ row-other l k j E h =
     ∙ sym (List·getD-map (λ (r : Row). r .entries) l j (record { entries = [] }))
 
 -- ---- one link
+
+seat-kept : (h : Head) (k : ℕ) (m : Meaning) → taken h k m .seat ≡ h .seat
+seat-kept h k (refused c) = refl
+seat-kept h k (collected x) = refl
+seat-kept h k (listed t) = refl
+seat-kept h k confessed = refl
 
 module _ (h : Head) (k : ℕ) (P : ProperHead h) (l : k < h .seat .n) where
   abbrev n : ℕ
@@ -124,8 +132,16 @@ module _ (h : Head) (k : ℕ) (P : ProperHead h) (l : k < h .seat .n) where
       fit-same = rw (with-same (h .list .marks) k small, entry-read v) p
 
   -- the record, and what the links gave, after link k said something
-  held : (t : Table) (g : Links) (r : List Row) → ProperTable n t → ProperLinks n (withMark (h .heard) k) g r → ProperHead (hold h k t g r)
-  held t g r T L = record { seat = P .seat; heard = with-bit (P .heard); list = T; links = L }
+  held : (t : Table) (g : Links) (r : List Row) → ProperTable n t → ((j : ℕ) → j ≢ k → tableAt t j ≡ tableAt (h .list) j)
+      → ProperLinks n (withMark (h .heard) k) g r → ProperHead (hold h k t g r)
+  held t g r T other L =
+      record {
+        seat = P .seat;
+        heard = with-bit (P .heard);
+        list = T;
+        blank = λ z j e. let (d, u) = still j e in other j d ∙ P .blank z j u;
+        links = L;
+      }
 
   links-kept : ProperLinks n (withMark (h .heard) k) (h .links) (h .lists)
   links-kept =
@@ -171,18 +187,31 @@ module _ (h : Head) (k : ℕ) (P : ProperHead h) (l : k < h .seat .n) where
 
   proper-taken : (m : Meaning) (s : List ℕ) → saidTo (h .seat) k s ≡ m → ProperHead (taken h k m)
   proper-taken (refused c) s e = P
-  proper-taken (collected x) s e = held _ _ _ (proper-entry x (said-proper n _ _ k s e tt (P .seat .size .most))) links-kept
-  proper-taken (listed t) s e = held _ _ _ (P .list) (links-listed t (said-proper n _ _ k s e tt (P .seat .size .most)))
-  proper-taken confessed s e = held _ _ _ (P .list) links-confessed
+  proper-taken (collected x) s e = held _ _ _ (proper-entry x (said-proper n _ _ k s e tt (P .seat .size .most))) (entry-other (collected x)) links-kept
+  proper-taken (listed t) s e = held _ _ _ (P .list) (λ j d. refl) (links-listed t (said-proper n _ _ k s e tt (P .seat .size .most)))
+  proper-taken confessed s e = held _ _ _ (P .list) (λ j d. refl) links-confessed
 
--- hearing any bytes on any link
-pub proper-hear : (h : Head) (k : ℕ) (s : List ℕ) → ProperHead h → ProperHead (hear h k s .head)
+-- ---- hearing any bytes on any link
+
+-- what holds of the record as it was, and of one that takes what was said on a link that it had not heard, holds when they are heard
+pub hear-cases : (h : Head) (k : ℕ) (s : List ℕ) (Q : Head → Type 0) → Q h
+    → (k < h .seat .n → bitOf (h .heard) k ≡ false → (m : Meaning) → saidTo (h .seat) k s ≡ m → Q (taken h k m)) → Q (hear h k s .head)
 unfolding hear hearRefusal
-proper-hear h k s P = go (hearRefusal h k s) refl
+hear-cases h k s Q stays takes = go (hearRefusal h k s) refl
   where
-    go : (c : ℕ) → hearRefusal h k s ≡ c → ProperHead (answer c (taken h k (saidTo (h .seat) k s)) h .head)
+    free : (b : Bool) (rest : ℕ) → check (not b) refusal.heard rest ≡ 0 → b ≡ false
+    free true rest e = absurd (omega arith)
+    free false rest e = refl
+
+    go : (c : ℕ) → hearRefusal h k s ≡ c → Q (answer c (taken h k (saidTo (h .seat) k s)) h .head)
     go zero e =
         let n = h .seat .n in
-        let (a, b, c) = both-passed (not (h .seat .ended)) (ltb k n) 25 2 e in
-        proper-taken h k P (ltb-true k n b) _ s refl
-    go (suc c) e = P
+        let (a, b, rest) = both-passed (not (h .seat .ended)) (ltb k n) 25 2 e in
+        takes (ltb-true k n b) (free (bitOf (h .heard) k) _ rest) _ refl
+    go (suc c) e = stays
+
+pub hear-keeps : (h : Head) (k : ℕ) (s : List ℕ) → hear h k s .head .seat ≡ h .seat
+hear-keeps h k s = hear-cases h k s (λ x. x .seat ≡ h .seat) refl (λ l u m e. seat-kept h k m)
+
+pub proper-hear : (h : Head) (k : ℕ) (s : List ℕ) → ProperHead h → ProperHead (hear h k s .head)
+proper-hear h k s P = hear-cases h k s ProperHead P (λ l u m e. proper-taken h k P l m s e)

@@ -1,6 +1,6 @@
 -- What each call answers and what it makes of the record. A refusal gives its number and leaves the record as it was.
 use mathlib.Core.Bool.{not, cond, _&&_}
-use mathlib.Core.List.{List}
+use mathlib.Core.List.{List, [], _∷_}
 use Prim.Native.Nat.{ℕ, zero, suc}
 use lib.Dec.{ltb, leb}
 use lib.ListN.{set}
@@ -101,6 +101,16 @@ hear h k s = answer (hearRefusal h k s) (taken h k (saidTo (h .seat) k s)) h
 unfoldable pub hearAll : Head → (ℕ → List ℕ) → ℕ → Head
 hearAll h g zero = h
 hearAll h g (suc k) = hear (hearAll h g k) k (g k) .head
+
+-- bytes delivered on a link
+pub record Delivery : Type 0 where
+  pub link : ℕ
+  pub bytes : List ℕ
+
+-- deliveries on any links, one after the other, going on past a refused one
+unfoldable pub hearEach : Head → List Delivery → Head
+hearEach h [] = h
+hearEach h (d ∷ D) = hearEach (hear h (d .link) (d .bytes) .head) D
 
 -- ---- writing; checks 26, 24
 
