@@ -31,13 +31,13 @@ enum focus_refusal {
 
 /* The frame check: 0, or 6, 7, 8, checked in that order, for any bytes. It looks at the length field, the kind and a list's own count;
  * sender, phase, marks and entries are not looked at. The rest of an accepted frame is frame[7] to frame[length - 1].
- * Promised (crates/camera/src/lib.rt): the result is `frameRefusal` of the bytes (crates/frames/specs/Check.antt). */
+ * Promised (crates/camera/src/lib.rt): the result is `frameRefusal` of the bytes (crates/frame_check/specs/Check.antt). */
 uint8_t focus_frame_check(const uint8_t *frame, size_t length);
 
 /* The midpoint of a trusted table: n heads, struck limit f, bit j of marks set where entry j is a position, entries of 4 bytes each, signed,
  * lowest byte first, 0 where null. Returns 0 and puts the new position in *position, or 1, 2, 8 (length is not 4n), 10, 11, 25, checked in
  * that order, with *position as it was.
- * Promised: number and *position are those of `midpointCall` (crates/midpoint/specs/Call.antt). */
+ * Promised: number and *position are those of `midpointCall` (crates/settle_midpoint/specs/Call.antt). */
 uint8_t focus_midpoint(uint32_t n, uint32_t f, uint32_t marks, const uint8_t *entries, size_t length, int32_t *position);
 
 /* The step scale: nanometres are steps times numerator, divided by denominator, rounded down (towards minus infinity). Numerator and

@@ -3,7 +3,7 @@
  * Each call returns 0 or the number of the refusal (document 01, "Stops"); where several faults stand in one call, the first check that fails decides, in the
  * order given at each call. A refusal changes neither the block nor anything else that is lent. Every content of a block is some record, so no block, also none
  * that was never started, makes a call undefined; a block of zeros is a head of no ring. Pointers are not NULL, and what is lent to one call does not overlap.
- * Link with the archive that `rt staticlib block` writes. What each call makes of the record is defined in crates/record/specs/Calls.antt.
+ * Link with the archive that `rt staticlib head_c` writes. What each call makes of the record is defined in crates/head_spec/specs/Calls.antt.
  */
 #ifndef FOCUS_HEAD_H
 #define FOCUS_HEAD_H
