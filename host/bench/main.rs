@@ -1,9 +1,9 @@
 //! Times the proved exports and the proved player against the second implementation, side by side in one run, and prints Markdown.
 //!
-//!     benches RIGPLAY PLAIN PLACE BYTES      all of it, with a run file of at least BYTES through a pipe
-//!     benches RIGPLAY PLAIN PLACE --quick    the ratios of the players alone, on short files; fails beyond MARGIN times a target
+//!     bench RIGPLAY PLAIN PLACE BYTES      all of it, with a run file of at least BYTES through a pipe
+//!     bench RIGPLAY PLAIN PLACE --quick    the ratios of the players alone, on short files; fails beyond MARGIN times a target
 //!
-//! PLACE is a directory for run files. host/bench builds and starts it.
+//! PLACE is a directory for run files. host/bench/run builds and starts it.
 
 mod calls;
 mod clock;
@@ -130,7 +130,7 @@ fn main() -> ExitCode {
             let players = Players { rigplay: rigplay.clone(), plain: plain.clone(), place: place.clone() };
             if what == "--quick" { quick(&players) } else { all(&players, what.parse().expect("a number of bytes")) }
         }
-        _ => Err(io::Error::other("benches RIGPLAY PLAIN PLACE BYTES, or --quick")),
+        _ => Err(io::Error::other("bench RIGPLAY PLAIN PLACE BYTES, or --quick")),
     };
     match done {
         Ok(false) => ExitCode::SUCCESS,
