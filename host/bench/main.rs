@@ -34,12 +34,14 @@ mod wire;
 
 use players::{failed, Players, Timed};
 use rules::head::LAST_PHASE;
-use runs::{Run, Strikes, RUNS};
+use runs::{runs, Run, Strikes};
 use std::io;
 use std::process::ExitCode;
 
 /// How often each program is timed.
 const TURNS: usize = 5;
+/// A quick run has one of so many phases.
+const QUICK: usize = 3;
 
 /// What a table says of a row's bar: nothing if it has none.
 fn held(name: &str, ratio: f64, missed: &mut bool) -> String {
@@ -68,7 +70,7 @@ fn print_players(players: &Players, missed: &mut bool) -> io::Result<()> {
     println!("| Run file | phases | bytes | rigplay | plain | ratio | bar | twice as long | resident |");
     println!("|---|--:|--:|--:|--:|--:|---|--:|--:|");
     let mut all = Vec::new();
-    for run in RUNS {
+    for run in runs() {
         let (name, timed) = (run.name(), players.time(&run, TURNS)?);
         let bar = held(&name, timed.ratio(), missed);
         let (ours, others, ratio) = (timed.rigplay * 1e3, timed.plain * 1e3, bars::said(timed.ratio()));
@@ -92,7 +94,7 @@ fn print_speeds(all: &[(String, Timed)]) {
 fn print_memory(players: &Players, bytes: u64, missed: &mut bool) -> io::Result<()> {
     let phase = 2 * 8 + 8 * 24 * (17 + 146);
     let phases = (bytes / phase) as usize + 1;
-    let run = Run { n: 32, f: 8, strikes: Strikes::Others, phases: phases.min(LAST_PHASE), quick: 0 };
+    let run = Run { n: 32, f: 8, strikes: Strikes::Others, phases: phases.min(LAST_PHASE) };
     let (bytes, used) = players.stream(&run)?;
     let met = used.resident < bars::MEMORY;
     *missed |= !met;
@@ -105,8 +107,8 @@ fn print_memory(players: &Players, bytes: u64, missed: &mut bool) -> io::Result<
 
 /// The ratio of the row of this name, taken quickly.
 fn ratio(players: &Players, name: &str) -> io::Result<f64> {
-    if let Some(run) = RUNS.iter().find(|run| run.name() == name) {
-        return Ok(players.time(&Run { phases: run.quick, ..*run }, 3)?.ratio());
+    if let Some(run) = runs().iter().find(|run| run.name() == name) {
+        return Ok(players.time(&Run { phases: run.phases / QUICK, ..*run }, 3)?.ratio());
     }
     let rows = calls::rows(&|row| row == name);
     rows.first().map(calls::Row::ratio).ok_or_else(|| failed(format!("no row is named {name}")))

@@ -30,28 +30,19 @@ pub struct Run {
     pub f: usize,
     pub strikes: Strikes,
     pub phases: usize,
-    /// The phases of a quick run.
-    pub quick: usize,
 }
 
-const fn run(n: usize, f: usize, strikes: Strikes, phases: usize, quick: usize) -> Run {
-    Run { n, f, strikes, phases, quick }
+/// All that are timed.
+pub fn runs() -> Vec<Run> {
+    let mut runs = Vec::new();
+    for (n, f, quiet, struck) in [(5, 1, 30_000, 30_000), (32, 8, 6_000, 1_000)] {
+        for strikes in [Quiet, Others, Same, Alike, Lists, Mix] {
+            let phases = if strikes == Quiet { quiet } else { struck };
+            runs.push(Run { n, f, strikes, phases });
+        }
+    }
+    runs
 }
-
-pub const RUNS: [Run; 12] = [
-    run(5, 1, Quiet, 30_000, 10_000),
-    run(5, 1, Others, 30_000, 10_000),
-    run(5, 1, Same, 30_000, 10_000),
-    run(5, 1, Alike, 30_000, 10_000),
-    run(5, 1, Lists, 30_000, 10_000),
-    run(5, 1, Mix, 30_000, 10_000),
-    run(32, 8, Quiet, 8_000, 2_000),
-    run(32, 8, Others, 1_000, 300),
-    run(32, 8, Same, 1_000, 300),
-    run(32, 8, Alike, 1_000, 300),
-    run(32, 8, Lists, 1_000, 300),
-    run(32, 8, Mix, 1_000, 300),
-];
 
 impl Run {
     pub fn name(&self) -> String {
