@@ -2,7 +2,10 @@
 
 use crate::random::Random;
 use crate::ring::{has, marks};
-use crate::wire::{self, fitted, kind, out_of_range};
+use crate::rules::frames::{half, word};
+use crate::rules::midpoint::highest_limit;
+use crate::rules::records::{self, fitted, PLANTED, ROUND, START};
+use crate::spoil::out_of_range;
 
 pub type Records = Vec<Vec<u8>>;
 
@@ -23,7 +26,7 @@ pub struct Faulty {
 impl Right {
     /// Where a round begins and where it ends; now and then, a place past the end.
     fn round(&self, random: &mut Random) -> (usize, usize) {
-        let is_round = |&i: &usize| kind(&self.records[i]) == wire::ROUND;
+        let is_round = |&i: &usize| half(&self.records[i], 2) == ROUND;
         let end = self.records.len();
         let places: Vec<usize> = (0..end).filter(is_round).collect();
         if places.is_empty() || random.chance(1, 8) {
@@ -55,11 +58,11 @@ impl Right {
             2 => {
                 let n = random.pick(&[0, 33, 33, 34, 64, 255]);
                 let f = random.pick(&[0, self.f, 255]);
-                record = wire::start(n, f, &vec![random.pick(&[0, i32::MAX]); n]);
+                record = records::start(n, f, &vec![random.pick(&[0, i32::MAX]); n]);
                 1
             }
             3 | 4 => {
-                let least = (2 * self.n - 2) / 7 + 1;
+                let least = highest_limit(self.n) + 1;
                 record[5] = random.pick(&[least, least, least + 1, 37, 73, 110, 147, 255]).max(least) as u8;
                 if random.chance(1, 3) {
                     record[6..10].copy_from_slice(&out_of_range(random).to_le_bytes());
@@ -82,13 +85,13 @@ impl Right {
         let (record, number) = match random.below(4) {
             0 => {
                 let length = random.pick(&[4, 5, 6, 7, 9, 10, 12, 40]);
-                let mut record = wire::round(random.pick(&[0, many, u32::MAX]));
+                let mut record = records::round(random.pick(&[0, many, u32::MAX]));
                 record.resize(length, 0);
                 (fitted(record), 13)
             }
-            1 if self.n < 32 => (wire::round(1 << (self.n + random.below(32 - self.n))), 14),
-            2 if self.n < 32 => (wire::round(u32::MAX << self.n), 14),
-            _ => (wire::round(many), 14),
+            1 if self.n < 32 => (records::round(1 << (self.n + random.below(32 - self.n))), 14),
+            2 if self.n < 32 => (records::round(u32::MAX << self.n), 14),
+            _ => (records::round(many), 14),
         };
         self.with(at, vec![record], end, number)
     }
@@ -104,26 +107,26 @@ impl Right {
         free.sort_by_key(|&i| !has(before, i)); // first those that were struck in the round before
         let planted = bad_pairs(random, self.n, &struck, &free);
         if random.chance(1, 16) {
-            return self.with(1, vec![wire::planted(struck[0], free[0], &[])], 1, 13);
+            return self.with(1, vec![records::planted(struck[0], free[0], &[])], 1, 13);
         }
-        let mut others = vec![wire::round(marks(&struck))];
+        let mut others = vec![records::round(marks(&struck))];
         others.extend(planted);
         self.with(at, others, end, 13)
     }
 
     /// The mark word of the last round record before `at`.
     fn struck_before(&self, at: usize) -> u32 {
-        let last = self.records[..at].iter().rev().find(|record| kind(record) == wire::ROUND);
-        last.map_or(0, |record| u32::from_le_bytes([record[4], record[5], record[6], record[7]]))
+        let last = self.records[..at].iter().rev().find(|record| half(record, 2) == ROUND);
+        last.map_or(0, |record| word(record, 4))
     }
 
     /// A record of no right form, anywhere.
     pub fn form_fault(&self, random: &mut Random) -> Faulty {
         let at = random.below(self.records.len() + 1);
-        let mut record = if at == 0 || random.chance(1, 3) { self.records[0].clone() } else { wire::round(0) };
+        let mut record = if at == 0 || random.chance(1, 3) { self.records[0].clone() } else { records::round(0) };
         match random.below(4) {
             0 => record[..2].copy_from_slice(&[random.below(4) as u8, 0]),
-            1 if at > 0 => record = random.pick(&[&self.records[0], &wire::start(0, 0, &[])]).clone(),
+            1 if at > 0 => record = random.pick(&[&self.records[0], &records::start(0, 0, &[])]).clone(),
             2 => {
                 record[1] = 0xff;
                 return self.with(at, vec![record], usize::MAX, 13);
@@ -144,7 +147,7 @@ impl Right {
             1 => self.with(0, Vec::new(), 1, 13),
             2 => {
                 let count = 1 + random.below(3);
-                self.with(length, vec![wire::round(0)[..count].to_vec()], usize::MAX, 13)
+                self.with(length, vec![records::round(0)[..count].to_vec()], usize::MAX, 13)
             }
             3 => {
                 let at = random.below(length);
@@ -156,10 +159,10 @@ impl Right {
     }
 
     fn inside_phase(&self, random: &mut Random) -> Faulty {
-        let rounds = |end: usize| self.records[..end].iter().filter(|record| kind(record) == wire::ROUND).count();
+        let rounds = |end: usize| self.records[..end].iter().filter(|record| half(record, 2) == ROUND).count();
         let inside: Vec<usize> = (0..self.records.len()).filter(|&end| rounds(end) % 2 == 1).collect();
         if inside.is_empty() {
-            let mut all = self.with(self.records.len(), vec![wire::round(0)], usize::MAX, 13);
+            let mut all = self.with(self.records.len(), vec![records::round(0)], usize::MAX, 13);
             all.sound += 1;
             return all;
         }
@@ -173,7 +176,7 @@ fn bad_pairs(random: &mut Random, n: usize, struck: &[usize], free: &[usize]) ->
     let (low, high) = (to.min(free[0]), to.max(free[0]));
     let count = random.below(12);
     let body = random.bytes(count);
-    let plant = |from: usize, to: usize| wire::planted(from, to, &body);
+    let plant = |from: usize, to: usize| records::planted(from, to, &body);
     match random.below(10) {
         0 | 1 => vec![plant(free[0], free[1 + random.below(free.len() - 1)])],
         2 => vec![plant(from, random.pick(struck))],
@@ -182,8 +185,8 @@ fn bad_pairs(random: &mut Random, n: usize, struck: &[usize], free: &[usize]) ->
         5 => vec![plant(from, to), plant(from, to)],
         6 if low < high => vec![plant(from, high), plant(from, low)],
         7 if from != struck[0] => vec![plant(from.max(struck[0]), low), plant(from.min(struck[0]), high)],
-        8 => vec![wire::record(wire::PLANTED, &[from as u8][..random.below(2)])],
-        _ => vec![wire::planted(from, to, &vec![random.below(256) as u8; random.pick(&[141, 142, 144, 256, 5000])])],
+        8 => vec![records::record(PLANTED, &[from as u8][..random.below(2)])],
+        _ => vec![records::planted(from, to, &vec![random.below(256) as u8; random.pick(&[141, 142, 144, 256, 5000])])],
     }
 }
 
@@ -200,9 +203,9 @@ pub fn damaged(random: &mut Random, mut records: Records) -> Vec<u8> {
         }
         4 => records.truncate(at + 1),
         5 => {
-            let kind = random.pick(&[wire::START, wire::ROUND, wire::PLANTED]);
+            let kind = random.pick(&[START, ROUND, PLANTED]);
             let length = random.below(20);
-            records.insert(at, wire::record(kind, &random.bytes(length)));
+            records.insert(at, records::record(kind, &random.bytes(length)));
         }
         _ => return shaken(random, records.concat()),
     }

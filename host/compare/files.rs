@@ -3,13 +3,13 @@
 use crate::faults::{damaged, Faulty, Right};
 use crate::phases::{edge, liars, quiet, stubborn, twofold, TWOFOLD};
 use crate::random::Random;
-use crate::ring::LIMIT;
+use crate::rules::frames::half;
+use crate::rules::head::LAST_PHASE;
+use crate::rules::midpoint::{highest_limit, LIMIT};
+use crate::rules::records;
 use crate::run::Run;
-use crate::wire;
 
 pub const TITLE: &str = "phase low high spread collect confess\n";
-/// The number of the last phase.
-const LAST: usize = 65_535;
 
 #[derive(Clone, Copy, PartialEq, Eq, PartialOrd, Ord, Debug)]
 pub enum Kind {
@@ -102,7 +102,7 @@ fn begun(kind: Kind, run: &Run, bytes: Vec<u8>) -> File {
 
 /// The lines that stand when these records were accepted: the last round given is not played yet.
 fn standing(run: &Run, accepted: &[Vec<u8>]) -> String {
-    let rounds = accepted.iter().filter(|record| wire::kind(record) == wire::ROUND).count();
+    let rounds = accepted.iter().filter(|record| half(record, 2) == records::ROUND).count();
     let ends = if accepted.is_empty() { 0 } else { 1 + rounds.saturating_sub(1) / 2 };
     TITLE.to_owned() + &run.ring.lines[..ends].concat()
 }
@@ -151,7 +151,7 @@ fn size(random: &mut Random, kind: Kind) -> (usize, usize) {
         2 if kind == Stubborn => (8, 2),
         _ => loop {
             let n = 1 + random.below(32);
-            let f = random.below((2 * n - 2) / 7 + 1);
+            let f = random.below(highest_limit(n) + 1);
             if f > 0 || !needs_struck {
                 break (n, f);
             }
@@ -179,19 +179,19 @@ fn positions(random: &mut Random, n: usize, kind: Kind) -> Vec<i32> {
 fn long(random: &mut Random, turn: u64) -> File {
     let (n, f) = if turn % 5 == 2 { (5, 1) } else { random.pick(&[(1, 0), (3, 0)]) };
     let mut run = Run::new(f, &positions(random, n, Long));
-    while run.ring.phase() <= LAST {
-        if f > 0 && (run.ring.phase() + 8 > LAST || random.chance(1, 4096)) {
+    while run.ring.phase() <= LAST_PHASE {
+        if f > 0 && (run.ring.phase() + 8 > LAST_PHASE || random.chance(1, 4096)) {
             stubborn(random, &mut run);
         } else {
             quiet(&mut run);
         }
     }
     let (more, number) = match turn % 5 {
-        0 => (wire::round(0), 26),
-        1 => (wire::round(u32::MAX), 14),
+        0 => (records::round(0), 26),
+        1 => (records::round(u32::MAX), 14),
         2 => return played_out(Long, &run),
-        3 => (wire::round(0)[..7].to_vec(), 13),
-        _ => (wire::round(f as u32), 26),
+        3 => (records::round(0)[..7].to_vec(), 13),
+        _ => (records::round(f as u32), 26),
     };
     let mut records = run.records();
     let sound = records.len();

@@ -1,7 +1,8 @@
 //! What every listing must be, whatever the file: its form, and demand 3 on its phase ends.
 
 use crate::files::TITLE;
-use crate::ring::LIMIT;
+use crate::rules::head::LAST_PHASE;
+use crate::rules::midpoint::LIMIT;
 
 /// The numbers that a run file can be refused with.
 pub const NUMBERS: [u8; 6] = [1, 2, 4, 13, 14, 26];
@@ -39,7 +40,7 @@ pub fn read(bytes: &[u8], n: usize, f: usize) -> Result<Listing, String> {
     let fits = match number {
         0 | 14 => !ends.is_empty(),
         1 | 2 | 4 => ends.is_empty(),
-        26 => ends.len() == 65_535,
+        26 => ends.len() == LAST_PHASE,
         _ => true,
     };
     if fits { Ok(Listing { ends, number }) } else { Err(format!("{last:?} after {} lines", ends.len())) }

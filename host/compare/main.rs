@@ -13,7 +13,11 @@ mod phases;
 mod programs;
 mod random;
 mod ring;
+#[path = "../plain/rules/mod.rs"]
+#[allow(dead_code)]
+mod rules;
 mod run;
+mod spoil;
 mod wire;
 
 use files::{File, Kind};

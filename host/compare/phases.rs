@@ -2,6 +2,7 @@
 
 use crate::random::Random;
 use crate::ring::{has, marks, Given, Ring};
+use crate::rules::frames::Said;
 use crate::run::{any, list, value, Lies, Run};
 
 /// Up to f heads, often those of the round before, often none of them.
@@ -26,7 +27,7 @@ fn tell(random: &mut Random, ring: &Ring, lies: &mut Lies, from: usize, struck: 
         if random.chance(spoils, 8) {
             lies.spoil(random, from, to, given);
         } else if random.chance(7, 8) {
-            lies.say(from, to, given.clone());
+            lies.give(from, to, given.clone());
         }
     }
 }
@@ -87,11 +88,11 @@ impl Edge {
             let another = value(random, &run.ring);
             for to in run.ring.heads(|i| !has(self.first, i)) {
                 match random.below(4) {
-                    _ if !others.contains(&to) => lies.say(from, to, Given::Position(position)),
-                    0 => lies.say(from, to, Given::Silence),
-                    1 if another != position => lies.say(from, to, Given::Position(another)),
+                    _ if !others.contains(&to) => lies.say(from, to, Said::Position(position)),
+                    0 => lies.say(from, to, Said::Silence),
+                    1 if another != position => lies.say(from, to, Said::Position(another)),
                     2 => {}
-                    _ => lies.spoil(random, from, to, &Given::Position(position)),
+                    _ => lies.spoil(random, from, to, &Some(Said::Position(position))),
                 }
             }
         }
@@ -108,12 +109,12 @@ impl Edge {
             for (at, from) in random.some(&liars, liars.len()).into_iter().enumerate() {
                 let edged = self.told.iter().any(|(head, _)| *head == from);
                 match random.below(4) {
-                    0 if at + short < self.need && !edged => lies.say(from, to, Given::Confession),
+                    0 if at + short < self.need && !edged => lies.say(from, to, Said::Confession),
                     _ if at + short < self.need => lies.say(from, to, supporting.clone()),
                     0 => {}
                     1 => lies.say(from, to, list(random, &run.ring)),
-                    2 if !edged => lies.spoil(random, from, to, &Given::Confession),
-                    _ => lies.spoil(random, from, to, &supporting),
+                    2 if !edged => lies.spoil(random, from, to, &Some(Said::Confession)),
+                    _ => lies.spoil(random, from, to, &Some(supporting.clone())),
                 }
             }
         }
@@ -121,13 +122,13 @@ impl Edge {
     }
 
     /// A list in which each head struck twice stands at what it told most neighbours.
-    fn supporting(&self, run: &Run) -> Given {
+    fn supporting(&self, run: &Run) -> Said {
         let holder = run.ring.heads(|i| !run.ring.lists[i].is_empty())[0];
         let mut list = run.ring.lists[holder].clone();
         for &(head, position) in &self.told {
             list[head] = Some(position);
         }
-        Given::List(list)
+        Said::List(list)
     }
 }
 
@@ -151,7 +152,7 @@ pub fn twofold(random: &mut Random, run: &mut Run) {
     let most = n - 3 * f + 2;
     let mut lies = Lies::of(ring);
     for (at, &to) in listing.iter().enumerate() {
-        lies.say(from, to, Given::Position(if at < most { one } else { other }));
+        lies.say(from, to, Said::Position(if at < most { one } else { other }));
     }
     run.play(marks(healed) | 1 << from, lies);
 
@@ -160,11 +161,11 @@ pub fn twofold(random: &mut Random, run: &mut Run) {
     let mute = random.chance(1, 8) as usize;
     for to in run.ring.heads(|i| !has(struck, i)) {
         for &liar in &liars[mute..] {
-            lies.say(liar, to, Given::Confession);
+            lies.say(liar, to, Said::Confession);
         }
         let mut list = run.ring.lists[listing[0]].clone();
         list[from] = random.pick(&[Some(one), Some(other), Some(other), None]);
-        lies.say(from, to, Given::List(list));
+        lies.say(from, to, Said::List(list));
     }
     run.play(struck, lies);
 }
@@ -188,9 +189,9 @@ pub fn stubborn(random: &mut Random, run: &mut Run) {
         let low = run.ring.lists[from][from] < middle;
         for (at, &to) in hearers.iter().enumerate() {
             match random.below(3) {
-                _ if (at % 2 == 0) == low => lies.say(from, to, Given::Confession),
-                0 => lies.say(from, to, Given::List(run.ring.lists[from].clone())),
-                1 => lies.spoil(random, from, to, &Given::Confession),
+                _ if (at % 2 == 0) == low => lies.say(from, to, Said::Confession),
+                0 => lies.say(from, to, Said::List(run.ring.lists[from].clone())),
+                1 => lies.spoil(random, from, to, &Some(Said::Confession)),
                 _ => {}
             }
         }

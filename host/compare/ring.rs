@@ -1,21 +1,11 @@
 //! The model: a ring as document 01 has it, without a byte. What a struck head does is, for each neighbour, what that neighbour makes of it.
 
+use crate::rules::frames::Said;
+use crate::rules::midpoint::Entry;
 use std::collections::BTreeMap;
 
-pub const LIMIT: i32 = 1_000_000;
-
-/// A position, or null.
-pub type Entry = Option<i32>;
-
-/// What a link gives to one receiver in a round.
-#[derive(Clone)]
-pub enum Given {
-    Nothing,
-    Position(i32),
-    Silence,
-    List(Vec<Entry>),
-    Confession,
-}
+/// What a link gives to one receiver in a round, or nothing.
+pub type Given = Option<Said>;
 
 /// Bytes planted on one link, and what their receiver makes of them.
 #[derive(Clone)]
@@ -87,7 +77,7 @@ impl Ring {
             if ends {
                 self.positions[i] = Some(self.settled(&heard));
             } else {
-                self.lists[i] = heard.iter().map(|given| if let Given::Position(v) = given { Some(*v) } else { None }).collect();
+                self.lists[i] = heard.iter().map(|given| if let Some(Said::Position(v)) = given { Some(*v) } else { None }).collect();
             }
         }
         self.rounds += 1;
@@ -101,11 +91,11 @@ impl Ring {
     fn says(&self, i: usize, round: &Round) -> Given {
         let healed = has(self.before, i);
         match (self.collecting(), healed) {
-            _ if has(round.struck, i) => Given::Nothing,
-            (true, true) => Given::Silence,
-            (true, false) => Given::Position(self.positions[i].expect("a healthy head holds a position")),
-            (false, true) => Given::Confession,
-            (false, false) => Given::List(self.lists[i].clone()),
+            _ if has(round.struck, i) => None,
+            (true, true) => Some(Said::Silence),
+            (true, false) => Some(Said::Position(self.positions[i].expect("a healthy head holds a position"))),
+            (false, true) => Some(Said::Confession),
+            (false, false) => Some(Said::List(self.lists[i].clone())),
         }
     }
 
@@ -113,22 +103,22 @@ impl Ring {
         let mut kept: Vec<i32> = (0..self.n).filter_map(|j| self.trusted(j, heard)).collect();
         let nulls = self.n - kept.len();
         assert!(nulls <= 3 * self.f, "more than 3f nulls with at most f struck in a round");
-        let trim = if nulls <= self.f { self.f } else { (3 * self.f - nulls).div_ceil(2) };
+        let trim = if nulls <= self.f { self.f } else { (3 * self.f - nulls + 1) / 2 };
         kept.sort_unstable();
         (kept[trim] + kept[kept.len() - 1 - trim]) >> 1
     }
 
     /// The only position with support n - f, if link j has not confessed.
     fn trusted(&self, j: usize, heard: &[&Given]) -> Entry {
-        if matches!(heard[j], Given::Confession) {
+        if matches!(heard[j], Some(Said::Confession)) {
             return None;
         }
         let mut confessed = 0;
         let mut named: Vec<(i32, usize)> = Vec::new();
         for given in heard {
             match given {
-                Given::Confession => confessed += 1,
-                Given::List(list) => list[j].into_iter().for_each(|u| match named.iter_mut().find(|name| name.0 == u) {
+                Some(Said::Confession) => confessed += 1,
+                Some(Said::List(list)) => list[j].into_iter().for_each(|u| match named.iter_mut().find(|name| name.0 == u) {
                     Some(name) => name.1 += 1,
                     None => named.push((u, 1)),
                 }),

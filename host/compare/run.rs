@@ -1,8 +1,11 @@
 //! A run as it is written, round by round, and the lies of a round.
 
 use crate::random::Random;
-use crate::ring::{has, Given, Lie, Ring, Round, LIMIT};
-use crate::wire::{self, Link};
+use crate::ring::{has, Given, Lie, Ring, Round};
+use crate::rules::frames::Said;
+use crate::rules::midpoint::LIMIT;
+use crate::rules::records;
+use crate::wire::Link;
 use std::collections::BTreeMap;
 
 /// A run as it is written: the model beside it knows the listing.
@@ -14,12 +17,12 @@ pub struct Run {
 
 impl Run {
     pub fn new(f: usize, positions: &[i32]) -> Run {
-        let start = wire::start(positions.len(), f, positions);
+        let start = records::start(positions.len(), f, positions);
         Run { ring: Ring::start(f, positions), start, rounds: Vec::new() }
     }
 
     pub fn play(&mut self, struck: u32, lies: Lies) {
-        let round = Round { struck, lies: lies.lies };
+        let round = lies.round(struck);
         self.ring.play(&round);
         self.rounds.push(round);
     }
@@ -27,12 +30,16 @@ impl Run {
     /// The records of the run file.
     pub fn records(&self) -> Vec<Vec<u8>> {
         let mut records = vec![self.start.clone()];
-        for round in &self.rounds {
-            records.push(wire::round(round.struck));
-            records.extend(round.lies.iter().map(|((from, to), lie)| wire::planted(*from, *to, &lie.bytes)));
-        }
+        records.extend(self.rounds.iter().flat_map(round_records));
         records
     }
+}
+
+/// The records of a round: its own, and those of what is planted.
+pub fn round_records(round: &Round) -> Vec<Vec<u8>> {
+    let mut records = vec![records::round(round.struck)];
+    records.extend(round.lies.iter().map(|((from, to), lie)| records::planted(*from, *to, &lie.bytes)));
+    records
 }
 
 /// The lies of a round that is being written.
@@ -48,11 +55,20 @@ impl Lies {
         Lies { n: ring.n, phase: ring.phase(), collecting: ring.collecting(), lies: BTreeMap::new() }
     }
 
+    /// The round in which these heads are struck and tell the lies.
+    pub fn round(self, struck: u32) -> Round {
+        Round { struck, lies: self.lies }
+    }
+
     fn link(&self, from: usize) -> Link {
         Link { n: self.n, phase: self.phase, collecting: self.collecting, from }
     }
 
-    pub fn say(&mut self, from: usize, to: usize, given: Given) {
+    pub fn say(&mut self, from: usize, to: usize, said: Said) {
+        self.give(from, to, Some(said));
+    }
+
+    pub fn give(&mut self, from: usize, to: usize, given: Given) {
         let bytes = self.link(from).says(&given);
         self.lies.insert((from, to), Lie { bytes, given });
     }
@@ -60,7 +76,7 @@ impl Lies {
     /// A frame that says it but for one thing, and so gives nothing.
     pub fn spoil(&mut self, random: &mut Random, from: usize, to: usize, given: &Given) {
         let bytes = self.link(from).spoilt(random, given);
-        self.lies.insert((from, to), Lie { bytes, given: Given::Nothing });
+        self.lies.insert((from, to), Lie { bytes, given: None });
     }
 }
 
@@ -81,7 +97,7 @@ pub fn value(random: &mut Random, ring: &Ring) -> i32 {
 }
 
 /// A list like that of an unstruck head, with other entries for heads struck in collection, and now and then for others.
-pub fn list(random: &mut Random, ring: &Ring) -> Given {
+pub fn list(random: &mut Random, ring: &Ring) -> Said {
     let holders = ring.heads(|i| !ring.lists[i].is_empty());
     let mut list = ring.lists[random.pick(&holders)].clone();
     for (j, entry) in list.iter_mut().enumerate() {
@@ -89,16 +105,16 @@ pub fn list(random: &mut Random, ring: &Ring) -> Given {
             *entry = random.chance(3, 4).then(|| value(random, ring));
         }
     }
-    Given::List(list)
+    Said::List(list)
 }
 
 /// Anything that a frame of this round can say.
 pub fn any(random: &mut Random, ring: &Ring) -> Given {
     match (random.below(8), ring.collecting()) {
-        (0, _) => Given::Nothing,
-        (1, true) => Given::Silence,
-        (_, true) => Given::Position(value(random, ring)),
-        (1..=3, false) => Given::Confession,
-        _ => list(random, ring),
+        (0, _) => None,
+        (1, true) => Some(Said::Silence),
+        (_, true) => Some(Said::Position(value(random, ring))),
+        (1..=3, false) => Some(Said::Confession),
+        _ => Some(list(random, ring)),
     }
 }

@@ -1,9 +1,10 @@
 //! A call with all its arguments, made on both sides: the proved export, and the second implementation.
 
 use crate::exported::{self, Block};
-use crate::frames;
-use crate::head::Head;
-use crate::paper;
+use crate::rules::frames;
+use crate::rules::head::Head;
+use crate::rules::midpoint;
+use crate::rules::scale;
 use std::fmt;
 
 /// Bytes that are lent, printed in hexadecimal as far as a frame can go.
@@ -31,7 +32,7 @@ pub enum Call {
     Position { out: i32 },
 }
 
-/// What a call gave back and left in lent memory. The block of a head is disturbed where a refused or reading call changed it.
+/// What a call gave back and left in lent memory. The block of a head is disturbed if a refused or reading call changed it.
 #[derive(Debug, PartialEq)]
 pub struct Answer {
     pub number: u8,
@@ -89,17 +90,24 @@ impl Call {
         let mut lent = self.lent();
         let (done, out) = match *self {
             Call::FrameCheck { .. } => (frames::check(&lent).map(drop), 0),
-            Call::Midpoint { n, f, marks, out, .. } => valued(paper::midpoint(n, f, marks, &lent), out),
-            Call::Scale { steps, numerator, denominator, out } => valued(paper::scale(steps, numerator, denominator), out),
-            Call::Start { n, f, number, position } => (paper::start(n, f, number, position).map(|new| *head = new), 0),
-            Call::Restart { n, f, number, phase, round } => (paper::restart(n, f, number, phase, round).map(|new| *head = new), 0),
+            Call::Midpoint { n, f, marks, out, .. } => valued(midpoint::midpoint(n as usize, f as usize, marks, &lent), out),
+            Call::Scale { steps, numerator, denominator, out } => valued(scale::scale(steps, numerator, denominator), out),
+            Call::Start { n, f, number, position } => (opened(head, Head::start(n as usize, f as usize, number as usize, position)), 0),
+            Call::Restart { n, f, number, phase, round } => {
+                (opened(head, Head::restart(n as usize, f as usize, number as usize, phase as usize, round as usize)), 0)
+            }
             Call::Hear { link, .. } => (head.hear(link as usize, &lent), 0),
-            Call::Write { room, out, .. } => valued(paper::write(head, &mut lent[..room]).map(|length| length as i64), out as i64),
+            Call::Write { room, out, .. } => valued(head.write(&mut lent[..room]).map(|length| length as i64), out as i64),
             Call::Close => (head.close(), 0),
             Call::Position { out } => (head.position.map_or(Ok(()), |_| Err(1)), head.position.unwrap_or(out) as i64),
         };
         Answer { number: done.err().unwrap_or(0), out, lent: Bytes(lent), disturbed: false }
     }
+}
+
+/// The head as it was opened, or as it was before a refusal.
+fn opened(head: &mut Head, new: Result<Head, u8>) -> Result<(), u8> {
+    new.map(|new| *head = new)
 }
 
 /// The value given, or what stood there before a refusal.

@@ -1,4 +1,4 @@
-//! The proved calls, as host/include declares them. Whatever is lent is taken as mutable here, also where a call only reads it, so that a change would be seen.
+//! The proved calls, as host/include/focus.h declares them. Whatever is lent is taken as mutable here, even if a call only reads it, so that a change would be seen.
 
 use std::ops::Range;
 
@@ -18,8 +18,14 @@ mod c {
     }
 }
 
-/// The bytes of a block.
-pub const SIZE: usize = 4_384;
+/// The 32-bit numbers of a block, and its bytes.
+const WORDS: usize = 1096;
+pub const SIZE: usize = 4 * WORDS;
+
+/// Whether the header has blocks of this size.
+pub fn as_in_header() -> bool {
+    include_str!("../include/focus.h").contains(&format!("opaque[{WORDS}]"))
+}
 
 /// The bytes of a block that hold nothing: its owner may write them.
 pub const NOTHING: Range<usize> = 9..12;

@@ -2,8 +2,9 @@
 
 use crate::calls::{Bytes, Call};
 use crate::damage::damaged;
-use crate::midpoint::LIMIT;
 use crate::random::Random;
+use crate::rules::midpoint::{highest_limit, LIMIT};
+use crate::spoil::out_of_range;
 
 /// Ends of numbers, and struck limits f for which 7f + 2 is small again in 8 or in 32 bits.
 const EDGES: [u32; 12] = [0, 1, 31, 32, 33, 37, 110, 255, 256, 613_566_757, 1 << 31, u32::MAX];
@@ -16,10 +17,6 @@ pub fn position(random: &mut Random) -> i32 {
         3 => random.between(0, 2) - LIMIT,
         _ => random.between(0, 2),
     }
-}
-
-pub fn no_position(random: &mut Random) -> i32 {
-    random.pick(&[LIMIT + 1, -LIMIT - 1, i32::MIN, i32::MAX, 1 << 24, LIMIT + 256])
 }
 
 /// The right number, but once in `often` another.
@@ -40,7 +37,7 @@ pub fn near(random: &mut Random, right: u32, often: usize) -> u32 {
 /// An accepted n and f.
 pub fn size(random: &mut Random) -> (usize, usize) {
     let n = if random.chance(1, 3) { random.pick(&[1, 5, 8, 9, 12, 23, 32]) } else { 1 + random.below(32) };
-    let most = (2 * n - 2) / 7;
+    let most = highest_limit(n);
     (n, if random.chance(1, 2) { most } else { random.below(most + 1) })
 }
 
@@ -54,17 +51,16 @@ pub fn midpoint(random: &mut Random) -> Call {
     for j in 0..n {
         let value = if marks >> j & 1 == 1 { position(random) } else { 0 };
         let value = if random.chance(1, 600) { random.next() as i32 } else { value };
-        entries.extend(if random.chance(1, 600) { no_position(random) } else { value }.to_le_bytes());
+        entries.extend(if random.chance(1, 600) { out_of_range(random) } else { value }.to_le_bytes());
     }
     if random.chance(1, 20) {
-        entries.resize(random.below(140), 0);
+        entries.resize(random.below(200), 0);
     }
     if random.chance(1, 30) {
         marks |= 1 << random.below(32);
     }
-    let most = (2 * n as u32 - 2) / 7;
-    let f = if random.chance(1, 30) { most + 1 } else { f as u32 };
-    let (n, f) = (near(random, n as u32, 25), near(random, f, 25));
+    let f = if random.chance(1, 30) { highest_limit(n) + 1 } else { f };
+    let (n, f) = (near(random, n as u32, 25), near(random, f as u32, 25));
     Call::Midpoint { n, f, marks, entries: Bytes(entries), out: random.next() as i32 }
 }
 
@@ -74,7 +70,7 @@ fn ratio_side(random: &mut Random) -> u32 {
 }
 
 pub fn scale(random: &mut Random) -> Call {
-    let steps = if random.chance(1, 12) { no_position(random) } else { position(random) };
+    let steps = if random.chance(1, 12) { out_of_range(random) } else { position(random) };
     let (one, other) = (ratio_side(random), ratio_side(random));
     let (low, high) = if random.chance(1, 12) { (one, other) } else { (one.min(other), one.max(other)) };
     let (numerator, denominator) = (near(random, high, 12), near(random, low, 12));

@@ -9,30 +9,29 @@
 mod calls;
 mod damage;
 mod exported;
-#[path = "../plain/frames.rs"]
-mod frames;
-#[path = "../plain/head.rs"]
-mod head;
 mod inputs;
-#[path = "../plain/midpoint.rs"]
-mod midpoint;
-mod paper;
 #[path = "../compare/random.rs"]
-#[allow(dead_code)]
 mod random;
 mod rounds;
+#[path = "../plain/rules/mod.rs"]
+#[allow(dead_code)]
+mod rules;
+#[path = "../compare/spoil.rs"]
+mod spoil;
 mod tally;
 
 use calls::Call;
 use exported::{Block, NOTHING, SIZE};
-use head::Head;
 use random::Random;
+use rules::head::Head;
 use std::panic::{catch_unwind, AssertUnwindSafe};
 use std::process::ExitCode;
 use tally::{Tally, CALLS};
 
 /// So many calls are known to meet every answer.
 const ENOUGH: u64 = 20_000;
+/// How often each of the camera's calls is made for a seed.
+const EACH: usize = 36;
 
 /// A block between two others that no call may touch, and the head beside it.
 struct Pair {
@@ -48,7 +47,7 @@ impl Pair {
         if !zeros {
             block.0.copy_from_slice(&random.bytes(SIZE));
         }
-        Pair { blocks: [guard, block, guard], head: Head::restart(0, 0, 0, 0, 0), calls: 0 }
+        Pair { blocks: [guard, block, guard], head: Head::none(), calls: 0 }
     }
 
     fn ask(&mut self, tally: &mut Tally, call: &Call) -> Result<u8, String> {
@@ -71,7 +70,7 @@ fn compare(seed: u64, tally: &mut Tally) -> Result<(), String> {
     let mut random = Random::new(seed);
     let zeros = random.chance(1, 2);
     let mut pair = Pair::new(&mut random, zeros);
-    for _ in 0..12 {
+    for _ in 0..EACH {
         pair.ask(tally, &inputs::frame_check(&mut random))?;
         pair.ask(tally, &inputs::midpoint(&mut random))?;
         pair.ask(tally, &inputs::scale(&mut random))?;
@@ -80,6 +79,9 @@ fn compare(seed: u64, tally: &mut Tally) -> Result<(), String> {
 }
 
 fn run(count: u64, first: u64) -> Result<Tally, String> {
+    if !exported::as_in_header() {
+        return Err("host/include/focus.h has blocks of another size".to_owned());
+    }
     let mut tally = Tally::default();
     for seed in first.. {
         if tally.calls >= count {

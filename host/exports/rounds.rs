@@ -2,13 +2,14 @@
 
 use crate::calls::{Bytes, Call};
 use crate::damage::damaged;
-use crate::frames::{self, Said};
-use crate::inputs::{near, no_position, position, size};
+use crate::inputs::{near, position, size};
 use crate::random::Random;
+use crate::rules::frames::{self, Said};
+use crate::rules::head::LAST_PHASE;
+use crate::rules::midpoint::{highest_limit, Entry};
+use crate::spoil::out_of_range;
 
-const LAST: usize = 65_535;
-
-/// Makes a call on both sides: its number where they agree.
+/// Makes a call on both sides: its number if they agree.
 pub type Ask<'a> = &'a mut dyn FnMut(Call) -> Result<u8, String>;
 
 /// The writer of a sequence, with what it knows of the head: enough to make frames that are taken.
@@ -57,8 +58,7 @@ impl Writer<'_> {
     /// A start or a restart in which most numbers are wrong.
     fn refused_opening(&mut self) -> Result<(), String> {
         let (n, f) = size(self.random);
-        let most = (2 * n - 2) / 7;
-        let f = if self.random.chance(1, 4) { most + 1 } else { f };
+        let f = if self.random.chance(1, 4) { highest_limit(n) + 1 } else { f };
         let (n, f) = (near(self.random, n as u32, 4), near(self.random, f as u32, 4));
         self.open(n, f, true)
     }
@@ -69,14 +69,14 @@ impl Writer<'_> {
         let number = random.below(n.clamp(1, 32) as usize) as u32;
         let number = if spoilt && random.chance(1, 4) { n } else { near(random, number, often) };
         if random.chance(1, 2) {
-            let position = if random.chance(1, often) { no_position(random) } else { position(random) };
+            let position = if random.chance(1, often) { out_of_range(random) } else { position(random) };
             if (self.ask)(Call::Start { n, f, number, position })? == 0 {
                 self.opened(n, f, 1, 0);
             }
             return Ok(());
         }
-        let any = 1 + random.below(LAST);
-        let phase = random.pick(&[1, 2, 255, 256, LAST - 1, LAST, LAST, any]) as u32;
+        let any = 1 + random.below(LAST_PHASE);
+        let phase = random.pick(&[1, 2, 255, 256, LAST_PHASE - 1, LAST_PHASE, LAST_PHASE, any]) as u32;
         let round = random.below(2) as u32;
         let (phase, round) = (near(random, phase, often), near(random, round, often));
         if (self.ask)(Call::Restart { n, f, number, phase, round })? == 0 {
@@ -120,7 +120,7 @@ impl Writer<'_> {
     fn close(&mut self) -> Result<(), String> {
         if (self.ask)(Call::Close)? == 0 {
             self.turns += 1;
-            self.phase = (self.phase + self.round).min(LAST);
+            self.phase = (self.phase + self.round).min(LAST_PHASE);
             self.round = 1 - self.round;
         }
         Ok(())
@@ -175,7 +175,7 @@ impl Writer<'_> {
     }
 
     /// A list of n entries, a few of them null.
-    fn list(&mut self) -> Vec<Option<i32>> {
+    fn list(&mut self) -> Vec<Entry> {
         let mut list: Vec<_> = (0..self.n).map(|_| Some(position(self.random))).collect();
         for _ in 0..self.random.below(3 * self.f + 2) {
             let null = self.random.below(self.n);
@@ -203,7 +203,7 @@ impl Writer<'_> {
     }
 
     /// Nothing, a confession, the other list, or the true one with some entries of the other.
-    fn liar(&mut self, truth: &[Option<i32>], other: &[Option<i32>]) -> Option<Said> {
+    fn liar(&mut self, truth: &[Entry], other: &[Entry]) -> Option<Said> {
         let random = &mut *self.random;
         match random.below(6) {
             0 => None,

@@ -1,6 +1,6 @@
 //! How often each call gave each number.
 
-/// Each call with the numbers it can give, in the order of its checks. A position is answered 1 where one is held, else 0.
+/// Each call with the numbers it can give, in the order of its checks. A position is answered 1 if one is held, else 0.
 pub const CALLS: [(&str, &[u8]); 9] = [
     ("frame_check", &[0, 6, 7, 8]),
     ("midpoint", &[0, 1, 2, 8, 10, 11, 25]),

@@ -1,10 +1,9 @@
-//! Document 01 once more, plainly: frames as bytes, a record for each head, every frame heard by every head. It reads a run file from standard input
-//! and prints its listing. It shares nothing with the proved crates and serves to compare with them.
+//! The second implementation: it reads a run file from standard input and prints its listing, by document 01's rules written once more, plainly. It shares
+//! nothing with the proved crates and serves to compare with them.
 
-mod frames;
-mod head;
-mod midpoint;
 mod player;
+#[allow(dead_code)]
+mod rules;
 
 use std::io::{self, BufReader, BufWriter, Write};
 

@@ -1,8 +1,9 @@
 //! The run file: records as they come, rounds of a whole ring, and the listing.
 
-use crate::frames::{half, word};
-use crate::head::{Head, LAST_PHASE};
-use crate::midpoint::{is_position, size};
+use crate::rules::frames::{half, word};
+use crate::rules::head::{Head, LAST_PHASE};
+use crate::rules::midpoint::{marked, size};
+use crate::rules::records::{LONGEST, PLANTED, ROUND, START};
 use std::io::{self, Read, Write};
 
 struct Round {
@@ -21,22 +22,15 @@ struct Ring {
     waiting: Option<Round>,
 }
 
-fn struck(marks: u32, i: usize) -> bool {
-    marks >> i & 1 == 1
-}
-
 impl Ring {
     fn start(record: &[u8]) -> Result<Ring, u8> {
         if record.len() < 6 || record.len() != 6 + 4 * record[4] as usize {
             return Err(13);
         }
         let (n, f) = (record[4] as usize, record[5] as usize);
-        size(n as u64, f as u64)?;
-        let positions: Vec<i32> = (0..n).map(|j| word(record, 6 + 4 * j) as i32).collect();
-        if positions.iter().any(|&v| !is_position(v as i64)) {
-            return Err(4);
-        }
-        let heads = (0..n).map(|i| Some(Head::start(n, f, i, positions[i]))).collect();
+        size(n, f)?;
+        let start = |i: usize| Head::start(n, f, i, word(record, 6 + 4 * i) as i32).map(Some);
+        let heads = (0..n).map(start).collect::<Result<_, u8>>()?;
         Ok(Ring { n, f, heads, played: 0, before: 0, given: 0, waiting: None })
     }
 
@@ -45,7 +39,7 @@ impl Ring {
             return Ok(Err(13));
         }
         let marks = word(record, 4);
-        if marks.count_ones() as usize > self.f || (self.n..32).any(|j| struck(marks, j)) {
+        if marks.count_ones() as usize > self.f || (self.n..32).any(|j| marked(marks, j)) {
             return Ok(Err(14));
         }
         if self.given == 2 * LAST_PHASE {
@@ -60,12 +54,12 @@ impl Ring {
     fn plant(&mut self, record: &[u8]) -> Result<(), u8> {
         let n = self.n;
         let round = match &mut self.waiting {
-            Some(round) if (6..=146).contains(&record.len()) => round,
+            Some(round) if (6..=6 + LONGEST).contains(&record.len()) => round,
             _ => return Err(13),
         };
         let (from, to) = (record[4] as usize, record[5] as usize);
         let rises = round.planted.last().map_or(true, |last| (last.0, last.1) < (from, to));
-        if from >= n || to >= n || !struck(round.struck, from) || struck(round.struck, to) || !rises {
+        if from >= n || to >= n || !marked(round.struck, from) || marked(round.struck, to) || !rises {
             return Err(13);
         }
         round.planted.push((from, to, record[6..].to_vec()));
@@ -80,13 +74,13 @@ impl Ring {
         };
         let (phase, stage) = (self.played / 2 + 1, self.played % 2);
         for i in 0..self.n {
-            if struck(round.struck, i) {
+            if marked(round.struck, i) {
                 self.heads[i] = None;
-            } else if struck(self.before, i) {
-                self.heads[i] = Some(Head::restart(self.n, self.f, i, phase, stage));
+            } else if marked(self.before, i) {
+                self.heads[i] = Some(Head::restart(self.n, self.f, i, phase, stage).unwrap());
             }
         }
-        let sent: Vec<_> = self.heads.iter().map(|head| head.as_ref().map(|head| head.write().unwrap())).collect();
+        let sent: Vec<_> = self.heads.iter().map(|head| head.as_ref().map(|head| head.says().unwrap())).collect();
         for head in self.heads.iter_mut().flatten() {
             for (k, frame) in sent.iter().enumerate() {
                 if let Some(frame) = frame {
@@ -115,7 +109,7 @@ impl Ring {
     }
 }
 
-/// The next record: `None` at the end of the file, 13 where it is cut short.
+/// The next record: `None` at the end of the file, 13 if it is cut short.
 fn record(input: &mut impl Read) -> io::Result<Option<Result<Vec<u8>, u8>>> {
     let mut bytes = Vec::with_capacity(160);
     if input.take(4).read_to_end(&mut bytes)? == 0 {
@@ -124,15 +118,15 @@ fn record(input: &mut impl Read) -> io::Result<Option<Result<Vec<u8>, u8>>> {
     if bytes.len() < 4 || half(&bytes, 0) < 4 {
         return Ok(Some(Err(13)));
     }
-    let length = half(&bytes, 0);
+    let length = half(&bytes, 0) as usize;
     input.take(length as u64 - 4).read_to_end(&mut bytes)?;
     Ok(Some(if bytes.len() == length { Ok(bytes) } else { Err(13) }))
 }
 
-/// Takes one record, or the end of the file (`None`): what follows is the ring as it is then.
+/// Takes one record: the ring after it.
 fn take(ring: Option<Ring>, bytes: &[u8], output: &mut impl Write) -> io::Result<Result<Ring, u8>> {
     match (half(bytes, 2), ring) {
-        (0x10, None) => {
+        (START, None) => {
             let ring = match Ring::start(bytes) {
                 Ok(ring) => ring,
                 Err(number) => return Ok(Err(number)),
@@ -140,8 +134,8 @@ fn take(ring: Option<Ring>, bytes: &[u8], output: &mut impl Write) -> io::Result
             ring.line(output, 0, 0, 0)?;
             Ok(Ok(ring))
         }
-        (0x11, Some(mut ring)) => Ok(ring.round(bytes, output)?.map(|()| ring)),
-        (0x12, Some(mut ring)) => Ok(ring.plant(bytes).map(|()| ring)),
+        (ROUND, Some(mut ring)) => Ok(ring.round(bytes, output)?.map(|()| ring)),
+        (PLANTED, Some(mut ring)) => Ok(ring.plant(bytes).map(|()| ring)),
         _ => Ok(Err(13)),
     }
 }

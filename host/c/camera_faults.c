@@ -1,27 +1,8 @@
-/* The camera's three calls: every refusal alone, every set of faults together (the first in the order of checks decides), the extremes of each
- * argument, and the memory before and after. The number of checks is printed; the first that fails stops the program. */
-#include <focus.h>
+/* The camera's three calls: every refusal alone, every set of faults together (the first in the order of checks decides), the extremes of each argument, and the
+ * memory before and after. The number of checks is printed; the first that fails stops the program. */
+#include "check.h"
 
 #include <limits.h>
-#include <stdio.h>
-#include <stdlib.h>
-#include <string.h>
-
-static unsigned long checks;
-
-static void expect(int holds, const char *what, long got, long want) {
-    checks++;
-    if (!holds) {
-        printf("%s: got %ld, want %ld\n", what, got, want);
-        exit(1);
-    }
-}
-
-static void put4(uint8_t *at, int32_t value) {
-    uint32_t word = (uint32_t)value;
-    for (int i = 0; i < 4; i++)
-        at[i] = (uint8_t)(word >> (8 * i));
-}
 
 /* ---- memory: lent room stands between two guards, and bytes read are compared with a copy */
 
@@ -39,53 +20,42 @@ struct lent64 {
 
 #define GUARD UINT64_C(0x5aa55aa5c33cc33c)
 
-/* the midpoint's answer, with the number it must give; `position` counts where that is 0 */
-static void midpoint(const char *what, uint32_t n, uint32_t f, uint32_t marks, const uint8_t *entries, size_t length, uint8_t number,
-                     int32_t position) {
+/* the midpoint's answer, with the number it must give; `position` counts if that is 0 */
+static void midpoint(const char *what, uint32_t n, uint32_t f, uint32_t marks, const uint8_t *entries, size_t length, uint8_t number, int32_t position) {
     uint8_t copy[512];
     struct lent32 lent = {GUARD, -777, GUARD};
     memcpy(copy, entries, length);
     uint8_t got = focus_midpoint(n, f, marks, entries, length, &lent.value);
     int32_t want = number == 0 ? position : -777;
-    expect(got == number, what, got, number);
-    expect(lent.value == want, what, lent.value, want);
-    expect(lent.before == GUARD && lent.after == GUARD, "memory beside the lent room", 0, 0);
-    expect(memcmp(copy, entries, length) == 0, "the entries read", 0, 0);
+    same(what, got, number);
+    same(what, lent.value, want);
+    same("memory beside the lent room", lent.before == GUARD && lent.after == GUARD, 1);
+    same("the entries read", memcmp(copy, entries, length), 0);
 }
 
 static void scale(const char *what, int32_t steps, uint32_t numerator, uint32_t denominator, uint8_t number, int64_t nanometres) {
     struct lent64 lent = {GUARD, -777, GUARD};
     uint8_t got = focus_scale(steps, numerator, denominator, &lent.value);
     int64_t want = number == 0 ? nanometres : -777;
-    expect(got == number, what, got, number);
-    expect(lent.value == want, what, (long)lent.value, (long)want);
-    expect(lent.before == GUARD && lent.after == GUARD, "memory beside the lent room", 0, 0);
+    same(what, got, number);
+    same(what, lent.value, want);
+    same("memory beside the lent room", lent.before == GUARD && lent.after == GUARD, 1);
 }
 
 static void frame(const char *what, const uint8_t *bytes, size_t length, uint8_t number) {
     uint8_t copy[70000];
     memcpy(copy, bytes, length);
-    uint8_t got = focus_frame_check(bytes, length);
-    expect(got == number, what, got, number);
-    expect(memcmp(copy, bytes, length) == 0, "the frame read", 0, 0);
+    same(what, focus_frame_check(bytes, length), number);
+    same("the frame read", memcmp(copy, bytes, length), 0);
 }
 
-/* ---- the midpoint: faults 1, 2, 8, 10, 11, 25 in every combination that can be built */
+/* ---- the midpoint: 1, 2, 8, 10, 11, 25 in every combination that can be built */
 
 enum { HEADS = 1, LIMIT = 2, BYTES = 4, MARK = 8, RANGE = 16, FEW = 32, FAULTS = 64 };
 
-static int first_number(int faults) {
-    static const struct {
-        int fault, number;
-    } order[] = {{HEADS, 1}, {LIMIT, 2}, {BYTES, 8}, {MARK, 10}, {RANGE, 11}, {FEW, 25}};
-    for (size_t i = 0; i < sizeof order / sizeof *order; i++)
-        if (faults & order[i].fault)
-            return order[i].number;
-    return 0;
-}
-
-/* A ring of 5 heads with positions 10 to 50, or of 33 (or, where a mark must stand at n or above, of 0) as a wrong count. */
+/* A ring of 5 heads with positions 10 to 50, or of 33 (or, if a mark must stand at n or above, of 0) as a wrong count. */
 static void midpoint_faults(int faults, int null_entry) {
+    static const uint8_t order[] = {FOCUS_HEAD_COUNT, FOCUS_STRUCK_LIMIT, FOCUS_KIND_LENGTH, FOCUS_MARKS, FOCUS_ENTRY, FOCUS_TRUSTED};
     uint8_t entries[512] = {0};
     uint32_t n = !(faults & HEADS) ? 5 : faults & MARK ? 0 : 33;
     uint32_t f = faults & LIMIT ? (2 * n + 4) / 7 + 1 : n == 0 ? 0 : 1;
@@ -105,45 +75,47 @@ static void midpoint_faults(int faults, int null_entry) {
     if (faults & MARK)
         marks |= UINT32_C(1) << n;
     size_t length = 4 * n + (faults & BYTES ? 1 : 0);
-    midpoint("midpoint faults", n, f, marks, entries, length, (uint8_t)first_number(faults), 30);
+    tried = faults;
+    midpoint("midpoint faults", n, f, marks, entries, length, first(faults, order, 6), 30);
+    tried = 0;
 }
 
 static void midpoint_extremes(void) {
     uint8_t entries[512] = {0};
     static const uint32_t wide[] = {0, 33, 255, 256, 261, 65536 + 5, UINT32_MAX / 2 + 1, UINT32_MAX};
     for (size_t i = 0; i < sizeof wide / sizeof *wide; i++) {
-        midpoint("head count", wide[i], 0, 0, entries, 0, 1, 0);
-        midpoint("head count, any limit", wide[i], UINT32_MAX, UINT32_MAX, entries, 20, 1, 0);
+        midpoint("head count", wide[i], 0, 0, entries, 0, FOCUS_HEAD_COUNT, 0);
+        midpoint("head count, any limit", wide[i], UINT32_MAX, UINT32_MAX, entries, 20, FOCUS_HEAD_COUNT, 0);
     }
     static const uint32_t limits[] = {2, 257, 65536, UINT32_MAX / 7, UINT32_MAX / 7 + 1, UINT32_MAX};
     for (size_t i = 0; i < sizeof limits / sizeof *limits; i++)
-        midpoint("struck limit", 5, limits[i], 31, entries, 20, 2, 0);
+        midpoint("struck limit", 5, limits[i], 31, entries, 20, FOCUS_STRUCK_LIMIT, 0);
     /* every size from 1 to 40 heads, with every limit to 12 */
     for (uint32_t n = 1; n <= 40; n++)
         for (uint32_t f = 0; f <= 12; f++) {
             uint32_t marks = n >= 32 ? UINT32_MAX : (UINT32_C(1) << n) - 1;
-            midpoint("size", n, f, marks, entries, 4 * n, n > 32 ? 1 : 2 * n < 7 * f + 2 ? 2 : 0, 0);
+            midpoint("size", n, f, marks, entries, 4 * n, n > 32 ? FOCUS_HEAD_COUNT : 2 * n < 7 * f + 2 ? FOCUS_STRUCK_LIMIT : 0, 0);
         }
     /* every length beside 4n, and one byte short and long of it */
     for (size_t length = 0; length <= 200; length++)
-        midpoint("entries not 4n bytes", 32, 8, UINT32_MAX, entries, length, length == 128 ? 0 : 8, 0);
+        midpoint("entries not 4n bytes", 32, 8, UINT32_MAX, entries, length, length == 128 ? 0 : FOCUS_KIND_LENGTH, 0);
     /* each mark above n */
     for (uint32_t j = 5; j < 32; j++)
-        midpoint("a mark at n or above", 5, 1, 31 | UINT32_C(1) << j, entries, 20, 10, 0);
+        midpoint("a mark at n or above", 5, 1, 31 | UINT32_C(1) << j, entries, 20, FOCUS_MARKS, 0);
     /* each entry at the ends of the range and past them, marked and not */
     static const int32_t values[] = {-1000000, 1000000, -1000001, 1000001, INT32_MIN, INT32_MAX, -1, 1, 0};
     for (uint32_t j = 0; j < 32; j++)
         for (size_t i = 0; i < sizeof values / sizeof *values; i++) {
             int in_range = values[i] >= -1000000 && values[i] <= 1000000;
             put4(entries + 4 * j, values[i]);
-            midpoint("an entry's range", 32, 8, UINT32_MAX, entries, 128, in_range ? 0 : 11, 0);
-            midpoint("a null entry", 32, 8, ~(UINT32_C(1) << j), entries, 128, values[i] == 0 ? 0 : 11, 0);
+            midpoint("an entry's range", 32, 8, UINT32_MAX, entries, 128, in_range ? 0 : FOCUS_ENTRY, 0);
+            midpoint("a null entry", 32, 8, ~(UINT32_C(1) << j), entries, 128, values[i] == 0 ? 0 : FOCUS_ENTRY, 0);
             put4(entries + 4 * j, 0);
         }
     /* 25 by the nulls alone */
     for (uint32_t nulls = 0; nulls <= 32; nulls++)
-        midpoint("nulls", 32, 8, nulls == 32 ? 0 : UINT32_MAX >> nulls, entries, 128, nulls > 24 ? 25 : 0, 0);
-    midpoint("one null where f is 0", 1, 0, 0, entries, 4, 25, 0);
+        midpoint("nulls", 32, 8, nulls == 32 ? 0 : UINT32_MAX >> nulls, entries, 128, nulls > 24 ? FOCUS_TRUSTED : 0, 0);
+    midpoint("one null while f is 0", 1, 0, 0, entries, 4, FOCUS_TRUSTED, 0);
 }
 
 struct point {
@@ -156,7 +128,7 @@ struct point {
 static void midpoint_points(void) {
     static const struct point points[] = {
         {5, 1, 0x0f, {10, 20, 30, 40, 0}, 0, 25}, {5, 1, 0x07, {10, 20, 30, 0, 0}, 0, 20}, {5, 1, 0x03, {10, 20, 0, 0, 0}, 0, 15},
-        {5, 1, 0x01, {10, 0, 0, 0, 0}, 25, 0},    {5, 1, 0x1f, {0, 0, 0, 1, 1}, 0, 0},     {5, 1, 0x1f, {-3, -3, -2, -2, -2}, 0, -3},
+        {5, 1, 0x01, {10, 0, 0, 0, 0}, FOCUS_TRUSTED, 0}, {5, 1, 0x1f, {0, 0, 0, 1, 1}, 0, 0}, {5, 1, 0x1f, {-3, -3, -2, -2, -2}, 0, -3},
         {1, 0, 0x01, {7}, 0, 7},
     };
     for (size_t i = 0; i < sizeof points / sizeof *points; i++) {
@@ -173,16 +145,16 @@ static void scales(void) {
     static const uint32_t bad[] = {0, 1000001, UINT32_MAX};
     static const int32_t out[] = {-1000001, 1000001, INT32_MIN, INT32_MAX};
     for (size_t i = 0; i < 3; i++) {
-        scale("numerator", 1, bad[i], 1, 12, 0);
-        scale("denominator", 1, 1000000, bad[i], 12, 0);
+        scale("numerator", 1, bad[i], 1, FOCUS_SCALE, 0);
+        scale("denominator", 1, 1000000, bad[i], FOCUS_SCALE, 0);
         for (size_t j = 0; j < 4; j++) {
-            scale("numerator, then position", out[j], bad[i], 1, 12, 0);
-            scale("denominator, then position", out[j], 1000000, bad[i], 12, 0);
+            scale("numerator, then position", out[j], bad[i], 1, FOCUS_SCALE, 0);
+            scale("denominator, then position", out[j], 1000000, bad[i], FOCUS_SCALE, 0);
         }
     }
-    scale("numerator below denominator", 1, 1, 2, 12, 0);
+    scale("numerator below denominator", 1, 1, 2, FOCUS_SCALE, 0);
     for (size_t j = 0; j < 4; j++)
-        scale("position", out[j], 3, 2, 4, 0);
+        scale("position", out[j], 3, 2, FOCUS_POSITION, 0);
     scale("largest", 1000000, 1000000, 1, 0, INT64_C(1000000000000));
     scale("lowest", -1000000, 1000000, 1, 0, INT64_C(-1000000000000));
     scale("equal", -7, 1000000, 1000000, 0, -7);
@@ -212,32 +184,32 @@ static void frames(void) {
                 uint8_t count = length >= 12 ? (uint8_t)((length - 12) / 4) : 0;
                 int known = kind >= 1 && kind <= 4;
                 size_t right = kind == 3 ? 12 + 4 * (size_t)count : known ? lengths[kind] : 0;
-                int number = length < 4 || off ? 6 : !known ? 7 : length != right ? 8 : 0;
+                int number = length < 4 || off ? FOCUS_LENGTH : !known ? FOCUS_KIND : length != right ? FOCUS_KIND_LENGTH : 0;
                 build(bytes, length, (unsigned)length + (unsigned)off, kind, count);
                 frame("frame", bytes, length, (uint8_t)number);
             }
     /* all 16 bits of the kind count, and a list's own count */
     for (unsigned kind = 0; kind <= 65535; kind += 255) {
         int known = kind >= 1 && kind <= 4;
-        frame("kind", bytes, build(bytes, 9, 9, kind, 0), known ? 8 : 7);
+        frame("kind", bytes, build(bytes, 9, 9, kind, 0), known ? FOCUS_KIND_LENGTH : FOCUS_KIND);
     }
     for (unsigned count = 0; count <= 255; count++)
         for (size_t other = 0; other <= 255; other += 5)
-            frame("count", bytes, build(bytes, 12 + 4 * other, (unsigned)(12 + 4 * other), 3, (uint8_t)count), count == other ? 0 : 8);
+            frame("count", bytes, build(bytes, 12 + 4 * other, (unsigned)(12 + 4 * other), 3, (uint8_t)count), count == other ? 0 : FOCUS_KIND_LENGTH);
     /* faults together: the earlier number */
-    frame("length, then kind", bytes, build(bytes, 9, 8, 5, 0), 6);
-    frame("length, then the kind's length", bytes, build(bytes, 9, 8, 1, 0), 6);
-    frame("kind, then the kind's length", bytes, build(bytes, 9, 9, 0, 0), 7);
-    frame("all three", bytes, build(bytes, 9, 8, 0, 0), 6);
+    frame("length, then kind", bytes, build(bytes, 9, 8, 5, 0), FOCUS_LENGTH);
+    frame("length, then the kind's length", bytes, build(bytes, 9, 8, 1, 0), FOCUS_LENGTH);
+    frame("kind, then the kind's length", bytes, build(bytes, 9, 9, 0, 0), FOCUS_KIND);
+    frame("all three", bytes, build(bytes, 9, 8, 0, 0), FOCUS_LENGTH);
     /* short and long slices */
     const uint8_t four_unknown[] = {4, 0, 5, 0}, four_known[] = {4, 0, 1, 0}, three[] = {4, 0, 2}, list7[] = {7, 0, 3, 0, 0, 1, 0};
-    frame("4 bytes, unknown", four_unknown, 4, 7);
-    frame("4 bytes, known", four_known, 4, 8);
-    frame("3 bytes", three, 3, 6);
-    frame("a list without a count", list7, 7, 8);
-    frame("no bytes", bytes, 0, 6);
-    frame("the longest field", bytes, build(bytes, 65535, 65535, 3, 255), 8);
-    frame("more bytes than a field can say", bytes, build(bytes, 65536 + 7, 7, 2, 0), 6);
+    frame("4 bytes, unknown", four_unknown, 4, FOCUS_KIND);
+    frame("4 bytes, known", four_known, 4, FOCUS_KIND_LENGTH);
+    frame("3 bytes", three, 3, FOCUS_LENGTH);
+    frame("a list without a count", list7, 7, FOCUS_KIND_LENGTH);
+    frame("no bytes", bytes, 0, FOCUS_LENGTH);
+    frame("the longest field", bytes, build(bytes, 65535, 65535, 3, 255), FOCUS_KIND_LENGTH);
+    frame("more bytes than a field can say", bytes, build(bytes, 65536 + 7, 7, 2, 0), FOCUS_LENGTH);
 }
 
 int main(void) {
@@ -251,6 +223,5 @@ int main(void) {
     midpoint_points();
     scales();
     frames();
-    printf("%lu checks\n", checks);
-    return 0;
+    return all_checked();
 }

@@ -2,11 +2,10 @@
 
 use crate::clock::now;
 use crate::exported::{self, Block, SIZE};
-use crate::frames::{self, Said};
-use crate::head::Head;
-use crate::midpoint::LIMIT;
-use crate::paper;
 use crate::random::Random;
+use crate::rules::frames::{self, Said};
+use crate::rules::head::Head;
+use crate::rules::midpoint::{self, Entry, LIMIT};
 use std::hint::black_box;
 
 /// How many inputs, or heads, are taken in one measured stretch.
@@ -23,6 +22,15 @@ pub struct Row {
     pub plain: f64,
 }
 
+impl Row {
+    pub fn ratio(&self) -> f64 {
+        self.export / self.plain
+    }
+}
+
+/// Whether a row of this name is to be measured.
+type Wanted<'a> = &'a dyn Fn(&str) -> bool;
+
 /// One side: what is made ready outside the measured time, and the calls, which give the sum of their numbers.
 type Side<'a, S> = (&'a dyn Fn() -> S, &'a dyn Fn(&mut S) -> u64);
 
@@ -34,7 +42,10 @@ fn stretch<S>(side: &Side<S>) -> (f64, u64) {
 }
 
 /// Both sides in turns, the least of each; their numbers must be the same.
-fn row<A, B>(name: &str, calls: usize, export: Side<A>, plain: Side<B>) -> Row {
+fn row<A, B>(wanted: Wanted, name: String, calls: usize, export: Side<A>, plain: Side<B>) -> Option<Row> {
+    if !wanted(&name) {
+        return None;
+    }
     let mut least = (f64::MAX, f64::MAX);
     for turn in 0..WARM + TURNS {
         let (one, two) = (stretch(&export), stretch(&plain));
@@ -44,18 +55,18 @@ fn row<A, B>(name: &str, calls: usize, export: Side<A>, plain: Side<B>) -> Row {
         }
     }
     let each = |seconds: f64| seconds * 1e9 / calls as f64;
-    Row { name: name.to_owned(), export: each(least.0), plain: each(least.1) }
+    Some(Row { name, export: each(least.0), plain: each(least.1) })
 }
 
 fn number<T>(result: Result<T, u8>) -> u64 {
     black_box(result).err().unwrap_or(0) as u64
 }
 
-fn list(random: &mut Random, n: usize) -> Vec<Option<i32>> {
+fn list(random: &mut Random, n: usize) -> Vec<Entry> {
     (0..n).map(|_| Some(random.between(-LIMIT, LIMIT))).collect()
 }
 
-fn frame_check(n: usize) -> Row {
+fn frame_check(wanted: Wanted, n: usize) -> Option<Row> {
     let mut random = Random::new(1);
     let mut all = Vec::new();
     for i in 0..MANY {
@@ -66,23 +77,24 @@ fn frame_check(n: usize) -> Row {
     }
     let export = |all: &mut Vec<Vec<u8>>| (0..MANY * MANY).map(|i| exported::frame_check(&mut all[i % MANY]) as u64).sum();
     let plain = |all: &mut Vec<Vec<u8>>| (0..MANY * MANY).map(|i| number(frames::check(&all[i % MANY]))).sum();
-    row(&format!("frame check, all kinds, lists of {n}"), MANY * MANY, (&|| all.clone(), &export), (&|| all.clone(), &plain))
+    let ready = || all.clone();
+    row(wanted, format!("frame check, all kinds, lists of {n}"), MANY * MANY, (&ready, &export), (&ready, &plain))
 }
 
-fn midpoint(n: usize, f: usize, nulls: usize) -> Row {
+fn midpoint(wanted: Wanted, n: usize, f: usize, nulls: usize) -> Option<Row> {
     let mut random = Random::new(2);
     let marks = u32::MAX >> (32 - n) & u32::MAX << nulls;
     let entry = |j: usize, v: i32| if j < nulls { 0 } else { v };
     let table = |random: &mut Random| (0..n).flat_map(|j| entry(j, random.between(-LIMIT, LIMIT)).to_le_bytes()).collect();
     let all: Vec<Vec<u8>> = (0..MANY).map(|_| table(&mut random)).collect();
-    let (n, f) = (n as u32, f as u32);
     let export = |all: &mut Vec<Vec<u8>>| {
         let mut out = 0;
-        all.iter_mut().map(|table| exported::midpoint(n, f, marks, table, &mut out) as u64 + out as u64 % 8).sum()
+        all.iter_mut().map(|table| exported::midpoint(n as u32, f as u32, marks, table, &mut out) as u64 + out as u64 % 8).sum()
     };
-    let given = |table: &[u8]| paper::midpoint(n, f, marks, table).map_or_else(|number| number as u64, |out| out as u64 % 8);
+    let given = |table: &[u8]| midpoint::midpoint(n, f, marks, table).map_or_else(|number| number as u64, |out| out as u64 % 8);
     let plain = |all: &mut Vec<Vec<u8>>| all.iter().map(|table| given(table)).sum();
-    row(&format!("midpoint, ({n},{f}), {nulls} null"), MANY, (&|| all.clone(), &export), (&|| all.clone(), &plain))
+    let ready = || all.clone();
+    row(wanted, format!("midpoint, ({n},{f}), {nulls} null"), MANY, (&ready, &export), (&ready, &plain))
 }
 
 /// A round as a head hears it: its frames by link.
@@ -117,7 +129,7 @@ impl Heard {
     }
 
     fn heads(&self) -> Vec<Head> {
-        (0..MANY).map(|_| Head::restart(self.n, self.f, 0, PHASE, self.round)).collect()
+        (0..MANY).map(|_| Head::restart(self.n, self.f, 0, PHASE, self.round).expect("a restart that is taken")).collect()
     }
 
     fn tell_blocks(&self, (blocks, frames): &mut (Vec<Block>, Vec<Vec<u8>>)) -> u64 {
@@ -130,13 +142,13 @@ impl Heard {
         heads.iter_mut().map(hear).sum()
     }
 
-    fn hearing(&self, what: &str) -> Row {
+    fn hearing(&self, wanted: Wanted, what: &str) -> Option<Row> {
         let name = format!("hearing {what}, ({},{})", self.n, self.f);
         let blocks = || (self.blocks(), self.frames.clone());
-        row(&name, MANY * self.n, (&blocks, &|ready| self.tell_blocks(ready)), (&|| self.heads(), &|heads| self.tell_heads(heads)))
+        row(wanted, name, MANY * self.n, (&blocks, &|ready| self.tell_blocks(ready)), (&|| self.heads(), &|heads| self.tell_heads(heads)))
     }
 
-    fn closing(&self, what: &str) -> Row {
+    fn closing(&self, wanted: Wanted, what: &str) -> Option<Row> {
         let name = format!("closing {what}, ({},{})", self.n, self.f);
         let blocks = || {
             let mut ready = (self.blocks(), self.frames.clone());
@@ -150,17 +162,20 @@ impl Heard {
         };
         let close_blocks = |blocks: &mut Vec<Block>| blocks.iter_mut().map(|block| block.close() as u64).sum();
         let close_heads = |heads: &mut Vec<Head>| heads.iter_mut().map(|head| number(head.close())).sum();
-        row(&name, MANY, (&blocks, &close_blocks), (&heads, &close_heads))
+        row(wanted, name, MANY, (&blocks, &close_blocks), (&heads, &close_heads))
     }
 }
 
-pub fn rows() -> Vec<Row> {
-    let mut rows = vec![frame_check(5), frame_check(32), midpoint(5, 1, 0), midpoint(32, 8, 0), midpoint(32, 8, 16)];
+/// The rows that are wanted.
+pub fn rows(wanted: Wanted) -> Vec<Row> {
+    let mut rows = vec![frame_check(wanted, 5), frame_check(wanted, 32)];
+    rows.extend([midpoint(wanted, 5, 1, 0), midpoint(wanted, 32, 8, 0), midpoint(wanted, 32, 8, 16)]);
     for (n, f) in [(5, 1), (32, 8)] {
-        let (collection, confession) = (Heard::new(n, f, 0, 0, 0), Heard::new(n, f, 1, 0, 0));
-        rows.extend([collection.hearing("a position"), confession.hearing("a list")]);
-        rows.extend([collection.closing("a collection round"), confession.closing("a confession round, lists that agree")]);
-        rows.push(Heard::new(n, f, 1, f, f).closing("a confession round, f confessions and f liars"));
+        let (collection, confession, lies) = (Heard::new(n, f, 0, 0, 0), Heard::new(n, f, 1, 0, 0), Heard::new(n, f, 1, f, f));
+        rows.extend([collection.hearing(wanted, "a position"), confession.hearing(wanted, "a list")]);
+        rows.push(collection.closing(wanted, "a collection round"));
+        rows.push(confession.closing(wanted, "a confession round, lists that agree"));
+        rows.push(lies.closing(wanted, "a confession round, f confessions and f liars"));
     }
-    rows
+    rows.into_iter().flatten().collect()
 }

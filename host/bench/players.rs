@@ -1,11 +1,15 @@
-//! The proved player against the second implementation, as programs on the same run files.
+//! The proved player against the second implementation, as programs on the same run files, and beside the speed of reading and copying these files.
 
-use crate::clock::{ended, watched, Used};
+use crate::clock::{ended, now, watched, Used};
 use crate::runs::Run;
 use std::fs::{self, File};
-use std::io::{self, BufWriter, Write};
+use std::hint::black_box;
+use std::io::{self, BufWriter, Read, Write};
 use std::process::{Child, Command, Stdio};
 use std::thread;
+
+/// So many bytes are read, or copied, at least for one time.
+const PASS: usize = 1 << 24;
 
 pub struct Players {
     pub rigplay: String,
@@ -14,23 +18,45 @@ pub struct Players {
     pub place: String,
 }
 
-/// CPU times in seconds; the file's length and the proved player's memory in bytes.
+/// CPU times in seconds for one file; its length and the proved player's memory in bytes.
 pub struct Timed {
     pub bytes: u64,
     pub resident: u64,
     pub rigplay: f64,
     pub plain: f64,
+    /// To read the file, and to copy its bytes in memory.
+    pub read: f64,
+    pub copy: f64,
 }
 
 impl Timed {
     pub fn ratio(&self) -> f64 {
         self.rigplay / self.plain
     }
+
+    /// Millions of bytes of the file a second, if it takes so many seconds.
+    pub fn speed(&self, seconds: f64) -> f64 {
+        self.bytes as f64 * 1e-6 / seconds
+    }
+}
+
+pub fn failed(what: String) -> io::Error {
+    io::Error::new(io::ErrorKind::Other, what)
 }
 
 fn spawn(program: &str, input: Stdio, output: Stdio) -> io::Result<Child> {
-    let failed = |error: io::Error| io::Error::other(format!("{program}: {error}"));
-    Command::new(program).stdin(input).stdout(output).spawn().map_err(failed)
+    let command = Command::new(program).stdin(input).stdout(output).spawn();
+    command.map_err(|error| failed(format!("{program}: {error}")))
+}
+
+/// CPU seconds for one of as many passes as there are in PASS bytes.
+fn each(bytes: usize, mut pass: impl FnMut() -> io::Result<()>) -> io::Result<f64> {
+    let times = PASS / bytes + 1;
+    let before = now();
+    for _ in 0..times {
+        pass()?;
+    }
+    Ok((now() - before) / times as f64)
 }
 
 impl Players {
@@ -54,7 +80,7 @@ impl Players {
         };
         let (ours, others) = (listing(&self.rigplay, "rigplay.listing")?, listing(&self.plain, "plain.listing")?);
         if ours.0 != others.0 || !ours.0.ends_with(b"\nend\n") {
-            return Err(io::Error::other(format!("the listings of {file} differ, or it was not played out")));
+            return Err(failed(format!("the listings of {file} differ, or it was not played out")));
         }
         Ok(ours.1)
     }
@@ -66,14 +92,34 @@ impl Players {
         Ok(bytes)
     }
 
-    /// The least time of each player, taken in turns.
+    /// The time to read a file in pieces of 64 KB, as `cat` does.
+    fn reading(&self, file: &str, bytes: usize) -> io::Result<f64> {
+        let mut piece = vec![0; 1 << 16];
+        each(bytes, || {
+            let mut input = File::open(self.path(file))?;
+            while input.read(&mut piece)? > 0 {
+                black_box(&piece);
+            }
+            Ok(())
+        })
+    }
+
+    /// The least times, taken in turns.
     pub fn time(&self, run: &Run, turns: usize) -> io::Result<Timed> {
-        let bytes = self.store(run, "timed.run")?;
-        let resident = self.compare("timed.run")?;
-        let mut timed = Timed { bytes, resident, rigplay: f64::MAX, plain: f64::MAX };
+        let file = "timed.run";
+        let bytes = self.store(run, file)?;
+        let resident = self.compare(file)?;
+        let content = fs::read(self.path(file))?;
+        let mut other = content.clone();
+        let mut timed = Timed { bytes, resident, rigplay: f64::MAX, plain: f64::MAX, read: f64::MAX, copy: f64::MAX };
         for _ in 0..turns {
-            timed.rigplay = timed.rigplay.min(self.seconds(&self.rigplay, "timed.run")?);
-            timed.plain = timed.plain.min(self.seconds(&self.plain, "timed.run")?);
+            timed.rigplay = timed.rigplay.min(self.seconds(&self.rigplay, file)?);
+            timed.plain = timed.plain.min(self.seconds(&self.plain, file)?);
+            timed.read = timed.read.min(self.reading(file, content.len())?);
+            timed.copy = timed.copy.min(each(content.len(), || {
+                black_box(&mut other).copy_from_slice(black_box(&content));
+                Ok(())
+            })?);
         }
         Ok(timed)
     }
@@ -102,7 +148,7 @@ impl Players {
         })?;
         let text = fs::read_to_string(&listing)?;
         if text.lines().count() != run.phases + 3 || !text.ends_with("\nend\n") {
-            return Err(io::Error::other("the long file was not played out"));
+            return Err(failed("the long file was not played out".to_owned()));
         }
         Ok((bytes, used))
     }

@@ -50,7 +50,7 @@ pub fn ended(child: Child) -> io::Result<Used> {
         return Err(io::Error::last_os_error());
     }
     if status != 0 {
-        return Err(io::Error::other(format!("a player ended with wait status {status}")));
+        return Err(io::Error::new(io::ErrorKind::Other, format!("a player ended with wait status {status}")));
     }
     let seconds = |time: &Time| time.seconds as f64 + time.parts as f64 * 1e-6;
     Ok(Used { seconds: seconds(&usage.user) + seconds(&usage.system), resident: usage.largest as u64 * 1024 })

@@ -1,7 +1,7 @@
 //! A head's record and its calls.
 
-use crate::frames::{self, Said};
-use crate::midpoint::settle;
+use super::frames::{self, Said};
+use super::midpoint::{is_position, settle, size, Entry};
 
 pub const LAST_PHASE: usize = 65_535;
 
@@ -13,19 +13,44 @@ pub struct Head {
     round: usize,
     healed: bool,
     ended: bool,
-    pub position: Option<i32>,
-    list: Vec<Option<i32>>,
+    pub position: Entry,
+    list: Vec<Entry>,
     heard: Vec<Option<Said>>,
 }
 
 impl Head {
-    pub fn start(n: usize, f: usize, number: usize, position: i32) -> Head {
-        Head { healed: false, position: Some(position), ..Head::restart(n, f, number, 1, 0) }
+    /// A head of no ring: what was never started.
+    pub fn none() -> Head {
+        Head::healed(0, 0, 0, 0, 0)
     }
 
-    pub fn restart(n: usize, f: usize, number: usize, phase: usize, round: usize) -> Head {
+    fn healed(n: usize, f: usize, number: usize, phase: usize, round: usize) -> Head {
         let (list, heard) = (vec![None; n], vec![None; n]);
         Head { n, f, number, phase, round, healed: true, ended: false, position: None, list, heard }
+    }
+
+    /// 1, 2, 3, 4.
+    pub fn start(n: usize, f: usize, number: usize, position: i32) -> Result<Head, u8> {
+        size(n, f)?;
+        if number >= n {
+            return Err(3);
+        }
+        if !is_position(position) {
+            return Err(4);
+        }
+        Ok(Head { healed: false, position: Some(position), ..Head::healed(n, f, number, 1, 0) })
+    }
+
+    /// 1, 2, 3, 5.
+    pub fn restart(n: usize, f: usize, number: usize, phase: usize, round: usize) -> Result<Head, u8> {
+        size(n, f)?;
+        if number >= n {
+            return Err(3);
+        }
+        if phase == 0 || phase > LAST_PHASE || round > 1 {
+            return Err(5);
+        }
+        Ok(Head::healed(n, f, number, phase, round))
     }
 
     /// 26, 3, 21, then what the frame is refused for.
@@ -44,7 +69,8 @@ impl Head {
         Ok(())
     }
 
-    pub fn write(&self) -> Result<Vec<u8>, u8> {
+    /// 26; the frame.
+    pub fn says(&self) -> Result<Vec<u8>, u8> {
         if self.ended {
             return Err(26);
         }
@@ -57,6 +83,14 @@ impl Head {
         Ok(frames::write(&said, self.number, self.phase))
     }
 
+    /// 26, 24; the frame at the front of the buffer, and its length.
+    pub fn write(&self, buffer: &mut [u8]) -> Result<usize, u8> {
+        let frame = self.says()?;
+        buffer.get_mut(..frame.len()).ok_or(24)?.copy_from_slice(&frame);
+        Ok(frame.len())
+    }
+
+    /// 26, 25.
     pub fn close(&mut self) -> Result<(), u8> {
         if self.ended {
             return Err(26);
@@ -91,13 +125,13 @@ impl Head {
     }
 
     /// The one position with support n - f or more, unless link j confessed.
-    fn trusted(&self, j: usize) -> Option<i32> {
+    fn trusted(&self, j: usize) -> Entry {
         let reach = self.n - self.f;
         let confessions = self.heard.iter().filter(|said| **said == Some(Said::Confession)).count();
         if self.heard[j] == Some(Said::Confession) || confessions >= reach {
             return None; // with so many confessions every position has the support
         }
-        let mut found: Option<i32> = None;
+        let mut found: Entry = None;
         let said_of = |said: &Said| if let Said::List(list) = said { list[j] } else { None };
         for u in self.heard.iter().flatten().filter_map(said_of) {
             if found != Some(u) && self.support(j, u) >= reach {

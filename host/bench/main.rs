@@ -1,0 +1,160 @@
+//! Times the proved exports and the proved player against the second implementation, side by side in one run, and prints Markdown.
+//!
+//!     bench RIGPLAY PLAIN PLACE BYTES      all of it, with a run file of at least BYTES through a pipe; fails if a bar is missed
+//!     bench RIGPLAY PLAIN PLACE --quick    the rows that have a bar, on short files; fails beyond MARGIN times a bar
+//!
+//! PLACE is a directory for run files. host/bench/run builds and starts it.
+
+mod bars;
+mod calls;
+mod clock;
+#[path = "../exports/exported.rs"]
+#[allow(dead_code)]
+mod exported;
+mod players;
+#[path = "../compare/random.rs"]
+#[allow(dead_code)]
+mod random;
+#[path = "../compare/ring.rs"]
+#[allow(dead_code)]
+mod ring;
+#[path = "../plain/rules/mod.rs"]
+#[allow(dead_code)]
+mod rules;
+#[path = "../compare/run.rs"]
+#[allow(dead_code)]
+mod run;
+mod runs;
+#[path = "../compare/spoil.rs"]
+#[allow(dead_code)]
+mod spoil;
+#[path = "../compare/wire.rs"]
+#[allow(dead_code)]
+mod wire;
+
+use players::{failed, Players, Timed};
+use rules::head::LAST_PHASE;
+use runs::{runs, Run, Strikes};
+use std::io;
+use std::process::ExitCode;
+
+/// How often each program is timed.
+const TURNS: usize = 5;
+/// A quick run has one of so many phases.
+const QUICK: usize = 3;
+
+/// What a table says of a row's bar: nothing if it has none.
+fn held(name: &str, ratio: f64, missed: &mut bool) -> String {
+    bars::of(name).map_or(String::new(), |bar| {
+        let (met, words) = bars::verdict(ratio, bar, 1.0);
+        *missed |= !met;
+        words
+    })
+}
+
+fn megabytes(bytes: u64) -> String {
+    format!("{:.1} MB", bytes as f64 * 1e-6)
+}
+
+fn print_calls(missed: &mut bool) {
+    println!("## Calls\n\nNanoseconds of CPU time a call.\n");
+    println!("| Call | proved export | plain Rust | ratio | bar |\n|---|--:|--:|--:|---|");
+    for row in calls::rows(&|_| true) {
+        let bar = held(&row.name, row.ratio(), missed);
+        println!("| {} | {:.0} | {:.0} | {:.2} | {bar} |", row.name, row.export, row.plain, row.ratio());
+    }
+}
+
+fn print_players(players: &Players, missed: &mut bool) -> io::Result<()> {
+    println!("\n## Players\n\nMilliseconds of CPU time (user and system) for a run file.\n");
+    println!("| Run file | phases | bytes | rigplay | plain | ratio | bar | twice as long | resident |");
+    println!("|---|--:|--:|--:|--:|--:|---|--:|--:|");
+    let mut all = Vec::new();
+    for run in runs() {
+        let (name, timed) = (run.name(), players.time(&run, TURNS)?);
+        let bar = held(&name, timed.ratio(), missed);
+        let (ours, others, ratio) = (timed.rigplay * 1e3, timed.plain * 1e3, bars::said(timed.ratio()));
+        let (growth, resident) = (players.growth(&run, 2 * TURNS)?, megabytes(timed.resident));
+        println!("| {name} | {} | {} | {ours:.1} | {others:.1} | {ratio} | {bar} | {growth:.2} times | {resident} |", run.phases, timed.bytes);
+        all.push((name, timed));
+    }
+    print_speeds(&all);
+    Ok(())
+}
+
+fn print_speeds(all: &[(String, Timed)]) {
+    println!("\n## Bytes\n\nMillions of bytes of run file a second: played by rigplay, read from the file, and copied in memory.\n");
+    println!("| Run file | bytes | rigplay | read | copied | rigplay, in times of reading |\n|---|--:|--:|--:|--:|--:|");
+    for (name, timed) in all {
+        let (ours, read, copied) = (timed.speed(timed.rigplay), timed.speed(timed.read), timed.speed(timed.copy));
+        println!("| {name} | {} | {ours:.0} | {read:.0} | {copied:.0} | {:.1} |", timed.bytes, timed.rigplay / timed.read);
+    }
+}
+
+fn print_memory(players: &Players, bytes: u64, missed: &mut bool) -> io::Result<()> {
+    let phase = 2 * 8 + 8 * 24 * (17 + 146);
+    let phases = (bytes / phase) as usize + 1;
+    let run = Run { n: 32, f: 8, strikes: Strikes::Others, phases: phases.min(LAST_PHASE) };
+    let (bytes, used) = players.stream(&run)?;
+    let met = used.resident < bars::MEMORY;
+    *missed |= !met;
+    println!("\n## Memory\n\nA run file of {} through a pipe, made as it is read.\n", run.name());
+    println!("| bytes | phases | CPU seconds | resident | bar |\n|--:|--:|--:|--:|---|");
+    let bar = format!("below {} {}", megabytes(bars::MEMORY), if met { "ok" } else { "MISSED" });
+    println!("| {bytes} | {} | {:.2} | {} | {bar} |", run.phases, used.seconds, megabytes(used.resident));
+    Ok(())
+}
+
+/// The ratio of the row of this name, taken quickly.
+fn ratio(players: &Players, name: &str) -> io::Result<f64> {
+    if let Some(run) = runs().iter().find(|run| run.name() == name) {
+        return Ok(players.time(&Run { phases: run.phases / QUICK, ..*run }, 3)?.ratio());
+    }
+    let rows = calls::rows(&|row| row == name);
+    rows.first().map(calls::Row::ratio).ok_or_else(|| failed(format!("no row is named {name}")))
+}
+
+/// One line; a ratio beyond its bar is taken three times before it counts.
+fn quick(players: &Players) -> io::Result<bool> {
+    let (mut line, mut missed) = (Vec::new(), false);
+    for (name, bar) in bars::all() {
+        let mut least = f64::MAX;
+        for _ in 0..3 {
+            if least > bar {
+                least = least.min(ratio(players, name)?);
+            }
+        }
+        let (met, words) = bars::verdict(least, bar, bars::MARGIN);
+        missed |= !met;
+        line.push(format!("{name} {} of {words}", bars::said(least)));
+    }
+    println!("{}", line.join("; "));
+    Ok(missed)
+}
+
+fn all(players: &Players, bytes: u64) -> io::Result<bool> {
+    let mut missed = false;
+    print_calls(&mut missed);
+    print_players(players, &mut missed)?;
+    print_memory(players, bytes, &mut missed)?;
+    Ok(missed)
+}
+
+fn main() -> ExitCode {
+    let words: Vec<String> = std::env::args().skip(1).collect();
+    let done = match &words[..] {
+        [rigplay, plain, place, what] => {
+            let players = Players { rigplay: rigplay.clone(), plain: plain.clone(), place: place.clone() };
+            if what == "--quick" { quick(&players) } else { all(&players, what.parse().expect("a number of bytes")) }
+        }
+        _ => Err(failed("bench RIGPLAY PLAIN PLACE BYTES, or --quick".to_owned())),
+    };
+    match done {
+        Ok(false) => ExitCode::SUCCESS,
+        Ok(true) => ExitCode::FAILURE,
+        Err(what) => {
+            println!("{what}");
+            ExitCode::FAILURE
+        }
+    }
+}

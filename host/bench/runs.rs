@@ -1,0 +1,132 @@
+//! Run files to be timed: quiet ones, and such in which f heads are struck in every round.
+
+use crate::random::Random;
+use crate::ring::{has, Ring};
+use crate::rules::frames::{self, Said};
+use crate::rules::midpoint::LIMIT;
+use crate::rules::records;
+use crate::run::{any, list, round_records, value, Lies};
+use std::io::{self, Write};
+
+#[derive(Clone, Copy, PartialEq)]
+pub enum Strikes {
+    Quiet,
+    /// f heads in every round, each time the next f. Each tells every neighbour another position, and another list of any positions.
+    Others,
+    /// The same f heads in every round. They tell what Others tell.
+    Same,
+    /// As Others, but each tells all neighbours the same.
+    Alike,
+    /// As Others, but each tells every neighbour another list that is near the true one.
+    Lists,
+    /// As Others, but each tells every neighbour any of what a frame can say, or nothing.
+    Mix,
+}
+use Strikes::*;
+
+#[derive(Clone, Copy)]
+pub struct Run {
+    pub n: usize,
+    pub f: usize,
+    pub strikes: Strikes,
+    pub phases: usize,
+}
+
+/// All that are timed.
+pub fn runs() -> Vec<Run> {
+    let mut runs = Vec::new();
+    for (n, f, quiet, struck) in [(5, 1, 30_000, 30_000), (32, 8, 6_000, 1_000)] {
+        for strikes in [Quiet, Others, Same, Alike, Lists, Mix] {
+            let phases = if strikes == Quiet { quiet } else { struck };
+            runs.push(Run { n, f, strikes, phases });
+        }
+    }
+    runs
+}
+
+impl Run {
+    pub fn name(&self) -> String {
+        let strikes = match self.strikes {
+            Quiet => "quiet",
+            Others => "struck, other heads in each round",
+            Same => "struck, the same heads in all rounds",
+            Alike => "struck, the same told to all neighbours",
+            Lists => "struck, other lists near the truth to each neighbour",
+            Mix => "struck, anything to each neighbour",
+        };
+        format!("({},{}) {strikes}", self.n, self.f)
+    }
+
+    /// The mark word of the heads struck in a round, counted from 0.
+    fn struck(&self, round: usize) -> u32 {
+        let first = if self.strikes == Same { 0 } else { round * self.f };
+        let count = if self.strikes == Quiet { 0 } else { self.f };
+        (0..count).map(|i| 1 << ((first + i) % self.n)).sum()
+    }
+
+    fn positions(&self, random: &mut Random) -> Vec<i32> {
+        (0..self.n).map(|_| random.between(-LIMIT, LIMIT)).collect()
+    }
+
+    /// Any position, or in confession any list, as a frame.
+    fn wild(&self, random: &mut Random, round: usize, from: usize) -> Vec<u8> {
+        let said = match round % 2 {
+            0 => Said::Position(random.between(-LIMIT, LIMIT)),
+            _ => Said::List(self.positions(random).into_iter().map(Some).collect()),
+        };
+        frames::write(&said, from, round / 2 + 1)
+    }
+
+    fn wild_round(&self, random: &mut Random, round: usize, out: &mut Vec<u8>) {
+        let struck = self.struck(round);
+        out.extend(records::round(struck));
+        for from in (0..self.n).filter(|&head| has(struck, head)) {
+            let mut frame = self.wild(random, round, from);
+            for to in (0..self.n).filter(|&head| !has(struck, head)) {
+                out.extend(records::planted(from, to, &frame));
+                if self.strikes != Alike {
+                    frame = self.wild(random, round, from);
+                }
+            }
+        }
+    }
+
+    /// A round with the model of host/compare beside it, which knows the true lists.
+    fn modelled_round(&self, random: &mut Random, ring: &mut Ring, struck: u32, out: &mut Vec<u8>) {
+        let mut lies = Lies::of(ring);
+        for from in ring.heads(|head| has(struck, head)) {
+            for to in ring.heads(|head| !has(struck, head)) {
+                match (self.strikes, ring.collecting()) {
+                    (Mix, _) => lies.give(from, to, any(random, ring)),
+                    (_, true) => lies.say(from, to, Said::Position(value(random, ring))),
+                    _ => lies.say(from, to, list(random, ring)),
+                }
+            }
+        }
+        let round = lies.round(struck);
+        out.extend(round_records(&round).concat());
+        ring.play(&round);
+    }
+
+    /// The whole file: its length.
+    pub fn write(&self, out: &mut impl Write) -> io::Result<u64> {
+        let mut random = Random::new(1);
+        let positions = self.positions(&mut random);
+        let mut ring = Ring::start(self.f, &positions);
+        let mut piece = records::start(self.n, self.f, &positions);
+        let mut written = 0;
+        for round in 0..2 * self.phases {
+            if matches!(self.strikes, Lists | Mix) {
+                self.modelled_round(&mut random, &mut ring, self.struck(round), &mut piece);
+            } else {
+                self.wild_round(&mut random, round, &mut piece);
+            }
+            if piece.len() >= 1 << 16 || round + 1 == 2 * self.phases {
+                out.write_all(&piece)?;
+                written += piece.len() as u64;
+                piece.clear();
+            }
+        }
+        Ok(written)
+    }
+}

@@ -1,0 +1,71 @@
+//! Positions, sizes, tables of entries, and the midpoint of a trusted table.
+
+use super::frames::word;
+
+pub const LIMIT: i32 = 1_000_000;
+
+/// A position, or null.
+pub type Entry = Option<i32>;
+
+pub fn is_position(v: i32) -> bool {
+    (-LIMIT..=LIMIT).contains(&v)
+}
+
+/// 1, 2.
+pub fn size(n: usize, f: usize) -> Result<(), u8> {
+    if !(1..=32).contains(&n) {
+        return Err(1);
+    }
+    if 2 * n < 7 * f + 2 {
+        return Err(2);
+    }
+    Ok(())
+}
+
+/// The highest struck limit that n heads allow.
+pub fn highest_limit(n: usize) -> usize {
+    (2 * n - 2) / 7
+}
+
+pub fn marked(marks: u32, j: usize) -> bool {
+    j < 32 && marks >> j & 1 == 1
+}
+
+/// 10, 11; n entries of 4 bytes each.
+pub fn table(n: usize, marks: u32, bytes: &[u8]) -> Result<Vec<Entry>, u8> {
+    if (n..32).any(|j| marked(marks, j)) {
+        return Err(10);
+    }
+    let mut entries = Vec::with_capacity(n);
+    for j in 0..n {
+        let v = word(bytes, 4 * j) as i32;
+        let known = marked(marks, j);
+        if if known { !is_position(v) } else { v != 0 } {
+            return Err(11);
+        }
+        entries.push(known.then_some(v));
+    }
+    Ok(entries)
+}
+
+/// 25 if more than 3f entries are null; the new position.
+pub fn settle(f: usize, trusted: &[Entry]) -> Result<i32, u8> {
+    let mut order: Vec<i32> = trusted.iter().flatten().copied().collect();
+    let nulls = trusted.len() - order.len();
+    if nulls > 3 * f {
+        return Err(25);
+    }
+    let trim = if nulls <= f { f } else { (3 * f - nulls + 1) / 2 };
+    order.sort_unstable();
+    let kept = &order[trim..order.len() - trim];
+    Ok((kept[0] + kept[kept.len() - 1]).div_euclid(2))
+}
+
+/// 1, 2, 8, 10, 11, 25; the new position of a trusted table.
+pub fn midpoint(n: usize, f: usize, marks: u32, entries: &[u8]) -> Result<i32, u8> {
+    size(n, f)?;
+    if entries.len() != 4 * n {
+        return Err(8);
+    }
+    settle(f, &table(n, marks, entries)?)
+}

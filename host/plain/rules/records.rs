@@ -1,0 +1,38 @@
+//! The records of a run file, as they are written.
+
+pub const START: u16 = 0x10;
+pub const ROUND: u16 = 0x11;
+pub const PLANTED: u16 = 0x12;
+
+/// The most bytes that can be planted on a link.
+pub const LONGEST: usize = 140;
+
+/// Length, kind, and what follows. Frames begin so too.
+pub fn record(kind: u16, rest: &[u8]) -> Vec<u8> {
+    let mut bytes = Vec::with_capacity(4 + rest.len());
+    bytes.extend((4 + rest.len() as u16).to_le_bytes());
+    bytes.extend(kind.to_le_bytes());
+    bytes.extend(rest);
+    bytes
+}
+
+/// The same bytes with a length field that fits them.
+pub fn fitted(mut bytes: Vec<u8>) -> Vec<u8> {
+    let length = (bytes.len() as u16).to_le_bytes();
+    bytes[..2].copy_from_slice(&length);
+    bytes
+}
+
+pub fn start(n: usize, f: usize, positions: &[i32]) -> Vec<u8> {
+    let mut rest = vec![n as u8, f as u8];
+    rest.extend(positions.iter().flat_map(|v| v.to_le_bytes()));
+    record(START, &rest)
+}
+
+pub fn round(struck: u32) -> Vec<u8> {
+    record(ROUND, &struck.to_le_bytes())
+}
+
+pub fn planted(from: usize, to: usize, bytes: &[u8]) -> Vec<u8> {
+    record(PLANTED, &[&[from as u8, to as u8], bytes].concat())
+}
