@@ -55,3 +55,9 @@ pub record Whole (s : List ℕ) (r : PlayResult) (B B′ : Buffers) : Type 0 whe
 abbrev pub Plays : Bool → List ℕ → PlayResult → Buffers → Buffers → Type 0
 Plays true s r B B′ = Whole s r B B′
 Plays false s r B B′ = (r ≡ record { number = refusal.buffer; len = 0; ends = 0 }) × (B′ ≡ B)
+
+-- the same from C, which lends room for the two counts: how many bytes the listing has, and how many phase ends were played. If a buffer is too short, 24, and all
+-- that is lent is as it was.
+abbrev pub PlaysInto : Bool → List ℕ → ℕ → ℕ → ℕ → ℕ → ℕ → Buffers → Buffers → Type 0
+PlaysInto true s number len len′ ends ends′ B B′ = Whole s (record { number = number; len = len′; ends = ends′ }) B B′
+PlaysInto false s number len len′ ends ends′ B B′ = (number ≡ refusal.buffer) × (len′ ≡ len) × (ends′ ≡ ends) × (B′ ≡ B)

@@ -8,7 +8,7 @@ ghost use lib.ListN.{length};
 ghost use lib.Seq.{paste};
 ghost use Rattle.run_state.specs.Memory.{before, after};
 ghost use Rattle.run_whole.specs.Buffers.{Buffers, lent, left, hasRoom};
-ghost use Rattle.run_whole.specs.Whole.{Whole, Plays};
+ghost use Rattle.run_whole.specs.Whole.{Whole, Plays, PlaysInto};
 ghost use Rattle.run_whole.specs.Inner.{Put, soundNumber, soundRow, EndKept, Going};
 use run_listing::Text;
 use run_state::Player;
@@ -288,4 +288,27 @@ pub fn play(file: &[u8], out: &mut [u8], ends: &mut [i32], words: &mut [u32]) ->
         &mut planted,
         &mut lengths,
     )
+}
+
+// The same from C: the number of the file's first fault, 0 if it is played to its end, or 24; the length of the listing and the number of phase ends are put where
+// the caller lends room.
+#[no_mangle]
+pub extern "C" fn focus_play(
+    file: &[u8],
+    out: &mut [u8],
+    ends: &mut [i32],
+    words: &mut [u32],
+    size: &mut usize,
+    count: &mut usize,
+) -> u8
+    ensures { λ r. ⌜ PlaysInto (hasRoom (length (now (file .entry))) (length (now (out .entry))) (length (now (ends .entry))) (length (now (words .entry))))
+        (now (file .entry)) r (now (size .entry)) (now (size .exit)) (now (count .entry)) (now (count .exit)) (lent out ends words) (left out ends words) ⌝ }
+{
+    if !has_room(file.len(), out.len(), ends.len(), words.len()) {
+        return refusal::BUFFER;
+    }
+    let played = play(file, out, ends, words);
+    *size = played.len;
+    *count = played.ends;
+    played.number
 }
