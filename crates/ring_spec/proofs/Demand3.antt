@@ -22,7 +22,7 @@ use Rattle.head_spec.specs.Record.{given}
 use Rattle.head_spec.specs.Calls.{started}
 use Rattle.head_spec.proofs.Proper.{Sized, start-accepted}
 use Rattle.head_spec.proofs.Hearing.{fresh-started}
-use Rattle.ring_spec.specs.Rounds.{Round, Ring, afterRound, PhaseEnd, asEnd, withEnd, firstHeads, ringAfter, endsAfter, mostRounds}
+use Rattle.ring_spec.specs.Rounds.{Round, Ring, mostRounds, afterRound, PhaseEnd, phaseEnd, asEnd, withEnd, firstHeads, ringAfter, endsAfter}
 use Rattle.ring_spec.specs.Converges.{FewStruckIn, noEnd, AnyTwo, RingConverges}
 use Rattle.ring_spec.proofs.OneRound.{RingReady, heardAt}
 use Rattle.ring_spec.proofs.Closings.{after-collection, after-confession, collection-next, confession-next}
@@ -39,7 +39,7 @@ pub record Playable (n f : ℕ) (e : End) (R : Ring) : Type 0 where
 
 -- the end that round w of a ring makes, where it is a confession round
 abbrev endWith : ℕ → ℕ → Ring → Round → PhaseEnd
-endWith n f R w = record { collect = R .before; confess = w .struck; heads = afterRound n f R w .heads }
+endWith n f R w = phaseEnd (R .before) (w .struck) (afterRound n f R w .heads)
 
 -- one round more, es the ends so far
 module _ (n f : ℕ) (R : Ring) (w : Round) (es : List PhaseEnd) (P : Playable n f (asEnd (getD es 0 noEnd)) R)
@@ -139,7 +139,7 @@ module _ (n f : ℕ) (v : ℕ → ℤ) (S : Sized n f) (range : Each n (λ i. is
 
   -- the earliest is the start
   abbrev startEnd : PhaseEnd
-  startEnd = record { collect = 0; confess = 0; heads = firstHeads n f v }
+  startEnd = phaseEnd 0 0 (firstHeads n f v)
 
   earliest : (ws : List Round) → getD (E ws) (length (E ws) - 1) noEnd ≡ startEnd
   unfolding endsAfter

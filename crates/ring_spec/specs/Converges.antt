@@ -9,7 +9,7 @@ use Rattle.terms.specs.Positions.{isPosition}
 use Rattle.marks.specs.Marks.{bitOf}
 use Rattle.convergence.specs.Counting.{Each, AtMost}
 use Rattle.convergence.specs.Demand3.{Demand3, AcceptedSize}
-use Rattle.ring_spec.specs.Rounds.{Round, lost, mostRounds, PhaseEnd, asEnd, endsAfter}
+use Rattle.ring_spec.specs.Rounds.{Round, lost, mostRounds, PhaseEnd, phaseEnd, asEnd, endsAfter}
 
 -- at most f heads are struck in each round
 abbrev pub FewStruckIn : ℕ → ℕ → List Round → Type 0
@@ -18,7 +18,7 @@ FewStruckIn n f (w ∷ ws) = AtMost f n (bitOf (w .struck)) × FewStruckIn n f w
 
 -- no end at all
 abbrev pub noEnd : PhaseEnd
-noEnd = record { collect = 0; confess = 0; heads = λ i. lost }
+noEnd = phaseEnd 0 0 (λ i. lost)
 
 -- any two of a list of ends, which has the latest first, k apart
 abbrev pub AnyTwo : ℕ → ℕ → List PhaseEnd → Type 0

@@ -90,15 +90,20 @@ afterRound n f R w =
 
 -- ---- a run: positions v at the start, then rounds; a list of rounds or of ends has the latest first
 
--- a phase end: the mark words of its two rounds, and the records
+-- a phase end: the mark words of its two rounds, as the listing prints them; that of the round that ended the phase; and the records
 pub record PhaseEnd : Type 0 where
   pub collect : ℕ
   pub confess : ℕ
+  pub struck : ℕ
   pub heads : ℕ → Head
 
--- what is compared: who was struck in the confession round, and the position that each record holds
+-- the end of a phase of two rounds: the confession round ends it
+abbrev pub phaseEnd : ℕ → ℕ → (ℕ → Head) → PhaseEnd
+phaseEnd collect confess heads = record { collect = collect; confess = confess; struck = confess; heads = heads }
+
+-- what is compared: who was struck in the round that ended the phase, and the position that each record holds
 abbrev pub asEnd : PhaseEnd → End
-asEnd e = record { struck = bitOf (e .confess); at = λ i. e .heads i .seat .position }
+asEnd e = record { struck = bitOf (e .struck); at = λ i. e .heads i .seat .position }
 
 -- a confession round ends a phase
 abbrev pub withEnd : ℕ → PhaseEnd → List PhaseEnd → List PhaseEnd
@@ -114,8 +119,6 @@ module _ (n f : ℕ) (v : ℕ → ℤ) where
   ringAfter (w ∷ ws) = afterRound n f (ringAfter ws) w
 
   unfoldable pub endsAfter : List Round → List PhaseEnd
-  endsAfter [] = record { collect = 0; confess = 0; heads = firstHeads } ∷ []
+  endsAfter [] = phaseEnd 0 0 firstHeads ∷ []
   endsAfter (w ∷ ws) =
-      withEnd (ringAfter ws .round)
-      (record { collect = ringAfter ws .before; confess = w .struck; heads = ringAfter (w ∷ ws) .heads })
-      (endsAfter ws)
+      withEnd (ringAfter ws .round) (phaseEnd (ringAfter ws .before) (w .struck) (ringAfter (w ∷ ws) .heads)) (endsAfter ws)

@@ -32,10 +32,11 @@ unfolding endLine fields spread
 fields-are p collect confess ps f w =
     rw (w, ← f .is-low, ← f .is-high, spelled-hex 8 collect, spelled-hex 8 confess) (simp append-snoc)
 
-pub line-is : (n p : ℕ) (e : PhaseEnd) (positions : List ℤ)
-    → Each n (λ i. bitOf (e .confess) i ≡ false → e .heads i .seat .position ≡ Entry.Position (getD positions i (pos 0)))
-    → line n p e ≡ endLine n p positions (e .collect) (e .confess)
+-- e: a phase end that its confession round made
+pub line-is : (n p : ℕ) (e : PhaseEnd) (positions : List ℤ) → e .confess ≡ e .struck
+    → Each n (λ i. bitOf (e .struck) i ≡ false → e .heads i .seat .position ≡ Entry.Position (getD positions i (pos 0)))
+    → line n p e ≡ endLine n p positions (e .collect) (e .struck)
 unfolding line endLine fields spread
-line-is n p e positions h =
-    let f = found-held n (e .confess) (λ i. e .heads i .seat .position) positions h in
-    rw (f .is-low, f .is-high)
+line-is n p e positions made h =
+    let f = found-held n (e .struck) (λ i. e .heads i .seat .position) positions h in
+    rw (made, f .is-low, f .is-high)

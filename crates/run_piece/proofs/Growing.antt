@@ -8,7 +8,7 @@ use native.Mathlib.Omega.{arith}
 use lib.ListN.{length, drop, length-append}
 use lib.Seq.{drop-at}
 use lib.IntN.{ℤ}
-use Rattle.ring_spec.specs.Rounds.{Round, Ring, roundThen, afterRound, PhaseEnd, withEnd, firstHeads, ringAfter, endsAfter}
+use Rattle.ring_spec.specs.Rounds.{Round, Ring, roundThen, afterRound, PhaseEnd, phaseEnd, withEnd, firstHeads, ringAfter, endsAfter}
 use Rattle.run_spec.specs.RunFile.{File, between, RecordKind, start, round, plant, other, isAllowed, countIn, limitIn, positionIn, struckIn, recordFault, thenPlayed, withRecord, stopped, unlessFault, judged, endsSoFar}
 use Rattle.run_spec.specs.Listing.{title, line, lines, shown}
 use Rattle.run_spec.proofs.Streaming.{start-shows, plant-shows, stop-shows}
@@ -58,7 +58,7 @@ module _ (F : File) (s : List ℕ) {text : List ℕ} where
   unfolding ringAfter endsAfter
   start-grown begun t =
       let empty : [] ≡ endsSoFar F = rw begun in
-      let first : PhaseEnd = record { collect = 0; confess = 0; heads = firstHeads (countIn s) (limitIn s) (positionIn s) } in
+      let first : PhaseEnd = phaseEnd 0 0 (firstHeads (countIn s) (limitIn s) (positionIn s)) in
       one 0 refl (ap (λ (es : List PhaseEnd). first ∷ es) empty)
       (same-after (shown F) (sym t ∙ start-shows F s begun) ∙ ap (λ (es : List PhaseEnd). line (countIn s) (length es) first) empty)
 

@@ -5,7 +5,7 @@ use mathlib.Core.List.{List, [], _∷_, _++_}
 use mathlib.Core.Path.{_≡_}
 use Prim.Native.Nat.{ℕ}
 use lib.ListN.{length, take}
-use Rattle.ring_spec.specs.Rounds.{Ring, PhaseEnd}
+use Rattle.ring_spec.specs.Rounds.{Ring, PhaseEnd, phaseEnd}
 use Rattle.run_spec.specs.RunFile.{File, readFile, accepted, endsSoFar}
 use Rattle.run_spec.specs.Listing.{line, shown}
 use Rattle.run_state.specs.declared.Player.{Player}
@@ -29,7 +29,7 @@ pub record Advances (a b : List ℕ) (p : Player) (M : Memory) (q : Player) (tex
 
 -- the phase end at which a ring stands after a confession round; collect: the heads struck in the round before that
 abbrev pub endHere : ℕ → Ring → PhaseEnd
-endHere collect R = record { collect = collect; confess = R .before; heads = R .heads }
+endHere collect R = phaseEnd collect (R .before) (R .heads)
 
 -- the phase ends es of n heads become es′: no end more was played, and nothing is shown; or one, at which the ring R then stands, and its line is shown
 pub data Grown (n : ℕ) (es es′ : List PhaseEnd) (R : Ring) (text : List ℕ) : Type 0 where

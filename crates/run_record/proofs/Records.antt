@@ -162,6 +162,6 @@ module _ {F : File} {p : Player} {M : Memory} {r : RecordResult} where
               };
           refused = λ h. absurd (h refl);
           shows =
-              start-shows F s begun ∙ ap (λ (l : List ℕ). shown F ++ l) (line-is (countIn s) 0 _ (M′ .positions) (λ i l q. held i l) ∙ sym text);
+              start-shows F s begun ∙ ap (λ (l : List ℕ). shown F ++ l) (line-is (countIn s) 0 _ (M′ .positions) refl (λ i l q. held i l) ∙ sym text);
           room = room;
         }

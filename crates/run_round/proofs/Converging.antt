@@ -9,7 +9,7 @@ use native.Mathlib.Nat.{zero-add}
 use lib.ListN.{getD}
 use lib.IntN.{ℤ}
 use Rattle.convergence.specs.Phases.{spread}
-use Rattle.ring_spec.specs.Rounds.{Round, roundThen, afterRound, PhaseEnd, asEnd, withEnd, ringAfter, endsAfter}
+use Rattle.ring_spec.specs.Rounds.{Round, roundThen, afterRound, PhaseEnd, phaseEnd, asEnd, withEnd, ringAfter, endsAfter}
 use Rattle.ring_spec.specs.Converges.{noEnd, AnyTwo}
 use Rattle.ring_spec.proofs.OnePhase.{endAt}
 use Rattle.run_spec.specs.RunFile.{readFile, ringFrom}
@@ -29,7 +29,7 @@ module _ (n f : ℕ) (v : ℕ → ℤ) where
   latest (w ∷ ws) c = go (ringAfter n f v ws .round) c
     where
       e : PhaseEnd
-      e = record { collect = ringAfter n f v ws .before; confess = w .struck; heads = ringAfter n f v (w ∷ ws) .heads }
+      e = phaseEnd (ringAfter n f v ws .before) (w .struck) (ringAfter n f v (w ∷ ws) .heads)
 
       go : (r : ℕ) → roundThen r ≡ 0 → asEnd (getD (withEnd r e (endsAfter n f v ws)) 0 noEnd) ≡ asEnd e
       go zero c = absurd (omega arith)

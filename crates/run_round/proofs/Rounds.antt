@@ -1,7 +1,7 @@
 -- The pending round, played. What the player tells of the file is the stage that its round needs, and the memory holds the planted bytes and the records, so
 -- the memory keeps step with the ring; by its number it is a collection round, which shows nothing, or a confession round, whose line is
 -- made of the new positions.
-use mathlib.Core.Path.{_≡_, ap, sym, _∙_}
+use mathlib.Core.Path.{_≡_, refl, ap, sym, _∙_}
 use mathlib.Core.Bool.{true, false, cond}
 use mathlib.Core.List.{List, _∷_, _++_}
 use Prim.Native.Nat.{ℕ, _+_, _≤_, _<_}
@@ -98,7 +98,7 @@ module _ {F : File} {p : Player} {s : Stage} {M : Memory}
     confession-played {t} {M′} new text room =
         let A = waiting-playable F I pending in
         let held = confess-positions plays (H .keeps begun) A (I .waiting) confession M′ new in
-        let is-line = line-is (F .setup .n) (R .phase) (madeBy (F .setup .n) (F .setup .f) R (F .rounds .last) R) (M′ .positions) held in
+        let is-line = line-is (F .setup .n) (R .phase) (madeBy (F .setup .n) (F .setup .f) R (F .rounds .last) R) (M′ .positions) refl held in
         record {
           keeps = confess-keeps plays (H .keeps begun) A (I .waiting) confession M′ new;
           shows = shows (confession-line (F .setup .n) (F .setup .f) R (F .rounds .last) confession ∙ is-line ∙ cc (plays .phase));

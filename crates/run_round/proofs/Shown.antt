@@ -2,7 +2,7 @@
 use mathlib.Core.Path.{_≡_, refl, ap, sym, subst}
 use mathlib.Core.List.{[]}
 use Prim.Native.Nat.{ℕ}
-use Rattle.ring_spec.specs.Rounds.{Round, Ring, afterRound, PhaseEnd}
+use Rattle.ring_spec.specs.Rounds.{Round, Ring, afterRound, PhaseEnd, phaseEnd}
 use Rattle.run_spec.specs.Listing.{line}
 use Rattle.run_spec.proofs.Streaming.{roundLine}
 
@@ -16,7 +16,7 @@ module _ (n f : ℕ) (R : Ring) (w : Round) where
 
   -- the end that this round makes, where it is a confession round
   abbrev pub madeBy : Ring → PhaseEnd
-  madeBy x = record { collect = x .before; confess = w .struck; heads = afterRound n f x w .heads }
+  madeBy x = phaseEnd (x .before) (w .struck) (afterRound n f x w .heads)
 
   pub confession-line : R .round ≡ 1 → roundLine n f R w ≡ line n (R .phase) (madeBy R)
   confession-line c = subst (λ (r : ℕ). roundLine n f (in-round r) w ≡ line n (R .phase) (madeBy (in-round r))) (sym c) refl

@@ -6,7 +6,7 @@ use mathlib.Core.List.{List, [], _∷_, _++_, append-assoc, append-nil}
 use Prim.Native.Nat.{ℕ, zero, suc}
 use lib.Dec.{eqb}
 use lib.IntN.{ℤ}
-use Rattle.ring_spec.specs.Rounds.{Round, Ring, afterRound, PhaseEnd, withEnd, firstHeads, ringAfter, endsAfter}
+use Rattle.ring_spec.specs.Rounds.{Round, Ring, afterRound, PhaseEnd, phaseEnd, withEnd, firstHeads, ringAfter, endsAfter}
 use Rattle.ring_spec.proofs.Counts.{counted}
 use Rattle.run_spec.specs.RunFile.{File, start, round, plant, countIn, limitIn, positionIn, thenPlayed, withRecord, stopped, withPart, step, feed, ending, roundsPlayed, endsPlayed, ringFrom, endsFrom, allRounds}
 use Rattle.run_spec.specs.Listing.{title, line, lines, verdict, shown, listingOf}
@@ -27,7 +27,7 @@ lineIn (suc r) n p e = line n p e
 
 -- round w of a ring R
 abbrev pub roundLine : ℕ → ℕ → Ring → Round → List ℕ
-roundLine n f R w = lineIn (R .round) n (R .phase) (record { collect = R .before; confess = w .struck; heads = afterRound n f R w .heads })
+roundLine n f R w = lineIn (R .round) n (R .phase) (phaseEnd (R .before) (w .struck) (afterRound n f R w .heads))
 
 pub lines-next : (n f : ℕ) (v : ℕ → ℤ) (ws : List Round) (w : Round)
     → lines n (endsAfter n f v (w ∷ ws)) ≡ lines n (endsAfter n f v ws) ++ roundLine n f (ringAfter n f v ws) w
@@ -72,7 +72,7 @@ module _ (F : File) where
 
   pub start-shows : (s : List ℕ) → F .setup .begun ≡ false
       → shown (withRecord start F s)
-      ≡ shown F ++ line (countIn s) 0 (record { collect = 0; confess = 0; heads = firstHeads (countIn s) (limitIn s) (positionIn s) })
+      ≡ shown F ++ line (countIn s) 0 (phaseEnd 0 0 (firstHeads (countIn s) (limitIn s) (positionIn s)))
   unfolding shown lines endsAfter
   start-shows s e = rw (e, append-nil)
 

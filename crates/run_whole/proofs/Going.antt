@@ -200,8 +200,8 @@ rows-converge : {n f k : ℕ} (x y : PhaseEnd) {ps qs : List ℤ} {v w : ℕ} �
     → Demand3 n f k (endIn v ps) (endIn w qs)
 unfolding endIn spread
 rows-converge {n} x y {ps} {qs} H I D =
-    let X = found-held n (x .confess) (λ i. x .heads i .seat .position) ps (H .held) in
-    let Y = found-held n (y .confess) (λ i. y .heads i .seat .position) qs (I .held) in
+    let X = found-held n (x .struck) (λ i. x .heads i .seat .position) ps (H .held) in
+    let Y = found-held n (y .struck) (λ i. y .heads i .seat .position) qs (I .held) in
     rw (H .marks, I .marks)
     record {
       range = λ i l q. rw (← X .is-low, ← X .is-high, ← I .held i l q) (D .range i l q);

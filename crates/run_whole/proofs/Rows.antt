@@ -38,8 +38,8 @@ module _ (n word : ℕ) (positions : List ℤ) where
           getD-at (soundRow n word positions k) _ [] (pos 0) i (row-long k ∙ e) ∙ ap (soundNumber n word positions) e
 
   -- it holds a phase end whose sound heads hold these positions
-  pub row-holds : (x : PhaseEnd) → word ≡ x .confess → n ≤ 32
-      → Each n (λ i. bitOf (x .confess) i ≡ false → x .heads i .seat .position ≡ Entry.Position (getD positions i (pos 0)))
+  pub row-holds : (x : PhaseEnd) → word ≡ x .struck → n ≤ 32
+      → Each n (λ i. bitOf (x .struck) i ≡ false → x .heads i .seat .position ≡ Entry.Position (getD positions i (pos 0)))
       → HoldsEnd n x (soundRow n word positions 32) word
   row-holds x e most held =
       record {
@@ -50,10 +50,10 @@ module _ (n word : ℕ) (positions : List ℤ) where
         others = λ i s. go i s (decLt i 32);
       }
     where
-      sound : (i : ℕ) → i < n → bitOf (x .confess) i ≡ false → isSound n word i ≡ true
+      sound : (i : ℕ) → i < n → bitOf (x .struck) i ≡ false → isSound n word i ≡ true
       sound i l q = rw (e, lt-ltb i n l, q)
 
-      go : (i : ℕ) → isSound n (x .confess) i ≡ false → Dec (i < 32) → getD (soundRow n word positions 32) i (pos 0) ≡ pos 0
+      go : (i : ℕ) → isSound n (x .struck) i ≡ false → Dec (i < 32) → getD (soundRow n word positions 32) i (pos 0) ≡ pos 0
       go i s (yes h) = row-at 32 i h ∙ ap (λ (b : Bool). cond b (getD positions i (pos 0)) (pos 0)) (ap (λ (w : ℕ). isSound n w i) e ∙ s)
       go i s (no h) = (let far : length (soundRow n word positions 32) ≤ i = omega (arith, row-long 32) in List·getD-eq-default (soundRow n word positions 32) (pos 0) far)
 

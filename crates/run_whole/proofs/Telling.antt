@@ -73,8 +73,8 @@ module _ {n : ℕ} {text : List ℕ} {es : List PhaseEnd} {l c : ℕ} {B₀ B : 
 
   -- ---- a phase end more
 
-  module _ (x : PhaseEnd) (word : ℕ) (positions : List ℤ) (is : word ≡ x .confess) (most : n ≤ 32)
-      (held : Each n (λ i. bitOf (x .confess) i ≡ false → x .heads i .seat .position ≡ Entry.Position (getD positions i (pos 0))))
+  module _ (x : PhaseEnd) (word : ℕ) (positions : List ℤ) (is : word ≡ x .struck) (most : n ≤ 32)
+      (held : Each n (λ i. bitOf (x .struck) i ≡ false → x .heads i .seat .position ≡ Entry.Position (getD positions i (pos 0))))
       (ends-room : 32 * c + 32 ≤ length (B .ends)) (words-room : c < length (B .words)) where
     abbrev s : List ℤ
     s = soundRow n word positions 32

@@ -24,16 +24,16 @@ use Rattle.run_whole.specs.Buffers.{Buffers, row}
 abbrev pub endNumber : List PhaseEnd → ℕ → PhaseEnd
 endNumber es e = getD es (length es - 1 - e) noEnd
 
--- whether head i of n is sound, by the mark word of the confession round
+-- whether head i of n is sound, by the mark word of the round that ended the phase
 abbrev pub isSound : ℕ → ℕ → ℕ → Bool
 isSound n word i = ltb i n && not (bitOf word i)
 
--- a row and a mark word hold a phase end of n heads: the word is that of its confession round; the row has for each sound head the position that its record
+-- a row and a mark word hold a phase end of n heads: the word is that of the round that ended it; the row has for each sound head the position that its record
 -- holds, and 0 elsewhere
 pub record HoldsEnd (n : ℕ) (x : PhaseEnd) (row : List ℤ) (word : ℕ) : Type 0 where
-  pub marks : word ≡ x .confess
-  pub held : Each n (λ i. bitOf (x .confess) i ≡ false → x .heads i .seat .position ≡ Entry.Position (getD row i (pos 0)))
-  pub others : (i : ℕ) → isSound n (x .confess) i ≡ false → getD row i (pos 0) ≡ pos 0
+  pub marks : word ≡ x .struck
+  pub held : Each n (λ i. bitOf (x .struck) i ≡ false → x .heads i .seat .position ≡ Entry.Position (getD row i (pos 0)))
+  pub others : (i : ℕ) → isSound n (x .struck) i ≡ false → getD row i (pos 0) ≡ pos 0
 
 -- the phase end that row e and word e are
 abbrev pub endAt : Buffers → ℕ → End
