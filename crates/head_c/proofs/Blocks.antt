@@ -7,6 +7,7 @@ use lib.IntN.{ℤ, pos}
 use Rattle.terms.specs.declared.Entry.{Entry}
 use Rattle.terms.specs.Refusals.{ended}
 use Rattle.convergence.specs.Counting.{bit}
+use Rattle.convergence.specs.Settling.{twoRounds}
 use Rattle.convergence.specs.Phases.{rounding}
 use Rattle.settle_midpoint.specs.Answers.{settling}
 use Rattle.settle_midpoint.specs.declared.Settled.{Settled}
@@ -85,7 +86,7 @@ after-settled c (settled.New k) = block-back (closedPhase (headOf c) (k .positio
 after-round : (c : FocusHead) (r : ℕ) → headOf (after c (closedAnswer (closeIn r (headOf c)))) ≡ closeIn r (headOf c) .head
 unfolding after
 after-round c zero = block-back (closedCollection (headOf c))
-after-round c (suc r) = after-settled c (settling (rounding (headOf c .phase)) (headOf c .n) (headOf c .f) (trustedBy (headOf c)))
+after-round c (suc r) = after-settled c (settling (rounding (headOf c .phase)) (headOf c .n) (twoRounds (headOf c .f)) (trustedBy (headOf c)))
 
 after-either : (c : FocusHead) (b : Bool) (x y : Closing) → headOf (after c (closedAnswer x)) ≡ x .head → headOf (after c (closedAnswer y)) ≡ y .head
     → headOf (after c (closedAnswer (cond b x y))) ≡ cond b x y .head

@@ -12,7 +12,7 @@ use Rattle.terms.specs.Sizes.{isCount, isLimit, sizeRefusal}
 use Rattle.terms.specs.declared.Entry.{Entry}
 use Rattle.terms.specs.declared.Entry.the-variants.{Null, Position}
 use Rattle.convergence.specs.Counting.{sum}
-use Rattle.convergence.specs.Settling.{nulls, trim, insert, ordered, lowKept, highKept, middle, enough}
+use Rattle.convergence.specs.Settling.{nulls, trim, twoRounds, insert, ordered, lowKept, highKept, middle, enough}
 use Rattle.convergence.specs.Trust.{Given, nothing, confessed, gave, support, confessions, seen, trusted}
 use Rattle.convergence.specs.Demand3.{Halves}
 use Rattle.settle_midpoint.specs.Answers.{settling}
@@ -48,8 +48,8 @@ PointHolds (taken n f) = sizeRefusal n f ≡ 0
 PointHolds (refused n f c) = sizeRefusal n f ≡ c
 PointHolds (halving n f) = Halves n f
 PointHolds (no-halving n f) = Halves n f → ⊥
-PointHolds (settles n f l v) = newPosition (settling 0 n f (table l)) ≡ Position v
-PointHolds (too-few n f l) = number (settling 0 n f (table l)) ≡ 25
+PointHolds (settles n f l v) = newPosition (settling 0 n (twoRounds f) (table l)) ≡ Position v
+PointHolds (too-few n f l) = number (settling 0 n (twoRounds f) (table l)) ≡ 25
 PointHolds (trusts n f l j e) = trusted n f (links l) j ≡ e
 
 abbrev pub All : List Point → Type 0

@@ -11,6 +11,7 @@ use Rattle.terms.specs.declared.Entry.{Entry}
 use Rattle.terms.specs.declared.Table.{Table}
 use Rattle.marks.specs.Marks.{bitOf}
 use Rattle.convergence.specs.Counting.{Each}
+use Rattle.convergence.specs.Settling.{Rule, twoRounds}
 use Rattle.convergence.specs.Trust.{Given, nothing, trusted}
 use Rattle.convergence.proofs.Same.{ordered-same, trusted-same}
 use Rattle.settle_midpoint.specs.Answers.{settling, settlingFrom}
@@ -48,16 +49,16 @@ replied-alike s marks lists k m e =
 
 -- ---- what is settled
 
-settling-same : (n f : ℕ) (E E′ : ℕ → Entry) → Each n (λ j. E j ≡ E′ j) → settling 0 n f E ≡ settling 0 n f E′
-settling-same n f E E′ h = settling-from 0 n f E ∙ ap (settlingFrom 0 n f) (ordered-same n E E′ h) ∙ sym (settling-from 0 n f E′)
+settling-same : (r n : ℕ) (R : Rule) (E E′ : ℕ → Entry) → Each n (λ j. E j ≡ E′ j) → settling r n R E ≡ settling r n R E′
+settling-same r n R E E′ h = settling-from r n R E ∙ ap (settlingFrom r n R) (ordered-same n E E′ h) ∙ sym (settling-from r n R E′)
 
 settled-same : (s : Stage) (G G′ : ℕ → Given) → Each (heads s) (λ k. G k ≡ G′ k) → settledFrom s G ≡ settledFrom s G′
 unfolding settledFrom
 settled-same s G G′ h =
-    ap positionOf (settling-same (heads s) (s .f) _ _ (λ j l. trusted-same (heads s) (s .f) G G′ j l h))
+    ap positionOf (settling-same 0 (heads s) (twoRounds (s .f)) _ _ (λ j l. trusted-same (heads s) (s .f) G G′ j l h))
 
 -- x: what settling answered, from n heads
-pub settled-is : (s : Stage) (G : ℕ → Given) {n : ℕ} {x : Settled} → n ≡ heads s → x ≡ settling 0 n (s .f) (trusted n (s .f) G) → positionOf x ≡ settledFrom s G
+pub settled-is : (s : Stage) (G : ℕ → Given) {n : ℕ} {x : Settled} → n ≡ heads s → x ≡ settling 0 n (twoRounds (s .f)) (trusted n (s .f) G) → positionOf x ≡ settledFrom s G
 unfolding settledFrom
 settled-is s G p e = ap positionOf e ∙ rw p
 

@@ -7,6 +7,7 @@ use lib.Dec.{ltb}
 use lib.ListN.{length, getD, set}
 use lib.IntN.{ℤ}
 use Rattle.marks.specs.Marks.{bitOf}
+use Rattle.convergence.specs.Settling.{twoRounds}
 use Rattle.convergence.specs.Trust.{Given, nothing, trusted}
 use Rattle.frame_spec.specs.declared.Said.{Said}
 use Rattle.frame_spec.specs.Said.{Meaning, refused, collected, listed, confessed, said}
@@ -84,4 +85,4 @@ givenPlanted s g rows plant i k = cond (isStruck s k) (givenOf (said (heads s) (
 
 -- the position that a head settles, from what its links give
 unfoldable pub settledFrom : Stage → (ℕ → Given) → ℤ
-settledFrom s G = positionOf (settling 0 (heads s) (s .f) (trusted (heads s) (s .f) G))
+settledFrom s G = positionOf (settling 0 (heads s) (twoRounds (s .f)) (trusted (heads s) (s .f) G))

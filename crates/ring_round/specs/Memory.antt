@@ -10,6 +10,7 @@ use lib.IntN.{ℤ, pos}
 use Rattle.terms.specs.declared.Entry.{Entry}
 use Rattle.terms.specs.declared.Table.{Table}
 use Rattle.marks.specs.Marks.{bitOf}
+use Rattle.convergence.specs.Settling.{twoRounds}
 use Rattle.convergence.specs.Trust.{Given, trusted}
 use Rattle.frame_spec.specs.Said.{Meaning, collected, listed, confessed, said}
 use Rattle.frame_spec.specs.Written.{frameOf}
@@ -68,4 +69,4 @@ positionOf (New k) = k .position
 -- the new position of head i
 unfoldable pub newPosition : Stage → List ℕ → List (List ℤ) → (ℕ → ℕ → List ℕ) → ℕ → ℤ
 newPosition s marks lists plant i =
-    positionOf (settling 0 (heads s) (s .f) (trusted (heads s) (s .f) (givenEntry s marks lists plant i)))
+    positionOf (settling 0 (heads s) (twoRounds (s .f)) (trusted (heads s) (s .f) (givenEntry s marks lists plant i)))

@@ -5,6 +5,7 @@ ghost use Prim.Native.Nat.{ℕ, _+_, _-_, _≤_, _<_};
 ghost use lib.ListN.{length, getD};
 ghost use Rattle.marks.specs.Marks.{bitOf};
 ghost use Rattle.convergence.specs.Counting.{Each, bit};
+ghost use Rattle.convergence.specs.Settling.{twoRounds};
 ghost use Rattle.convergence.specs.Trust.{trusted};
 ghost use Rattle.settle_trust.specs.Received.{givenBy};
 ghost use Rattle.settle_position.specs.Reference.{sameNumber, isApart, alikeTo, apartFrom, agreeing, Compares, Decides, Lacks};
@@ -134,7 +135,7 @@ fn settle_after(
     f: u8,
 ) -> settle_midpoint::Settled
     requires { ⌜ reference < 32 ⌝ }
-    ensures { λ r. ⌜ r ≡ settling 0 n f (trusted n f (givenBy links (now (lists .entry)))) ⌝ }
+    ensures { λ r. ⌜ r ≡ settling 0 n (twoRounds f) (trusted n f (givenBy links (now (lists .entry)))) ⌝ }
 {
     let need = settle_trust::lists_needed(links.confessed, n, f);
     let count = settle_trust::link_count(n);
@@ -176,7 +177,7 @@ pub fn settle_by(
     n: u8,
     f: u8,
 ) -> settle_midpoint::Settled
-    ensures { λ r. ⌜ r ≡ settling 0 n f (trusted n f (givenBy links (now (lists .entry)))) ⌝ }
+    ensures { λ r. ⌜ r ≡ settling 0 n (twoRounds f) (trusted n f (givenBy links (now (lists .entry)))) ⌝ }
 {
     if 32 <= reference {
         return settle_after(lists, links, 0, n, f);
@@ -186,7 +187,7 @@ pub fn settle_by(
 
 // The same of lists by value.
 pub fn settle(lists: [[i32; 32]; 32], links: Links, n: u8, f: u8) -> settle_midpoint::Settled
-    ensures { λ r. ⌜ r ≡ settling 0 n f (trusted n f (givenBy links lists)) ⌝ }
+    ensures { λ r. ⌜ r ≡ settling 0 n (twoRounds f) (trusted n f (givenBy links lists)) ⌝ }
 {
     settle_by(&lists, links, 0, n, f)
 }

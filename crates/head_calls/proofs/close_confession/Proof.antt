@@ -6,6 +6,7 @@ use mir.Syntax.{w32}
 use mir.Val.{SFits}
 use mir.Facts.{toZ-ofZ}
 use Rattle.convergence.specs.Phases.{rounding}
+use Rattle.convergence.specs.Settling.{twoRounds}
 use Rattle.convergence.specs.Trust.{trusted}
 use Rattle.settle_midpoint.specs.Answers.{settling}
 use Rattle.settle_midpoint.specs.declared.Settled.{Settled}
@@ -17,8 +18,8 @@ use Rattle.head_calls.proofs.close_confession.Statement.{statement}
 use Rattle.head_calls.proofs.close_confession.Tie as tie
 
 settles : (h : Head) {lists : List (List ℤ)} {a : Settled} → lists ≡ rows (h .lists)
-    → a ≡ settling 0 (h .n) (h .f) (trusted (h .n) (h .f) (givenBy (h .links) lists))
-    → a ≡ settling (rounding (h .phase)) (h .n) (h .f) (trustedBy h)
+    → a ≡ settling 0 (h .n) (twoRounds (h .f)) (trusted (h .n) (h .f) (givenBy (h .links) lists))
+    → a ≡ settling (rounding (h .phase)) (h .n) (twoRounds (h .f)) (trustedBy h)
 unfolding rounding
 settles h p q = rw p at q
 

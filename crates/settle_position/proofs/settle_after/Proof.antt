@@ -8,7 +8,7 @@ use denote.Ref.{now}
 use borrow.Author.Needs.{needs}
 use Rattle.terms.specs.declared.Entry.{Entry}
 use Rattle.terms.specs.declared.Entry.the-variants.{Position}
-use Rattle.convergence.specs.Settling.{ordered}
+use Rattle.convergence.specs.Settling.{ordered, twoRounds}
 use Rattle.convergence.specs.Trust.{trusted}
 use Rattle.convergence.proofs.Order.{in-order}
 use Rattle.settle_midpoint.specs.Orders.{orderOf, inOrder}
@@ -98,8 +98,8 @@ returns c =
     let e : l .j ≡ min (a .n) 32 = omega (arith, n .link-count .ensures) in
     let q = ap (λ (k : ℕ). ordered k E) e ∙ ordered-first-32 E (trusted-past (a .links) (now (a .lists)) (words (a .links) (s .good .1 .0)) (a .n) (a .f)) (a .n) in
     c .middle-of .ensures
-    ∙ ap (λ (o : Order). settlingFrom 0 (a .n) (a .f) (inOrder o)) (held-order (l .inv .1) ∙ ap orderOf q)
-    ∙ settling-in-order 0 (a .n) (a .f) E
+    ∙ ap (λ (o : Order). settlingFrom 0 (a .n) (twoRounds (a .f)) (inOrder o)) (held-order (l .inv .1) ∙ ap orderOf q)
+    ∙ settling-in-order 0 (a .n) (twoRounds (a .f)) E
 
 pub settle-after-spec : {M : Type 1} → statement M
 settle-after-spec =
