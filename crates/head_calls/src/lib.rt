@@ -228,7 +228,8 @@ fn close_confession(h: Head) -> Closing
 {
     let lists = h.lists;
     let links = h.links;
-    match settle_position::settle(laid_out(lists), links, h.n, h.f) {
+    let up = steps::rounds_up(h.phase);
+    match settle_position::settle(laid_out(lists), links, h.n, h.f, up) {
         Settled::Refused(refused) => Closing {
             closed: Closed::Refused(refused),
             head: h,
