@@ -16,7 +16,7 @@ pub extern "C" fn focus_frame_check(frame: &[u8]) -> u8
     frame_check::frame_refusal(frame)
 }
 
-// The midpoint of a trusted table: 0 and the new position, or 1, 2, 8, 10, 11, 25.
+// The midpoint of a trusted table, rounded as in phase 1: 0 and the new position, or 1, 2, 8, 10, 11, 25.
 #[no_mangle]
 pub extern "C" fn focus_midpoint(
     n: u32,

@@ -10,7 +10,7 @@ use lib.IntN.{ℤ}
 use Rattle.terms.specs.declared.Entry.{Entry}
 use Rattle.terms.specs.declared.Entry.the-variants.{Position}
 use Rattle.convergence.specs.Counting.{AtMost}
-use Rattle.convergence.specs.Settling.{nulls, trim, midpoint, enough, settled}
+use Rattle.convergence.specs.Settling.{nulls, trim, twoRounds, midpoint, enough, settled}
 use Rattle.convergence.specs.Trust.{trusted}
 use Rattle.convergence.specs.Phases.{End, start, Faults, soundAt, givenTo, after, rounding, endAfter}
 use Rattle.convergence.specs.Demand3.{AcceptedSize, Halves, FewStruck, Converges}
@@ -22,7 +22,7 @@ use Rattle.convergence.proofs.Ends.{number, AllHold, Inside, held-posit
 
 -- ---- one phase of a ring
 
-pub settled-is : (r n f : ℕ) (E : ℕ → Entry) → nulls n E ≤ 3 * f → settled r n f E ≡ Position (midpoint r n f E)
+pub settled-is : (r n f : ℕ) (E : ℕ → Entry) → nulls n E ≤ 3 * f → settled r n (twoRounds f) E ≡ Position (midpoint r n (twoRounds f) E)
 unfolding settled enough
 settled-is r n f E h = rw le-leb
 
@@ -44,9 +44,9 @@ module _ (n f : ℕ) (e : End) (F : Faults) (L : Limits n f (F .collect) (F .con
     pub some-kept-in-phase : 2 * trim f (nulls n (table i)) + nulls n (table i) < n
     some-kept-in-phase = some-kept n f (F .collect) (F .confess) (e .struck) before L (table i) known
 
-    settles : (r : ℕ) (a : ℤ) → soundAt (after r n f e F) i ≡ Position a → a ≡ midpoint r n f (table i)
+    settles : (r : ℕ) (a : ℤ) → soundAt (after r n f e F) i ≡ Position a → a ≡ midpoint r n (twoRounds f) (table i)
     unfolding after
-    settles r a s = same-position (settled-is r n f (table i) few-nulls-in-phase) (sound-holds (F .confess i) (settled r n f (table i)) a s)
+    settles r a s = same-position (settled-is r n f (table i) few-nulls-in-phase) (sound-holds (F .confess i) (settled r n (twoRounds f) (table i)) a s)
 
   module _ (m M : ℤ) (I : Inside n e m M) where
     holds-inside : AllHold n e

@@ -16,7 +16,7 @@ use Rattle.terms.specs.declared.Entry.{Entry}
 use Rattle.terms.specs.declared.Entry.the-variants.{Null, Position}
 use Rattle.terms.proofs.Whole.{arithZ, not-le, decLeZ, half-between, half-closer}
 use Rattle.convergence.specs.Counting.{Each, sum, bit, AtMost}
-use Rattle.convergence.specs.Settling.{isNull, nulls, trim, ordered, lowKept, highKept, middle, midpoint}
+use Rattle.convergence.specs.Settling.{isNull, nulls, trim, twoRounds, ordered, lowKept, highKept, middle, midpoint}
 use Rattle.convergence.specs.Demand3.{AcceptedSize, Halves}
 use Rattle.convergence.proofs.Sums.{sums-le, sum-one, sum-none, bit-le}
 use Rattle.convergence.proofs.Order.{passes, gt-fails, KeptRange, kept-counts}
@@ -216,7 +216,7 @@ module _ (n f : ℕ) (c d p : ℕ → Bool) (v : ℕ → ℤ) (L : Limits n f c 
           unless-above
           (λ k. omega (arith, the-kept .from-high, few-outside (λ u. leZ (high n f E) u) (λ u a b. gt-fails {a = high n f E} {b = u} (omega arithZ))))
 
-      pub range : (r : ℕ) → r ≤ 1 → (m ≤ℤ midpoint r n f E) × (midpoint r n f E ≤ℤ M)
+      pub range : (r : ℕ) → r ≤ 1 → (m ≤ℤ midpoint r n (twoRounds f) E) × (midpoint r n (twoRounds f) E ≤ℤ M)
       unfolding midpoint middle
       range r h = half-between r m M _ _ h low-in (the-kept .low-high) high-in
 
@@ -260,6 +260,6 @@ module _ (n f : ℕ) (c d p : ℕ → Bool) (v : ℕ → ℤ) (L : Limits n f c 
         go (yes q) = omega (arith, heavy, weigh _ _ k (λ j. both (c j) (d j)) (λ j l x y w. rw (x, y) (omega arith)))
         go (no q) = omega (arith, heavy, sum-none n, weigh _ _ k (λ j. 0) (λ j l x y w. absurd (q (fourth j l w))))
 
-    pub closer : (r : ℕ) (m M : ℤ) → Between n p v m M → midpoint r n f E′ ≤ℤ (midpoint r n f E +ℤ pos ((gap m M + 1) / 2))
+    pub closer : (r : ℕ) (m M : ℤ) → Between n p v m M → midpoint r n (twoRounds f) E′ ≤ℤ (midpoint r n (twoRounds f) E +ℤ pos ((gap m M + 1) / 2))
     unfolding midpoint middle
     closer r m M B = half-closer r m M _ _ _ _ (low-in E A m M B) (the-kept E A .low-high) (high-in E A m M B) (unless-above no-gap) (high-in E′ A′ m M B)

@@ -7,7 +7,7 @@ use lib.Dec.{leb}
 use lib.IntN.{ℤ}
 use Rattle.terms.specs.declared.Entry.{Entry}
 use Rattle.convergence.specs.Counting.{Each, bit}
-use Rattle.convergence.specs.Settling.{isNull, nulls, ordered, midpoint, enough, settled}
+use Rattle.convergence.specs.Settling.{isNull, nulls, ordered, Rule, midpoint, enough, settled}
 use Rattle.convergence.specs.Trust.{Given, nothing, confessed, gave, is, supports, support, hasConfessed, confessions, saysOf, seen, trusted}
 use Rattle.convergence.proofs.Sums.{each-last, each-less, sum-same}
 
@@ -22,13 +22,13 @@ unfolding ordered
 ordered-same zero E E′ h = refl
 ordered-same (suc n) E E′ h = cc (each-last h, ordered-same n E E′ (each-less h))
 
-pub midpoint-same : (r n f : ℕ) (E E′ : ℕ → Entry) → Each n (λ j. E j ≡ E′ j) → midpoint r n f E ≡ midpoint r n f E′
+pub midpoint-same : (r n : ℕ) (R : Rule) (E E′ : ℕ → Entry) → Each n (λ j. E j ≡ E′ j) → midpoint r n R E ≡ midpoint r n R E′
 unfolding midpoint
-midpoint-same r n f E E′ h = cc (ordered-same n E E′ h, nulls-same n E E′ h)
+midpoint-same r n R E E′ h = cc (ordered-same n E E′ h, nulls-same n E E′ h)
 
-pub settled-same : (r n f : ℕ) (E E′ : ℕ → Entry) → Each n (λ j. E j ≡ E′ j) → settled r n f E ≡ settled r n f E′
+pub settled-same : (r n : ℕ) (R : Rule) (E E′ : ℕ → Entry) → Each n (λ j. E j ≡ E′ j) → settled r n R E ≡ settled r n R E′
 unfolding settled enough
-settled-same r n f E E′ h = rw (nulls-same n E E′ h, midpoint-same r n f E E′ h)
+settled-same r n R E E′ h = rw (nulls-same n E E′ h, midpoint-same r n R E E′ h)
 
 -- ---- links
 

@@ -6,7 +6,7 @@ use lib.Signed.{leZ}
 use Rattle.terms.specs.Positions.{gap}
 use Rattle.terms.specs.declared.Entry.{Entry}
 use Rattle.terms.specs.declared.Entry.the-variants.{Null, Position}
-use Rattle.convergence.specs.Settling.{settled}
+use Rattle.convergence.specs.Settling.{twoRounds, settled}
 use Rattle.convergence.specs.Trust.{Given, confessed, gave, trusted}
 
 -- A phase end: the heads struck in its confession round, whose memory is lost, and the position that each other head holds. A head is sound
@@ -43,7 +43,7 @@ givenTo e F i k = gives (F .confess k) (F .collect k) (F .replied k i) confessed
 
 -- The phase's end: each head that is not struck settles a position. r: how odd sums are rounded.
 unfoldable pub after : ℕ → ℕ → ℕ → End → Faults → End
-after r n f e F = record { struck = F .confess; at = λ i. settled r n f (trusted n f (givenTo e F i)) }
+after r n f e F = record { struck = F .confess; at = λ i. settled r n (twoRounds f) (trusted n f (givenTo e F i)) }
 
 -- how phase p rounds odd sums: always down
 unfoldable pub rounding : ℕ → ℕ

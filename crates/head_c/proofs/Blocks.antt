@@ -7,6 +7,7 @@ use lib.IntN.{ℤ, pos}
 use Rattle.terms.specs.declared.Entry.{Entry}
 use Rattle.terms.specs.Refusals.{ended}
 use Rattle.convergence.specs.Counting.{bit}
+use Rattle.convergence.specs.Settling.{twoRounds}
 use Rattle.convergence.specs.Phases.{rounding}
 use Rattle.settle_midpoint.specs.Answers.{settling}
 use Rattle.settle_midpoint.specs.declared.Settled.{Settled}
@@ -89,7 +90,7 @@ after-settled c (settled.New k) = block-back (closedPhase (headOf c) (k .positio
 after-round : (c : FocusHead) (r : ℕ) → headOf (after c (closedAnswer (closeIn r (headOf c)))) ≡ closeIn r (headOf c) .head
 unfolding after
 after-round c zero = block-back (closedCollection (headOf c))
-after-round c (suc r) = after-settled c (let s = headOf c .seat in settling (rounding (s .phase)) (s .n) (s .f) (trustedBy (headOf c)))
+after-round c (suc r) = after-settled c (settling (rounding (headOf c .seat .phase)) (headOf c .seat .n) (twoRounds (headOf c .seat .f)) (trustedBy (headOf c)))
 
 after-either : (c : FocusHead) (b : Bool) (x y : Closing) → headOf (after c (closedAnswer x)) ≡ x .head → headOf (after c (closedAnswer y)) ≡ y .head
     → headOf (after c (closedAnswer (cond b x y))) ≡ cond b x y .head

@@ -261,7 +261,8 @@ fn close_confession(h: Head) -> Closing
     let seat = h.seat;
     let lists = h.lists;
     let links = h.links;
-    match settle_position::settle(laid_out(lists), links, seat.n, seat.f) {
+    let up = steps::rounds_up(seat.phase);
+    match settle_position::settle(laid_out(lists), links, seat.n, seat.f, up) {
         Settled::Refused(refused) => Closing {
             closed: Closed::Refused(refused),
             head: h,

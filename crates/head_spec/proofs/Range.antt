@@ -17,7 +17,7 @@ use Rattle.marks.specs.Marks.{bitOf}
 use Rattle.entries.specs.Entries.{entryAt, fits}
 use Rattle.entries.specs.Tables.{tableAt}
 use Rattle.convergence.specs.Counting.{Each}
-use Rattle.convergence.specs.Settling.{place, insert, put, ordered, lowKept, highKept, middle, midpoint}
+use Rattle.convergence.specs.Settling.{Rule, place, insert, put, ordered, lowKept, highKept, middle, midpoint}
 use Rattle.convergence.specs.Trust.{nothing, confessed, gave, saysOf}
 use Rattle.convergence.proofs.Sums.{each-last, each-less}
 use Rattle.convergence.proofs.Support.{not-null, trusted-in-range}
@@ -78,9 +78,9 @@ position-at [] k a = refl
 position-at (x ∷ xs) zero a = a .0
 position-at (x ∷ xs) (suc k) a = position-at xs k (a .1)
 
-pub midpoint-position : (r n f : ℕ) (E : ℕ → Entry) → r ≤ 1 → InRange n E → isPosition (midpoint r n f E) ≡ true
+pub midpoint-position : (r n : ℕ) (R : Rule) (E : ℕ → Entry) → r ≤ 1 → InRange n E → isPosition (midpoint r n R E) ≡ true
 unfolding midpoint middle lowKept highKept
-midpoint-position r n f E small h =
+midpoint-position r n R E small h =
     let a = ordered-positions n E h in
     half-position r _ _ small (position-at (ordered n E) _ a) (position-at (ordered n E) _ a)
 

@@ -9,7 +9,7 @@ use borrow.Author.Tests.{leb-false, le-leb, lt-leb}
 use Rattle.terms.specs.Refusals as refusal
 use Rattle.terms.specs.Positions.{isPosition}
 use Rattle.terms.specs.declared.Entry.{Entry}
-use Rattle.convergence.specs.Settling.{nulls, trim, ordered, midpoint, enough}
+use Rattle.convergence.specs.Settling.{nulls, trim, twoRounds, ordered, midpoint, enough}
 use Rattle.convergence.specs.Phases.{rounding}
 use Rattle.convergence.proofs.Demand3.{rounding-le}
 use Rattle.convergence.proofs.Support.{not-null}
@@ -32,7 +32,7 @@ settledBy h = kept (rounding (h .seat .phase)) (trim (h .seat .f) (nulls (h .sea
 
 -- not more than 3f nulls among the trusted entries
 abbrev pub enoughTrusted : Head → Bool
-enoughTrusted h = enough (h .seat .n) (h .seat .f) (trustedBy h)
+enoughTrusted h = enough (h .seat .n) (twoRounds (h .seat .f)) (trustedBy h)
 
 module _ (h : Head) (runs : h .seat .ended ≡ false) where
   pub closes-collection : h .seat .round ≡ 0 → close h ≡ closing Closed.Listed (closedCollection h)
@@ -53,7 +53,7 @@ module _ (h : Head) (runs : h .seat .ended ≡ false) where
     too-few-trusted e = rw (runs, confession, e)
 
 -- the new position is the midpoint
-pub settled-midpoint : (h : Head) → settledBy h .position ≡ midpoint (rounding (h .seat .phase)) (h .seat .n) (h .seat .f) (trustedBy h)
+pub settled-midpoint : (h : Head) → settledBy h .seat .position ≡ midpoint (rounding (h .seat .phase)) (h .seat .n) (twoRounds (h .seat .f)) (trustedBy h)
 unfolding midpoint
 settled-midpoint h = refl
 
@@ -80,7 +80,7 @@ answers h = go (h .seat .ended) (h .seat .round)
     go : (b : Bool) (r : ℕ) → let a = cond b (closing (Closed.Refused refusal.ended) h) (closeIn r h) in Answers (a .closed) h (a .head)
     go true r = refl
     go false zero = refl
-    go false (suc r) = settles (settling (rounding (h .seat .phase)) (h .seat .n) (h .seat .f) (trustedBy h))
+    go false (suc r) = settles (settling (rounding (h .seat .phase)) (h .seat .n) (twoRounds (h .seat .f)) (trustedBy h))
 
 -- a closing that settles: the record holds the position answered
 pub settled-held : (h : Head) {k : Kept} → close h .closed ≡ Closed.Settled k → close h .head .seat .position ≡ Entry.Position (k .position)
@@ -132,8 +132,7 @@ module _ (h : Head) (P : ProperHead h) where
 
   settled-position : isPosition (settledBy h .position) ≡ true
   settled-position =
-      let s = h .seat in
-      rw (settled-midpoint h) (midpoint-position (rounding (s .phase)) (s .n) (s .f) (trustedBy h) (rounding-le (s .phase)) (trusted-positions h P))
+      rw (settled-midpoint h) (midpoint-position (rounding (h .seat .phase)) (h .seat .n) (twoRounds (h .seat .f)) (trustedBy h) (rounding-le (h .seat .phase)) (trusted-positions h P))
 
   pub proper-close : ProperHead (close h .head)
   unfolding close settling

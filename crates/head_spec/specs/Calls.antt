@@ -12,6 +12,7 @@ use Rattle.terms.specs.Positions.{isPosition}
 use Rattle.terms.specs.declared.Entry.{Entry}
 use Rattle.terms.specs.declared.Table.{Table}
 use Rattle.marks.specs.Marks.{bitOf, withMark}
+use Rattle.convergence.specs.Settling.{twoRounds, enough}
 use Rattle.convergence.specs.Phases.{rounding}
 use Rattle.settle_midpoint.specs.Answers.{settling}
 use Rattle.settle_midpoint.specs.declared.Settled.{Settled}
@@ -150,7 +151,7 @@ closeSettled (settled.New k) h = closing (Closed.Settled k) (closedPhase h (k .p
 
 abbrev pub closeIn : ℕ → Head → Closing
 closeIn zero h = closing Closed.Listed (closedCollection h)
-closeIn (suc r) h = closeSettled (settling (rounding (h .seat .phase)) (h .seat .n) (h .seat .f) (trustedBy h)) h
+closeIn (suc r) h = closeSettled (settling (rounding (h .seat .phase)) (h .seat .n) (twoRounds (h .seat .f)) (trustedBy h)) h
 
 unfoldable pub close : Head → Closing
 close h = cond (h .seat .ended) (closing (Closed.Refused refusal.ended) h) (closeIn (h .seat .round) h)

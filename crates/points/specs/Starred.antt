@@ -12,14 +12,15 @@ use Rattle.terms.specs.Sizes.{isCount, isLimit, sizeRefusal}
 use Rattle.terms.specs.declared.Entry.{Entry}
 use Rattle.terms.specs.declared.Entry.the-variants.{Null, Position}
 use Rattle.convergence.specs.Counting.{sum}
-use Rattle.convergence.specs.Settling.{nulls, trim, insert, ordered, lowKept, highKept, middle, enough}
+use Rattle.convergence.specs.Settling.{nulls, trim, twoRounds, insert, ordered, lowKept, highKept, middle, enough}
 use Rattle.convergence.specs.Trust.{Given, nothing, confessed, gave, support, confessions, seen, trusted}
+use Rattle.convergence.specs.Phases.{rounding}
 use Rattle.convergence.specs.Demand3.{Halves}
 use Rattle.settle_midpoint.specs.Answers.{settling}
 use Rattle.settle_midpoint.specs.declared.Settled.{Settled}
 use Rattle.settle_midpoint.specs.declared.Settled.the-variants.{Refused, New}
 
--- n heads, struck limit f, and what the rules answer
+-- n heads, struck limit f, and what the rules answer, in phase 1
 pub data Point : Type 0 where
   taken : ℕ → ℕ → Point
   refused : ℕ → ℕ → ℕ → Point  -- with the number
@@ -48,8 +49,8 @@ PointHolds (taken n f) = sizeRefusal n f ≡ 0
 PointHolds (refused n f c) = sizeRefusal n f ≡ c
 PointHolds (halving n f) = Halves n f
 PointHolds (no-halving n f) = Halves n f → ⊥
-PointHolds (settles n f l v) = newPosition (settling 0 n f (table l)) ≡ Position v
-PointHolds (too-few n f l) = number (settling 0 n f (table l)) ≡ 25
+PointHolds (settles n f l v) = newPosition (settling (rounding 1) n (twoRounds f) (table l)) ≡ Position v
+PointHolds (too-few n f l) = number (settling (rounding 1) n (twoRounds f) (table l)) ≡ 25
 PointHolds (trusts n f l j e) = trusted n f (links l) j ≡ e
 
 abbrev pub All : List Point → Type 0
@@ -90,7 +91,7 @@ starred =
     ∷ []
 
 pub starred-hold : All starred
-unfolding isCount isLimit settling nulls trim insert ordered lowKept highKept middle enough half floorDiv sum support confessions seen trusted eqZ
+unfolding isCount isLimit settling nulls trim insert ordered lowKept highKept middle enough half floorDiv rounding sum support confessions seen trusted eqZ
 starred-hold = (
   refl,
   (

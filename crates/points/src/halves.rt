@@ -21,7 +21,7 @@ fn half_line(c: Pair) {
         [answers::of_steps(c.0), answers::of_steps(c.1), Null, Null],
     );
     answers::compare(
-        answers::of_steps(steps::half_sum(c.0, c.1)),
+        answers::of_steps(steps::half_sum(c.0, c.1, steps::rounds_up(1))),
         b" (towards zero: ",
         Number(wrong::half_towards_zero(c.0, c.1)),
     );
@@ -43,8 +43,9 @@ pub fn spread(a: i32, b: i32) -> Answer {
 
 // Two kept ranges that meet, from low to middle and from middle to high.
 fn kept_line(low: i32, middle: i32, high: i32) {
-    let a = steps::half_sum(low, middle);
-    let b = steps::half_sum(middle, high);
+    let up = steps::rounds_up(1);
+    let a = steps::half_sum(low, middle, up);
+    let b = steps::half_sum(middle, high, up);
     let x = wrong::half_to_even(low, middle);
     let y = wrong::half_to_even(middle, high);
     four(b"kept # to # and # to #: ", low, middle, middle, high);

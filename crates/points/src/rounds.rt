@@ -44,7 +44,7 @@ fn lists_of(c: Round) -> [[i32; 32]; 32] {
 }
 
 fn settled(c: Round) -> Settled {
-    settle_position::settle(lists_of(c), links_of(c), c.0, c.1)
+    settle_position::settle(lists_of(c), links_of(c), c.0, c.1, steps::rounds_up(1))
 }
 
 // The round itself.

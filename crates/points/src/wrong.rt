@@ -18,7 +18,7 @@ pub fn half_towards_zero(a: i32, b: i32) -> i64 {
 
 // Half of a sum, an odd sum rounded to an even number: one more than rounded down, where the sum and that are odd.
 pub fn half_to_even(a: i32, b: i32) -> i32 {
-    let down = fields::unsigned(steps::half_sum(a, b));
+    let down = fields::unsigned(steps::half_sum(a, b, false));
     let odd = (fields::unsigned(a) ^ fields::unsigned(b)) & 1;
     fields::signed(std::num::wrapping_add_u32(down, down & odd))
 }

@@ -11,7 +11,9 @@ use Rattle.terms.specs.declared.Entry.{Entry}
 use Rattle.terms.specs.declared.Table.{Table}
 use Rattle.marks.specs.Marks.{bitOf}
 use Rattle.convergence.specs.Counting.{Each}
+use Rattle.convergence.specs.Settling.{Rule, twoRounds}
 use Rattle.convergence.specs.Trust.{Given, nothing, trusted}
+use Rattle.convergence.specs.Phases.{rounding}
 use Rattle.convergence.proofs.Same.{ordered-same, trusted-same}
 use Rattle.settle_midpoint.specs.Answers.{settling, settlingFrom}
 use Rattle.settle_midpoint.specs.declared.Settled.{Settled}
@@ -48,18 +50,19 @@ replied-alike s marks lists k m e =
 
 -- ---- what is settled
 
-settling-same : (n f : ℕ) (E E′ : ℕ → Entry) → Each n (λ j. E j ≡ E′ j) → settling 0 n f E ≡ settling 0 n f E′
-settling-same n f E E′ h = settling-from 0 n f E ∙ ap (settlingFrom 0 n f) (ordered-same n E E′ h) ∙ sym (settling-from 0 n f E′)
+settling-same : (r n : ℕ) (R : Rule) (E E′ : ℕ → Entry) → Each n (λ j. E j ≡ E′ j) → settling r n R E ≡ settling r n R E′
+settling-same r n R E E′ h = settling-from r n R E ∙ ap (settlingFrom r n R) (ordered-same n E E′ h) ∙ sym (settling-from r n R E′)
 
 settled-same : (s : Stage) (G G′ : ℕ → Given) → Each (heads s) (λ k. G k ≡ G′ k) → settledFrom s G ≡ settledFrom s G′
 unfolding settledFrom
 settled-same s G G′ h =
-    ap positionOf (settling-same (heads s) (s .f) _ _ (λ j l. trusted-same (heads s) (s .f) G G′ j l h))
+    ap positionOf (settling-same (rounding (s .phase)) (heads s) (twoRounds (s .f)) _ _ (λ j l. trusted-same (heads s) (s .f) G G′ j l h))
 
--- x: what settling answered, from n heads
-pub settled-is : (s : Stage) (G : ℕ → Given) {n : ℕ} {x : Settled} → n ≡ heads s → x ≡ settling 0 n (s .f) (trusted n (s .f) G) → positionOf x ≡ settledFrom s G
+-- x: what settling answered, from n heads, rounded by r
+pub settled-is : (s : Stage) (G : ℕ → Given) {n r : ℕ} {x : Settled} → n ≡ heads s → r ≡ rounding (s .phase)
+    → x ≡ settling r n (twoRounds (s .f)) (trusted n (s .f) G) → positionOf x ≡ settledFrom s G
 unfolding settledFrom
-settled-is s G p e = ap positionOf e ∙ rw p
+settled-is s G p r e = ap positionOf e ∙ rw (p, r)
 
 pub settled-received : (s : Stage) (g : Links) (rows : List (List ℤ)) (G : ℕ → Given) → Received g rows G → settledFrom s (givenBy g rows) ≡ settledFrom s G
 settled-received s g rows G h = ap (settledFrom s) (fun-ext (h .gives))

@@ -7,7 +7,9 @@ use lib.Dec.{ltb}
 use lib.ListN.{length, getD, set}
 use lib.IntN.{ℤ}
 use Rattle.marks.specs.Marks.{bitOf}
+use Rattle.convergence.specs.Settling.{twoRounds}
 use Rattle.convergence.specs.Trust.{Given, nothing, trusted}
+use Rattle.convergence.specs.Phases.{rounding}
 use Rattle.frame_spec.specs.declared.Said.{Said}
 use Rattle.frame_spec.specs.Said.{Meaning, refused, collected, listed, confessed, said}
 use Rattle.frame_spec.specs.Written.{frameOf}
@@ -84,4 +86,4 @@ givenPlanted s g rows plant i k = cond (isStruck s k) (givenOf (said (heads s) (
 
 -- the position that a head settles, from what its links give
 unfoldable pub settledFrom : Stage → (ℕ → Given) → ℤ
-settledFrom s G = positionOf (settling 0 (heads s) (s .f) (trusted (heads s) (s .f) G))
+settledFrom s G = positionOf (settling (rounding (s .phase)) (heads s) (twoRounds (s .f)) (trusted (heads s) (s .f) G))

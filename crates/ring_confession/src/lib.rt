@@ -229,7 +229,9 @@ fn settled(s: Stage, rows: &[[i32; 32]; 32], links: Links, reference: usize) -> 
     requires { ⌜ reference < 32 ⌝ }
     ensures { λ r. ⌜ r ≡ settledFrom s (givenBy links (now (rows .entry))) ⌝ }
 {
-    match settle_position::settle_by(rows, links, reference, ring_round::head_count(s), s.f) {
+    let n = ring_round::head_count(s);
+    let up = steps::rounds_up(s.phase);
+    match settle_position::settle_by(rows, links, reference, n, s.f, up) {
         Settled::Refused(_) => 0,
         Settled::New(kept) => kept.position,
     }

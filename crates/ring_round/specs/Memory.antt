@@ -10,7 +10,9 @@ use lib.IntN.{ℤ, pos}
 use Rattle.terms.specs.declared.Entry.{Entry}
 use Rattle.terms.specs.declared.Table.{Table}
 use Rattle.marks.specs.Marks.{bitOf}
+use Rattle.convergence.specs.Settling.{twoRounds}
 use Rattle.convergence.specs.Trust.{Given, trusted}
+use Rattle.convergence.specs.Phases.{rounding}
 use Rattle.frame_spec.specs.Said.{Meaning, collected, listed, confessed, said}
 use Rattle.frame_spec.specs.Written.{frameOf}
 use Rattle.settle_midpoint.specs.Answers.{settling}
@@ -68,4 +70,4 @@ positionOf (New k) = k .position
 -- the new position of head i
 unfoldable pub newPosition : Stage → List ℕ → List (List ℤ) → (ℕ → ℕ → List ℕ) → ℕ → ℤ
 newPosition s marks lists plant i =
-    positionOf (settling 0 (heads s) (s .f) (trusted (heads s) (s .f) (givenEntry s marks lists plant i)))
+    positionOf (settling (rounding (s .phase)) (heads s) (twoRounds (s .f)) (trusted (heads s) (s .f) (givenEntry s marks lists plant i)))

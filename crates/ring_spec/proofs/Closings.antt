@@ -8,7 +8,7 @@ use borrow.Author.Tests.{lt-leb}
 use Rattle.terms.specs.declared.Entry.{Entry}
 use Rattle.marks.specs.Marks.{bitOf}
 use Rattle.convergence.specs.Counting.{Each}
-use Rattle.convergence.specs.Settling.{midpoint, enough}
+use Rattle.convergence.specs.Settling.{twoRounds, midpoint, enough}
 use Rattle.convergence.specs.Trust.{trusted}
 use Rattle.convergence.specs.Phases.{rounding}
 use Rattle.head_spec.specs.declared.Head.{Head}
@@ -50,14 +50,14 @@ module _ (n f : ℕ) (R : Ring) (w : Round) (S : RingReady n f R) where
           })
 
     -- a confession round in which enough entries are trusted
-    module _ (confession : R .round ≡ 1) (calm : enough n f (trusted n f (given T)) ≡ true) where
+    module _ (confession : R .round ≡ 1) (calm : enough n (twoRounds f) (trusted n f (given T)) ≡ true) where
       pub confession-closes : close T ≡ closing (Closed.Settled (settledBy T)) (closedPhase T (settledBy T .position))
       confession-closes = closes-phase T (A .runs) (A .round ∙ confession) (rw (A .count, A .limit) calm)
 
       confession-closed : closedAt n f R w i ≡ closedPhase T (settledBy T .position)
       confession-closed = closed-is (Closed.Settled (settledBy T)) (closedPhase T (settledBy T .position)) confession-closes
 
-      pub confession-settles : closedAt n f R w i .seat .position ≡ Entry.Position (midpoint (rounding (R .phase)) n f (trusted n f (given T)))
+      pub confession-settles : closedAt n f R w i .seat .position ≡ Entry.Position (midpoint (rounding (R .phase)) n (twoRounds f) (trusted n f (given T)))
       unfolding closedPhase
       confession-settles =
           ap (λ (x : Head). x .seat .position) confession-closed ∙ ap Entry.Position (settled-midpoint T) ∙ rw (A .count, A .limit, A .phase)
@@ -112,7 +112,7 @@ module _ (n f : ℕ) (R : Ring) (w : Round) (S : RingReady n f R) where
         heads = λ i l q. next-head i 0 c (collection-ready i l q c);
       }
 
-  pub confession-next : R .round ≡ 1 → Each n (λ i. bitOf (w .struck) i ≡ false → enough n f (trusted n f (given (heardAt n f R w i))) ≡ true)
+  pub confession-next : R .round ≡ 1 → Each n (λ i. bitOf (w .struck) i ≡ false → enough n (twoRounds f) (trusted n f (given (heardAt n f R w i))) ≡ true)
       → R .phase < 65535 → RingReady n f next
   unfolding afterRound
   confession-next c calm more =

@@ -12,7 +12,7 @@ use Rattle.terms.specs.Positions.{isPosition}
 use Rattle.marks.specs.Marks.{bitOf}
 use Rattle.marks.proofs.Marks.{bit-none}
 use Rattle.convergence.specs.Counting.{Each, AtMost}
-use Rattle.convergence.specs.Settling.{enough}
+use Rattle.convergence.specs.Settling.{twoRounds, enough}
 use Rattle.convergence.specs.Trust.{trusted}
 use Rattle.convergence.specs.Phases.{End}
 use Rattle.convergence.specs.Demand3.{Halves}
@@ -34,7 +34,7 @@ pub record Playable (n f : ℕ) (e : End) (R : Ring) : Type 0 where
   pub ready : RingReady n f R
   pub last : R .round ≡ 0 → e ≡ endAt R
   pub settles : R .round ≡ 1 → (w : Round) → AtMost f n (bitOf (w .struck))
-      → Each n (λ i. bitOf (w .struck) i ≡ false → enough n f (trusted n f (given (heardAt n f R w i))) ≡ true)
+      → Each n (λ i. bitOf (w .struck) i ≡ false → enough n (twoRounds f) (trusted n f (given (heardAt n f R w i))) ≡ true)
   pub nears : R .round ≡ 1 → (w : Round) → AtMost f n (bitOf (w .struck)) → Nearer n n f (Halves n f) e (endAt (afterRound n f R w))
 
 -- the end that round w of a ring makes, where it is a confession round

@@ -13,7 +13,7 @@ use Rattle.terms.specs.declared.Entry.the-variants.{Null, Position}
 use Rattle.marks.specs.Marks.{bitOf}
 use Rattle.entries.specs.Tables.{tableAt}
 use Rattle.convergence.specs.Counting.{Each, AtMost}
-use Rattle.convergence.specs.Settling.{nulls, midpoint, enough}
+use Rattle.convergence.specs.Settling.{nulls, twoRounds, midpoint, enough}
 use Rattle.convergence.specs.Trust.{Given, gave, hasConfessed, saysOf, trusted}
 use Rattle.convergence.specs.Trust as Trust
 use Rattle.convergence.specs.Phases.{End, Faults, gives, listOf, givenTo, after, rounding}
@@ -158,7 +158,7 @@ module _ (n f : ℕ) (R : Ring) (a b : Round) (S : RingReady n f R) (collection 
       few = few-nulls-in-phase n f (endAt R) F limits ring-holds i
 
       -- never refused 25
-      pub calm : enough n f (trusted n f (given (heardAt n f R₁ b i))) ≡ true
+      pub calm : enough n (twoRounds f) (trusted n f (given (heardAt n f R₁ b i))) ≡ true
       unfolding enough
       calm = le-leb (nulls n (trusted n f (given (heardAt n f R₁ b i)))) (3 * f) (omega (arith, nulls-same n _ _ trusted-same, few))
 
@@ -167,8 +167,8 @@ module _ (n f : ℕ) (R : Ring) (a b : Round) (S : RingReady n f R) (collection 
       unfolding afterRound after
       settles-as =
           confession-settles n f R₁ b S₁ i l q confession calm
-          ∙ ap (λ (p : ℕ). Position (midpoint (rounding p) n f (trusted n f (given (heardAt n f R₁ b i))))) (after-collection n f R a S collection .0)
-          ∙ ap Position (midpoint-same (rounding (R .phase)) n f _ _ trusted-same)
+          ∙ ap (λ (p : ℕ). Position (midpoint (rounding p) n (twoRounds f) (trusted n f (given (heardAt n f R₁ b i))))) (after-collection n f R a S collection .0)
+          ∙ ap Position (midpoint-same (rounding (R .phase)) n (twoRounds f) _ _ trusted-same)
           ∙ sym (settled-is (rounding (R .phase)) n f (trusted n f (givenTo (endAt R) F i)) few)
 
     abbrev R₂ : Ring

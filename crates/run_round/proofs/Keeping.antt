@@ -12,7 +12,7 @@ use Rattle.terms.specs.declared.Entry.{Entry}
 use Rattle.marks.specs.Marks.{bitOf}
 use Rattle.entries.specs.Tables.{tableAt, tableOf}
 use Rattle.convergence.specs.Counting.{Each, AtMost}
-use Rattle.convergence.specs.Settling.{midpoint, enough}
+use Rattle.convergence.specs.Settling.{twoRounds, midpoint, enough}
 use Rattle.convergence.specs.Trust.{Given, trusted}
 use Rattle.convergence.specs.Phases.{End, rounding}
 use Rattle.convergence.proofs.Same.{nulls-same, midpoint-same, trusted-same}
@@ -58,9 +58,9 @@ module _ (n f : ℕ) (v : ℕ → ℤ) (M : Memory) (same : Each n (λ i. getD (
       }
 
 -- the new position, where enough entries are trusted
-settles-midpoint : (n f : ℕ) (E : ℕ → Entry) → enough n f E ≡ true → positionOf (settling 0 n f E) ≡ midpoint 0 n f E
+settles-midpoint : (r n f : ℕ) (E : ℕ → Entry) → enough n (twoRounds f) E ≡ true → positionOf (settling r n (twoRounds f) E) ≡ midpoint r n (twoRounds f) E
 unfolding settling midpoint
-settles-midpoint n f E e = rw e
+settles-midpoint r n f E e = rw e
 
 module _ {n f : ℕ} {R : Ring} {w : Round} {s : Stage} {plant : ℕ → ℕ → List ℕ} (P : Plays n f R w s plant)
     {M : Memory} (K : HeadsOf n R M) where
@@ -158,23 +158,24 @@ module _ {n f : ℕ} {R : Ring} {w : Round} {s : Stage} {plant : ℕ → ℕ →
       trust-same : Each n (λ j. trusted n f G j ≡ trusted n f G′ j)
       trust-same j b = trusted-same n f G G′ j b given-same
 
-      calm : enough n f (trusted n f G) ≡ true
+      calm : enough n (twoRounds f) (trusted n f G) ≡ true
       calm = A .settles confession w few i l q
 
-      still-calm : enough n f (trusted n f G′) ≡ true
+      still-calm : enough n (twoRounds f) (trusted n f G′) ≡ true
       unfolding enough
       still-calm = rw (← nulls-same n _ _ trust-same) calm
 
-      new-position : newPosition s marks lists plant i ≡ midpoint 0 n f (trusted n f G′)
+      new-position : newPosition s marks lists plant i ≡ midpoint (rounding (R .phase)) n (twoRounds f) (trusted n f G′)
       unfolding newPosition
       new-position =
-          ap₂ (λ (a b : ℕ). positionOf (settling 0 a b (trusted a b G′))) (heads-are P S) (P .limit)
-          ∙ settles-midpoint n f (trusted n f G′) still-calm
+          ap₂ (λ (a b : ℕ). positionOf (settling (rounding (s .phase)) a (twoRounds b) (trusted a b G′))) (heads-are P S) (P .limit)
+          ∙ settles-midpoint (rounding (s .phase)) n f (trusted n f G′) still-calm
+          ∙ ap (λ (p : ℕ). midpoint (rounding p) n (twoRounds f) (trusted n f G′)) (P .phase)
 
       position-kept : afterRound n f R w .heads i .seat .position ≡ Entry.Position (newPosition s marks lists plant i)
-      unfolding afterRound rounding
+      unfolding afterRound
       position-kept =
-          confession-settles n f R w S i l q confession calm ∙ ap Entry.Position (midpoint-same 0 n f _ _ trust-same ∙ sym new-position)
+          confession-settles n f R w S i l q confession calm ∙ ap Entry.Position (midpoint-same (rounding (R .phase)) n (twoRounds f) _ _ trust-same ∙ sym new-position)
 
     module _ (M′ : Memory)
         (new : (i : ℕ) → getD (M′ .positions) i (pos 0) ≡ cond (hears s i) (newPosition s marks lists plant i) (getD positions i (pos 0))) where

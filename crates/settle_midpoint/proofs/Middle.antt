@@ -12,27 +12,27 @@ use borrow.Author.Tests.{le-leb, lt-leb}
 use Rattle.terms.specs.Refusals as refusal
 use Rattle.terms.specs.Positions.{half}
 use Rattle.terms.specs.declared.Entry.{Entry}
-use Rattle.convergence.specs.Settling.{nulls, trim, ordered, lowKept, highKept, middle, enough}
+use Rattle.convergence.specs.Settling.{Rule, nulls, trim, twoRounds, ordered, lowKept, highKept, middle, enough}
 use Rattle.convergence.proofs.Order.{length-ordered}
 use Rattle.settle_midpoint.specs.declared.Settled.{Settled}
 use Rattle.settle_midpoint.specs.Answers.{settling, settlingFrom}
 use Rattle.settle_midpoint.specs.Orders.{orderOf, inOrder}
 use Rattle.settle_midpoint.proofs.Ordering.{padded-front}
 
-pub settling-from : (r n f : ℕ) (E : ℕ → Entry) → settling r n f E ≡ settlingFrom r n f (ordered n E)
+pub settling-from : (r n : ℕ) (R : Rule) (E : ℕ → Entry) → settling r n R E ≡ settlingFrom r n R (ordered n E)
 unfolding settling settlingFrom enough
-settling-from r n f E =
+settling-from r n R E =
     let z : nulls n E ≡ n - length (ordered n E) = omega (arith, length-ordered n E) in
     rw z
 
 -- what `order_of` gives, `middle_of` settles
-pub settling-in-order : (r n f : ℕ) (E : ℕ → Entry) → settlingFrom r n f (inOrder (orderOf (ordered n E))) ≡ settling r n f E
-settling-in-order r n f E = rw padded-front (sym (settling-from r n f E))
+pub settling-in-order : (r n : ℕ) (R : Rule) (E : ℕ → Entry) → settlingFrom r n R (inOrder (orderOf (ordered n E))) ≡ settling r n R E
+settling-in-order r n R E = rw padded-front (sym (settling-from r n R E))
 
 -- ---- as the code works it out
 
--- a: the array; c: how many of its positions count; z: the nulls
-module _ (a : List ℤ) (L n f : ℕ) {c z : ℕ} (full : length a ≡ 32) (counted : c ≡ min L 32) (nulls-are : z ≡ n - c) where
+-- a: the array; c: how many of its positions count; z: the nulls; r: how an odd sum is rounded
+module _ (a : List ℤ) (L n f r : ℕ) {c z : ℕ} (full : length a ≡ 32) (counted : c ≡ min L 32) (nulls-are : z ≡ n - c) where
   abbrev l : List ℤ
   l = take L a
 
@@ -46,7 +46,7 @@ module _ (a : List ℤ) (L n f : ℕ) {c z : ℕ} (full : length a ≡ 32) (coun
       go (yes h) = take-all c a (omega arith) ∙ sym (take-all L a (omega arith))
       go (no h) = let e : c ≡ L = omega arith in rw e
 
-  pub too-few-refuses : 3 * f < z → Settled.Refused refusal.trusted ≡ settlingFrom 0 n f l
+  pub too-few-refuses : 3 * f < z → Settled.Refused refusal.trusted ≡ settlingFrom r n (twoRounds f) l
   unfolding settlingFrom
   too-few-refuses h = rw (front-length, ← nulls-are, lt-leb z (3 * f) h)
 
@@ -60,8 +60,8 @@ module _ (a : List ℤ) (L n f : ℕ) {c z : ℕ} (full : length a ≡ 32) (coun
 
   -- t: the trim; x and y: the lowest and the highest kept, y at place k; m: the new position
   pub enough-settles : {t k : ℕ} {x y m : ℤ} → z ≤ 3 * f → t ≡ trim f z → x ≡ getD (take c a) t (pos 0) → k ≡ c - 1 - t
-      → y ≡ getD (take c a) k (pos 0) → m ≡ half 0 (x +ℤ y)
-      → Settled.New (record { low = x; high = y; trim = t; position = m }) ≡ settlingFrom 0 n f l
+      → y ≡ getD (take c a) k (pos 0) → m ≡ half r (x +ℤ y)
+      → Settled.New (record { low = x; high = y; trim = t; position = m }) ≡ settlingFrom r n (twoRounds f) l
   unfolding settlingFrom middle
   enough-settles {t} few trim-is at-t top at-k is-half =
       rw (is-half, at-k, top, at-t, low-is t, high-is t, trim-is, front-length, ← nulls-are, le-leb z (3 * f) few)

@@ -1,13 +1,13 @@
 -- What a settling answers: refusal 25, or the new position with the kept range that it is the middle of and the trim.
 use mathlib.Core.Bool.{cond}
 use mathlib.Core.List.{List}
-use Prim.Native.Nat.{ℕ, _-_, _*_}
+use Prim.Native.Nat.{ℕ, _-_}
 use lib.Dec.{leb}
 use lib.ListN.{length}
 use lib.IntN.{ℤ}
 use Rattle.terms.specs.Refusals as refusal
 use Rattle.terms.specs.declared.Entry.{Entry}
-use Rattle.convergence.specs.Settling.{nulls, trim, ordered, lowKept, highKept, middle, enough}
+use Rattle.convergence.specs.Settling.{Rule, nulls, ordered, lowKept, highKept, middle, enough}
 use Rattle.settle_midpoint.specs.declared.Kept.{Kept}
 use Rattle.settle_midpoint.specs.declared.Settled.{Settled}
 
@@ -15,12 +15,12 @@ use Rattle.settle_midpoint.specs.declared.Settled.{Settled}
 abbrev pub kept : ℕ → ℕ → List ℤ → Kept
 kept r t l = record { low = lowKept t l; high = highKept t l; trim = t; position = middle r t l }
 
--- from n entries: r says how an odd sum is rounded
-unfoldable pub settling : ℕ → ℕ → ℕ → (ℕ → Entry) → Settled
-settling r n f E =
-    cond (enough n f E) (Settled.New (kept r (trim f (nulls n E)) (ordered n E))) (Settled.Refused refusal.trusted)
+-- from n entries, by the rule R: r says how an odd sum is rounded
+unfoldable pub settling : ℕ → ℕ → Rule → (ℕ → Entry) → Settled
+settling r n R E =
+    cond (enough n R E) (Settled.New (kept r (R .trim (nulls n E)) (ordered n E))) (Settled.Refused refusal.trusted)
 
 -- from the positions l among n entries: the others are null
-unfoldable pub settlingFrom : ℕ → ℕ → ℕ → List ℤ → Settled
-settlingFrom r n f l =
-    cond (leb (n - length l) (3 * f)) (Settled.New (kept r (trim f (n - length l)) l)) (Settled.Refused refusal.trusted)
+unfoldable pub settlingFrom : ℕ → ℕ → Rule → List ℤ → Settled
+settlingFrom r n R l =
+    cond (leb (n - length l) (R .most)) (Settled.New (kept r (R .trim (n - length l)) l)) (Settled.Refused refusal.trusted)

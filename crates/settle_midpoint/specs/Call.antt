@@ -9,6 +9,8 @@ use Rattle.terms.specs.Sizes.{checkSize}
 use Rattle.terms.specs.declared.Entry.{Entry}
 use Rattle.marks.specs.Marks.{marksBelow}
 use Rattle.entries.specs.Entries.{entryAt, entriesFit, numbers}
+use Rattle.convergence.specs.Settling.{twoRounds}
+use Rattle.convergence.specs.Phases.{rounding}
 use Rattle.settle_midpoint.specs.declared.Settled.{Settled}
 use Rattle.settle_midpoint.specs.Answers.{settling}
 
@@ -28,5 +30,6 @@ abbrev pub unlessRefused : ℕ → Settled → Settled
 unlessRefused zero x = x
 unlessRefused (suc c) x = Settled.Refused (suc c)
 
+-- rounded as in phase 1
 unfoldable pub midpointCall : ℕ → ℕ → ℕ → List ℕ → Settled
-midpointCall n f m s = unlessRefused (listRefusal n f m s) (settling 0 n f (entriesGiven n m s))
+midpointCall n f m s = unlessRefused (listRefusal n f m s) (settling (rounding 1) n (twoRounds f) (entriesGiven n m s))

@@ -5,6 +5,7 @@ ghost use Prim.Native.Nat.{ℕ, _+_, _-_, _≤_, _<_};
 ghost use lib.ListN.{length, getD};
 ghost use Rattle.marks.specs.Marks.{bitOf};
 ghost use Rattle.convergence.specs.Counting.{Each, bit};
+ghost use Rattle.convergence.specs.Settling.{twoRounds};
 ghost use Rattle.convergence.specs.Trust.{trusted};
 ghost use Rattle.settle_trust.specs.Received.{givenBy};
 ghost use Rattle.settle_position.specs.Reference.{sameNumber, isApart, alikeTo, apartFrom, agreeing, Compares, Decides, Lacks};
@@ -124,17 +125,18 @@ fn cell_by(
     settle_trust::trusted_cell(lists, marks, confessed, n, need, j)
 }
 
-// The new position from what the links gave. Each trusted entry goes to its place in the order as soon as it is decided, from entry 0 up. The list of the link
-// `reference` is looked at first: where most lists are like it, it decides nearly all entries.
+// The new position from what the links gave; `up`: whether an odd sum is rounded up. Each trusted entry goes to its place in the order as soon as it is
+// decided, from entry 0 up. The list of the link `reference` is looked at first: where most lists are like it, it decides nearly all entries.
 fn settle_after(
     lists: &[[i32; 32]; 32],
     links: Links,
     reference: usize,
     n: u8,
     f: u8,
+    up: bool,
 ) -> settle_midpoint::Settled
     requires { ⌜ reference < 32 ⌝ }
-    ensures { λ r. ⌜ r ≡ settling 0 n f (trusted n f (givenBy links (now (lists .entry)))) ⌝ }
+    ensures { λ r. ⌜ r ≡ settling (bit up) n (twoRounds f) (trusted n f (givenBy links (now (lists .entry)))) ⌝ }
 {
     let need = settle_trust::lists_needed(links.confessed, n, f);
     let count = settle_trust::link_count(n);
@@ -165,7 +167,7 @@ fn settle_after(
         }
         j += 1;
     }
-    settle_midpoint::middle_of(Order { len, positions }, n, f)
+    settle_midpoint::middle_of(Order { len, positions }, n, f, up)
 }
 
 // The same for every reference.
@@ -175,18 +177,25 @@ pub fn settle_by(
     reference: usize,
     n: u8,
     f: u8,
+    up: bool,
 ) -> settle_midpoint::Settled
-    ensures { λ r. ⌜ r ≡ settling 0 n f (trusted n f (givenBy links (now (lists .entry)))) ⌝ }
+    ensures { λ r. ⌜ r ≡ settling (bit up) n (twoRounds f) (trusted n f (givenBy links (now (lists .entry)))) ⌝ }
 {
     if 32 <= reference {
-        return settle_after(lists, links, 0, n, f);
+        return settle_after(lists, links, 0, n, f, up);
     }
-    settle_after(lists, links, reference, n, f)
+    settle_after(lists, links, reference, n, f, up)
 }
 
 // The same of lists by value.
-pub fn settle(lists: [[i32; 32]; 32], links: Links, n: u8, f: u8) -> settle_midpoint::Settled
-    ensures { λ r. ⌜ r ≡ settling 0 n f (trusted n f (givenBy links lists)) ⌝ }
+pub fn settle(
+    lists: [[i32; 32]; 32],
+    links: Links,
+    n: u8,
+    f: u8,
+    up: bool,
+) -> settle_midpoint::Settled
+    ensures { λ r. ⌜ r ≡ settling (bit up) n (twoRounds f) (trusted n f (givenBy links lists)) ⌝ }
 {
-    settle_by(&lists, links, 0, n, f)
+    settle_by(&lists, links, 0, n, f, up)
 }

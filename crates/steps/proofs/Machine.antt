@@ -1,21 +1,23 @@
 -- What the machine works out with signed numbers is what ℤ does, step by step, since it reads back what it wrote wherever that fits the width. Half of a sum of two numbers of 32 bits is worked out in 64 bits and fits 32 again.
 -- Where x is negative, -1 - x is not, so that a division of it that rounds towards zero rounds x down once it is turned back.
 use mathlib.Core.Path.{_≡_, refl, sym, _∙_, ap, ap₂, subst}
-use mathlib.Core.Bool.{true, false}
+use mathlib.Core.Bool.{Bool, true, false}
 use Prim.Native.Nat.{ℕ, suc, _-_, _/_, _<_, _^_}
 use native.Mathlib.Nat.{div-le-self}
 use native.Mathlib.Omega.{arith}
 use lib.Dec.{T, le→leb, leb→le}
 use lib.Pow.{pow-pos}
-use lib.IntN.{ℤ, pos, negsuc, negℤ, _+ℤ_, _-ℤ_, +ℤ-idr}
+use lib.IntN.{ℤ, pos, negsuc, negℤ, _+ℤ_, _-ℤ_}
 use lib.Signed.{mag, ltZ, quotZ, shrZ, mag-shr, _≤ℤ_}
 use borrow.Author.Tests.{ltb-true}
 use mir.Syntax.{Width, w32, w64}
-use mir.Val.{Fits, SFits, toZ, ofZ, hbits}
+use mir.Val.{Fits, SFits, boolByte, toZ, ofZ, hbits}
 use mir.Facts.{toZ-ofZ, toZ-pos, sfits-widen}
 use mir.ValLaws.{sfits-le}
 use Rattle.terms.specs.Positions.{floorDiv, half}
-use Rattle.terms.proofs.Whole.{plus, minus, arithZ, sum-lin, half-lin}
+use Rattle.terms.proofs.Whole.{plus, minus, arithZ, sum-lin, pos-lin, half-lin}
+use Rattle.convergence.specs.Counting.{bit}
+use Rattle.convergence.proofs.Sums.{bit-le}
 use Rattle.terms.proofs.Machine.{read, fits-as, read-as, turned-is, negative-is, natural-is}
 
 -- a number of 32 bits, cast to 64
@@ -50,6 +52,11 @@ unfolding floorDiv
 shift-floors (pos n) m = refl
 shift-floors (negsuc n) m = refl
 
+-- a bool, cast to 64 bits
+wide-bit-is : (up : Bool) → toZ w64 (boolByte up) ≡ pos (bit up)
+wide-bit-is true = refl
+wide-bit-is false = refl
+
 module _ (a b : ℤ) (f : SFits w32 a) (g : SFits w32 b) where
   abbrev wide-sum : ℤ
   wide-sum = read w64 (read w32 a) +ℤ read w64 (read w32 b)
@@ -61,25 +68,39 @@ module _ (a b : ℤ) (f : SFits w32 a) (g : SFits w32 b) where
   unfolding plus minus
   sum-fits = range-fits (omega (arithZ, fits-range f, fits-range g, sum-lin a b))
 
-  half-fits : SFits w32 (half 0 (a +ℤ b))
-  unfolding plus minus
-  half-fits = range-fits (omega (arithZ, fits-range f, fits-range g, sum-lin a b, half-lin 0 (a +ℤ b)))
-
-  shifted-is : read w64 (shrZ (read w64 wide-sum) 2) ≡ half 0 (a +ℤ b)
-  unfolding half
-  shifted-is =
-      read-as
-      (ap (λ (z : ℤ). shrZ z 2) (read-as wide-sum-is sum-fits) ∙ shift-floors (a +ℤ b) 2 ∙ ap (λ (z : ℤ). floorDiv z 2) (sym (+ℤ-idr (a +ℤ b))))
-      (sfits-widen tt half-fits)
-
   pub wide-sum-fits : SFits w64 wide-sum
   wide-sum-fits = fits-as wide-sum-is sum-fits
 
-  pub shifted-fits : SFits w32 (read w64 (shrZ (read w64 wide-sum) 2))
-  shifted-fits = fits-as shifted-is half-fits
+  -- with 1 added if an odd sum is rounded up
+  module _ (up : Bool) where
+    abbrev to-halve : ℤ
+    to-halve = read w64 wide-sum +ℤ toZ w64 (boolByte up)
 
-  pub half-sum-is : read w32 (read w64 (shrZ (read w64 wide-sum) 2)) ≡ half 0 (a +ℤ b)
-  half-sum-is = read-as shifted-is half-fits
+    to-halve-is : to-halve ≡ (a +ℤ b) +ℤ pos (bit up)
+    to-halve-is = ap₂ _+ℤ_ (read-as wide-sum-is sum-fits) (wide-bit-is up)
+
+    plain-fits : SFits w64 ((a +ℤ b) +ℤ pos (bit up))
+    unfolding plus minus
+    plain-fits =
+        range-fits (omega (arithZ, fits-range f, fits-range g, sum-lin a b, sum-lin (a +ℤ b) (pos (bit up)), pos-lin (bit up), bit-le up))
+
+    half-fits : SFits w32 (half (bit up) (a +ℤ b))
+    unfolding plus minus
+    half-fits = range-fits (omega (arithZ, fits-range f, fits-range g, sum-lin a b, half-lin (bit up) (a +ℤ b), bit-le up))
+
+    shifted-is : read w64 (shrZ (read w64 to-halve) 2) ≡ half (bit up) (a +ℤ b)
+    unfolding half
+    shifted-is =
+        read-as (ap (λ (z : ℤ). shrZ z 2) (read-as to-halve-is plain-fits) ∙ shift-floors ((a +ℤ b) +ℤ pos (bit up)) 2) (sfits-widen tt half-fits)
+
+    pub to-halve-fits : SFits w64 to-halve
+    to-halve-fits = fits-as to-halve-is plain-fits
+
+    pub shifted-fits : SFits w32 (read w64 (shrZ (read w64 to-halve) 2))
+    shifted-fits = fits-as shifted-is half-fits
+
+    pub half-sum-is : read w32 (read w64 (shrZ (read w64 to-halve) 2)) ≡ half (bit up) (a +ℤ b)
+    half-sum-is = read-as shifted-is half-fits
 
 -- ---- division, rounded down
 

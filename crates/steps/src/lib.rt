@@ -3,6 +3,8 @@ ghost use mathlib.Core.Path.{_≡_};
 ghost use lib.IntN.{_+ℤ_};
 ghost use Rattle.terms.specs.Positions.{isPosition, half};
 ghost use Rattle.terms.specs.Sizes.{sizeRefusal};
+ghost use Rattle.convergence.specs.Counting.{bit};
+ghost use Rattle.convergence.specs.Phases.{rounding};
 use terms::refusal;
 
 pub mod scale;
@@ -14,11 +16,18 @@ pub fn is_position(v: i32) -> bool
     -1000000 <= v && v <= 1000000
 }
 
-// Half of a + b, an odd sum rounded down, towards minus infinity.
-pub fn half_sum(a: i32, b: i32) -> i32
-    ensures { λ r. ⌜ r ≡ half 0 (a +ℤ b) ⌝ }
+// Whether an odd sum is rounded up in a phase: it is always rounded down, towards minus infinity.
+pub fn rounds_up(phase: u16) -> bool
+    ensures { λ r. ⌜ bit r ≡ rounding phase ⌝ }
 {
-    ((a as i64 + b as i64) >> 1) as i32
+    false
+}
+
+// Half of a + b; an odd sum is rounded up if `up`, else down, towards minus infinity.
+pub fn half_sum(a: i32, b: i32, up: bool) -> i32
+    ensures { λ r. ⌜ r ≡ half (bit up) (a +ℤ b) ⌝ }
+{
+    ((a as i64 + b as i64 + up as i64) >> 1) as i32
 }
 
 // Whether a ring of n heads with the struck limit f is taken: 0, or 1 for the head count, or 2 for the limit.

@@ -8,7 +8,8 @@ use denote.Ref.{now}
 use borrow.Author.Needs.{needs}
 use Rattle.terms.specs.declared.Entry.{Entry}
 use Rattle.terms.specs.declared.Entry.the-variants.{Position}
-use Rattle.convergence.specs.Settling.{ordered}
+use Rattle.convergence.specs.Counting.{bit}
+use Rattle.convergence.specs.Settling.{ordered, twoRounds}
 use Rattle.convergence.specs.Trust.{trusted}
 use Rattle.convergence.proofs.Order.{in-order}
 use Rattle.settle_midpoint.specs.Orders.{orderOf, inOrder}
@@ -27,10 +28,10 @@ use Rattle.settle_position.proofs.settle_after.Statement.{statement}
 use Rattle.settle_position.proofs.settle_after.Tie as tie
 
 abbrev Inv-loop : tie.InvT-loop
-Inv-loop lists links reference n f need count given alike apart same positions₀ len₀ j₀ positions len j = (j ≤ count) × Held (ordered j (trusted n f (givenBy links lists))) len positions
+Inv-loop lists links reference n f up need count given alike apart same positions₀ len₀ j₀ positions len j = (j ≤ count) × Held (ordered j (trusted n f (givenBy links lists))) len positions
 
 abbrev μ-loop : tie.MeasureT-loop
-μ-loop lists links reference n f need count given alike apart same positions₀ len₀ j₀ positions len j = count - j
+μ-loop lists links reference n f up need count given alike apart same positions₀ len₀ j₀ positions len j = count - j
 
 loop-holds : tie.Need-loop-holds Inv-loop μ-loop
 loop-holds c = let a = c .before .before .before .before .before .before .args in (search needs, none-held (trusted (a .n) (a .f) (givenBy (a .links) (now (a .lists)))))
@@ -98,8 +99,8 @@ returns c =
     let e : l .j ≡ min (a .n) 32 = omega (arith, n .link-count .ensures) in
     let q = ap (λ (k : ℕ). ordered k E) e ∙ ordered-first-32 E (trusted-past (a .links) (now (a .lists)) (words (a .links) (s .good .1 .0)) (a .n) (a .f)) (a .n) in
     c .middle-of .ensures
-    ∙ ap (λ (o : Order). settlingFrom 0 (a .n) (a .f) (inOrder o)) (held-order (l .inv .1) ∙ ap orderOf q)
-    ∙ settling-in-order 0 (a .n) (a .f) E
+    ∙ ap (λ (o : Order). settlingFrom (bit (a .up)) (a .n) (twoRounds (a .f)) (inOrder o)) (held-order (l .inv .1) ∙ ap orderOf q)
+    ∙ settling-in-order (bit (a .up)) (a .n) (twoRounds (a .f)) E
 
 pub settle-after-spec : {M : Type 1} → statement M
 settle-after-spec =

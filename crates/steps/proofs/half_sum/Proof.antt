@@ -1,5 +1,6 @@
 -- `steps::half_sum` meets its contract: the sum is taken and halved in 64 bits, where it fits, and the half fits 32.
-use Rattle.steps.proofs.Machine.{wide-fits, wide-sum-fits, shifted-fits, half-sum-is}
+use borrow.Author.Needs.{needs}
+use Rattle.steps.proofs.Machine.{wide-fits, wide-sum-fits, to-halve-fits, shifted-fits, half-sum-is}
 use Rattle.steps.proofs.half_sum.Statement.{statement}
 use Rattle.steps.proofs.half_sum.Tie as tie
 
@@ -12,12 +13,15 @@ cast-result-2 c = wide-fits (c .fits .b)
 add-result : tie.Need-add-result
 add-result c = wide-sum-fits _ _ (c .fits .a) (c .fits .b)
 
-cast-result-3 : tie.Need-cast-result-3
-cast-result-3 c = shifted-fits _ _ (c .fits .a) (c .fits .b)
+add-result-2 : tie.Need-add-result-2
+add-result-2 c = to-halve-fits _ _ (c .fits .a) (c .fits .b) (c .args .up)
+
+cast-result-4 : tie.Need-cast-result-4
+cast-result-4 c = shifted-fits _ _ (c .fits .a) (c .fits .b) (c .args .up)
 
 returns : tie.Need-returns
-returns c = half-sum-is _ _ (c .fits .a) (c .fits .b)
+returns c = half-sum-is _ _ (c .fits .a) (c .fits .b) (c .args .up)
 
 pub half-sum-spec : {M : Type 1} → statement M
 half-sum-spec =
-    tie.close (tie.spec cast-result cast-result-2 add-result cast-result-3 returns)
+    tie.close (tie.spec cast-result cast-result-2 add-result (λ c. search needs) add-result-2 cast-result-4 returns)
