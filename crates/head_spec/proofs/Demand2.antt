@@ -7,7 +7,7 @@ use Prim.Native.Nat.{ℕ}
 use Rattle.terms.specs.declared.Entry.{Entry}
 use Rattle.entries.specs.Tables.{tableAt}
 use Rattle.convergence.specs.Counting.{Each}
-use Rattle.convergence.specs.Settling.{enough}
+use Rattle.convergence.specs.Settling.{Rule, twoRounds, enough}
 use Rattle.convergence.specs.Trust.{Given, trusted}
 use Rattle.convergence.specs.Phases.{rounding}
 use Rattle.convergence.proofs.Same.{nulls-same, ordered-same, trusted-same}
@@ -35,9 +35,9 @@ reached-proper (hears {h} k s B R) = proper-hear h k s (reached-proper R)
 reached-proper (closes {h} R) = proper-close h (reached-proper R)
 
 -- what is settled depends on what the links 0 .. n - 1 gave only
-settling-same : (r n f : ℕ) (E E′ : ℕ → Entry) → Each n (λ j. E j ≡ E′ j) → settling r n f E ≡ settling r n f E′
+settling-same : (r n : ℕ) (S : Rule) (E E′ : ℕ → Entry) → Each n (λ j. E j ≡ E′ j) → settling r n S E ≡ settling r n S E′
 unfolding settling enough
-settling-same r n f E E′ h = rw (nulls-same n E E′ h, ordered-same n E E′ h)
+settling-same r n S E E′ h = rw (nulls-same n E E′ h, ordered-same n E E′ h)
 
 module _ (h : Head) (F : Fresh h) (D : List Delivery) where
   abbrev T : Head
@@ -55,12 +55,12 @@ module _ (h : Head) (F : Fresh h) (D : List Delivery) where
   round : {r : ℕ} → h .seat .round ≡ r → T .seat .round ≡ r
   round e = ap (λ (x : Seat). x .round) kept ∙ e
 
-  settled : settling (rounding (T .seat .phase)) (T .seat .n) (T .seat .f) (trustedBy T) ≡ settledFrom (h .seat) D
+  settled : settling (rounding (T .seat .phase)) (T .seat .n) (twoRounds (T .seat .f)) (trustedBy T) ≡ settledFrom (h .seat) D
   settled =
       let n = h .seat .n in
       let f = h .seat .f in
-      ap (λ (x : Seat). settling (rounding (x .phase)) (x .n) (x .f) (trusted (x .n) (x .f) (given T))) kept
-      ∙ settling-same (rounding (h .seat .phase)) n f (trusted n f (given T)) (trusted n f G) (λ j l. trusted-same n f (given T) G j l (gave-first h F D))
+      ap (λ (x : Seat). settling (rounding (x .phase)) (x .n) (twoRounds (x .f)) (trusted (x .n) (x .f) (given T))) kept
+      ∙ settling-same (rounding (h .seat .phase)) n (twoRounds f) (trusted n f (given T)) (trusted n f G) (λ j l. trusted-same n f (given T) G j l (gave-first h F D))
 
   follows : FollowsCC h D
   unfolding closedCollection

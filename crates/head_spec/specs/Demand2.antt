@@ -10,6 +10,7 @@ use lib.IntN.{ℤ}
 use Rattle.terms.specs.declared.Entry.{Entry}
 use Rattle.entries.specs.Tables.{tableAt}
 use Rattle.convergence.specs.Counting.{Each}
+use Rattle.convergence.specs.Settling.{twoRounds}
 use Rattle.convergence.specs.Trust.{Given, hasConfessed, Only, trusted}
 use Rattle.convergence.specs.Phases.{rounding}
 use Rattle.settle_midpoint.specs.Answers.{settling}
@@ -68,7 +69,7 @@ firstSaid x k (d ∷ D) = cond (eqb (d .link) k) (orElse (saidTo x k (d .bytes))
 
 -- refusal 25, or the kept range, the trim and the new position: those of the trusted entries, by what each link gave in the round
 abbrev pub settledFrom : Seat → List Delivery → Settled
-settledFrom x D = settling (rounding (x .phase)) (x .n) (x .f) (trusted (x .n) (x .f) (λ k. givenOf (firstSaid x k D)))
+settledFrom x D = settling (rounding (x .phase)) (x .n) (twoRounds (x .f)) (trusted (x .n) (x .f) (λ k. givenOf (firstSaid x k D)))
 
 -- A round of the head h, which has heard nothing in it: D is all that is delivered, on any links in any order, and then the round is closed.
 pub record FollowsCC (h : Head) (D : List Delivery) : Type 0 where
