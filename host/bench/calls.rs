@@ -1,12 +1,11 @@
 //! The proved exports against the functions of the second implementation, on the same inputs.
 
-use crate::clock::now;
+use crate::clock::{black_box, now};
 use crate::exported::{self, Block, SIZE};
 use crate::random::Random;
 use crate::rules::frames::{self, Said};
 use crate::rules::head::Head;
 use crate::rules::midpoint::{self, Entry, LIMIT};
-use std::hint::black_box;
 
 /// How many inputs, or heads, are taken in one measured stretch.
 const MANY: usize = 64;

@@ -1,5 +1,6 @@
 //! CPU time as Linux counts it: of this process, and of a child that has ended, with the child's largest resident memory.
 
+use std::arch::asm;
 use std::process::Child;
 use std::time::Duration;
 use std::{fs, io, thread};
@@ -35,6 +36,12 @@ pub fn now() -> f64 {
     let mut time = Time::default();
     unsafe { clock_gettime(CLOCK_PROCESS_CPUTIME_ID, &mut time) };
     time.seconds as f64 + time.parts as f64 * 1e-9
+}
+
+/// The same value, of which the compiler may assume nothing. It is std::hint::black_box, which Debian 12's rustc does not have.
+pub fn black_box<T>(value: T) -> T {
+    unsafe { asm!("/* {0} */", in(reg) &value, options(nostack, preserves_flags)) };
+    value
 }
 
 /// What a program used: seconds of user and system time, and bytes of memory at most.

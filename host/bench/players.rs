@@ -1,9 +1,8 @@
 //! The proved player against the second implementation, as programs on the same run files, and beside the speed of reading and copying these files.
 
-use crate::clock::{ended, now, watched, Used};
+use crate::clock::{black_box, ended, now, watched, Used};
 use crate::runs::Run;
 use std::fs::{self, File};
-use std::hint::black_box;
 use std::io::{self, BufWriter, Read, Write};
 use std::process::{Child, Command, Stdio};
 use std::thread;

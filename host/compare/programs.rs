@@ -54,7 +54,7 @@ fn read(child: &mut Child) -> io::Result<Vec<u8>> {
     let result = receive.recv_timeout(PATIENCE).unwrap_or_else(|_| {
         child.kill()?;
         child.wait()?;
-        Err(io::Error::other("not done in time"))
+        Err(io::Error::new(io::ErrorKind::TimedOut, "not done in time"))
     });
     reader.join().expect("a reader that ends");
     result

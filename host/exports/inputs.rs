@@ -70,7 +70,11 @@ fn ratio_side(random: &mut Random) -> u32 {
 }
 
 pub fn scale(random: &mut Random) -> Call {
-    let steps = if random.chance(1, 12) { out_of_range(random) } else { position(random) };
+    let steps = match random.below(24) {
+        0 => out_of_range(random),
+        1 => random.next() as i32,
+        _ => position(random),
+    };
     let (one, other) = (ratio_side(random), ratio_side(random));
     let (low, high) = if random.chance(1, 12) { (one, other) } else { (one.min(other), one.max(other)) };
     let (numerator, denominator) = (near(random, high, 12), near(random, low, 12));
