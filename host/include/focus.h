@@ -1,13 +1,13 @@
-/* The shared-focus firmware, as C calls it: three calls on plain numbers and bytes, and a head that C keeps.
+/* The shared-focus firmware, as C calls it: three calls on plain numbers and bytes, a head that C keeps, and a whole run file played in memory.
  *
  * Each function returns 0, or the number of the refusal, and puts a result where the caller lends room for it. If a call has several faults, the first check
  * that fails decides, in the order given at each call. A refusal writes nothing. No function keeps a pointer, allocates, or changes the bytes it reads.
  * Pointers are not NULL, and what is lent to one call does not overlap; nothing else is asked of an argument: every value of every argument has its answer.
  *
- * Link with both archives, in one line:
+ * Link with the archives, in one line:
  *
- *     rt staticlib camera && rt staticlib head_c
- *     gcc -Ihost/include your.c target/staticlib/libcamera.a target/staticlib/libhead_c.a
+ *     rt staticlib camera && rt staticlib head_c && rt staticlib run_whole
+ *     gcc -Ihost/include your.c target/staticlib/libcamera.a target/staticlib/libhead_c.a target/staticlib/librun_whole.a
  */
 #ifndef FOCUS_H
 #define FOCUS_H
@@ -33,10 +33,12 @@ enum focus_refusal {
     FOCUS_MARKS = 10,       /* list count not n, or a mark at n or above */
     FOCUS_ENTRY = 11,       /* entry out of range, or not 0 where null */
     FOCUS_SCALE = 12,       /* scale */
+    FOCUS_RUN_RECORD = 13,  /* run record cut short, of wrong length, of unknown kind or out of order, or file ended before a start or inside a phase */
+    FOCUS_STRUCK = 14,      /* more than f struck, or a mark at n or above */
     FOCUS_HEARD = 21,       /* link already heard this round */
     FOCUS_ROUND = 22,       /* frame of the other round */
     FOCUS_OTHER_PHASE = 23, /* frame of another phase */
-    FOCUS_BUFFER = 24,      /* buffer too short for the frame */
+    FOCUS_BUFFER = 24,      /* buffer too short */
     FOCUS_TRUSTED = 25,     /* too few trusted */
     FOCUS_ENDED = 26        /* phase 65,535 has ended */
 };
@@ -57,6 +59,22 @@ uint8_t focus_midpoint(uint32_t n, uint32_t f, uint32_t marks, const uint8_t *en
  * 1,000,000, the numerator at least the denominator. Returns 0 and puts the nanometres, from -10^12 to 10^12, in *nanometres, or 12, 4.
  * Promised: number and *nanometres are those of `scaled` (crates/steps/specs/Scale.antt). */
 uint8_t focus_scale(int32_t steps, uint32_t numerator, uint32_t denominator, int64_t *nanometres);
+
+/* ---- a whole run file: crates/run_whole/src/lib.rt */
+
+/* How many phase ends a run file of so many bytes can have, the start among them; and the room that its listing and its rows need. */
+#define FOCUS_PLAY_ENDS(bytes) ((bytes) / 16 + 1)
+#define FOCUS_PLAY_OUT(bytes) (64 * (FOCUS_PLAY_ENDS(bytes) + 2))
+#define FOCUS_PLAY_ROWS(bytes) (32 * FOCUS_PLAY_ENDS(bytes))
+
+/* Plays a run file of any bytes: its listing at the front of out, and for each phase end e, counted from the start, a row of 32 numbers from rows[32 * e] on and a
+ * mark word words[e]. A row has the position of each head that is sound at that end, and 0 elsewhere; the word has a bit for each head struck in the confession round.
+ * The listing's length is put in *length and the number of phase ends in *ends; what is behind them in the three buffers stays as it was. Returns the number of the file's first
+ * fault (1, 2, 4, 13, 14, 26), or 0 if it is played to its end. Returns 24, with nothing written, if a buffer is shorter than the three macros say. Sizes of rows and
+ * words are in numbers, not bytes. Takes about 160 KB of stack.
+ * Promised: `PlaysInto` (crates/run_whole/specs/Whole.antt), with demand 3 for any two of the rows. */
+uint8_t focus_play(const uint8_t *file, size_t bytes, uint8_t *out, size_t out_size, int32_t *rows, size_t rows_size, uint32_t *words, size_t words_size,
+                   size_t *length, size_t *ends);
 
 /* ---- a head that C keeps: crates/head_c/src/lib.rt has what its calls promise, and crates/head_spec/specs/Calls.antt defines what each makes of the record */
 
