@@ -32,7 +32,7 @@ pub fn marks(heads: &[usize]) -> u32 {
 pub struct Ring {
     pub n: usize,
     pub f: usize,
-    /// None where the memory was lost.
+    /// None if the memory was lost.
     pub positions: Vec<Entry>,
     pub lists: Vec<Vec<Entry>>,
     /// The heads struck in the round before.
