@@ -1,5 +1,5 @@
-//! The bars: how long a proved call or the proved player may take, in times of plain. `host/bench/run` holds each row to its bar; `--quick` takes the best of up
-//! to three tries and allows MARGIN times as much.
+//! The bars: how long a proved call or the proved player may take, in times of plain. `host/bench/run` holds each row to its bar; `--quick` takes
+//! the best of up to three tries and allows MARGIN times as much.
 
 /// The switch: whether the raised bars count, or those before them.
 const RAISED: bool = false;

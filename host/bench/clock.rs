@@ -70,7 +70,8 @@ pub fn resident(child: &Child) -> u64 {
     line.and_then(|line| line.split_whitespace().next()).and_then(|word| word.parse().ok()).map_or(0, |number: u64| number * 1024)
 }
 
-/// Waits for the end of a child, and looks at its memory until then. What Linux gives at the end counts the memory of its parent before it was loaded.
+/// Waits for the end of a child, and looks at its memory until then. What Linux gives at the end counts the memory of its parent before it was
+/// loaded.
 pub fn watched(child: Child) -> io::Result<Used> {
     let mut largest = 0;
     loop {

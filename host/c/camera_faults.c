@@ -1,5 +1,5 @@
-/* The camera's three calls: every refusal alone, every set of faults together (the first in the order of checks decides), the extremes of each argument, and the
- * memory before and after. The number of checks is printed; the first that fails stops the program. */
+/* The camera's three calls: every refusal alone, every set of faults together (the first in the order of checks decides), the extremes of each
+ * argument, and the memory before and after. The number of checks is printed; the first that fails stops the program. */
 #include "check.h"
 
 #include <limits.h>
@@ -21,7 +21,8 @@ struct lent64 {
 #define GUARD UINT64_C(0x5aa55aa5c33cc33c)
 
 /* the midpoint's answer, with the number it must give; `position` counts if that is 0 */
-static void midpoint(const char *what, uint32_t n, uint32_t f, uint32_t marks, const uint8_t *entries, size_t length, uint8_t number, int32_t position) {
+static void midpoint(const char *what, uint32_t n, uint32_t f, uint32_t marks, const uint8_t *entries, size_t length, uint8_t number,
+                     int32_t position) {
     uint8_t copy[512];
     struct lent32 lent = {GUARD, -777, GUARD};
     memcpy(copy, entries, length);
@@ -194,8 +195,10 @@ static void frames(void) {
         frame("kind", bytes, build(bytes, 9, 9, kind, 0), known ? FOCUS_KIND_LENGTH : FOCUS_KIND);
     }
     for (unsigned count = 0; count <= 255; count++)
-        for (size_t other = 0; other <= 255; other += 5)
-            frame("count", bytes, build(bytes, 12 + 4 * other, (unsigned)(12 + 4 * other), 3, (uint8_t)count), count == other ? 0 : FOCUS_KIND_LENGTH);
+        for (size_t other = 0; other <= 255; other += 5) {
+            size_t length = build(bytes, 12 + 4 * other, (unsigned)(12 + 4 * other), 3, (uint8_t)count);
+            frame("count", bytes, length, count == other ? 0 : FOCUS_KIND_LENGTH);
+        }
     /* faults together: the earlier number */
     frame("length, then kind", bytes, build(bytes, 9, 8, 5, 0), FOCUS_LENGTH);
     frame("length, then the kind's length", bytes, build(bytes, 9, 8, 1, 0), FOCUS_LENGTH);

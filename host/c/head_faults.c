@@ -1,5 +1,6 @@
-/* The head's calls: every refusal alone, and every set of faults together, so each order of two among them: the first in the order of checks decides. A refusal
- * leaves the block, the buffer and the numbers lent as they were. The number of checks is printed; the first that fails stops the program. */
+/* The head's calls: every refusal alone, and every set of faults together, so each order of two among them: the first in the order of checks
+ * decides. A refusal leaves the block, the buffer and the numbers lent as they were. The number of checks is printed; the first that fails stops
+ * the program. */
 #include "check.h"
 
 /* Bytes 9 to 11 of a block hold nothing. */
@@ -64,7 +65,8 @@ static void restarts(void) {
         }
 }
 
-enum { ENDED = 1, NUMBER = 2, HEARD = 4, LENGTH = 8, KIND = 16, KIND_LENGTH = 32, ROUND = 64, SENDER = 128, PHASE = 256, MARKS = 512, ENTRY = 1024, HEAR = 2048 };
+enum { ENDED = 1, NUMBER = 2, HEARD = 4, LENGTH = 8, KIND = 16, KIND_LENGTH = 32 };
+enum { ROUND = 64, SENDER = 128, PHASE = 256, MARKS = 512, ENTRY = 1024, HEAR = 2048 };
 
 /* A head in a confession round, with those faults of a set that lie in the head. */
 static focus_head hearer(int faults, unsigned phase) {

@@ -1,5 +1,5 @@
-/* A ring of heads that C keeps, driven through phases: the paper's worked example, heads struck and healed, a liar who says something else to each neighbour, the
- * (8,2) case in which spread 2 stays 2, and the last phase. The number of checks is printed; the first that fails stops the program.
+/* A ring of heads that C keeps, driven through phases: the paper's worked example, heads struck and healed, a liar who says something else to each
+ * neighbour, the (8,2) case in which spread 2 stays 2, and the last phase. The number of checks is printed; the first that fails stops the program.
  * Usage: head_ring [PHASES], so many in the last run; what is refused after phase 65,535 is tried if it comes to that. */
 #include "check.h"
 
@@ -73,7 +73,7 @@ static size_t two_faced(const struct ring *r, uint32_t from, uint32_t to, uint8_
     return r->round == 0 ? put_frame(frame, 1, from, r->phase, rest, 4) : 0;
 }
 
-/* (8,2): heads 4 and 5 were struck in the confession round; head 4 confesses to head 6 only, head 5 to head 7 only; to the others they give the true list */
+/* (8,2): heads 4 and 5 are struck in the confession round; head 4 confesses to head 6 only, head 5 to head 7 only; the others get the true list */
 static size_t confess_to_one(const struct ring *r, uint32_t from, uint32_t to, uint8_t *frame) {
     static const int32_t values[8] = {0, 0, 0, 0, 2, 0, 0, 2}; /* heads 0 to 3 are null: healed in collection, or struck in it */
     if (r->round == 0)

@@ -4,9 +4,9 @@
 
 #define BACK 0x5a /* what the buffers hold before a call */
 
-static uint8_t file[1 << 20], stored[1 << 20], out[FOCUS_PLAY_OUT(1 << 20)];
-static int32_t rows[FOCUS_PLAY_ROWS(1 << 20)];
-static uint32_t words[FOCUS_PLAY_ENDS(1 << 20)];
+static uint8_t file[1 << 16], stored[1 << 16], out[FOCUS_PLAY_OUT(1 << 16)];
+static int32_t rows[FOCUS_PLAY_ROWS(1 << 16)];
+static uint32_t words[FOCUS_PLAY_ENDS(1 << 16)];
 
 static size_t read_whole(const char *name, uint8_t *into) {
     FILE *from = fopen(name, "rb");
@@ -14,7 +14,7 @@ static size_t read_whole(const char *name, uint8_t *into) {
         printf("no file %s\n", name);
         exit(1);
     }
-    size_t got = fread(into, 1, 1 << 20, from);
+    size_t got = fread(into, 1, 1 << 16, from);
     fclose(from);
     return got;
 }

@@ -36,7 +36,8 @@ impl Right {
         (at, (at + 1..end).find(is_round).unwrap_or(end))
     }
 
-    /// The records before `at`, then others, of which the last is at fault, then those from `rest` on. A player that misses the fault finds these right.
+    /// The records before `at`, then others, of which the last is at fault, then those from `rest` on. A player that misses the fault finds the
+    /// rest right.
     fn with(&self, at: usize, others: Records, rest: usize, number: u8) -> Faulty {
         let sound = at + others.len().saturating_sub(1);
         let rest = self.records.get(rest..).unwrap_or_default();

@@ -34,7 +34,7 @@ impl Random {
         from[self.below(from.len())]
     }
 
-    /// `count` of the given things, or all where there are fewer, in any order.
+    /// `count` of the given things, or all if there are fewer, in any order.
     pub fn some<T: Copy>(&mut self, from: &[T], count: usize) -> Vec<T> {
         let mut all = from.to_vec();
         for i in (1..all.len()).rev() {

@@ -1,5 +1,5 @@
-//! The model: a ring as document 01 has it, without a byte. What a struck head does is, for each neighbour, what that neighbour makes of it. Of host/plain it shares
-//! what a frame can say, and no rule.
+//! The model: a ring as document 01 has it, without a byte. What a struck head does is, for each neighbour, what that neighbour makes of it. Of
+//! host/plain it shares what a frame can say, and no rule.
 
 use crate::rules::frames::Said;
 use crate::rules::midpoint::Entry;
@@ -32,7 +32,7 @@ pub fn marks(heads: &[usize]) -> u32 {
 pub struct Ring {
     pub n: usize,
     pub f: usize,
-    /// None where the memory was lost.
+    /// None if the memory was lost.
     pub positions: Vec<Entry>,
     pub lists: Vec<Vec<Entry>>,
     /// The heads struck in the round before.

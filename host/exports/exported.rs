@@ -1,4 +1,5 @@
-//! The proved calls, as host/include/focus.h declares them. Whatever is lent is taken as mutable here, even if a call only reads it, so that a change would be seen.
+//! The proved calls, as host/include/focus.h declares them. Whatever is lent is taken as mutable here, even if a call only reads it, so that a
+//! change would be seen.
 
 use std::ops::Range;
 

@@ -1,10 +1,11 @@
-//! Compares the proved C exports with the second implementation of document 01 (host/plain) on calls made from seeds: the camera's three calls, and whole
-//! sequences of calls on a head's block against a head of that implementation.
+//! Compares the proved C exports with the second implementation of document 01 (host/plain) on calls made from seeds: the camera's three calls, and
+//! whole sequences of calls on a head's block against a head of that implementation.
 //!
 //!     exports COUNT [SEED]    at least COUNT calls, from the seed on
 //!
-//! Return numbers and lent memory must be the same, and a refused call must leave every byte of the block. The first difference prints its seed, its call and both
-//! answers, and the exit status is 1; `exports 1 SEED` makes the calls of that seed again. From ENOUGH calls on, an answer that no call gave is a failure too.
+//! Return numbers and lent memory must be the same, and a refused call must leave every byte of the block. The first difference prints its seed,
+//! its call and both answers, and the exit status is 1; `exports 1 SEED` makes the calls of that seed again. From ENOUGH calls on, an answer that
+//! no call gave is a failure too.
 
 mod calls;
 mod damage;

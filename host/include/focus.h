@@ -1,8 +1,9 @@
 /* The shared-focus firmware, as C calls it: three calls on plain numbers and bytes, a head that C keeps, and a whole run file played in memory.
  *
- * Each function returns 0, or the number of the refusal, and puts a result where the caller lends room for it. If a call has several faults, the first check
- * that fails decides, in the order given at each call. A refusal writes nothing. No function keeps a pointer, allocates, or changes the bytes it reads.
- * Pointers are not NULL, and what is lent to one call does not overlap; nothing else is asked of an argument: every value of every argument has its answer.
+ * Each function returns 0, or the number of the refusal, and puts a result where the caller lends room for it. If a call has several faults, the
+ * first check that fails decides, in the order given at each call. A refusal writes nothing. No function keeps a pointer, allocates, or changes the
+ * bytes it reads. Pointers are not NULL, and what is lent to one call does not overlap; nothing else is asked of an argument: every value of every
+ * argument has its answer.
  *
  * Link with the archives, in one line:
  *
@@ -45,18 +46,20 @@ enum focus_refusal {
 
 /* ---- the camera's calls: crates/camera/src/lib.rt has what they promise */
 
-/* The frame check: 0, or 6, 7, 8, for any bytes. It looks at the length field, the kind and a list's own count; sender, phase, marks and entries are not looked
- * at. The rest of an accepted frame is frame[7] to frame[length - 1].
+/* The frame check: 0, or 6, 7, 8, for any bytes. It looks at the length field, the kind and a list's own count; sender, phase, marks and entries
+ * are not looked at. The rest of an accepted frame is frame[7] to frame[length - 1].
  * Promised: the result is `frameRefusal` of the bytes (crates/frame_check/specs/Check.antt). */
 uint8_t focus_frame_check(const uint8_t *frame, size_t length);
 
-/* The midpoint of a trusted table: n heads, struck limit f, bit j of marks set if entry j is a position, entries of 4 bytes each, signed, lowest byte first, 0
- * where null. Returns 0 and puts the new position in *position, or 1, 2, 8 (length is not 4n), 10, 11, 25.
+/* The midpoint of a trusted table: n heads, struck limit f, bit j of marks set if entry j is a position, entries of 4 bytes each, signed, lowest
+ * byte first, 0 where null.
+ * Returns 0 and puts the new position in *position, or 1, 2, 8 (length is not 4n), 10, 11, 25.
  * Promised: number and *position are those of `midpointCall` (crates/settle_midpoint/specs/Call.antt). */
 uint8_t focus_midpoint(uint32_t n, uint32_t f, uint32_t marks, const uint8_t *entries, size_t length, int32_t *position);
 
-/* The step scale: nanometres are steps times numerator, divided by denominator, rounded down (towards minus infinity). Numerator and denominator are from 1 to
- * 1,000,000, the numerator at least the denominator. Returns 0 and puts the nanometres, from -10^12 to 10^12, in *nanometres, or 12, 4.
+/* The step scale: nanometres are steps times numerator, divided by denominator, rounded down (towards minus infinity). Numerator and denominator
+ * are from 1 to 1,000,000, the numerator at least the denominator.
+ * Returns 0 and puts the nanometres, from -10^12 to 10^12, in *nanometres, or 12, 4.
  * Promised: number and *nanometres are those of `scaled` (crates/steps/specs/Scale.antt). */
 uint8_t focus_scale(int32_t steps, uint32_t numerator, uint32_t denominator, int64_t *nanometres);
 
@@ -76,10 +79,10 @@ uint8_t focus_scale(int32_t steps, uint32_t numerator, uint32_t denominator, int
 uint8_t focus_play(const uint8_t *file, size_t bytes, uint8_t *out, size_t out_size, int32_t *rows, size_t rows_size, uint32_t *words, size_t words_size,
                    size_t *length, size_t *ends);
 
-/* ---- a head that C keeps: crates/head_c/src/lib.rt has what its calls promise, and crates/head_spec/specs/Calls.antt defines what each makes of the record */
+/* ---- a head that C keeps: crates/head_c/src/lib.rt has what its calls promise; crates/head_spec/specs/Calls.antt defines the calls */
 
-/* A head's block: one piece of memory all shift, which each call changes in place. Its contents are the calls' own; bytes 9 to 11 hold nothing. Every content is
- * some record, so no block makes a call undefined, not even one that was never started; a block of zeros is a head of no ring. */
+/* A head's block: one piece of memory all shift, which each call changes in place. Its contents are the calls' own; bytes 9 to 11 hold nothing.
+ * Every content is some record, so no block makes a call undefined, not even one that was never started; a block of zeros is a head of no ring. */
 typedef struct focus_head {
     uint32_t opaque[1096];
 } focus_head;
@@ -90,13 +93,15 @@ typedef struct focus_head {
 /* Starts the head in phase 1 with its position: n heads, struck limit f, its number. Refusals 1, 2, 3, 4. */
 uint8_t focus_head_start(focus_head *head, uint32_t n, uint32_t f, uint32_t number, int32_t position);
 
-/* Restarts a head whose strike is over, in the phase and round (0 collection, 1 confession) that are told it, with no position. Refusals 1, 2, 3, 5. */
+/* Restarts a head whose strike is over, in the phase and round (0 collection, 1 confession) that are told it, with no position.
+ * Refusals 1, 2, 3, 5. */
 uint8_t focus_head_restart(focus_head *head, uint32_t n, uint32_t f, uint32_t number, uint32_t phase, uint32_t round);
 
 /* Hears the bytes of one frame on a link. Refusals 26, 3, 21, 6, 7, 8, 22, 9, 23, 10, 11. */
 uint8_t focus_head_hear(focus_head *head, uint32_t link, const uint8_t *frame, size_t length);
 
-/* Writes the frame that says what the head has to say to the front of the buffer, and its length to *length; the bytes after it stay as they were. Refusals 26, 24. */
+/* Writes the frame that says what the head has to say to the front of the buffer, and its length to *length; the bytes after it stay as they were.
+ * Refusals 26, 24. */
 uint8_t focus_head_write(const focus_head *head, uint8_t *buffer, size_t room, size_t *length);
 
 /* Closes the round: after collection its list stands, after confession it holds a new position and the next phase is open. Refusals 26, 25. */

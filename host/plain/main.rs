@@ -1,5 +1,5 @@
-//! The second implementation: it reads a run file from standard input and prints its listing, by document 01's rules written once more, plainly. It shares
-//! nothing with the proved crates and serves to compare with them.
+//! The second implementation: it reads a run file from standard input and prints its listing, by document 01's rules written once more, plainly. It
+//! shares nothing with the proved crates and serves to compare with them.
 
 mod player;
 #[allow(dead_code)]

@@ -1,5 +1,6 @@
-//! Document 01's rules, plainly: frames as bytes, a record for each head, the midpoint, the scale, and the records of a run file. They share nothing with the
-//! proved crates. The player of host/plain plays by them; host/exports, host/bench and the writer of host/compare take from them what they need.
+//! Document 01's rules, plainly: frames as bytes, a record for each head, the midpoint, the scale, and the records of a run file. They share
+//! nothing with the proved crates. The player of host/plain plays by them; host/exports, host/bench and the writer of host/compare take from them
+//! what they need.
 
 pub mod frames;
 pub mod head;

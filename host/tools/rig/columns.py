@@ -1,4 +1,4 @@
-"""Phase ends put together where there are more of them than a picture has room for."""
+"""Phase ends put together if there are more of them than a picture has room for."""
 from collections import namedtuple
 
 # Phases `first` to `last`: the lowest and highest position, the largest spread, and the heads struck in any of them.

@@ -20,7 +20,7 @@ def text_of(data):
 
 
 def finish(make, wrong):
-    """Writes the bytes that `make` gives. Where it raises `wrong`, or a file cannot be read, one line on standard error and status 1."""
+    """Writes the bytes that `make` gives. If it raises `wrong`, or a file cannot be read, one line on standard error and status 1."""
     try:
         output = make()
         sys.stdout.buffer.write(output)

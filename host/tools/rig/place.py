@@ -99,7 +99,7 @@ def plant_fault(place, record):
 
 
 def end_fault(place, rest):
-    """The same for the end of the file, with the bytes that are left where its last record is not whole."""
+    """The same for the end of the file, with the bytes that are left if its last record is not whole."""
     if len(rest) >= 4 and wire.half(rest, 0) < 4:
         return 13, 'wrong length'
     if rest:

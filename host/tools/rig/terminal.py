@@ -10,7 +10,7 @@ STRUCK = {(False, False): '·', (True, False): '▀', (False, True): '▄', (Tru
 
 
 def draw(listing, name, width):
-    """One table, or where that leaves the band too little room, one of positions and one of the rest."""
+    """One table, or if that leaves the band too little room, one of positions and one of the rest."""
     rows = parts.columns(listing.ends, ROWS, growth=65536)
     if not rows:
         return '%s: %s\n' % (name, summary(listing))
@@ -79,7 +79,7 @@ def strikes(row, heads):
 
 
 def legend(rows):
-    notes = ['├──┤ lowest to highest sound position; │ where that is too narrow; ◆ all at one',
+    notes = ['├──┤ lowest to highest sound position; │ if that is too narrow; ◆ all at one',
              '▪▪▪▪ as many as the spread has binary digits: halving takes one away']
     if parts.heads_shown(rows):
         notes.append('·▀▄█ heads 0, 1, ..: not struck; in collection; in confession; in both')

@@ -32,7 +32,7 @@ def kind_of(record_bytes):
 
 
 def split(data):
-    """The whole records at the front of the bytes, and what is left where a record is cut short or its length is below 4."""
+    """The whole records at the front of the bytes, and what is left if a record is cut short or its length is below 4."""
     records, at = [], 0
     while len(data) - at >= 4:
         length = half(data, at)

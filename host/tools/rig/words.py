@@ -70,7 +70,7 @@ def unfolded(words):
 
 
 def folded(words):
-    """The other way, where there are more than FEW words and one stands four times or more in a row."""
+    """The other way, if there are more than FEW words and one stands four times or more in a row."""
     for value, run in itertools.groupby(words):
         times = len(list(run))
         yield from ['%s*%d' % (value, times)] if len(words) > FEW and times >= 4 else [value] * times
@@ -212,7 +212,7 @@ def write_said(frame, kind):
 
 
 def shown_entries(frame):
-    """Each entry, and whether it is shown as a number: where it is marked or not 0."""
+    """Each entry, and whether it is shown as a number: if it is marked or not 0."""
     marks = wire.word(frame, 8)
     entries = wire.signed(frame, 12, (len(frame) - 12) // 4)
     return [(value, value != 0 or wire.marked(marks, head)) for head, value in enumerate(entries)]
