@@ -1,3 +1,2 @@
--- Laws of the crate: the positions of a start record, and the rule that pairs rise.
+-- Laws of the crate: the positions of a start record.
 pub mod Positions
-pub mod Rising

@@ -1,15 +1,12 @@
-// The records of a run file, judged: where one may stand, and the number of its first fault, 0 for none. Each promise holds of every file read so far that has
-// what the arguments say.
+// The records of a run file, judged: whether one is allowed where it stands, and the number of its first fault, 0 for none.
 ghost use mathlib.Core.Path.{_≡_};
 ghost use mathlib.Core.Bool.{_&&_};
-ghost use mathlib.Core.List.{List};
 ghost use Prim.Native.Nat.{ℕ, _<_};
 ghost use lib.Dec.{leb};
 ghost use lib.ListN.{getD, drop};
 ghost use lib.IntN.{pos};
-ghost use Rattle.ring_spec.specs.Rounds.{Plant};
-ghost use Rattle.run_spec.specs.RunFile.{File, given, recordKind, start, round, plant, isAllowed, recordFault, positionIn, positionsFit, fewMarks, rises, pairFits};
-ghost use Rattle.run_judge.specs.Pairs.{lastPair};
+ghost use Rattle.run_spec.specs.RunFile.{recordKind, allowedWhen, positionIn, positionsFit, startFault, fewMarks, roundFault, rises, pairFits, plantFault};
+use run_spec::Pair;
 use terms::refusal;
 
 // The kinds of records.
@@ -21,13 +18,6 @@ pub const PLANT: u16 = 0x12;
 
 // Two rounds for each of 65,535 phases.
 pub const MOST_ROUNDS: u32 = 131070;
-
-// The sender and receiver of the last planted record of a round, if there was one.
-pub struct Pair {
-    pub some: bool,
-    pub from: u8,
-    pub to: u8,
-}
 
 // Whether a record has a place, and a length from low to high.
 fn has_place(place: bool, len: u16, low: u16, high: u16) -> bool
@@ -42,9 +32,9 @@ fn has_place(place: bool, len: u16, low: u16, high: u16) -> bool
     len <= high
 }
 
-// Whether a record of this kind and length may stand where a start was or was not accepted, and a round is or is not pending.
+// Whether a record of this kind and length is allowed; begun: a start was accepted; pending: a round is pending.
 pub fn is_allowed(kind: u16, len: u16, begun: bool, pending: bool) -> bool
-    ensures { λ r. ⌜ ((F : File) → F .setup .begun ≡ begun → F .rounds .pending ≡ pending → r ≡ isAllowed (recordKind kind) F len) ⌝ }
+    ensures { λ r. ⌜ r ≡ allowedWhen (recordKind kind) begun pending len ⌝ }
 {
     match kind {
         START => has_place(!begun, len, 6, 1026),
@@ -71,7 +61,7 @@ fn positions_fit(bytes: &[u8], n: u8) -> bool
 
 // A whole start record: 13, 1, 2, 4.
 pub fn start_fault(bytes: &[u8]) -> u8
-    ensures { λ r. ⌜ ((F : File) → r ≡ recordFault start F (now (bytes .entry))) ⌝ }
+    ensures { λ r. ⌜ r ≡ startFault (now (bytes .entry)) ⌝ }
 {
     let n = fields::byte_at(bytes, 4);
     let f = fields::byte_at(bytes, 5);
@@ -108,7 +98,7 @@ fn few_marks(n: u8, f: u8, m: u32) -> bool
 
 // A whole round record, after a number of rounds: 14, 26.
 pub fn round_fault(bytes: &[u8], n: u8, f: u8, rounds: u32) -> u8
-    ensures { λ r. ⌜ ((F : File) → F .setup .n ≡ n → F .setup .f ≡ f → given F ≡ rounds → r ≡ recordFault round F (now (bytes .entry))) ⌝ }
+    ensures { λ r. ⌜ r ≡ roundFault n f rounds (now (bytes .entry)) ⌝ }
 {
     if !few_marks(n, f, fields::word_at(bytes, 4)) {
         return refusal::STRUCK;
@@ -121,7 +111,7 @@ pub fn round_fault(bytes: &[u8], n: u8, f: u8, rounds: u32) -> u8
 
 // Whether a pair comes after the last of its round: by sender, then by receiver.
 fn comes_after(last: Pair, from: u8, to: u8) -> bool
-    ensures { λ r. ⌜ ((xs : List Plant) → lastPair xs ≡ last → r ≡ rises xs from to) ⌝ }
+    ensures { λ r. ⌜ r ≡ rises last from to ⌝ }
 {
     if !last.some {
         return true;
@@ -134,8 +124,7 @@ fn comes_after(last: Pair, from: u8, to: u8) -> bool
 
 // Whether a pair may be planted: a struck sender, a receiver that is not, both among n heads, after the last pair.
 fn pair_fits(from: u8, to: u8, n: u8, struck: u32, last: Pair) -> bool
-    ensures { λ r. ⌜ ((F : File) → F .setup .n ≡ n → F .rounds .last .struck ≡ struck → lastPair (F .rounds .last .plants) ≡ last
-        → r ≡ pairFits F from to) ⌝ }
+    ensures { λ r. ⌜ r ≡ pairFits n struck last from to ⌝ }
 {
     if n <= from {
         return false;
@@ -154,8 +143,7 @@ fn pair_fits(from: u8, to: u8, n: u8, struck: u32, last: Pair) -> bool
 
 // A whole planted record, after the last pair of its round: 13.
 pub fn plant_fault(bytes: &[u8], n: u8, struck: u32, last: Pair) -> u8
-    ensures { λ r. ⌜ ((F : File) → F .setup .n ≡ n → F .rounds .last .struck ≡ struck → lastPair (F .rounds .last .plants) ≡ last
-        → r ≡ recordFault plant F (now (bytes .entry))) ⌝ }
+    ensures { λ r. ⌜ r ≡ plantFault n struck last (now (bytes .entry)) ⌝ }
 {
     let from = fields::byte_at(bytes, 4);
     let to = fields::byte_at(bytes, 5);

@@ -19,14 +19,16 @@ use Rattle.run_listing.specs.Texts.{bytesOf}
 use Rattle.run_state.specs.declared.Player.{Player}
 use Rattle.run_record.specs.declared.RecordResult.{RecordResult}
 use Rattle.run_state.specs.Memory.{Memory}
-use Rattle.run_state.specs.State.{PlayerOf, MemoryOf, halted}
+use Rattle.run_state.specs.Changes.{halted}
+use Rattle.run_state.specs.State.{PlayerOf, MemoryOf}
+use Rattle.run_state.proofs.Told.{part-tells, allowed-as}
 use Rattle.run_record.specs.Next.{Next, NextQuiet}
 use Rattle.run_listing.proofs.Writing.{empty-text}
 use Rattle.run_round.proofs.Converging.{held-converges}
 use Rattle.run_record.proofs.Records.{stopped-next, plant-place}
 use Rattle.run_piece.specs.declared.FeedResult.{FeedResult}
 use Rattle.run_piece.specs.Advances.{StateAt, Advances, GrownTo, AdvancesOnce}
-use Rattle.run_piece.specs.Inner.{Missing, Whole, Plants, Headed, Quiet, RecordTaken, Used}
+use Rattle.run_piece.specs.Inner.{Missing, allowedTo, Whole, Plants, headedTo, Quiet, RecordTaken, Used}
 use Rattle.run_piece.proofs.Growing.{grown-none, judged-grown}
 
 -- from the player p and the memory M: no record was accepted by which F became G, so that the memory M′ is the same, and the player q but for part and fault
@@ -116,7 +118,7 @@ module _ {a : List ℕ} {p : Player} {before : List ℕ} {M : Memory} (L : State
   pub overfull : 1026 ≤ p .have → ⊥
   overfull h =
       let (may, few) = kept a (omega (arith, L .have)) in
-      omega (arith, L .have, stands-long (kindOf (F .part)) F (lengthOf (F .part)) may .1)
+      omega (arith, L .have, stands-long (kindOf (F .part)) (F .setup .begun) (F .rounds .pending) (lengthOf (F .part)) may .1)
 
   -- after a fault nothing is read
   pub rests : {xs : List ℕ} {n : ℕ} {r : FeedResult} → (p .fault ≡ 0 → ⊥) → Quiet p n r → AdvancesOnce a xs p M (r .player) (bytesOf (r .text)) before M
@@ -150,7 +152,8 @@ module _ {a : List ℕ} {p : Player} {before : List ℕ} {M : Memory} (L : State
         let none : F .part ≡ [] = L .part ∙ ap (λ (n : ℕ). take n before) (W .fresh) in
         let same : Heads b rest = rw (← e) at (heads-take used rest (omega (arith, W .long))) in
         let long = length-take-le used rest (omega (arith, W .within)) in
-        takes (ap (λ (l : List ℕ). l ++ take used rest) none ∙ sym e) (omega (arith, W .long)) (heads-stand F same ∙ W .player F (L .player))
+        takes (ap (λ (l : List ℕ). l ++ take used rest) none ∙ sym e) (omega (arith, W .long))
+        (heads-stand F same ∙ allowed-as (L .player) (kindOf rest) (lengthOf rest) ∙ W .allowed)
         (ap length e ∙ long ∙ u ∙ sym (same .long))
 
   -- a planted record that stands in the piece
@@ -178,7 +181,7 @@ module _ {a : List ℕ} {p : Player} {before : List ℕ} {M : Memory} (L : State
     s-there : take (p .have + used) carry ≡ s
     s-there = G .put ∙ ap (λ (l : List ℕ). l ++ take used rest) (sym (L .part))
 
-    -- where the header is there, it may stand, and says how long the record is
+    -- if the header is there, the record is allowed, and the header says how long it is
     due : 4 ≤ p .have → (stands F s ≡ true) × (p .have + want ≡ lengthOf s)
     due h =
         let (may, same, few) = kept-on F (kept a) (take used rest) (omega (arith, L .have)) in
@@ -186,40 +189,44 @@ module _ {a : List ℕ} {p : Player} {before : List ℕ} {M : Memory} (L : State
         (may, G .missing .rest h (omega (arith, L .have)) ∙ long)
 
     -- still cut
-    stays : {r : FeedResult} {q : Player} {m : ℕ} → Cut F s (length s) → m ≡ length s → q ≡ halted p m (p .fault) → PlayerOf q (withPart F s) → Quiet q used r
+    stays : {r : FeedResult} {q : Player} (m : ℕ) → Cut F s (length s) → m ≡ length s → q ≡ halted p m (p .fault) → Quiet q used r
         → AdvancesOnce a (take (r .used) rest) p M (r .player) (bytesOf (r .text)) carry M
-    stays {r} {q} cut long is t Q =
+    stays {r} {q} m cut long is Q =
         let h : q .have ≡ length s = ap (λ (x : Player). x .have) is ∙ long in
         let text = unshown (r .text) (part-shows F s) (Q .none) in
         used-as rest (Q .used)
         (follows q (withPart F s) (Q .player) (feed-cut F (L .player .fault ∙ ok) (take used rest) cut)
-        t (rw (h, s-long) (sym s-there)) h (search (needs, L .memory)) text (λ e. (refl, halts p is)) (grown-none F (withPart F s) refl (part-shows F s) text))
+        (rw is (part-tells (L .player) s m)) (rw (h, s-long) (sym s-there)) h (search (needs, L .memory)) text
+        (λ e. (refl, halts p is)) (grown-none F (withPart F s) refl (part-shows F s) text))
 
-    pub grows : {r : FeedResult} {q : Player} → used < want → (q ≡ halted p (p .have + used) (p .fault)) × ((F : File) (s : List ℕ) → PlayerOf p F → PlayerOf q (withPart F s))
-        → Quiet q used r → AdvancesOnce a (take (r .used) rest) p M (r .player) (bytesOf (r .text)) carry M
-    grows few (is, t) Q = stays (go (decLe 4 (p .have))) (sym s-long) is (t F s (L .player)) Q
+    pub grows : {r : FeedResult} {q : Player} → used < want → q ≡ halted p (p .have + used) (p .fault) → Quiet q used r
+        → AdvancesOnce a (take (r .used) rest) p M (r .player) (bytesOf (r .text)) carry M
+    grows few is Q = stays (p .have + used) (go (decLe 4 (p .have))) (sym s-long) is Q
       where
         go : Dec (4 ≤ p .have) → Cut F s (length s)
         go (yes k) l = (due k .0, omega (arith, s-long, due k .1))
         go (no k) l = absurd (omega (arith, s-long, G .missing .header (omega arith)))
 
     -- the header is there
-    pub heads : {r : FeedResult} {q : Player} → p .have < 4 → want ≤ used → ((F : File) (s : List ℕ) → PlayerOf p F → Headed (stands F carry) F s p q)
-        → Quiet q used r → AdvancesOnce a (take (r .used) rest) p M (r .player) (bytesOf (r .text)) carry M
-    heads {r} {q} few full H Q = go (stands F s) refl (rw (← same) at (H F s (L .player)))
+    pub heads : {r : FeedResult} {q : Player} → p .have < 4 → want ≤ used → q ≡ headedTo p (allowedTo p carry) → Quiet q used r
+        → AdvancesOnce a (take (r .used) rest) p M (r .player) (bytesOf (r .text)) carry M
+    heads {r} {q} few full is Q = go (stands F s) refl (is ∙ ap (headedTo p) (sym same))
       where
         four : p .have + used ≡ 4
         four = omega (arith, G .missing .header few, G .most)
 
-        same : stands F s ≡ stands F carry
-        same = heads-stand F (rw s-there at (heads-take (p .have + used) carry (omega (arith, four))))
+        same : stands F s ≡ allowedTo p carry
+        same =
+            heads-stand F (rw s-there at (heads-take (p .have + used) carry (omega (arith, four))))
+            ∙ allowed-as (L .player) (kindOf carry) (lengthOf carry)
 
-        go : (b : Bool) → stands F s ≡ b → Headed b F s p q → AdvancesOnce a (take (r .used) rest) p M (r .player) (bytesOf (r .text)) carry M
-        go true may (is, t) =
-            stays (λ k. (may, omega (arith, s-long, four, stands-long (kindOf s) F (lengthOf s) may .0))) (omega (arith, s-long, four)) is t Q
-        go false no-place (is, t) =
+        go : (b : Bool) → stands F s ≡ b → q ≡ headedTo p b → AdvancesOnce a (take (r .used) rest) p M (r .player) (bytesOf (r .text)) carry M
+        go true may is =
+            let long = stands-long (kindOf s) (F .setup .begun) (F .rounds .pending) (lengthOf s) may .0 in
+            stays 4 (λ k. (may, omega (arith, s-long, four))) (omega (arith, s-long, four)) is Q
+        go false no-place is =
             let some : 0 < length (take used rest) = omega (arith, four, length-take-le used rest (G .within)) in
-            let n = stopped-next {F = F} {p = p} {M = M} {r = record { player = q; text = r .text }} (L .memory) (is, t) (Q .none) in
+            let n = stopped-next {F = F} {p = p} {M = M} {r = record { player = q; text = r .text }} (L .player) (L .memory) is (Q .none) in
             becomes rest (stopped F refusal.run-record) (feed-refused F (L .player .fault ∙ ok) (take used rest) some (s-long ∙ four) no-place) refl
             (record { player = Q .player; used = Q .used; text = refl }) n (λ e z. omega arith)
             (grown-none F (stopped F refusal.run-record) refl (stop-shows F refusal.run-record) (n .shows))

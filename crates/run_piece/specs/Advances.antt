@@ -10,7 +10,8 @@ use Rattle.run_spec.specs.RunFile.{File, readFile, accepted, endsSoFar}
 use Rattle.run_spec.specs.Listing.{line, shown}
 use Rattle.run_state.specs.declared.Player.{Player}
 use Rattle.run_state.specs.Memory.{Memory}
-use Rattle.run_state.specs.State.{ringBefore, PlayerOf, MemoryOf, halted}
+use Rattle.run_state.specs.Changes.{halted}
+use Rattle.run_state.specs.State.{ringBefore, PlayerOf, MemoryOf}
 use Rattle.run_round.specs.Converged.{ConvergedIn}
 
 -- the player, with the bytes of a record that is cut, and the memory lent to it, stand where the bytes a lead

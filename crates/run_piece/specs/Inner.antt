@@ -5,12 +5,12 @@ use mathlib.Core.List.{List, []}
 use Prim.Native.Nat.{ℕ, _+_, _≤_, _<_}
 use lib.ListN.{length, take}
 use Rattle.terms.specs.Refusals as refusal
-use Rattle.run_spec.specs.RunFile.{File, plant, lengthOf, kindOf, isAllowed, stopped, withPart}
+use Rattle.run_spec.specs.RunFile.{plant, lengthOf, kindOf, allowedWhen}
 use Rattle.run_listing.specs.Texts.{bytesOf}
 use Rattle.run_state.specs.declared.Player.{Player}
 use Rattle.run_record.specs.declared.RecordResult.{RecordResult}
 use Rattle.run_state.specs.Memory.{Memory, withSlots}
-use Rattle.run_state.specs.State.{PlayerOf, halted}
+use Rattle.run_state.specs.Changes.{halted}
 use Rattle.run_piece.specs.declared.FeedResult.{FeedResult}
 use Rattle.run_piece.specs.declared.PassResult.{PassResult}
 use Rattle.run_piece.specs.Advances.{StateAt, AdvancesOnce}
@@ -21,28 +21,27 @@ pub record Missing (have : ℕ) (carry : List ℕ) (r : ℕ) : Type 0 where
   pub header : have < 4 → have + r ≡ 4
   pub rest : 4 ≤ have → have < lengthOf carry → have + r ≡ lengthOf carry
 
--- r tells whether the record that s begins may stand
-pub record Stood (p : Player) (s : List ℕ) (r : Bool) : Type 0 where
-  pub player : (F : File) → PlayerOf p F → isAllowed (kindOf s) F (lengthOf s) ≡ r
-  pub long : r ≡ true → 6 ≤ lengthOf s
+-- whether the record that s begins is allowed, by the player's numbers
+abbrev pub allowedTo : Player → List ℕ → Bool
+allowedTo p s = allowedWhen (kindOf s) (p .begun) (p .pending) (lengthOf s)
 
--- a piece begins with a whole record that may stand
+-- a piece begins with a whole record that is allowed
 pub record Whole (p : Player) (s : List ℕ) : Type 0 where
   pub fresh : p .have ≡ 0
   pub within : lengthOf s ≤ length s
   pub long : 6 ≤ lengthOf s
-  pub player : (F : File) → PlayerOf p F → isAllowed (kindOf s) F (lengthOf s) ≡ true
+  pub allowed : allowedTo p s ≡ true
 
--- a piece begins with a whole planted record that may stand
+-- a piece begins with a whole planted record that is allowed
 pub record Plants (p : Player) (s : List ℕ) : Type 0 where
   pub whole : Whole p s
   pub kind : kindOf s ≡ plant
   pub sound : p .fault ≡ 0
 
--- the player r that p becomes with a header, by whether it may stand
-abbrev pub Headed : Bool → File → List ℕ → Player → Player → Type 0
-Headed true F s p r = (r ≡ halted p 4 (p .fault)) × PlayerOf r (withPart F s)
-Headed false F s p r = (r ≡ halted p 0 refusal.run-record) × PlayerOf r (stopped F refusal.run-record)
+-- what the player becomes with a record's header, by whether that record is allowed
+abbrev pub headedTo : Player → Bool → Player
+headedTo p true = halted p 4 (p .fault)
+headedTo p false = halted p 0 refusal.run-record
 
 -- a step that shows nothing
 pub record Quiet (q : Player) (n : ℕ) (r : FeedResult) : Type 0 where

@@ -1,14 +1,13 @@
 // One step over a piece of a run file, which may be cut anywhere, down to one byte: a record that stands whole in the piece is taken where it stands; one that
 // is cut is gathered first.
 ghost use mathlib.Core.Bool.{true};
-ghost use mathlib.Core.List.{List, _++_};
+ghost use mathlib.Core.List.{_++_};
 ghost use mathlib.Core.Path.{_≡_};
-ghost use Prim.Native.Nat.{ℕ, _+_, _≤_, _<_, min};
+ghost use Prim.Native.Nat.{_+_, _≤_, _<_, min};
 ghost use lib.ListN.{length, take};
-ghost use Rattle.run_spec.specs.RunFile.{File, lengthOf, kindOf, isAllowed, withPart};
 ghost use Rattle.run_state.specs.Memory.{before, after};
-ghost use Rattle.run_state.specs.State.{PlayerOf, halted};
-ghost use Rattle.run_piece.specs.Inner.{Missing, Stood, Whole, Plants, Headed, Quiet, RecordTaken, Used, Reads, Passes};
+ghost use Rattle.run_state.specs.Changes.{halted};
+ghost use Rattle.run_piece.specs.Inner.{Missing, allowedTo, Whole, Plants, headedTo, Quiet, RecordTaken, Used, Reads, Passes};
 use run_listing::Text;
 use run_record::RecordResult;
 use run_state::Player;
@@ -53,9 +52,9 @@ fn gather(carry: &mut [u8], have: usize, bytes: &[u8])
     }
 }
 
-// Whether the header of a record lets it stand.
+// Whether the record whose header these bytes begin with is allowed.
 fn stands(p: Player, bytes: &[u8]) -> bool
-    ensures { λ r. ⌜ Stood p (now (bytes .entry)) r ⌝ }
+    ensures { λ r. ⌜ r ≡ allowedTo p (now (bytes .entry)) ⌝ }
 {
     run_judge::is_allowed(
         fields::half_at(bytes, 2),
@@ -65,7 +64,7 @@ fn stands(p: Player, bytes: &[u8]) -> bool
     )
 }
 
-// Whether a piece begins with a whole record that may stand.
+// Whether a piece begins with a whole record that is allowed.
 fn is_whole(p: Player, bytes: &[u8]) -> bool
     ensures { λ r. ⌜ (r ≡ true → Whole p (now (bytes .entry))) ⌝ }
 {
@@ -80,7 +79,7 @@ fn is_whole(p: Player, bytes: &[u8]) -> bool
 
 // The player with more of a record that is not whole.
 fn holding(p: Player, have: usize) -> Player
-    ensures { λ r. ⌜ (r ≡ halted p have (p .fault)) × ((F : File) (s : List ℕ) → PlayerOf p F → PlayerOf r (withPart F s)) ⌝ }
+    ensures { λ r. ⌜ r ≡ halted p have (p .fault) ⌝ }
 {
     let mut out = p;
     out.have = have;
@@ -89,7 +88,7 @@ fn holding(p: Player, have: usize) -> Player
 
 // The player with a record's header.
 fn headed(p: Player, bytes: &[u8]) -> Player
-    ensures { λ r. ⌜ ((F : File) (s : List ℕ) → PlayerOf p F → Headed (isAllowed (kindOf (now (bytes .entry))) F (lengthOf (now (bytes .entry)))) F s p r) ⌝ }
+    ensures { λ r. ⌜ r ≡ headedTo p (allowedTo p (now (bytes .entry))) ⌝ }
 {
     if stands(p, bytes) {
         return holding(p, 4);
@@ -167,7 +166,7 @@ pub struct PassResult {
     pub used: usize,
 }
 
-// Whether a piece begins with a whole planted record that may stand.
+// Whether a piece begins with a whole planted record that is allowed.
 fn is_plant(p: Player, bytes: &[u8]) -> bool
     ensures { λ r. ⌜ (r ≡ true → Plants p (now (bytes .entry))) ⌝ }
 {

@@ -24,14 +24,14 @@ use Rattle.run_record.specs.declared.RecordResult.{RecordResult}
 use Rattle.run_state.specs.declared.Player.{Player}
 use Rattle.run_state.specs.Memory.{Memory, withSlots}
 use Rattle.run_state.specs.Heads.{HeadsOf}
-use Rattle.run_state.specs.State.{ringBefore, PlayerOf, MemoryOf, halted}
+use Rattle.run_state.specs.Changes.{freshPlayer, halted, withRoundGiven, withPairPlanted}
+use Rattle.run_state.specs.State.{ringBefore, PlayerOf, MemoryOf}
 use Rattle.run_round.specs.Played.{Played}
 use Rattle.run_record.specs.Next.{Next}
-use Rattle.run_state.specs.Inner.{freshPlayer}
 use Rattle.run_record.specs.Inner.{Turned}
 use Rattle.run_round.proofs.Keeping.{start-positions, start-keeps}
 use Rattle.run_listing.proofs.Writing.{empty-text}
-use Rattle.run_state.proofs.Told.{start-tells}
+use Rattle.run_state.proofs.Told.{start-tells, stop-tells, round-tells, plant-tells}
 
 shows-none : (l : List ℕ) (t : Text) → t .len ≡ 0 → l ≡ l ++ bytesOf t
 shows-none l t e = rw (empty-text t e) (sym (append-nil l))
@@ -48,7 +48,7 @@ module _ (K : RecordKind) (F : File) (s : List ℕ) where
   unfolding judged
   judged-taken e h = rw (← e, h)
 
--- ---- where a record may stand, and what one without a fault shows of the file
+-- ---- when a record is allowed, and what one without a fault shows of the file
 
 module _ (F : File) (len : ℕ) where
   pub start-place : isAllowed start F len ≡ true → F .setup .begun ≡ false
@@ -96,10 +96,10 @@ either-short false x y h k = k
 
 module _ {F : File} {p : Player} {M : Memory} {r : RecordResult} where
   -- a fault: all is as it was
-  pub stopped-next : {c : ℕ} → MemoryOf F M → (r .player ≡ halted p 0 c) × PlayerOf (r .player) (stopped F c) → r .text .len ≡ 0 → Next F (stopped F c) p M r M
-  stopped-next {c} H (is, tells) none =
+  pub stopped-next : {c : ℕ} → PlayerOf p F → MemoryOf F M → r .player ≡ halted p 0 c → r .text .len ≡ 0 → Next F (stopped F c) p M r M
+  stopped-next {c} T H is none =
       record {
-        player = tells;
+        player = rw is (stop-tells T c);
         whole = rw is refl;
         memory = record { keeps = H .keeps; slots = H .slots; short = H .short };
         refused = λ h. (refl, is);
@@ -110,12 +110,12 @@ module _ {F : File} {p : Player} {M : Memory} {r : RecordResult} where
   module _ (s : List ℕ) where
     -- a round: what was planted is gone
     pub round-next : {M′ : Memory} {bytes lengths : List ℕ} → Turned F s (r .text) M′ → r .text .len ≤ 64 → ((k i : ℕ) → plantedIn bytes lengths k i ≡ [])
-        → (r .player .have ≡ 0) × PlayerOf (r .player) (withRecord round F s)
+        → PlayerOf p F → given F < mostRounds → r .player ≡ withRoundGiven p (struckIn s)
         → Next F (withRecord round F s) p M r (withSlots M′ bytes lengths)
-    round-next P room cleared (whole, tells) =
+    round-next P room cleared T more is =
         record {
-          player = tells;
-          whole = whole;
+          player = rw is (round-tells T s more);
+          whole = rw is refl;
           memory = record { keeps = λ b. same-keeps (P .keeps); slots = λ w k i k-below i-below. cleared k i; short = λ w k i. omega arith };
           refused = λ h. absurd (h refl);
           shows = P .shows;
@@ -126,12 +126,12 @@ module _ {F : File} {p : Player} {M : Memory} {r : RecordResult} where
     pub plant-next : {bytes lengths : List ℕ} → MemoryOf F M → length (drop 6 s) ≤ 140
         → ((k i : ℕ) → k < 32 → i < 32 → length (plantedIn (M .planted) (M .lengths) k i) ≤ 140
         → plantedIn bytes lengths k i ≡ cond (eqb (senderIn s) k && eqb (receiverIn s) i) (drop 6 s) (plantedIn (M .planted) (M .lengths) k i))
-        → (r .player .have ≡ 0) × PlayerOf (r .player) (withRecord plant F s) → r .text .len ≡ 0
+        → PlayerOf p F → r .player ≡ withPairPlanted p (senderIn s) (receiverIn s) → r .text .len ≡ 0
         → Next F (withRecord plant F s) p M r (withSlots M bytes lengths)
-    plant-next H few new (whole, tells) none =
+    plant-next H few new T is none =
         record {
-          player = tells;
-          whole = whole;
+          player = rw is (plant-tells T s);
+          whole = rw is refl;
           memory =
               record {
                 keeps = λ b. same-keeps (H .keeps b);

@@ -9,7 +9,8 @@ use Rattle.run_listing.specs.Texts.{bytesOf}
 use Rattle.run_state.specs.declared.Player.{Player}
 use Rattle.run_record.specs.declared.RecordResult.{RecordResult}
 use Rattle.run_state.specs.Memory.{Memory}
-use Rattle.run_state.specs.State.{PlayerOf, MemoryOf, halted}
+use Rattle.run_state.specs.Changes.{halted}
+use Rattle.run_state.specs.State.{PlayerOf, MemoryOf}
 
 -- a record is taken, by which the file F becomes G: from the player p and its memory M to the player after it, its memory M′, and the text by which the listing
 -- grows. A record that is refused leaves the memory as it was, and the player but for its fault.

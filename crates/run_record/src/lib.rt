@@ -132,7 +132,7 @@ fn take_plant(
     }
 }
 
-// A whole record that may stand where it stands.
+// A whole record that is allowed.
 pub fn take_record(
     p: Player,
     bytes: &[u8],

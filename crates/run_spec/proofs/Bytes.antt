@@ -43,7 +43,7 @@ module _ (P : File → ℕ → Type 0)
         go zero e = takes F s k one may all e p
         go (suc c) e = stops F (suc c) k p
 
-    -- a whole record has a header that may stand
+    -- a whole record is allowed
     is-allowed : ltb (length s) 4 ≡ false → (eqb (length s) 4 && not (stands F s)) ≡ false → stands F s ≡ true
     is-allowed long place = go (decLe 4 (length (F .part)))
       where

@@ -1,4 +1,4 @@
--- Records as they come: bytes that end inside a record are kept, a header that may not stand stops the file, and a record is judged when it is whole. All
+-- Records as they come: bytes that end inside a record are kept, the header of a record that is not allowed stops the file, and a record is judged when it is whole. All
 -- follow from one law (`reads-on`): where every shorter front of a record is cut, its bytes are read as if they came at once.
 use mathlib.Core.Path.{_≡_, refl, ap, sym, _∙_}
 use mathlib.Core.Bool.{Bool, true, false, not, cond, _&&_, true≢false, and-false}
@@ -13,11 +13,11 @@ use borrow.Author.Tests.{leb-true, eqb-true, eqb-false, ltb-true, ltb-false, not
 use Rattle.terms.specs.Refusals as refusal
 use Rattle.fields.specs.Bytes.{at2}
 use Rattle.frame_spec.proofs.Listing.{and-both}
-use Rattle.run_spec.specs.RunFile.{File, unread, RecordKind, start, round, plant, other, lengthOf, kindOf, isAllowed, pairFits, recordFault, stopped, unlessFault, judged, withPart, readOn, unlessStopped, step, feed, readFile}
+use Rattle.run_spec.specs.RunFile.{File, unread, RecordKind, start, round, plant, other, lengthOf, kindOf, allowedWhen, isAllowed, recordFault, stopped, unlessFault, judged, withPart, readOn, unlessStopped, step, feed, readFile}
 
 -- ---- the header: four bytes
 
--- whether the record that s begins may stand
+-- whether the record that s begins is allowed
 abbrev pub stands : File → List ℕ → Bool
 stands F s = isAllowed (kindOf s) F (lengthOf s)
 
@@ -45,11 +45,11 @@ within place low high len e =
     (leb-true low len (and-both place (leb low len) front .1), leb-true len high most)
 
 -- the lengths that some record has
-pub stands-long : (K : RecordKind) (F : File) (len : ℕ) → isAllowed K F len ≡ true → (6 ≤ len) × (len ≤ 1026)
-stands-long start F len e = within (not (F .setup .begun)) 6 1026 len e
-stands-long round F len e = let is = eqb-true len 8 (and-both (F .setup .begun) (eqb len 8) e .1) in (omega arith, omega arith)
-stands-long plant F len e = let (least, most) = within (F .rounds .pending) 6 146 len e in (least, omega arith)
-stands-long other F len e = absurd (true≢false (sym e))
+pub stands-long : (K : RecordKind) (begun pending : Bool) (len : ℕ) → allowedWhen K begun pending len ≡ true → (6 ≤ len) × (len ≤ 1026)
+stands-long start begun pending len e = within (not begun) 6 1026 len e
+stands-long round begun pending len e = let is = eqb-true len 8 (and-both begun (eqb len 8) e .1) in (omega arith, omega arith)
+stands-long plant begun pending len e = let (least, most) = within pending 6 146 len e in (least, omega arith)
+stands-long other begun pending len e = absurd (true≢false (sym e))
 
 -- ---- a front of a record
 
@@ -83,7 +83,7 @@ module _ (F : File) (s : List ℕ) where
   read-whole : stands F s ≡ true → length s ≡ lengthOf s → readOn F s ≡ judged (kindOf s) F s
   unfolding readOn
   read-whole may all =
-      let long = stands-long (kindOf s) F (lengthOf s) may in
+      let long = stands-long (kindOf s) (F .setup .begun) (F .rounds .pending) (lengthOf s) may in
       rw (may, and-false (eqb (length s) 4), le-ltb (length s) 4 (omega arith), eq-eqb (length s) (lengthOf s) all)
 
 -- ---- the bytes kept so far are not looked at
@@ -93,21 +93,15 @@ unless-over zero good F q = refl
 unless-over (suc c) good F q = refl
 
 judged-over : (K : RecordKind) (F : File) (q s : List ℕ) → judged K (withPart F q) s ≡ judged K F s
-unfolding judged pairFits
+unfolding judged
 judged-over start F q s = unless-over (recordFault start F s) _ F q
 judged-over round F q s = unless-over (recordFault round F s) _ F q
 judged-over plant F q s = unless-over (recordFault plant F s) _ F q
 judged-over other F q s = refl
 
-stands-over : (K : RecordKind) (F : File) (q : List ℕ) (len : ℕ) → isAllowed K (withPart F q) len ≡ isAllowed K F len
-stands-over start F q len = refl
-stands-over round F q len = refl
-stands-over plant F q len = refl
-stands-over other F q len = refl
-
 read-over : (F : File) (q s : List ℕ) → readOn (withPart F q) s ≡ readOn F s
 unfolding readOn
-read-over F q s = rw (judged-over (kindOf s) F q s, stands-over (kindOf s) F q (lengthOf s))
+read-over F q s = rw (judged-over (kindOf s) F q s)
 
 -- ---- byte by byte, or at once
 
@@ -142,7 +136,7 @@ module _ (F : File) (ok : F .fault ≡ 0) where
       reads-on (λ k l h. (c (omega arith) .0, omega (arith, c (omega arith) .1))) (F .part) (x ∷ xs) refl (omega arith) ∙ read-cut F s c
 
   module _ (xs : List ℕ) (some : 0 < length xs) where
-    -- its header may not stand
+    -- it is not allowed
     pub feed-refused : let s = F .part ++ xs in length s ≡ 4 → stands F s ≡ false → feed F xs ≡ stopped F refusal.run-record
     feed-refused four no-place = reads-on (λ k l h. absurd (omega arith)) (F .part) xs refl some ∙ read-refused F (F .part ++ xs) four no-place
 
@@ -200,7 +194,7 @@ module _ (F : File) (kept : RoundsFit F) (x : ℕ) where
       go (yes k) = let (may, same, few) = kept-on F kept (x ∷ []) k in (may, omega (arith, one))
       go (no k) =
           let may : stands F s ≡ true = not-false (stands F s) (rw (eq-eqb (length s) 4 (omega (arith, one))) at place) in
-          (may, omega (arith, one, stands-long (kindOf s) F (lengthOf s) may .0))
+          (may, omega (arith, one, stands-long (kindOf s) (F .setup .begun) (F .rounds .pending) (lengthOf s) may .0))
 
   pub kept-read : RoundsFit (readOn F (F .part ++ (x ∷ [])))
   unfolding readOn
@@ -214,7 +208,7 @@ module _ (F : File) (kept : RoundsFit F) (x : ℕ) where
       go true out all f o a h = absurd (omega (arith, ltb-true (length s) 4 f))
       go false true all f o a h = absurd (omega arith)
       go false false true f o a h = absurd (omega (arith, ap length (judged-empty (kindOf s) F s)))
-      go false false false f o a h = rw (stands-over (kindOf s) F s (lengthOf s)) (cut-more h o (eqb-false (length s) (lengthOf s) a))
+      go false false false f o a h = cut-more h o (eqb-false (length s) (lengthOf s) a)
 
 kept-feed : (F : File) (s : List ℕ) → RoundsFit F → RoundsFit (feed F s)
 unfolding feed step

@@ -13,6 +13,7 @@ use Rattle.fields.specs.Bytes.{at2, at4, signedAt}
 use Rattle.marks.specs.Marks.{bitOf, marksBelow}
 use Rattle.convergence.specs.Counting.{sum, bit}
 use Rattle.ring_spec.specs.Rounds.{Plant, Round, Ring, endsPhase, mostRounds, PhaseEnd, ringAfter, endsAfter}
+use Rattle.run_spec.specs.declared.Pair.{Pair}
 
 -- what the start record gives
 pub record Setup : Type 0 where
@@ -54,7 +55,7 @@ unread = between noSetup noRounds
 abbrev pub given : File → ℕ
 given F = length (F .rounds .played) + bit (F .rounds .pending)
 
--- ---- records: kinds, and where each may stand, with what length
+-- ---- records: kinds, and which is allowed, with what length
 
 pub data RecordKind : Type 0 where
   start : RecordKind
@@ -72,12 +73,16 @@ lengthOf s = at2 s 0
 abbrev pub kindOf : List ℕ → RecordKind
 kindOf s = recordKind (at2 s 2)
 
--- By its first four bytes: a start first and once, a round after it, a planted record after a round; the lengths that some record of that kind has.
+-- By its first four bytes: a start first and once, a round after it, a planted record after a round; the lengths that some record of that kind has. begun: a
+-- start was accepted; pending: a round is pending.
+abbrev pub allowedWhen : RecordKind → Bool → Bool → ℕ → Bool
+allowedWhen start begun pending len = not begun && leb 6 len && leb len 1026
+allowedWhen round begun pending len = begun && eqb len 8
+allowedWhen plant begun pending len = pending && leb 6 len && leb len 146
+allowedWhen other begun pending len = false
+
 abbrev pub isAllowed : RecordKind → File → ℕ → Bool
-isAllowed start F len = not (F .setup .begun) && leb 6 len && leb len 1026
-isAllowed round F len = F .setup .begun && eqb len 8
-isAllowed plant F len = F .rounds .pending && leb 6 len && leb len 146
-isAllowed other F len = false
+isAllowed K F len = allowedWhen K (F .setup .begun) (F .rounds .pending) len
 
 -- ---- a start: n, f (a byte each), n positions
 
@@ -94,6 +99,12 @@ unfoldable pub positionsFit : List ℕ → ℕ → Bool
 positionsFit s zero = true
 positionsFit s (suc j) = positionsFit s j && isPosition (positionIn s j)
 
+abbrev pub startFault : List ℕ → ℕ
+startFault s =
+    check (eqb (length s) (6 + 4 * countIn s)) refusal.run-record
+    (checkSize (countIn s) (limitIn s)
+    (check (positionsFit s (countIn s)) refusal.position 0))
+
 -- ---- a round: a mark word of struck heads, at most f of them and none at n or above
 
 abbrev pub struckIn : List ℕ → ℕ
@@ -102,7 +113,11 @@ struckIn s = at4 s 4
 unfoldable pub fewMarks : ℕ → ℕ → ℕ → Bool
 fewMarks n f m = marksBelow m n && leb (sum n (λ j. bit (bitOf m j))) f
 
--- ---- a planted record: sender, receiver, bytes; the sender struck, the receiver not, pairs rising by sender, then receiver (the latest stands first)
+-- of n heads with the struck limit f, after so many rounds
+abbrev pub roundFault : ℕ → ℕ → ℕ → List ℕ → ℕ
+roundFault n f rounds s = check (fewMarks n f (struckIn s)) refusal.struck (check (ltb rounds mostRounds) refusal.ended 0)
+
+-- ---- a planted record: sender, receiver, bytes; the sender struck, the receiver not, pairs rising by sender, then receiver
 
 abbrev pub senderIn : List ℕ → ℕ
 senderIn s = getD s 4 0
@@ -110,25 +125,28 @@ senderIn s = getD s 4 0
 abbrev pub receiverIn : List ℕ → ℕ
 receiverIn s = getD s 5 0
 
-abbrev pub rises : List Plant → ℕ → ℕ → Bool
-rises [] k i = true
-rises (x ∷ xs) k i = ltb (x .from) k || eqb (x .from) k && ltb (x .to) i
+-- the last pair of a round: none yet, or that of the latest record, which stands first
+abbrev pub lastPair : List Plant → Pair
+lastPair [] = record { some = false; from = 0; to = 0 }
+lastPair (x ∷ xs) = record { some = true; from = x .from; to = x .to }
 
-unfoldable pub pairFits : File → ℕ → ℕ → Bool
-pairFits F k i =
-    ltb k (F .setup .n) && ltb i (F .setup .n) && bitOf (F .rounds .last .struck) k && not (bitOf (F .rounds .last .struck) i)
-    && rises (F .rounds .last .plants) k i
+-- whether the pair k, i may come after the last one
+abbrev pub rises : Pair → ℕ → ℕ → Bool
+rises last k i = not (last .some) || (ltb (last .from) k || eqb (last .from) k && ltb (last .to) i)
+
+unfoldable pub pairFits : ℕ → ℕ → Pair → ℕ → ℕ → Bool
+pairFits n struck last k i = ltb k n && ltb i n && bitOf struck k && not (bitOf struck i) && rises last k i
+
+-- of n heads, in a round with the mark word struck, after the pair last
+abbrev pub plantFault : ℕ → ℕ → Pair → List ℕ → ℕ
+plantFault n struck last s = check (pairFits n struck last (senderIn s) (receiverIn s)) refusal.run-record 0
 
 -- ---- a whole record: the number of its fault, 0 for none; 13, then 1, 2, 4, 14, 26
 
 abbrev pub recordFault : RecordKind → File → List ℕ → ℕ
-recordFault start F s =
-    check (eqb (length s) (6 + 4 * countIn s)) refusal.run-record
-    (checkSize (countIn s) (limitIn s)
-    (check (positionsFit s (countIn s)) refusal.position 0))
-recordFault round F s =
-    check (fewMarks (F .setup .n) (F .setup .f) (struckIn s)) refusal.struck (check (ltb (given F) mostRounds) refusal.ended 0)
-recordFault plant F s = check (pairFits F (senderIn s) (receiverIn s)) refusal.run-record 0
+recordFault start F s = startFault s
+recordFault round F s = roundFault (F .setup .n) (F .setup .f) (given F) s
+recordFault plant F s = plantFault (F .setup .n) (F .rounds .last .struck) (lastPair (F .rounds .last .plants)) s
 recordFault other F s = refusal.run-record
 
 -- the setup that a start record gives

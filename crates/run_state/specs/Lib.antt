@@ -1,4 +1,4 @@
+pub mod Changes
 pub mod Memory
 pub mod Heads
 pub mod State
-pub mod Inner

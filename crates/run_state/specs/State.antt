@@ -4,9 +4,8 @@ use mathlib.Core.Path.{_≡_}
 use Prim.Native.Nat.{ℕ, _≤_, _<_}
 use lib.ListN.{length}
 use Rattle.ring_spec.specs.Rounds.{Ring, planted}
-use Rattle.run_spec.specs.RunFile.{File, given, ringFrom}
+use Rattle.run_spec.specs.RunFile.{File, given, lastPair, ringFrom}
 use Rattle.frame_slots.specs.Slots.{plantedIn}
-use Rattle.run_judge.specs.Pairs.{lastPair}
 use Rattle.run_state.specs.declared.Player.{Player}
 use Rattle.run_state.specs.Memory.{Memory}
 use Rattle.run_state.specs.Heads.{HeadsOf}
@@ -32,19 +31,3 @@ pub record MemoryOf (F : File) (M : Memory) : Type 0 where
   pub keeps : F .setup .begun ≡ true → HeadsOf (F .setup .n) (ringBefore F) M
   pub slots : F .rounds .pending ≡ true → (k i : ℕ) → k < 32 → i < 32 → plantedIn (M .planted) (M .lengths) k i ≡ planted (F .rounds .last .plants) k i
   pub short : F .rounds .pending ≡ true → (k i : ℕ) → length (planted (F .rounds .last .plants) k i) ≤ 140
-
--- the player p, but for how many bytes of a record it has, and for its fault
-abbrev pub halted : Player → ℕ → ℕ → Player
-halted p have fault =
-    record {
-      begun = p .begun;
-      n = p .n;
-      f = p .f;
-      given = p .given;
-      pending = p .pending;
-      before = p .before;
-      struck = p .struck;
-      last = p .last;
-      have = have;
-      fault = fault;
-    }

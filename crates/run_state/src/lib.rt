@@ -1,15 +1,14 @@
-// The player: what has been read of a run file, but for the heads' memory. specs/StateAt.antt says what it and its memory hold of the file read so far.
-ghost use mathlib.Core.Bool.{true, false, cond};
-ghost use mathlib.Core.List.{List, []};
+// The player: what has been read of a run file, but for the heads' memory. specs/Changes.antt says what changes of it, specs/State.antt what it and
+// its memory hold of the file read so far.
+ghost use mathlib.Core.Bool.{false, cond};
+ghost use mathlib.Core.List.{[]};
 ghost use mathlib.Core.Path.{_≡_};
-ghost use Prim.Native.Nat.{ℕ, _+_, _%_, _<_, min};
+ghost use Prim.Native.Nat.{_+_, _%_, min};
 ghost use Rattle.ring_spec.specs.Rounds.{phaseOf, endsPhase, mostRounds};
-ghost use Rattle.run_spec.specs.RunFile.{File, given, readFile, round, plant, struckIn, senderIn, receiverIn, withRecord, stopped};
-ghost use Rattle.run_judge.specs.Pairs.{lastPair};
-ghost use Rattle.run_state.specs.State.{PlayerOf, halted};
-ghost use Rattle.run_state.specs.Inner.{freshPlayer};
+ghost use Rattle.run_spec.specs.RunFile.{lastPair};
+ghost use Rattle.run_state.specs.Changes.{freshPlayer, halted, withRoundGiven, withPairPlanted};
 use run_judge::MOST_ROUNDS;
-use run_judge::Pair;
+use run_spec::Pair;
 
 // What has been read of a run file, but for the heads' memory.
 pub struct Player {
@@ -55,15 +54,14 @@ fn no_pair() -> Pair
 
 // Before the first byte.
 pub fn unread() -> Player
-    ensures { λ r. ⌜ PlayerOf r (readFile []) ⌝ }
-    ensures { λ r. ⌜ r .have ≡ 0 ⌝ }
+    ensures { λ r. ⌜ r ≡ freshPlayer false 0 0 ⌝ }
 {
     fresh(false, 0, 0)
 }
 
 // The player at a fault, which ends the file.
 pub fn stop(p: Player, number: u8) -> Player
-    ensures { λ r. ⌜ (r ≡ halted p 0 number) × ((F : File) → PlayerOf p F → PlayerOf r (stopped F number)) ⌝ }
+    ensures { λ r. ⌜ r ≡ halted p 0 number ⌝ }
 {
     let mut out = p;
     out.have = 0;
@@ -105,7 +103,7 @@ fn struck_before(p: Player) -> u32
 
 // The player after an accepted round record.
 pub fn given_round(p: Player, struck: u32) -> Player
-    ensures { λ r. ⌜ (r .have ≡ 0) × ((F : File) (s : List ℕ) → struck ≡ struckIn s → given F < mostRounds → PlayerOf p F → PlayerOf r (withRecord round F s)) ⌝ }
+    ensures { λ r. ⌜ r ≡ withRoundGiven p struck ⌝ }
 {
     Player {
         begun: p.begun,
@@ -123,7 +121,7 @@ pub fn given_round(p: Player, struck: u32) -> Player
 
 // The player after an accepted planted record.
 pub fn planted_pair(p: Player, from: u8, to: u8) -> Player
-    ensures { λ r. ⌜ (r .have ≡ 0) × ((F : File) (s : List ℕ) → from ≡ senderIn s → to ≡ receiverIn s → PlayerOf p F → PlayerOf r (withRecord plant F s)) ⌝ }
+    ensures { λ r. ⌜ r ≡ withPairPlanted p from to ⌝ }
 {
     let last = Pair {
         some: true,

@@ -1,23 +1,23 @@
--- `run_judge::is_allowed` meets its contract: an arm for each known kind asks what the definition asks of it, and a kind that is none of these may not stand.
+-- `run_judge::is_allowed` meets its contract: an arm for each known kind asks what the definition asks of it, and a kind that is none of these is not allowed.
 use borrow.Author.Needs.{needs}
 use borrow.Author.Tests.{ne-eqb}
 use Rattle.run_judge.proofs.is_allowed.Statement.{statement}
 use Rattle.run_judge.proofs.is_allowed.Tie as tie
 
 returns : tie.Need-returns
-returns c F b w = rw (c .before .match .keys1, b) (c .has-place .ensures)
+returns c = rw (c .before .match .keys1) (c .has-place .ensures)
 
 returns-2 : tie.Need-returns-2
-returns-2 c F b w = rw (c .before .match .keys2, b, c .if1 .taken)
+returns-2 c = rw (c .before .match .keys2, c .if1 .taken)
 
 returns-3 : tie.Need-returns-3
-returns-3 c F b w = rw (c .before .match .keys2, b, c .if1 .left)
+returns-3 c = rw (c .before .match .keys2, c .if1 .left)
 
 returns-4 : tie.Need-returns-4
-returns-4 c F b w = rw (c .before .match .keys3, w) (c .has-place2 .ensures)
+returns-4 c = rw (c .before .match .keys3) (c .has-place2 .ensures)
 
 returns-5 : tie.Need-returns-5
-returns-5 c F b w =
+returns-5 c =
     let r = c .match .rest in
     simp (ne-eqb _ _ (r .0 .0 .1), ne-eqb _ _ (r .0 .1), ne-eqb _ _ (r .1))
 

@@ -1,4 +1,4 @@
--- `run_judge::pair_fits` meets its contract: its tests are those of the definition, in the same order, of a file that has what the arguments say.
+-- `run_judge::pair_fits` meets its contract: its tests are those of the definition, in the same order.
 use mathlib.Core.Path.{sym, _∙_}
 use borrow.Author.Needs.{needs}
 use borrow.Author.Tests.{lt-ltb, le-ltb, not-true, not-false}
@@ -8,36 +8,36 @@ use Rattle.run_judge.proofs.pair_fits.Tie as tie
 
 returns : tie.Need-returns
 unfolding pairFits
-returns c F p q e = rw (p, le-ltb _ _ (c .if1 .taken))
+returns c = rw (le-ltb _ _ (c .if1 .taken))
 
 returns-2 : tie.Need-returns-2
 unfolding pairFits
-returns-2 c F p q e = rw (p, lt-ltb _ _ (c .before .if1 .left), le-ltb _ _ (c .if2 .taken))
+returns-2 c = rw (lt-ltb _ _ (c .before .if1 .left), le-ltb _ _ (c .if2 .taken))
 
 returns-3 : tie.Need-returns-3
 unfolding pairFits
-returns-3 c F p q e =
+returns-3 c =
     let d = c .before .before in
     let m = sym (c .before .marked .ensures) ∙ not-true _ (c .if3 .taken) in
-    rw (p, q, lt-ltb _ _ (d .before .if1 .left), lt-ltb _ _ (d .if2 .left), m)
+    rw (lt-ltb _ _ (d .before .if1 .left), lt-ltb _ _ (d .if2 .left), m)
 
 returns-4 : tie.Need-returns-4
 unfolding pairFits
-returns-4 c F p q e =
+returns-4 c =
     let b = c .before .before in
     let d = b .before .before in
     let m = sym (b .before .marked .ensures) ∙ not-false _ (b .if3 .left) in
     let k = sym (c .before .marked2 .ensures) ∙ c .if4 .taken in
-    rw (p, q, lt-ltb _ _ (d .before .if1 .left), lt-ltb _ _ (d .if2 .left), m, k)
+    rw (lt-ltb _ _ (d .before .if1 .left), lt-ltb _ _ (d .if2 .left), m, k)
 
 returns-5 : tie.Need-returns-5
 unfolding pairFits
-returns-5 c F p q e =
+returns-5 c =
     let b = c .before .before .before in
     let d = b .before .before in
     let m = sym (b .before .marked .ensures) ∙ not-false _ (b .if3 .left) in
     let k = sym (c .before .before .marked2 .ensures) ∙ c .before .if4 .left in
-    rw (p, q, lt-ltb _ _ (d .before .if1 .left), lt-ltb _ _ (d .if2 .left), m, k) (c .comes-after .ensures (F .rounds .last .plants) e)
+    rw (lt-ltb _ _ (d .before .if1 .left), lt-ltb _ _ (d .if2 .left), m, k) (c .comes-after .ensures)
 
 pub pair-fits-spec : {M : Type 1} → statement M
 pair-fits-spec =

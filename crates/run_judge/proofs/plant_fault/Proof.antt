@@ -5,15 +5,15 @@ use Rattle.run_judge.proofs.plant_fault.Statement.{statement}
 use Rattle.run_judge.proofs.plant_fault.Tie as tie
 
 returns : tie.Need-returns
-returns c F p q e =
+returns c =
     let d = c .before .before in
-    let m = sym (c .before .pair-fits .ensures F p q e) ∙ c .if1 .taken in
+    let m = sym (c .before .pair-fits .ensures) ∙ c .if1 .taken in
     rw (← d .before .byte-at .ensures, ← d .byte-at2 .ensures, m)
 
 returns-2 : tie.Need-returns-2
-returns-2 c F p q e =
+returns-2 c =
     let d = c .before .before in
-    let m = sym (c .before .pair-fits .ensures F p q e) ∙ c .if1 .left in
+    let m = sym (c .before .pair-fits .ensures) ∙ c .if1 .left in
     rw (← d .before .byte-at .ensures, ← d .byte-at2 .ensures, m)
 
 pub plant-fault-spec : {M : Type 1} → statement M

@@ -12,7 +12,7 @@ use Rattle.terms.specs.Refusals as refusal
 use Rattle.terms.specs.Refusals.{check}
 use Rattle.terms.specs.Sizes.{checkSize}
 use Rattle.settle_midpoint.proofs.Checks.{size-refused, size-taken}
-use Rattle.run_spec.specs.RunFile.{File, start, positionsFit, recordFault}
+use Rattle.run_spec.specs.RunFile.{positionsFit, startFault}
 use Rattle.run_judge.proofs.start_fault.Statement.{statement}
 use Rattle.run_judge.proofs.start_fault.Tie as tie
 
@@ -23,35 +23,35 @@ row s n f =
     (checkSize n f
     (check (positionsFit s n) refusal.position 0))
 
-at-tests : (c : tie.After-byte-at2) (F : File)
+at-tests : (c : tie.After-byte-at2)
     → let s = now (c .before .before .before .args .bytes) in
-    recordFault start F s ≡ row s (c .before .byte-at .result) (c .byte-at2 .result)
-at-tests c F = rw (c .before .byte-at .ensures, c .byte-at2 .ensures)
+    startFault s ≡ row s (c .before .byte-at .result) (c .byte-at2 .result)
+at-tests c = rw (c .before .byte-at .ensures, c .byte-at2 .ensures)
 
 returns : tie.Need-returns
-returns c F = rw (at-tests (c .before) F, ne-eqb _ _ (c .if1 .taken))
+returns c = rw (at-tests (c .before), ne-eqb _ _ (c .if1 .taken))
 
 returns-2 : tie.Need-returns-2
-returns-2 c F =
+returns-2 c =
     let d = c .before .before in
     let e = c .before .size-refusal .ensures in
-    rw (at-tests (d .before) F, eq-eqb _ _ (d .if1 .left)) (e ∙ size-refused _ _ _ (λ q. c .if2 .taken (e ∙ q)))
+    rw (at-tests (d .before), eq-eqb _ _ (d .if1 .left)) (e ∙ size-refused _ _ _ (λ q. c .if2 .taken (e ∙ q)))
 
 returns-3 : tie.Need-returns-3
-returns-3 c F =
+returns-3 c =
     let b = c .before .before in
     let d = b .before .before in
     let z = sym (b .before .size-refusal .ensures) ∙ b .if2 .left in
     let m = sym (c .before .positions-fit .ensures) ∙ not-true _ (c .if3 .taken) in
-    rw (at-tests (d .before) F, eq-eqb _ _ (d .if1 .left), size-taken _ _ _ z, m)
+    rw (at-tests (d .before), eq-eqb _ _ (d .if1 .left), size-taken _ _ _ z, m)
 
 returns-4 : tie.Need-returns-4
-returns-4 c F =
+returns-4 c =
     let b = c .before .before in
     let d = b .before .before in
     let z = sym (b .before .size-refusal .ensures) ∙ b .if2 .left in
     let m = sym (c .before .positions-fit .ensures) ∙ not-false _ (c .if3 .left) in
-    rw (at-tests (d .before) F, eq-eqb _ _ (d .if1 .left), size-taken _ _ _ z, m)
+    rw (at-tests (d .before), eq-eqb _ _ (d .if1 .left), size-taken _ _ _ z, m)
 
 pub start-fault-spec : {M : Type 1} → statement M
 start-fault-spec =

@@ -2,7 +2,10 @@
 use mathlib.Core.Path.{sym, _∙_}
 use mathlib.Core.Bool.{true≢false}
 use native.Mathlib.Omega.{arith}
+use denote.Ref.{now}
 use borrow.Author.Needs.{needs}
+use Rattle.run_spec.specs.RunFile.{lengthOf, kindOf}
+use Rattle.run_spec.proofs.Whole.{stands-long}
 use Rattle.run_piece.proofs.is_whole.Statement.{statement}
 use Rattle.run_piece.proofs.is_whole.Tie as tie
 
@@ -14,12 +17,13 @@ returns-2 c e = absurd (true≢false (sym e))
 
 returns-3 : tie.Need-returns-3
 returns-3 c e =
-    let w = c .stands .ensures in
+    let a = c .before .before .before .before .before .before .args in
+    let allowed = sym (c .stands .ensures) ∙ e in
     record {
       fresh = search needs;
       within = omega (arith, c .before .before .half-at .ensures);
-      long = w .long e;
-      player = λ F t. w .player F t ∙ e;
+      long = stands-long (kindOf (now (a .bytes))) (a .p .begun) (a .p .pending) (lengthOf (now (a .bytes))) allowed .0;
+      allowed = allowed;
     }
 
 pub is-whole-spec : {M : Type 1} → statement M

@@ -1,11 +1,10 @@
 -- `run_piece::stands` meets its contract, which is that of `run_judge::is_allowed`.
 use borrow.Author.Needs.{needs}
-use Rattle.run_piece.proofs.Headers.{stood}
 use Rattle.run_piece.proofs.stands.Statement.{statement}
 use Rattle.run_piece.proofs.stands.Tie as tie
 
 returns : tie.Need-returns
-returns c = stood (c .before .before .half-at .ensures) (c .before .half-at2 .ensures) (c .is-allowed .ensures)
+returns c = rw (← c .before .before .half-at .ensures, ← c .before .half-at2 .ensures) (c .is-allowed .ensures)
 
 pub stands-spec : {M : Type 1} → statement M
 stands-spec = tie.close (tie.spec (λ c κs. search needs) (λ c κs. search needs) (λ c κs. search needs) returns)

@@ -1,10 +1,13 @@
 -- `run_record::pass_plant` meets its contract: a fault stops the file, and else the bytes are planted on the link that the record names.
+use mathlib.Core.Path.{ap₂, sym, _∙_}
 use native.Mathlib.Omega.{arith}
 use Prim.Native.Nat.{_≤_}
 use lib.ListN.{length, drop, length-drop}
 use denote.Ref.{now}
 use borrow.Author.Needs.{needs}
 use Rattle.run_spec.specs.RunFile.{plant}
+use Rattle.run_state.specs.Changes.{withPairPlanted}
+use Rattle.run_state.proofs.Told.{plant-fault-as}
 use Rattle.run_record.proofs.Records.{judged-stopped, judged-taken, stopped-next, plant-next}
 use Rattle.run_record.proofs.pass_plant.Statement.{statement}
 use Rattle.run_record.proofs.pass_plant.Tie as tie
@@ -12,9 +15,9 @@ use Rattle.run_record.proofs.pass_plant.Tie as tie
 returns : tie.Need-returns
 returns c =
     let t = c .before in
-    let (is, tells) = c .stop .ensures in
+    let s = now (t .before .before .before .args .bytes) in
     λ F M few T H x none.
-    rw (judged-stopped plant F _ _ (t .before .plant-fault .ensures F (T .n) (T .struck) (T .last)) (t .if1 .taken)) (stopped-next H (is, tells F T) none)
+    rw (judged-stopped plant F s _ (t .before .plant-fault .ensures ∙ sym (plant-fault-as T s)) (t .if1 .taken)) (stopped-next T H (c .stop .ensures) none)
 
 returns-2 : tie.Need-returns-2
 returns-2 c =
@@ -23,16 +26,15 @@ returns-2 c =
     let i = x .before .before .before in
     let k = i .before in
     let t = k .before in
-    let s = now (t .before .before .before .args .bytes) in
-    let (whole, tells) = c .planted-pair .ensures in
+    let a = t .before .before .before .args in
+    let s = now (a .bytes) in
     λ F M few T H e none.
     let short : length (drop 6 s) ≤ 140 = omega (arith, length-drop 6 s) in
-    rw (judged-taken plant F s (t .before .plant-fault .ensures F (T .n) (T .struck) (T .last)) (t .if1 .left))
+    rw (judged-taken plant F s (t .before .plant-fault .ensures ∙ sym (plant-fault-as T s)) (t .if1 .left))
     (plant-next s H short
     (λ a b a-below b-below fits. rw (← k .byte-at .ensures, ← i .byte-at2 .ensures, ← x .bytes-from .ensures)
     (p .plant .ensures (rw (x .bytes-from .ensures) short) a b a-below b-below fits))
-    (whole, tells F s (k .byte-at .ensures) (i .byte-at2 .ensures) T)
-    none)
+    T (c .planted-pair .ensures ∙ ap₂ (withPairPlanted (a .p)) (k .byte-at .ensures) (i .byte-at2 .ensures)) none)
 
 pub pass-plant-spec : {M : Type 1} → statement M
 pass-plant-spec =

@@ -6,9 +6,7 @@ use Rattle.run_record.proofs.refuse.Statement.{statement}
 use Rattle.run_record.proofs.refuse.Tie as tie
 
 returns : tie.Need-returns
-returns c =
-    let (is, tells) = c .before .stop .ensures in
-    (λ F M T H. stopped-next H (is, tells F T) (c .empty .ensures), omega (arith, c .empty .ensures))
+returns c = (λ F M T H. stopped-next T H (c .before .stop .ensures) (c .empty .ensures), omega (arith, c .empty .ensures))
 
 pub refuse-spec : {M : Type 1} → statement M
 refuse-spec = tie.close (tie.spec (λ c κs. search needs) (λ c κs. search needs) returns)

@@ -1,4 +1,4 @@
--- `run_record::take_record` meets its contract: the kind says which of the four takes the record, and where it may stand what that one needs to know.
+-- `run_record::take_record` meets its contract: the kind says which of the four takes the record, and that it is allowed says what that one needs to know.
 use mathlib.Core.Path.{_≡_, ap, sym, _∙_}
 use mathlib.Core.Bool.{true≢false}
 use native.Mathlib.Omega.{arith}

@@ -6,7 +6,7 @@ use denote.Ref.{now}
 use borrow.Author.Needs.{needs}
 use Rattle.run_spec.specs.RunFile.{start}
 use Rattle.run_listing.specs.Texts.{endLine}
-use Rattle.run_state.specs.Inner.{freshPlayer}
+use Rattle.run_state.specs.Changes.{freshPlayer}
 use Rattle.run_record.proofs.Records.{judged-stopped, judged-taken, start-next}
 use Rattle.run_record.proofs.take_start.Statement.{statement}
 use Rattle.run_record.proofs.take_start.Tie as tie
@@ -16,7 +16,7 @@ returns c =
     let t = c .before in
     let (next, room) = c .refuse .ensures in (
       λ F M begun T H.
-          rw (judged-stopped start F _ _ (t .before .start-fault .ensures F) (t .if1 .taken)) (next F _ T H),
+          rw (judged-stopped start F _ _ (t .before .start-fault .ensures) (t .if1 .taken)) (next F _ T H),
       room,
     )
 
@@ -30,7 +30,7 @@ returns-2 c =
     let s = now (t .before .before .before .args .bytes) in
     let (text, room) = c .end-line .ensures in (
       λ F M begun T H.
-          let e = t .before .start-fault .ensures F in
+          let e = t .before .start-fault .ensures in
           rw (judged-taken start F s e (t .if1 .left))
           (start-next s begun (sym e ∙ t .if1 .left) (d .first-positions .ensures)
           (f .fresh .ensures ∙ ap₂ (freshPlayer true) (n .byte-at .ensures) (l .byte-at2 .ensures))

@@ -3,17 +3,18 @@ use mathlib.Core.Path.{refl, sym}
 use mathlib.Core.Bool.{true≢false}
 use borrow.Author.Needs.{needs}
 use Rattle.run_spec.specs.RunFile.{unread, feed}
+use Rattle.run_state.proofs.Told.{unread-tells}
 use Rattle.run_stream.proofs.begin.Statement.{statement}
 use Rattle.run_stream.proofs.begin.Tie as tie
 
 returns : tie.Need-returns
 unfolding unread feed
 returns c carry M =
-    let e = c .unread .ensures in
+    rw (c .unread .ensures)
     record {
-      player = e .0;
-      part = rw (e .1);
-      have = e .1;
+      player = unread-tells;
+      part = refl;
+      have = refl;
       memory =
           record {
             keeps = λ b. absurd (true≢false (sym b));

@@ -22,7 +22,8 @@ returns-3 : tie.Need-returns-3
 unfolding endingOf
 returns-3 c =
     rw (eq-eqb _ _ (c .before .if1 .left))
-    (⊎-elim (λ w. rw (w .0 .taken, w .2 .taken, sym (w .3 .ensures) ∙ w .4 .left)) (λ v. ⊎-elim (λ w. rw (w .0 .taken, w .2 .left)) (λ w. rw (w .left)) v) (c .if2 .came))
+    (⊎-elim (λ w. rw (w .0 .taken, w .2 .taken, sym (w .3 .ensures) ∙ w .4 .left))
+    (λ v. ⊎-elim (λ w. rw (w .0 .taken, w .2 .left)) (λ w. rw (w .left)) v) (c .if2 .came))
 
 pub ending-spec : {M : Type 1} → statement M
 ending-spec = tie.close (tie.spec returns (λ c κs. search needs) returns-2 returns-3)
