@@ -17,7 +17,7 @@ use Rattle.terms.proofs.Whole.{eqZ→eq, eqZ-refl}
 use Rattle.marks.specs.Marks.{bitOf}
 use Rattle.entries.specs.Entries.{entryAt}
 use Rattle.marks.proofs.Marks.{bit-none}
-use Rattle.convergence.specs.Counting.{Each, sum, bit}
+use Rattle.convergence.specs.Counting.{sum, bit}
 use Rattle.convergence.specs.Trust.{is, choose}
 use Rattle.convergence.proofs.Sums.{sums-le}
 use Rattle.convergence.proofs.Support.{same-position, not-null, is-same, is-other}
@@ -119,7 +119,10 @@ module _ (marks : List ℕ) (lists : List (List ℤ)) (reference j k : ℕ) {c :
 
 -- ---- all lists
 
-module _ (n need : ℕ) (marks : List ℕ) (lists : List (List ℤ)) (reference j : ℕ) (E : ℕ → Entry) (told : Each n (λ k. columnOf marks lists j k ≡ E k)) where
+module _ (n need : ℕ) (marks : List ℕ) (lists : List (List ℤ)) (reference j : ℕ) where
+  abbrev E : ℕ → Entry
+  E = columnOf marks lists j
+
   abbrev m : ℕ → ℕ
   m k = getD marks k 0
 
@@ -138,25 +141,24 @@ module _ (n need : ℕ) (marks : List ℕ) (lists : List (List ℤ)) (reference 
   abbrev count : ℤ → ℕ
   count w = sum n (λ k. is w (E k))
 
-  says : (k : ℕ) → k < n → said j (m k) (a k) ≡ E k
+  says : (k : ℕ) → said j (m k) (a k) ≡ E k
   unfolding entryAt
-  says k l = told k l
+  says k = refl
 
-  leads : columnOf marks lists j reference ≡ said j (m reference) (a reference)
-  unfolding entryAt
-  leads = refl
+  leads : E reference ≡ said j (m reference) (a reference)
+  leads = sym (says reference)
 
   module _ {u : ℤ} (e : columnOf marks lists j reference ≡ Position u) where
     agree-le : agreeing n marks lists reference j ≤ count u
     agree-le =
-        omega (arith, sums-le n (agree ∷ []) ((λ k. is u (E k)) ∷ []) (λ k l. omega (arith, rw (says k l) at (agree-is j (m k) (m reference) (a k) (a reference) (sym leads ∙ e)))))
+        omega (arith, sums-le n (agree ∷ []) ((λ k. is u (E k)) ∷ []) (λ k l. omega (arith, rw (says k) at (agree-is j (m k) (m reference) (a k) (a reference) (sym leads ∙ e)))))
 
     other-le : (w : ℤ) → w ≢ u → count w + agreeing n marks lists reference j ≤ alikeTo n marks reference + apartFrom n marks reference
     other-le w d =
         omega (
           arith,
           sums-le n ((λ k. is w (E k)) ∷ agree ∷ []) (alikes ∷ aparts ∷ [])
-              (λ k l. omega (arith, rw (says k l) at (other-is j (m k) (m reference) (a k) (a reference) w d (sym leads ∙ e)))),
+              (λ k l. omega (arith, rw (says k) at (other-is j (m k) (m reference) (a k) (a reference) w d (sym leads ∙ e)))),
         )
 
     agree-alike : agreeing n marks lists reference j ≤ alikeTo n marks reference
@@ -178,7 +180,7 @@ module _ (n need : ℕ) (marks : List ℕ) (lists : List (List ℤ)) (reference 
     more-le =
         omega (
           arith,
-          sums-le n ((λ k. is u (E k)) ∷ []) (agree ∷ aparts ∷ []) (λ k l. omega (arith, rw (says k l) at (more-is j (m k) (m reference) (a k) (a reference) (sym leads ∙ e)))),
+          sums-le n ((λ k. is u (E k)) ∷ []) (agree ∷ aparts ∷ []) (λ k l. omega (arith, rw (says k) at (more-is j (m k) (m reference) (a k) (a reference) (sym leads ∙ e)))),
         )
 
     led-lacking : agreeing n marks lists reference j + apartFrom n marks reference < need
@@ -198,11 +200,11 @@ module _ (n need : ℕ) (marks : List ℕ) (lists : List (List ℤ)) (reference 
     where
       few : (w : ℤ) → count w < need
       few w =
-          omega (arith, sums-le n ((λ k. is w (E k)) ∷ []) (aparts ∷ []) (λ k l. omega (arith, rw (says k l) at (apart-is j (m k) (m reference) (a k) (a reference) w (sym leads ∙ e)))))
+          omega (arith, sums-le n ((λ k. is w (E k)) ∷ []) (aparts ∷ []) (λ k l. omega (arith, rw (says k) at (apart-is j (m k) (m reference) (a k) (a reference) w (sym leads ∙ e)))))
 
   -- the cell x of the reference is the one that the lists decide on
   pub led-decided : {x alike apart same : ℕ} {b : Bool} → b ≡ false → alike ≡ alikeTo n marks reference → apart ≡ apartFrom n marks reference → same ≡ agreeing n marks lists reference j
-      → CellOf x (columnOf marks lists j reference) → Decides x need alike apart same → CellOf x (decided b n need E)
+      → CellOf x (E reference) → Decides x need alike apart same → CellOf x (decided b n need E)
   led-decided {x = zero} z p q r h d =
       holds-same h (sym (h .entry) ∙ sym (led-null (sym (h .entry)) (omega arith)) ∙ sym (ap (λ (b : Bool). decided b n need E) z))
   led-decided {x = suc w} z p q r h d =
@@ -210,7 +212,7 @@ module _ (n need : ℕ) (marks : List ℕ) (lists : List (List ℤ)) (reference 
 
   -- the cell x of the reference shows that the lists decide on none
   pub led-lacks : {x alike apart same : ℕ} {b : Bool} → b ≡ false → alike ≡ alikeTo n marks reference → apart ≡ apartFrom n marks reference → same ≡ agreeing n marks lists reference j
-      → CellOf x (columnOf marks lists j reference) → Lacks x need alike apart same → CellOf 0 (decided b n need E)
+      → CellOf x (E reference) → Lacks x need alike apart same → CellOf 0 (decided b n need E)
   led-lacks {x = zero} z p q r h d = absurd (omega (arith, d .0))
   led-lacks {x = suc w} z p q r h d =
       holds-same holds-null (sym (led-lacking (sym (h .entry)) (omega (arith, d .1)) (omega (arith, d .2))) ∙ sym (ap (λ (b : Bool). decided b n need E) z))

@@ -1,7 +1,7 @@
 // From what the links gave in a confession round to the new position.
 ghost use mathlib.Core.Path.{_≡_};
 ghost use mathlib.Core.Bool.{true, false};
-ghost use Prim.Native.Nat.{ℕ, _+_, _-_, _≤_, _<_};
+ghost use Prim.Native.Nat.{_+_, _≤_, _<_};
 ghost use lib.ListN.{length, getD};
 ghost use Rattle.marks.specs.Marks.{bitOf};
 ghost use Rattle.convergence.specs.Counting.{Each, bit};
@@ -109,7 +109,7 @@ fn cell_by(
     same: usize,
 ) -> u64
     requires { ⌜ (n ≤ 32) × (need ≤ 255) × (reference < 32) × (alike ≡ alikeTo n (now marks) reference) × (apart ≡ apartFrom n (now marks) reference) × (same ≡ agreeing n (now marks) (now lists) reference j) ⌝ }
-    ensures { λ r. ⌜ ((E : ℕ → Entry) → Each n (λ k. columnOf (now (marks .entry)) (now (lists .entry)) j k ≡ E k) → CellOf r (decided (bitOf confessed j) n need E)) ⌝ }
+    ensures { λ r. ⌜ CellOf r (decided (bitOf confessed j) n need (columnOf (now (marks .entry)) (now (lists .entry)) j)) ⌝ }
 {
     let confesses = marks::marked(confessed, j);
     if confesses {

@@ -1,13 +1,12 @@
--- Cells: the number that is made of a position holds it, and two cells are equal just where their entries are. A cell is one more than a word, and a
--- word below 2^32 is read back from the number with a sign that it stands for.
+-- Cells: a position of 32 bits is read back from its cell, and so two cells are equal just if their entries are.
 use mathlib.Core.Path.{_≡_, refl, ap, sym, _∙_}
 use mathlib.Core.Bool.{true, false}
 use mathlib.Core.List.{List}
 use mathlib.Core.Logic.{_≢_}
-use Prim.Native.Nat.{ℕ, zero, suc, _+_, _-_, _%_, _≤_, _<_}
+use Prim.Native.Nat.{ℕ, zero, suc, _+_, _-_, _%_, _<_}
 use native.Mathlib.Omega.{arith}
-use native.Mathlib.Numerals.{one-add}
-use lib.Dec.{eqb, eqb→eq, eqb-refl, eqb·zero-suc, eqb·suc-suc}
+use native.Mathlib.Nat.{mod-eq-of-lt}
+use lib.Dec.{eqb, eqb→eq, eqb-refl, eqb·zero-suc}
 use lib.IntN.{ℤ, pos}
 use lib.ListN.{length, getD, set}
 use lib.Seq.{getD-set-same, getD-set-other}
@@ -23,30 +22,28 @@ use Rattle.fields.specs.Bytes.{signedOf, wordOf}
 use Rattle.marks.specs.Marks.{bitOf}
 use Rattle.entries.specs.Entries.{entryAt}
 use Rattle.entries.specs.Tables.{mark, number}
-use Rattle.fields.proofs.Bytes.{toZ-signed, ofZ-word, word-back}
+use Rattle.fields.proofs.Bytes.{toZ-signed, ofZ-word}
 use Rattle.convergence.specs.Counting.{Each, sum, bit}
 use Rattle.convergence.specs.Trust.{is}
 use Rattle.convergence.proofs.Sums.{sum-same}
-use Rattle.convergence.proofs.Support.{same-position, not-null}
-use Rattle.settle_trust.specs.Cells.{cellEntry, CellOf, HoldsEach, equalTo}
+use Rattle.convergence.proofs.Support.{same-position}
+use Rattle.settle_trust.specs.Cells.{cellFor, cellEntry, CellOf, HoldsEach, equalTo}
 use Rattle.settle_trust.proofs.Tests.{same-test}
 
--- the cell that is made of what the machine reads of a position
-pub holds-word : (v : ℤ) {w : ℕ} → SFits w32 v → w ≡ wordOf (toZ w32 (ofZ w32 v)) → CellOf (1 + w) (Position v)
-holds-word v {w} f e =
-    let q : w ≡ ofZ w32 v = e ∙ ap wordOf (toZ-ofZ f) ∙ sym (ofZ-word v) in
-    record {
-      within = omega (arith, fits-ofZ f .fits);
-      entry = rw (one-add w) (ap Position (sym (toZ-signed w) ∙ ap (toZ w32) q ∙ toZ-ofZ f));
-    }
+-- a position of 32 bits, as the machine reads it, is read back from its cell
+pub holds-position : {v : ℤ} {x : ℕ} → SFits w32 v → x ≡ cellFor (Position (toZ w32 (ofZ w32 v))) → CellOf x (Position v)
+holds-position {v} {x} f e =
+    let q : x ≡ cellFor (Position v) = e ∙ ap (λ (u : ℤ). cellFor (Position u)) (toZ-ofZ f) in
+    let below : wordOf v < 4294967296 = omega (arith, fits-ofZ f .fits, ofZ-word v) in
+    record { cell = q; entry = rw (q, mod-eq-of-lt below) (ap Position (sym (toZ-signed (wordOf v)) ∙ ap (toZ w32) (sym (ofZ-word v)) ∙ toZ-ofZ f)) }
 
 pub holds-null : CellOf 0 Null
-holds-null = record { within = omega arith; entry = refl }
+holds-null = record { cell = refl; entry = refl }
 
 -- ---- an entry of a list
 
 pub holds-same : {x : ℕ} {d e : Entry} → CellOf x d → d ≡ e → CellOf x e
-holds-same h q = record { within = h .within; entry = h .entry ∙ q }
+holds-same h q = record { cell = h .cell ∙ ap cellFor q; entry = h .entry ∙ q }
 
 module _ (m : ℕ) (E : List ℤ) (j : ℕ) where
   pub entry-marked : bitOf m j ≡ true → entryAt m E j ≡ Position (getD E j (pos 0))
@@ -59,11 +56,11 @@ module _ (m : ℕ) (E : List ℤ) (j : ℕ) where
 
 -- ---- equal cells
 
-pub same-word : (a b : ℕ) → a < 4294967296 → b < 4294967296 → eqZ (signedOf a) (signedOf b) ≡ eqb b a
-same-word a b h k =
-    same-test (eqZ (signedOf a) (signedOf b)) (eqb b a)
-    (λ t. let e : b ≡ a = sym (word-back b k) ∙ ap wordOf (sym (eqZ→eq (signedOf a) (signedOf b) t)) ∙ word-back a h in rw e (eqb-refl a))
-    (λ t. rw (eqb→eq b a t) (eqZ-refl (signedOf a)))
+pub same-cells : {x y : ℕ} {u v : ℤ} → CellOf x (Position u) → CellOf y (Position v) → eqb y x ≡ eqZ u v
+same-cells {x} {y} {u} {v} p q =
+    same-test (eqb y x) (eqZ u v)
+    (λ t. let e : v ≡ u = same-position (p .entry) (ap cellEntry (sym (eqb→eq y x t)) ∙ q .entry) in rw e (eqZ-refl u))
+    (λ t. let e : y ≡ x = q .cell ∙ ap (λ (w : ℤ). cellFor (Position w)) (sym (eqZ→eq u v t)) ∙ sym (p .cell) in rw e (eqb-refl x))
 
 -- the machine compares the words of two numbers
 pub same-bits : {x y : ℤ} → SFits w32 x → SFits w32 y → eqb (ofZ w32 x) (ofZ w32 y) ≡ eqZ x y
@@ -72,15 +69,9 @@ same-bits {x} {y} f g =
     (λ t. let e : x ≡ y = sym (toZ-ofZ f) ∙ ap (toZ w32) (eqb→eq (ofZ w32 x) (ofZ w32 y) t) ∙ toZ-ofZ g in rw e (eqZ-refl y))
     (λ t. rw (eqZ→eq x y t) (eqb-refl (ofZ w32 y)))
 
-is-cell : (w y : ℕ) → w < 4294967296 → y ≤ 4294967296 → bit (eqb y (suc w)) ≡ is (signedOf w) (cellEntry y)
-is-cell w zero h k = ap bit (eqb·zero-suc w)
-is-cell w (suc b) h k = ap bit (eqb·suc-suc b w ∙ sym (same-word w b h k))
-
 is-held : {x y : ℕ} {u : ℤ} {e : Entry} → CellOf x (Position u) → CellOf y e → bit (eqb y x) ≡ is u e
-is-held {x = zero} {y} {u} p q = absurd (not-null refl (p .entry))
-is-held {x = suc w} {y} {u} {e} p q =
-    let v : u ≡ signedOf w = same-position refl (p .entry) in
-    rw (v, ← q .entry) (is-cell w y (p .within) (q .within))
+is-held {u = u} {e = Null} p q = rw (q .cell, p .cell) (ap bit (eqb·zero-suc (wordOf u)))
+is-held {u = u} {e = Position v} p q = ap bit (same-cells p q)
 
 -- ---- the entry of a cell that is not 0
 
@@ -88,9 +79,9 @@ pub cell-mark : (x : ℕ) → (x ≡ 0 → ⊥) → 1 ≡ mark (cellEntry x)
 cell-mark zero h = absurd (h refl)
 cell-mark (suc w) h = refl
 
-pub cell-number : (x : ℕ) → (x ≡ 0 → ⊥) → x ≤ 4294967296 → signedOf ((x - 1) % 4294967296) ≡ number (cellEntry x)
-cell-number zero h l = absurd (h refl)
-cell-number (suc w) h l = ap signedOf (omega arith)
+pub cell-number : (x : ℕ) → (x ≡ 0 → ⊥) → signedOf ((x - 1) % 4294967296) ≡ number (cellEntry x)
+cell-number zero h = absurd (h refl)
+cell-number (suc w) h = let e : suc w - 1 ≡ w = omega arith in rw e
 
 pub cell-position : (x : ℕ) → (x ≡ 0 → ⊥) → Position (number (cellEntry x)) ≡ cellEntry x
 cell-position zero h = absurd (h refl)

@@ -3,14 +3,14 @@
 use mathlib.Core.Path.{_≡_, refl, ap, sym, _∙_}
 use mathlib.Core.Bool.{Bool, true, false, cond}
 use mathlib.Core.List.{List, []}
-use Prim.Native.Nat.{ℕ, _≤_, _<_}
+use Prim.Native.Nat.{ℕ, zero, suc, _≤_, _<_}
 use native.Mathlib.Omega.{arith}
 use mir.Syntax.{w32}
 use mir.Val.{Val}
 use denote.Laws.{Is}
 use borrow.Author.Needs.{elem-fits-field}
 use lib.IntN.{ℤ}
-use lib.ListN.{getD}
+use lib.ListN.{length, getD, length-set}
 use Rattle.terms.specs.declared.Entry.{Entry}
 use Rattle.terms.specs.declared.Entry.the-variants.{Null}
 use Rattle.marks.specs.Marks.{bitOf}
@@ -20,8 +20,8 @@ use Rattle.convergence.specs.Counting.{Each}
 use Rattle.convergence.specs.Trust.{nothing, confessed, gave, hasConfessed, saysOf}
 use Rattle.settle_trust.specs.declared.Links.{Links}
 use Rattle.settle_trust.specs.Received.{givenBy}
-use Rattle.settle_trust.specs.Cells.{marksGiven, marksOfLink, columnOf}
-use Rattle.settle_trust.proofs.Cells.{entry-unmarked}
+use Rattle.settle_trust.specs.Cells.{marksGiven, marksOfLink, marksTo, columnOf}
+use Rattle.settle_trust.proofs.Cells.{entry-unmarked, each-stored}
 use Rattle.settle_trust.proofs.Links.{the-row}
 
 module _ (g : Links) (lists : List (List ℤ)) (k : ℕ) where
@@ -49,10 +49,24 @@ module _ (g : Links) (lists : List (List ℤ)) (k : ℕ) where
       go false true = refl
       go false false = no-marks
 
--- what the lists say of head j, where their mark words are as the links gave them
-pub column-given : (g : Links) (lists : List (List ℤ)) (marks : List ℕ) (n j : ℕ) → Each n (λ k. getD marks k 0 ≡ marksOfLink g k)
+-- ---- the mark words of the first n links
+
+marks-long : (g : Links) (n : ℕ) → length (marksTo g n) ≡ 32
+unfolding marksTo
+marks-long g zero = refl
+marks-long g (suc k) = length-set (marksTo g k) k (marksOfLink g k) ∙ marks-long g k
+
+marks-read : (g : Links) (n : ℕ) → n ≤ 32 → Each n (λ k. getD (marksTo g n) k 0 ≡ marksOfLink g k)
+unfolding marksTo
+marks-read g zero size k l = absurd (omega arith)
+marks-read g (suc i) size k l =
+    each-stored (marksTo g i) i (marksOfLink g i) (λ j x. x ≡ marksOfLink g j) (omega (arith, marks-long g i)) (marks-read g i (omega arith)) refl k (omega arith)
+
+-- what the lists say of head j
+pub column-given : (g : Links) (lists : List (List ℤ)) {marks : List ℕ} (n j : ℕ) → n ≤ 32 → marks ≡ marksTo g n
     → Each n (λ k. columnOf marks lists j k ≡ saysOf j (givenBy g lists k))
-column-given g lists marks n j h k l = ap (λ (m : ℕ). entryAt m (getD lists k []) j) (h k l) ∙ says-given g lists k j
+column-given g lists n j size e k l =
+    ap (λ (m : List ℕ). columnOf m lists j k) e ∙ ap (λ (m : ℕ). entryAt m (getD lists k []) j) (marks-read g n size k l) ∙ says-given g lists k j
 
 -- ---- marks are words
 

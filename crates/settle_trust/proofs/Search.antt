@@ -8,7 +8,7 @@ use Prim.Native.Nat.{ℕ, zero, suc, _+_, _-_, _≤_, _<_}
 use native.Mathlib.Omega.{arith}
 use native.Mathlib.Numerals.{add-one}
 use native.Mathlib.Decide.{le-ind}
-use lib.Dec.{T, eqb, leb, eqb·suc-zero, eqb·suc-suc}
+use lib.Dec.{T, eqb, leb, eqb·suc-zero}
 use lib.IntN.{ℤ}
 use lib.ListN.{getD}
 use borrow.Author.Tests.{eq-eqb, ne-eqb, leb-true}
@@ -16,17 +16,17 @@ use Rattle.terms.specs.Positions.{eqZ}
 use Rattle.terms.specs.declared.Entry.{Entry}
 use Rattle.terms.specs.declared.Entry.the-variants.{Null, Position}
 use Rattle.terms.proofs.Whole.{eqZ→eq, eqZ-refl}
-use Rattle.fields.specs.Bytes.{signedOf}
+use Rattle.fields.specs.Bytes.{wordOf}
 use Rattle.convergence.specs.Counting.{sum, bit}
 use Rattle.convergence.specs.Trust.{is, Seen, none, one, many, pick, see, seeEntry, seen, choose}
 use Rattle.convergence.proofs.Sums.{bit-le}
-use Rattle.settle_trust.specs.Cells.{cellEntry, CellOf, HoldsEach, equalTo, isAnother, standsIn}
-use Rattle.settle_trust.proofs.Cells.{same-word, equal-held}
+use Rattle.settle_trust.specs.Cells.{CellOf, HoldsEach, equalTo, isAnother, standsIn}
+use Rattle.settle_trust.proofs.Cells.{holds-same, same-cells, equal-held}
 
--- what was seen, from the cell found
-abbrev pub seenOf : ℕ → Seen
-seenOf zero = none
-seenOf (suc w) = one (signedOf w)
+-- what was seen, from the entry found
+abbrev pub seenOf : Entry → Seen
+seenOf Null = none
+seenOf (Position u) = one u
 
 -- ---- a turn
 
@@ -36,38 +36,34 @@ turn-by-tests true false s = refl
 turn-by-tests false true s = refl
 turn-by-tests false false s = refl
 
--- the cell y is seen after x, where r says whether enough lists hold y
-see-cell : (ok : ℤ → Bool) (x y : ℕ) (r : Bool) → x ≤ 4294967296 → y ≤ 4294967296 → ((w : ℕ) → y ≡ suc w → ok (signedOf w) ≡ r)
-    → seeEntry ok (cellEntry y) (seenOf x) ≡ pick (not (eqb y 0) && (not (eqb y x) && r)) (pick (eqb x 0) (seenOf y) many) (seenOf x)
-see-cell ok x zero r h k o = refl
-see-cell ok zero (suc w) r h k o = rw (o w refl, eqb·suc-zero)
-see-cell ok (suc v) (suc w) r h k o =
-    rw (o w refl, eqb·suc-zero w, eqb·suc-suc, same-word v w h k, eqb·suc-zero v) (turn-by-tests (eqb w v) r (one (signedOf v)))
+-- the entry e is seen after d, where r says whether enough lists hold e
+see-cell : (ok : ℤ → Bool) {x y : ℕ} (d e : Entry) (r : Bool) → CellOf x d → CellOf y e → ((u : ℤ) → e ≡ Position u → ok u ≡ r)
+    → seeEntry ok e (seenOf d) ≡ pick (not (eqb y 0) && (not (eqb y x) && r)) (pick (eqb x 0) (seenOf e) many) (seenOf d)
+see-cell ok d Null r p q o = rw (q .cell)
+see-cell ok Null (Position u) r p q o = rw (o u refl, p .cell, q .cell, eqb·suc-zero)
+see-cell ok (Position v) (Position u) r p q o =
+    rw (o u refl, same-cells p q, q .cell, eqb·suc-zero (wordOf u), p .cell, eqb·suc-zero (wordOf v)) (turn-by-tests (eqZ v u) r (one v))
 
 module _ (n need : ℕ) (cells : List ℕ) (E : ℕ → Entry) (held : HoldsEach n cells E) where
-  reaches : (y w : ℕ) → y ≤ 4294967296 → y ≡ suc w → standsIn n need E (signedOf w) ≡ leb need (equalTo n cells y)
-  reaches y w h e =
-      let p : CellOf y (Position (signedOf w)) = record { within = h; entry = ap cellEntry e } in
-      ap (leb need) (sym (equal-held n cells E p held))
+  reaches : {y : ℕ} {e : Entry} → CellOf y e → (u : ℤ) → e ≡ Position u → standsIn n need E u ≡ leb need (equalTo n cells y)
+  reaches p u q = ap (leb need) (sym (equal-held n cells E (holds-same p q) held))
 
-  -- x was found among the first k cells, and cell k is y
-  module _ (x k : ℕ) (h : x ≤ 4294967296) (l : k < n) (q : seen (standsIn n need E) k E ≡ seenOf x) where
+  -- x is the cell of the entry d found among the first k, and cell k is y
+  module _ {x : ℕ} {d : Entry} (k : ℕ) (p : CellOf x d) (l : k < n) (q : seen (standsIn n need E) k E ≡ seenOf d) where
     abbrev y : ℕ
     y = getD cells k 0
 
-    turn : seen (standsIn n need E) (k + 1) E ≡ pick (isAnother n need cells x y) (pick (eqb x 0) (seenOf y) many) (seenOf x)
+    turn : seen (standsIn n need E) (k + 1) E ≡ pick (isAnother n need cells x y) (pick (eqb x 0) (seenOf (E k)) many) (seenOf d)
     unfolding seen
-    turn =
-        let d = held k l in
-        rw (add-one k, q, ← d .entry) (see-cell (standsIn n need E) x y (leb need (equalTo n cells y)) h (d .within) (λ w p. reaches y w (d .within) p))
+    turn = rw (add-one k, q) (see-cell (standsIn n need E) d (E k) (leb need (equalTo n cells y)) p (held k l) (reaches (held k l)))
 
-    pub turn-finds : isAnother n need cells x y ≡ true → x ≡ 0 → seen (standsIn n need E) (k + 1) E ≡ seenOf y
+    pub turn-finds : isAnother n need cells x y ≡ true → x ≡ 0 → seen (standsIn n need E) (k + 1) E ≡ seenOf (E k)
     turn-finds a e = turn ∙ rw (a, eq-eqb x 0 e)
 
     pub turn-finds-second : isAnother n need cells x y ≡ true → (x ≡ 0 → ⊥) → seen (standsIn n need E) (k + 1) E ≡ many
     turn-finds-second a e = turn ∙ rw (a, ne-eqb x 0 e)
 
-    pub turn-passes : isAnother n need cells x y ≡ false → seen (standsIn n need E) (k + 1) E ≡ seenOf x
+    pub turn-passes : isAnother n need cells x y ≡ false → seen (standsIn n need E) (k + 1) E ≡ seenOf d
     turn-passes a = turn ∙ rw a
 
 -- ---- the end
@@ -213,6 +209,6 @@ module _ (n need k : ℕ) (E : ℕ → Entry) (l : k ≤ n) (few : n - k < need)
   unfolding seen
   seen-early = le-ind (λ m. seen ok k E ≡ seen ok m E) refl (λ m i h. sym (nothing-new (E m)) ∙ ap (seeEntry ok (E m)) h) n l
 
-pub chosen-of : (x : ℕ) → cellEntry x ≡ choose false false (seenOf x)
-chosen-of zero = refl
-chosen-of (suc w) = refl
+pub chosen-of : (e : Entry) → e ≡ choose false false (seenOf e)
+chosen-of Null = refl
+chosen-of (Position u) = refl

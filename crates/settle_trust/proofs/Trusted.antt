@@ -5,9 +5,8 @@ use mathlib.Core.Bool.{Bool, true, false}
 use mathlib.Core.List.{List, [], _∷_}
 use Prim.Native.Nat.{ℕ, zero, suc, _+_, _-_, _≤_, min}
 use native.Mathlib.Omega.{arith}
-use lib.Dec.{leb}
+use lib.Dec.{eqb, leb}
 use lib.IntN.{ℤ}
-use lib.ListN.{getD}
 use borrow.Author.Tests.{eq-eqb, ne-eqb}
 use Rattle.terms.specs.declared.Entry.{Entry}
 use Rattle.terms.specs.declared.Entry.the-variants.{Null}
@@ -15,10 +14,10 @@ use Rattle.marks.specs.Marks.{bitOf, markedTo}
 use Rattle.convergence.specs.Counting.{Each, sum, bit}
 use Rattle.convergence.specs.Trust.{Given, nothing, confessed, gave, is, supports, support, hasConfessed, confessions, saysOf, none, seen, choose, trusted}
 use Rattle.marks.proofs.Marks.{bit-above}
-use Rattle.convergence.proofs.Sums.{sums-le, sum-same}
+use Rattle.convergence.proofs.Sums.{each-last, each-less, sums-le, sum-same}
 use Rattle.settle_trust.specs.declared.Links.{Links}
 use Rattle.settle_trust.specs.Received.{givenBy}
-use Rattle.settle_trust.specs.Cells.{marksOfLink, columnOf, CellOf, standsIn, agreed, decided}
+use Rattle.settle_trust.specs.Cells.{marksTo, columnOf, CellOf, standsIn, agreed, decided}
 use Rattle.marks.proofs.Counts.{first-32}
 use Rattle.settle_trust.proofs.Tests.{leb-rest, none-left}
 use Rattle.settle_trust.proofs.Cells.{holds-same}
@@ -61,6 +60,18 @@ module _ {confesses : Bool} (n need : ℕ) (E : ℕ → Entry) where
 
   pub decided-by-lists : confesses ≡ false → (need ≡ 0 → ⊥) → decided confesses n need E ≡ choose false false (agreed n need E)
   decided-by-lists e q = rw (e, ne-eqb need 0 q)
+
+-- ---- the first n entries decide
+
+seen-same : (ok : ℤ → Bool) (n : ℕ) (E E′ : ℕ → Entry) → Each n (λ k. E k ≡ E′ k) → seen ok n E ≡ seen ok n E′
+unfolding seen
+seen-same ok zero E E′ h = refl
+seen-same ok (suc n) E E′ h = cc (each-last h, seen-same ok n E E′ (each-less h))
+
+decided-same : (confesses : Bool) (n need : ℕ) (E E′ : ℕ → Entry) → Each n (λ k. E k ≡ E′ k) → decided confesses n need E ≡ decided confesses n need E′
+decided-same confesses n need E E′ h =
+    let ok : standsIn n need E ≡ standsIn n need E′ = fun-ext (λ u. ap (leb need) (sum-same n _ _ (λ k l. ap (is u) (h k l)))) in
+    ap (choose confesses (eqb need 0)) (ap (λ (t : ℤ → Bool). seen t n E) ok ∙ seen-same (standsIn n need E′) n E E′ h)
 
 -- ---- the first 32 links
 
@@ -112,10 +123,11 @@ module _ (g : Links) (lists : List (List ℤ)) (w : Words g) where
       rw (← confessed-given g lists j, e, agreed-first-32 need (λ k. saysOf j (G k)) (says-nothing j) n, q, confessions-marked n) (decided-trusted n f G j)
 
   -- the cell x that is decided from the lists and their marks holds the trusted entry
-  pub trusted-held : {m need x : ℕ} (marks : List ℕ) (n f j : ℕ) → m ≡ min n 32 → need ≡ n - f - markedTo (g .confessed) (min n 32) → Each (min n 32) (λ k. getD marks k 0 ≡ marksOfLink g k)
-      → ((E : ℕ → Entry) → Each m (λ k. columnOf marks lists j k ≡ E k) → CellOf x (decided (bitOf (g .confessed) j) m need E)) → CellOf x (trusted n f G j)
-  trusted-held {m} marks n f j e q h d =
-      holds-same (d (λ k. saysOf j (G k)) (column-given g lists marks m j (rw e h))) (trusted-decided n f j e q)
+  pub trusted-held : {m need x : ℕ} {marks : List ℕ} (n f j : ℕ) → m ≡ min n 32 → need ≡ n - f - markedTo (g .confessed) (min n 32) → marks ≡ marksTo g (min n 32)
+      → CellOf x (decided (bitOf (g .confessed) j) m need (columnOf marks lists j)) → CellOf x (trusted n f G j)
+  trusted-held {m} {need} n f j e q h d =
+      holds-same d
+      (decided-same (bitOf (g .confessed) j) m need _ _ (column-given g lists m j (omega arith) (h ∙ ap (marksTo g) (sym e))) ∙ trusted-decided n f j e q)
 
   -- no entry of a head from 32 on is trusted
   pub trusted-past : (n f j : ℕ) → 32 ≤ j → trusted n f G j ≡ Null

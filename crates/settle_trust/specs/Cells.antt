@@ -3,13 +3,13 @@
 use mathlib.Core.Path.{_≡_}
 use mathlib.Core.Bool.{Bool, true, false, not, _&&_}
 use mathlib.Core.List.{List, []}
-use Prim.Native.Nat.{ℕ, zero, suc, _≤_}
+use Prim.Native.Nat.{ℕ, zero, suc, _%_}
 use lib.Dec.{eqb, leb}
 use lib.IntN.{ℤ}
-use lib.ListN.{getD}
+use lib.ListN.{getD, set, replicate}
 use Rattle.terms.specs.declared.Entry.{Entry}
 use Rattle.terms.specs.declared.Entry.the-variants.{Null, Position}
-use Rattle.fields.specs.Bytes.{signedOf}
+use Rattle.fields.specs.Bytes.{signedOf, wordOf}
 use Rattle.marks.specs.Marks.{bitOf}
 use Rattle.entries.specs.Entries.{entryAt}
 use Rattle.convergence.specs.Counting.{Each, sum, bit}
@@ -25,18 +25,28 @@ marksGiven false false m = 0
 abbrev pub marksOfLink : Links → ℕ → ℕ
 marksOfLink g k = marksGiven (bitOf (g .confessed) k) (bitOf (g .listed) k) (getD (g .marks) k 0)
 
+-- the mark words of what the first n links gave, and 0 from there to 32
+unfoldable pub marksTo : Links → ℕ → List ℕ
+marksTo g zero = replicate 32 0
+marksTo g (suc k) = set (marksTo g k) k (marksOfLink g k)
+
 -- entry j of the list of link k
 abbrev pub columnOf : List ℕ → List (List ℤ) → ℕ → ℕ → Entry
 columnOf marks lists j k = entryAt (getD marks k 0) (getD lists k []) j
 
--- the entry that a cell holds: a position is held as one more than its word
+-- the cell of an entry: 0 for null, else one more than the word of the position
+abbrev pub cellFor : Entry → ℕ
+cellFor Null = 0
+cellFor (Position v) = suc (wordOf v)
+
+-- the entry that a cell holds
 abbrev pub cellEntry : ℕ → Entry
 cellEntry zero = Null
-cellEntry (suc w) = Position (signedOf w)
+cellEntry (suc w) = Position (signedOf (w % 4294967296))
 
--- the number x is the cell of the entry e
+-- x is the cell of the entry e, and e is read back from it, as is every position of 32 bits
 pub record CellOf (x : ℕ) (e : Entry) : Type 0 where
-  pub within : x ≤ 4294967296
+  pub cell : x ≡ cellFor e
   pub entry : cellEntry x ≡ e
 
 -- the first n cells of a column are those of the entries E

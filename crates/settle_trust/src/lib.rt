@@ -1,12 +1,11 @@
 // What the links gave in a confession round, as the search for the trusted entries holds it: mark words, and each entry as one number.
 ghost use mathlib.Core.Path.{_≡_};
 ghost use Prim.Native.Nat.{_+_, _-_, _≤_, _<_, min, ℕ};
-ghost use lib.ListN.{getD, length};
+ghost use lib.ListN.{length};
 ghost use Rattle.marks.specs.Marks.{markedTo, bitOf};
 ghost use Rattle.entries.specs.Entries.{entryAt};
 ghost use Rattle.entries.specs.Tables.{mark, number, tableOf};
-ghost use Rattle.convergence.specs.Counting.{Each};
-ghost use Rattle.settle_trust.specs.Cells.{marksGiven, marksOfLink, cellEntry, CellOf, columnOf, HoldsEach, equalTo, isAnother, agreed, decided};
+ghost use Rattle.settle_trust.specs.Cells.{marksGiven, marksTo, cellFor, cellEntry, CellOf, columnOf, HoldsEach, equalTo, isAnother, agreed, decided};
 ghost use mathlib.Core.Bool.{false};
 ghost use Rattle.convergence.specs.Trust.{support, trusted, choose};
 ghost use Rattle.settle_trust.specs.Received.{givenBy};
@@ -20,12 +19,17 @@ pub struct Links {
     pub marks: [u32; 32],
 }
 
-// How many links are looked at: those from 32 on gave nothing.
+// How many of n links are looked at: those from 32 on gave nothing.
+fn first_32(n: usize) -> usize
+    ensures { λ r. ⌜ r ≡ min n 32 ⌝ }
+{
+    if 32 < n { 32 } else { n }
+}
+
 pub fn link_count(n: u8) -> usize
     ensures { λ r. ⌜ r ≡ min n 32 ⌝ }
 {
-    let count = n as usize;
-    if 32 < count { 32 } else { count }
+    first_32(n as usize)
 }
 
 // How many lists have to agree on a position for it to be trusted; 0 where the confessions alone reach n - f.
@@ -42,7 +46,7 @@ pub fn lists_needed(confessed: u32, n: u8, f: u8) -> usize
 
 // The cell of a position: one more than its word. The cell of a null entry is 0.
 pub fn cell_of(v: i32) -> u64
-    ensures { λ r. ⌜ CellOf r (Entry.Position v) ⌝ }
+    ensures { λ r. ⌜ r ≡ cellFor (Entry.Position v) ⌝ }
 {
     1 + fields::unsigned(v) as u64
 }
@@ -57,9 +61,9 @@ fn marks_given(confessed: bool, listed: bool, m: u32) -> u32
     if listed { m } else { 0 }
 }
 
-// The mark words of what the first n links gave.
+// The mark words of what the first n links gave, and 0 from there on.
 pub fn all_marks(links: Links, n: u8) -> [u32; 32]
-    ensures { λ r. ⌜ Each (min n 32) (λ k. getD r k 0 ≡ marksOfLink links k) ⌝ }
+    ensures { λ r. ⌜ r ≡ marksTo links (min n 32) ⌝ }
 {
     let count = link_count(n);
     let mut marks = [0u32; 32];
@@ -94,7 +98,7 @@ pub fn mark_of(x: u64) -> u32
 
 // The number of the entry that a cell holds.
 pub fn number_of(x: u64) -> i32
-    ensures { λ r. ⌜ (x ≤ 4294967296 → r ≡ number (cellEntry x)) ⌝ }
+    ensures { λ r. ⌜ r ≡ number (cellEntry x) ⌝ }
 {
     if x == 0 {
         0
@@ -166,7 +170,7 @@ fn only(cells: &[u64; 32], n: usize, need: usize) -> u64
     found
 }
 
-// The cell of trusted entry j among n links, 32 at most, from their lists, the mark words of these, and how many of them have to agree.
+// The cell of trusted entry j among the first n links, from their lists, the mark words of these, and how many of them have to agree.
 pub fn trusted_cell(
     lists: &[[i32; 32]; 32],
     marks: &[u32; 32],
@@ -175,20 +179,18 @@ pub fn trusted_cell(
     need: usize,
     j: usize,
 ) -> u64
-    ensures { λ r. ⌜ (n ≤ 32 → (E : ℕ → Entry) → Each n (λ k. columnOf (now (marks .entry)) (now (lists .entry)) j k ≡ E k) → CellOf r (decided (bitOf confessed j) n need E)) ⌝ }
+    ensures { λ r. ⌜ CellOf r (decided (bitOf confessed j) (min n 32) need (columnOf (now (marks .entry)) (now (lists .entry)) j)) ⌝ }
 {
     if marks::marked(confessed, j) {
-        return 0;
-    }
-    if 32 < n {
         return 0;
     }
     if need == 0 {
         return 0;
     }
+    let count = first_32(n);
     let mut cells = [0u64; 32];
-    column(lists, marks, n, j, &mut cells);
-    only(&cells, n, need)
+    column(lists, marks, count, j, &mut cells);
+    only(&cells, count, need)
 }
 
 // The support of the position u for head j among n links.

@@ -2,10 +2,12 @@
 use mathlib.Core.Path.{sym, _∙_}
 use Prim.Native.Nat.{ℕ, _≤_}
 use native.Mathlib.Omega.{arith}
+use native.Mathlib.Nat.{min-eq-left}
 use denote.Ref.{now}
 use borrow.Author.Needs.{needs}
 use lib.Dec.{eqb}
 use lib.ListN.{getD}
+use Rattle.settle_trust.specs.Cells.{columnOf}
 use Rattle.settle_position.specs.Reference.{isApart, agrees}
 use Rattle.marks.proofs.Counts.{bits-le}
 use Rattle.settle_trust.proofs.Cells.{holds-null, holds-same}
@@ -17,7 +19,8 @@ use Rattle.settle_position.proofs.cell_by.Tie as tie
 returns : tie.Need-returns
 returns c =
     let a = c .before .before .args in
-    λ E h. holds-same holds-null (sym (decided-confessed (a .n) (a .need) E (sym (c .before .marked .ensures) ∙ c .if1 .taken)))
+    let E = columnOf (now (a .marks)) (now (a .lists)) (a .j) in
+    holds-same holds-null (sym (decided-confessed (a .n) (a .need) E (sym (c .before .marked .ensures) ∙ c .if1 .taken)))
 
 -- the counts are of 32 links at most
 module _ (s : tie.Start) where
@@ -44,8 +47,7 @@ returns-2 c =
     let i = e .before .before .before in
     let s = i .before .before in
     let a = s .args in
-    λ E h.
-    led-decided (a .n) (a .need) (now (a .marks)) (now (a .lists)) (a .reference) (a .j) E h (sym (i .before .marked .ensures) ∙ i .if1 .left)
+    led-decided (a .n) (a .need) (now (a .marks)) (now (a .lists)) (a .reference) (a .j) (sym (i .before .marked .ensures) ∙ i .if1 .left)
     (s .pre .3) (s .pre .4) (s .pre .5) (e .entry-cell .ensures) (d .decides .ensures (c .if2 .taken))
 
 lacks-requires : tie.Need-lacks-requires
@@ -58,12 +60,11 @@ returns-3 c =
     let i = e .before .before .before in
     let s = i .before .before in
     let a = s .args in
-    λ E h.
-    led-lacks (a .n) (a .need) (now (a .marks)) (now (a .lists)) (a .reference) (a .j) E h (sym (i .before .marked .ensures) ∙ i .if1 .left)
+    led-lacks (a .n) (a .need) (now (a .marks)) (now (a .lists)) (a .reference) (a .j) (sym (i .before .marked .ensures) ∙ i .if1 .left)
     (s .pre .3) (s .pre .4) (s .pre .5) (e .entry-cell .ensures) (d .lacks .ensures (c .if3 .taken))
 
 returns-4 : tie.Need-returns-4
-returns-4 c = c .trusted-cell .ensures (omega arith)
+returns-4 c = let s = c .before .before .before .before .before .before .before .before .before .before in rw (min-eq-left (s .pre .0)) at (c .trusted-cell .ensures)
 
 pub cell-by-spec : {M : Type 1} → statement M
 cell-by-spec =

@@ -65,8 +65,8 @@ module _ (c : tie.After-cell-by Inv-loop μ-loop) where
   held : CellOf (c .cell-by .result) (entries (here .loop .j))
   held =
       let a = start .args in
-      trusted-held (a .links) (now (a .lists)) (words (a .links) (start .good .1 .0)) (given .all-marks .result) (a .n) (a .f) (here .loop .j)
-      (counted .link-count .ensures) (counted .before .lists-needed .ensures) (given .all-marks .ensures) (c .cell-by .ensures)
+      trusted-held (a .links) (now (a .lists)) (words (a .links) (start .good .1 .0)) (a .n) (a .f) (here .loop .j) (counted .link-count .ensures)
+      (counted .before .lists-needed .ensures) (given .all-marks .ensures) (c .cell-by .ensures)
 
 add-len : tie.Need-add-len Inv-loop μ-loop
 add-len c =
@@ -83,7 +83,7 @@ loop-again c =
     (λ w. (
       search needs,
       rw (w .4, w .5) (position-held (entries t) (l .j) (l .inv .1) h
-          (sym e ∙ sym (cell-position (t .cell-by .result) (w .0 .taken)) ∙ ap Position (sym (w .2 .ensures (held t .within))))
+          (sym e ∙ sym (cell-position (t .cell-by .result) (w .0 .taken)) ∙ ap Position (sym (w .2 .ensures)))
           (w .3 .ensures ∙ put-read _ _ (record { sfits = w .2 .ok }) ∙ behind-inserts _ _ _ (held-in-order (l .inv .1) (in-order (l .j) (entries t))))),
     ))
     (λ w. (search needs, rw (w .1, w .2) (null-held (entries t) (l .j) (l .inv .1) (sym e ∙ ap cellEntry (w .0 .left)))))

@@ -1,39 +1,39 @@
--- `settle_trust::all_marks` meets its contract: after k turns the first k words are those of the first k links. A turn stores one word and leaves the others.
-use mathlib.Core.Path.{_≡_, refl, ap₂, _∙_}
+-- `settle_trust::all_marks` meets its contract: after k turns the words are those of the first k links. A turn stores one.
+use mathlib.Core.Path.{_≡_, refl, ap, ap₂, _∙_}
 use mathlib.Core.Bool.{Bool}
-use Prim.Native.Nat.{_-_, _≤_}
+use mathlib.Core.List.{List}
+use Prim.Native.Nat.{ℕ, _-_, _≤_, min}
 use native.Mathlib.Omega.{arith}
+use native.Mathlib.Numerals.{add-one}
 use borrow.Author.Needs.{needs}
-use lib.ListN.{length, getD, length-set}
-use Rattle.convergence.specs.Counting.{Each}
-use Rattle.settle_trust.specs.Cells.{marksGiven, marksOfLink}
-use Rattle.settle_trust.proofs.Cells.{each-stored}
+use lib.ListN.{getD, set}
+use Rattle.settle_trust.specs.Cells.{marksGiven, marksTo}
 use Rattle.settle_trust.proofs.all_marks.Statement.{statement}
 use Rattle.settle_trust.proofs.all_marks.Tie as tie
 
 abbrev Inv-loop : tie.InvT-loop
-Inv-loop n links count marks₀ k₀ marks k = (k ≤ count) × (length marks ≡ 32) × Each k (λ i. getD marks i 0 ≡ marksOfLink links i)
+Inv-loop n links count marks₀ k₀ marks k = (k ≤ count) × (marks ≡ marksTo links k)
 
 abbrev μ-loop : tie.MeasureT-loop
 μ-loop n links count marks₀ k₀ marks k = count - k
 
 loop-holds : tie.Need-loop-holds Inv-loop μ-loop
-loop-holds c = (search needs, refl, λ i l. absurd (omega arith))
+unfolding marksTo
+loop-holds c = (search needs, refl)
 
 loop-again : tie.Need-loop-again Inv-loop μ-loop
+unfolding marksTo
 loop-again c =
     let d = c .before .before in
     let l = d .before .before .before .loop in
     let g = d .before .before .before .before .before .args .t1 in
-    let m = getD (g .marks) (l .k) 0 in (
-      search needs,
-      simp length-set (l .inv .1),
-      each-stored (l .marks) (l .k) (c .marks-given .result) (λ i x. x ≡ marksOfLink g i) (omega arith) (l .inv .2)
-          (c .marks-given .ensures ∙ ap₂ (λ (a b : Bool). marksGiven a b m) (d .before .marked .ensures) (d .marked2 .ensures)),
-    )
+    let e = c .marks-given .ensures ∙ ap₂ (λ (a b : Bool). marksGiven a b (getD (g .marks) (l .k) 0)) (d .before .marked .ensures) (d .marked2 .ensures) in
+    (search needs, rw (add-one (l .k)) (ap₂ (λ (w : List ℕ) (x : ℕ). set w (l .k) x) (l .inv .1) e))
 
 returns : tie.Need-returns Inv-loop μ-loop
-returns c = λ i h. c .before .loop .inv .2 i (omega (arith, c .before .before .link-count .ensures))
+returns c =
+    let e : c .before .loop .k ≡ min (c .before .before .before .args .n) 32 = omega (arith, c .before .before .link-count .ensures) in
+    c .before .loop .inv .1 ∙ ap (marksTo _) e
 
 pub all-marks-spec : {M : Type 1} → statement M
 all-marks-spec =

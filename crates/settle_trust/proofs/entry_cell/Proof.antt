@@ -1,12 +1,10 @@
 -- `settle_trust::entry_cell` meets its contract: an entry that is marked is read from the list, and one that is not marked is null. No entry from 32 on is
 -- marked, since a word has no such bit.
-use mathlib.Core.Path.{ap, sym, _∙_}
-use mir.Facts.{toZ-ofZ}
+use mathlib.Core.Path.{sym, _∙_}
 use denote.Ref.{now}
 use borrow.Author.Needs.{needs}
 use Rattle.marks.proofs.Marks.{bit-above}
-use Rattle.terms.specs.declared.Entry.the-variants.{Position}
-use Rattle.settle_trust.proofs.Cells.{holds-null, holds-same, entry-marked, entry-unmarked}
+use Rattle.settle_trust.proofs.Cells.{holds-position, holds-null, holds-same, entry-marked, entry-unmarked}
 use Rattle.settle_trust.proofs.entry_cell.Statement.{statement}
 use Rattle.settle_trust.proofs.entry_cell.Tie as tie
 
@@ -14,8 +12,8 @@ returns : tie.Need-returns
 returns c =
     let b = c .before .before .before .before in
     let a = b .before .args in
-    holds-same (c .cell-of .ensures)
-    (ap Position (toZ-ofZ (record { sfits = c .before .cell-of-arg .given })) ∙ sym (entry-marked (a .m) (now (a .list)) (a .j) (sym (b .marked .ensures) ∙ c .before .before .before .if1 .taken)))
+    holds-same (holds-position (record { sfits = c .before .cell-of-arg .given }) (c .cell-of .ensures))
+    (sym (entry-marked (a .m) (now (a .list)) (a .j) (sym (b .marked .ensures) ∙ c .before .before .before .if1 .taken)))
 
 returns-2 : tie.Need-returns-2
 returns-2 c =

@@ -1,4 +1,4 @@
--- `settle_trust::number_of` meets its contract: a cell that is not 0 is one more than the word of its position, and a word is below 2^32.
+-- `settle_trust::number_of` meets its contract: a cell that is not 0 is one more than the word of its position.
 use mathlib.Core.Path.{ap, sym, _∙_}
 use mir.Facts.{toZ-ofZ}
 use borrow.Author.Needs.{needs}
@@ -9,10 +9,10 @@ use Rattle.settle_trust.proofs.number_of.Statement.{statement}
 use Rattle.settle_trust.proofs.number_of.Tie as tie
 
 returns : tie.Need-returns
-returns c = λ h. ap (λ x. number (cellEntry x)) (sym (c .if1 .taken))
+returns c = ap (λ x. number (cellEntry x)) (sym (c .if1 .taken))
 
 returns-2 : tie.Need-returns-2
-returns-2 c = λ h. toZ-ofZ (record { sfits = c .signed .ok }) ∙ c .signed .ensures ∙ cell-number (c .before .before .args .x) (c .before .if1 .left) h
+returns-2 c = toZ-ofZ (record { sfits = c .signed .ok }) ∙ c .signed .ensures ∙ cell-number (c .before .before .args .x) (c .before .if1 .left)
 
 pub number-of-spec : {M : Type 1} → statement M
 number-of-spec = tie.close (tie.spec (λ c. search needs) (λ c. search needs) (λ c κs. search needs) returns returns-2)

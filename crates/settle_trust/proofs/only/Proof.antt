@@ -11,7 +11,7 @@ use borrow.Author.Needs.{needs}
 use lib.ListN.{getD}
 use Rattle.terms.specs.declared.Entry.{Entry}
 use Rattle.convergence.specs.Trust.{many, seen, choose}
-use Rattle.settle_trust.specs.Cells.{HoldsEach, standsIn}
+use Rattle.settle_trust.specs.Cells.{cellEntry, CellOf, HoldsEach, standsIn}
 use Rattle.settle_trust.proofs.Cells.{holds-null, holds-same}
 use Rattle.settle_trust.proofs.Search.{seenOf, turn-finds, turn-finds-second, turn-passes, many-stays, seen-early, chosen-of}
 use Rattle.settle_trust.proofs.only.Statement.{statement}
@@ -19,14 +19,14 @@ use Rattle.settle_trust.proofs.only.Tie as tie
 
 abbrev Inv-loop : tie.InvT-loop
 Inv-loop cells n need found₀ k₀ found k =
-    (k ≤ n) × ((E : ℕ → Entry) → HoldsEach n cells E → (found ≤ 4294967296) × (seen (standsIn n need E) k E ≡ seenOf found))
+    (k ≤ n) × ((E : ℕ → Entry) → HoldsEach n cells E → CellOf found (cellEntry found) × (seen (standsIn n need E) k E ≡ seenOf (cellEntry found)))
 
 abbrev μ-loop : tie.MeasureT-loop
 μ-loop cells n need found₀ k₀ found k = n - k
 
 loop-holds : tie.Need-loop-holds Inv-loop μ-loop
 unfolding seen
-loop-holds c = (search needs, λ E h. (search needs, refl))
+loop-holds c = (search needs, λ E h. (holds-null, refl))
 
 mul-x : tie.Need-mul-x Inv-loop μ-loop
 mul-x c = omega arith
@@ -58,20 +58,20 @@ module _ (c : tie.After-is-another Inv-loop μ-loop) where
   inside = omega arith
 
   module _ (E : ℕ → Entry) (held : HoldsEach n cells E) where
-    finds : c .is-another .result ≡ true → found ≡ 0 → seen (standsIn n need E) (k + 1) E ≡ seenOf (getD cells k 0)
+    finds : c .is-another .result ≡ true → found ≡ 0 → seen (standsIn n need E) (k + 1) E ≡ seenOf (cellEntry (getD cells k 0))
     finds t e =
         let i = here .loop .inv .1 E held in
-        turn-finds n need cells E held found k (i .0) inside (i .1) (sym (c .is-another .ensures) ∙ t) e
+        turn-finds n need cells E held k (i .0) inside (i .1) (sym (c .is-another .ensures) ∙ t) e ∙ ap seenOf (sym (held k inside .entry))
 
     finds-second : c .is-another .result ≡ true → (found ≡ 0 → ⊥) → seen (standsIn n need E) (k + 1) E ≡ many
     finds-second t e =
         let i = here .loop .inv .1 E held in
-        turn-finds-second n need cells E held found k (i .0) inside (i .1) (sym (c .is-another .ensures) ∙ t) e
+        turn-finds-second n need cells E held k (i .0) inside (i .1) (sym (c .is-another .ensures) ∙ t) e
 
-    passes : c .is-another .result ≡ false → seen (standsIn n need E) (k + 1) E ≡ seenOf found
+    passes : c .is-another .result ≡ false → seen (standsIn n need E) (k + 1) E ≡ seenOf (cellEntry found)
     passes t =
         let i = here .loop .inv .1 E held in
-        turn-passes n need cells E held found k (i .0) inside (i .1) (sym (c .is-another .ensures) ∙ t)
+        turn-passes n need cells E held k (i .0) inside (i .1) (sym (c .is-another .ensures) ∙ t)
 
 returns : tie.Need-returns Inv-loop μ-loop
 returns c =
@@ -93,8 +93,8 @@ loop-again c =
       omega (arith, inside t),
       λ E h.
           ⊎-elim
-          (λ w. (omega (arith, w .2, h (k t) (inside t) .within), finds t E h (w .0 .taken) (w .1 .left) ∙ ap seenOf (sym (w .2))))
-          (λ w. (omega (arith, w .1, here t .loop .inv .1 E h .0), passes t E h (w .0 .left) ∙ ap seenOf (sym (w .1))))
+          (λ w. let d = h (k t) (inside t) in rw (w .2) (holds-same d (sym (d .entry)), finds t E h (w .0 .taken) (w .1 .left)))
+          (λ w. rw (w .1) (here t .loop .inv .1 E h .0, passes t E h (w .0 .left)))
           (c .if1 .came),
     )
 
@@ -104,10 +104,7 @@ returns-2 c =
     let a = c .before .before .args in
     λ E h.
     let i = l .inv .1 E h in
-    record {
-      within = i .0;
-      entry = chosen-of (l .found) ∙ ap (choose false false) (sym (i .1) ∙ seen-early (a .n) (a .need) (l .k) E (l .inv .0) (c .loop-test .left));
-    }
+    holds-same (i .0) (chosen-of (cellEntry (l .found)) ∙ ap (choose false false) (sym (i .1) ∙ seen-early (a .n) (a .need) (l .k) E (l .inv .0) (c .loop-test .left)))
 
 pub only-spec : {M : Type 1} → statement M
 only-spec =

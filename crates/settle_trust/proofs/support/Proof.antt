@@ -1,20 +1,19 @@
 -- `settle_trust::support` meets its contract: a link supports u by a confession, or by a list whose entry j has the cell of u. Each is counted by itself, at
 -- most 32 of each, so that the sum fits.
-use mathlib.Core.Path.{ap, _∙_}
+use mathlib.Core.Path.{ap, sym, _∙_}
 use mathlib.Core.Bool.{Bool}
 use Prim.Native.Nat.{ℕ, _+_}
 use native.Mathlib.Omega.{arith}
-use mir.Facts.{toZ-ofZ}
 use borrow.Author.Needs.{needs}
 use lib.Dec.{eqb}
 use lib.ListN.{getD}
 use Rattle.terms.specs.declared.Entry.{Entry}
-use Rattle.terms.specs.declared.Entry.the-variants.{Position}
 use Rattle.convergence.specs.Trust.{saysOf}
 use Rattle.settle_trust.specs.Received.{givenBy}
+use Rattle.settle_trust.specs.Cells.{marksTo}
 use Rattle.marks.specs.Marks.{bitOf, markedTo}
 use Rattle.marks.proofs.Counts.{bits-le}
-use Rattle.settle_trust.proofs.Cells.{holds-same, equal-held}
+use Rattle.settle_trust.proofs.Cells.{holds-position, holds-same, equal-held}
 use Rattle.settle_trust.proofs.Received.{column-given, words}
 use Rattle.settle_trust.proofs.Trusted.{support-counted}
 use Rattle.settle_trust.proofs.support.Statement.{statement}
@@ -57,8 +56,9 @@ returns c =
     let a = s .args in
     let m = counted c .link-count .result in
     let E : ℕ → Entry = λ k. saysOf (a .j) (givenBy (a .links) (a .t1) k) in
-    let q = column-given (a .links) (a .t1) (given c .all-marks .result) m (a .j) (λ k l. given c .all-marks .ensures k (omega (arith, counted c .link-count .ensures))) in
-    let x = holds-same (c .before .cell-of .ensures) (ap Position (toZ-ofZ (s .fits .u))) in
+    let e = counted c .link-count .ensures in
+    let q = column-given (a .links) (a .t1) m (a .j) (omega arith) (given c .all-marks .ensures ∙ ap (marksTo (a .links)) (sym e)) in
+    let x = holds-position (s .fits .u) (c .before .cell-of .ensures) in
     ap (λ (k : ℕ). k + c .equal-to .result) (confessed c .marked-to .ensures)
     ∙ ap (λ (k : ℕ). markedTo (a .links .confessed) m + k)
     (c .equal-to .ensures ∙ equal-held m (filled c .column .last .1 .1 .1 .1 .0) E x (λ k l. holds-same (filled c .column .ensures k l) (q k l)))

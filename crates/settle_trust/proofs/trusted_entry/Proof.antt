@@ -27,8 +27,8 @@ module _ (c : tie.After-trusted-cell) where
   held : CellOf (c .trusted-cell .result) (trusted (start .args .n) (start .args .f) (givenBy (start .args .links) (start .args .t1)) (start .args .j))
   held =
       let a = start .args in
-      trusted-held (a .links) (a .t1) (words (a .links) (start .good .1 .0)) (given .all-marks .result) (a .n) (a .f) (a .j)
-      (counted .link-count .ensures) (counted .before .lists-needed .ensures) (given .all-marks .ensures) (c .trusted-cell .ensures (omega (arith, counted .link-count .ensures)))
+      trusted-held (a .links) (a .t1) (words (a .links) (start .good .1 .0)) (a .n) (a .f) (a .j) (omega (arith, counted .link-count .ensures))
+      (counted .before .lists-needed .ensures) (given .all-marks .ensures) (c .trusted-cell .ensures)
 
 returns : tie.Need-returns
 returns c = ap cellEntry (sym (c .if1 .taken)) ∙ held (c .before) .entry
@@ -36,7 +36,7 @@ returns c = ap cellEntry (sym (c .if1 .taken)) ∙ held (c .before) .entry
 returns-2 : tie.Need-returns-2
 returns-2 c =
     let t = c .before .before in
-    ap Position (toZ-ofZ (record { sfits = c .number-of .ok }) ∙ c .number-of .ensures (held t .within)) ∙ cell-position (t .trusted-cell .result) (c .before .if1 .left) ∙ held t .entry
+    ap Position (toZ-ofZ (record { sfits = c .number-of .ok }) ∙ c .number-of .ensures) ∙ cell-position (t .trusted-cell .result) (c .before .if1 .left) ∙ held t .entry
 
 pub trusted-entry-spec : {M : Type 1} → statement M
 trusted-entry-spec =

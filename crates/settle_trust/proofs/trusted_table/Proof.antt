@@ -48,8 +48,8 @@ module _ (c : tie.After-trusted-cell Inv-loop μ-loop) where
   held : CellOf (c .trusted-cell .result) (entries (here .loop .j))
   held =
       let a = start .args in
-      trusted-held (a .links) (a .t1) (words (a .links) (start .good .1 .0)) (given .all-marks .result) (a .n) (a .f) (here .loop .j)
-      (counted .link-count .ensures) (counted .before .lists-needed .ensures) (given .all-marks .ensures) (c .trusted-cell .ensures (omega (arith, counted .link-count .ensures)))
+      trusted-held (a .links) (a .t1) (words (a .links) (start .good .1 .0)) (a .n) (a .f) (here .loop .j) (omega (arith, counted .link-count .ensures))
+      (counted .before .lists-needed .ensures) (given .all-marks .ensures) (c .trusted-cell .ensures)
 
 add-marks : tie.Need-add-marks Inv-loop μ-loop
 add-marks c =
@@ -64,7 +64,7 @@ loop-again c =
     let l = here t .loop in (
       search needs,
       marks-next (entries t) (l .j) (omega (arith, counted t .link-count .ensures)) (l .inv .1) (m .mark-of .ensures ∙ ap mark (held t .entry)),
-      numbers-next (entries t) (l .j) (l .inv .2) (toZ-ofZ (record { sfits = c .number-of .ok }) ∙ c .number-of .ensures (held t .within) ∙ ap number (held t .entry)),
+      numbers-next (entries t) (l .j) (l .inv .2) (toZ-ofZ (record { sfits = c .number-of .ok }) ∙ c .number-of .ensures ∙ ap number (held t .entry)),
     )
 
 returns : tie.Need-returns Inv-loop μ-loop
