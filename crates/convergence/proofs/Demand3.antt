@@ -55,7 +55,7 @@ module _ (n f : ℕ) (e : End) (F : Faults) (L : Limits n f (F .collect) (F .con
     before-inside : Between n (e .struck) before m M
     before-inside j l s = held-between m M (e .at j) (I j l s)
 
-  -- at heads 0 .. n - 1 and any number of listeners
+  -- at the heads and any receivers after them
   pub nearer : (N r : ℕ) → r ≤ 1 → Nearer n N f (Halves n f) e (after r n f e F)
   unfolding after
   nearer N r small =
@@ -86,12 +86,12 @@ module _ (n f : ℕ) (size : AcceptedSize n f) (v : ℕ → ℤ) (F : ℕ → Fa
   limits : (p : ℕ) → AtMost f n (end p .struck) → Limits n f (F (suc p) .collect) (F (suc p) .confess) (end p .struck)
   limits p few = record { size = size; few-c = within (suc p) .0; few-d = within (suc p) .1; few-p = few }
 
-  run : (K : ℕ) → Run n f K (Halves n f) (λ p. n) end
+  run : (K : ℕ) → Run n n f K (Halves n f) end
   unfolding endAfter start
   run K =
       record {
         large = omega arith;
-        more = λ p. le-refl n;
+        more = le-refl n;
         few = omega (arith, sum-none n);
         holds = λ j l s. refl;
         step = λ p h few. nearer n f (end p) (F (suc p)) (limits p few) n (rounding (suc p)) (rounding-le (suc p));
@@ -110,5 +110,4 @@ module _ (n f : ℕ) (size : AcceptedSize n f) (v : ℕ → ℤ) (F : ℕ → Fa
     something-kept = some-kept-in-phase n f (end p) (F (suc p)) (limits p few-struck) (holds-at (run p) p (le-refl p)) i
 
 pub converges : Converges
-converges n f size v F within p k =
-    let c = any-two (run n f size v F within (p + k)) p k (le-refl (p + k)) in record { range = c .range; halving = c .halving }
+converges n f size v F within p k = any-two (run n f size v F within (p + k)) p k (le-refl (p + k))

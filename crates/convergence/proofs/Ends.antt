@@ -1,4 +1,4 @@
--- Phase ends, whatever made them. Where each end is nearer than the one before (`Nearer`), any two of them are as demand 3 says (`any-two`): a range
+-- Phase ends, whatever made them. If each end is nearer than the one before (`Nearer`), any two of them are as demand 3 says (`any-two`): a range
 -- once kept is kept, and halving k times, each time rounded up, is dividing by 2 to the power k. Lowest and highest are found alike: a sound head
 -- holds what is found, and none holds a better position.
 use mathlib.Core.Path.{_≡_, refl}
@@ -17,7 +17,7 @@ use Rattle.terms.specs.declared.Entry.the-variants.{Null, Position}
 use Rattle.terms.proofs.Whole.{arithZ, leZ-fail, gap-lin, sum-lin, pos-lin}
 use Rattle.convergence.specs.Counting.{Each, bit, AtMost}
 use Rattle.convergence.specs.Phases.{End, lesser, greater, join, soundAt, lowest, highest, spread}
-use Rattle.convergence.specs.Demand3.{halved, HeldBetween}
+use Rattle.convergence.specs.Demand3.{halved, HeldBetween, Demand3}
 use Rattle.convergence.proofs.Sums.{each-more, sums-le, sum-one}
 use Rattle.convergence.proofs.Support.{not-null, same-position}
 use Rattle.convergence.proofs.Halves.{halved-zero, halved-suc}
@@ -97,7 +97,7 @@ abbrev pub number : Entry → ℤ
 number Null = pos 0
 number (Position u) = u
 
--- each sound head or listener among 0 .. n - 1 holds a position
+-- each sound receiver among 0 .. n - 1 holds a position
 abbrev pub AllHold : ℕ → End → Type 0
 AllHold n e = Each n (λ i. e .struck i ≡ false → e .at i ≡ Position (number (e .at i)))
 
@@ -118,7 +118,7 @@ pub sound-holds : (b : Bool) (x : Entry) (u : ℤ) → cond b Null x ≡ Positio
 sound-holds true x u q = absurd (not-null refl q)
 sound-holds false x u q = q
 
--- the lowest and the highest of n heads and listeners
+-- the lowest and the highest of n receivers
 record Bounds (n : ℕ) (e : End) : Type 0 where
   low : ℤ
   high : ℤ
@@ -129,7 +129,7 @@ record Bounds (n : ℕ) (e : End) : Type 0 where
   high-held : Held n e high
   inside : Inside n e low high
 
--- N heads and listeners, where at most f of the first n are struck, and f is below n: not all are
+-- N receivers, at most f of the first n struck, and f below n: not all are
 bounds : (n N f : ℕ) (e : End) → AtMost f n (e .struck) → f < n → n ≤ N → AllHold N e → Bounds N e
 bounds n N f e few large more H = go (lowest N e) refl (best-lowest N e) (highest N e) refl (best-highest N e)
   where
@@ -163,49 +163,44 @@ bounds n N f e few large more H = go (lowest N e) refl (best-lowest N e) (highes
 
 -- ---- from one end to the next, and to any later one
 
--- Heads 0 .. n - 1 with the struck limit f, and listeners n .. N - 1: each of them that is not struck holds a position, and between the bounds of
--- before; any two of them are near where Q holds.
+-- Receivers 0 .. N - 1, of which 0 .. n - 1 are the heads, with the struck limit f: each receiver that is not struck holds a position, and between the
+-- bounds of the heads of before; any two of them are near if Q holds.
 pub record Nearer (n N f : ℕ) (Q : Type 0) (e e′ : End) : Type 0 where
   pub few : AtMost f n (e′ .struck)
   pub between : (m M : ℤ) → Inside n e m M → Inside N e′ m M
   pub near : Q → (m M : ℤ) → Inside n e m M → (i i′ : ℕ) → i < N → i′ < N → (a b : ℤ) → soundAt e′ i ≡ Position a → soundAt e′ i′ ≡ Position b
       → b ≤ℤ (a +ℤ pos ((gap m M + 1) / 2))
 
--- two ends k phases apart, where N heads and listeners count at the earlier and N′ at the later
-pub record Closer (N N′ k : ℕ) (Q : Type 0) (e e′ : End) : Type 0 where
-  pub range : Each N′ (λ i. e′ .struck i ≡ false → HeldBetween (lowest N e) (highest N e) (e′ .at i))
-  pub halving : Q → spread N′ e′ ≤ halved k (spread N e)
-
--- Ends 0 .. K, each nearer than the one before; at end p, N p heads and listeners count.
-pub record Run (n f K : ℕ) (Q : Type 0) (N : ℕ → ℕ) (E : ℕ → End) : Type 0 where
+-- ends 0 .. K, each nearer than the one before
+pub record Run (n N f K : ℕ) (Q : Type 0) (E : ℕ → End) : Type 0 where
   pub large : f < n
-  pub more : (p : ℕ) → n ≤ N p
+  pub more : n ≤ N
   pub few : AtMost f n (E 0 .struck)
-  pub holds : AllHold (N 0) (E 0)
-  pub step : (p : ℕ) → p < K → AtMost f n (E p .struck) → Nearer n (N (suc p)) f Q (E p) (E (suc p))
+  pub holds : AllHold N (E 0)
+  pub step : (p : ℕ) → p < K → AtMost f n (E p .struck) → Nearer n N f Q (E p) (E (suc p))
 
-module _ {n f K : ℕ} {Q : Type 0} {N : ℕ → ℕ} {E : ℕ → End} (R : Run n f K Q N E) where
+module _ {n N f K : ℕ} {Q : Type 0} {E : ℕ → End} (R : Run n N f K Q E) where
   pub few-at : (p : ℕ) → p ≤ K → AtMost f n (E p .struck)
   few-at zero h = R .few
   few-at (suc p) h = R .step p h (few-at p (omega arith)) .few
 
-  nearer-at : (p : ℕ) → p < K → Nearer n (N (suc p)) f Q (E p) (E (suc p))
+  nearer-at : (p : ℕ) → p < K → Nearer n N f Q (E p) (E (suc p))
   nearer-at p h = R .step p h (few-at p (omega arith))
 
-  heads-inside : (p : ℕ) (m M : ℤ) → Inside (N p) (E p) m M → Inside n (E p) m M
-  heads-inside p m M I j l = I j (omega (arith, R .more p))
+  heads-inside : (p : ℕ) (m M : ℤ) → Inside N (E p) m M → Inside n (E p) m M
+  heads-inside p m M I j l = I j (omega (arith, R .more))
 
-  pub holds-at : (p : ℕ) → p ≤ K → AllHold (N p) (E p)
+  pub holds-at : (p : ℕ) → p ≤ K → AllHold N (E p)
   holds-at zero h = R .holds
   holds-at (suc p) h =
-      let B = bounds n (N p) f (E p) (few-at p (omega arith)) (R .large) (R .more p) (holds-at p (omega arith)) in
+      let B = bounds n N f (E p) (few-at p (omega arith)) (R .large) (R .more) (holds-at p (omega arith)) in
       λ i l s. held-position (Position (B .low)) (Position (B .high)) (E (suc p) .at i)
       (nearer-at p h .between (B .low) (B .high) (heads-inside p (B .low) (B .high) (B .inside)) i l s)
 
-  bounds-at : (p : ℕ) → p ≤ K → Bounds (N p) (E p)
-  bounds-at p h = bounds n (N p) f (E p) (few-at p h) (R .large) (R .more p) (holds-at p h)
+  bounds-at : (p : ℕ) → p ≤ K → Bounds N (E p)
+  bounds-at p h = bounds n N f (E p) (few-at p h) (R .large) (R .more) (holds-at p h)
 
-  spread-halves : Q → (p : ℕ) → p < K → spread (N (suc p)) (E (suc p)) ≤ (spread (N p) (E p) + 1) / 2
+  spread-halves : Q → (p : ℕ) → p < K → spread N (E (suc p)) ≤ (spread N (E p) + 1) / 2
   unfolding spread
   spread-halves q p h =
       let B = bounds-at p (omega arith) in
@@ -222,18 +217,18 @@ module _ {n f K : ℕ} {Q : Type 0} {N : ℕ → ℕ} {E : ℕ → End} (R : Run
         pos-lin s,
       ))
 
-  stays-inside : (p k : ℕ) → p + k ≤ K → (m M : ℤ) → Inside (N p) (E p) m M → Inside (N (p + k)) (E (p + k)) m M
+  stays-inside : (p k : ℕ) → p + k ≤ K → (m M : ℤ) → Inside N (E p) m M → Inside N (E (p + k)) m M
   stays-inside p zero h m M I = rw add-zero I
   stays-inside p (suc k) h m M I =
       rw add-suc (nearer-at (p + k) (omega arith) .between m M (heads-inside (p + k) m M (stays-inside p k (omega arith) m M I)))
 
-  halves-again : Q → (p k : ℕ) → p + k ≤ K → spread (N (p + k)) (E (p + k)) ≤ halved k (spread (N p) (E p))
-  halves-again q p zero h = rw add-zero (omega (arith, halved-zero (spread (N p) (E p))))
+  halves-again : Q → (p k : ℕ) → p + k ≤ K → spread N (E (p + k)) ≤ halved k (spread N (E p))
+  halves-again q p zero h = rw add-zero (omega (arith, halved-zero (spread N (E p))))
   halves-again q p (suc k) h =
       rw add-suc
-      (omega (arith, spread-halves q (p + k) (omega arith), halves-again q p k (omega arith), halved-suc k (spread (N p) (E p))))
+      (omega (arith, spread-halves q (p + k) (omega arith), halves-again q p k (omega arith), halved-suc k (spread N (E p))))
 
-  pub any-two : (p k : ℕ) → p + k ≤ K → Closer (N p) (N (p + k)) k Q (E p) (E (p + k))
+  pub any-two : (p k : ℕ) → p + k ≤ K → Demand3 N Q k (E p) (E (p + k))
   any-two p k h =
       let B = bounds-at p (omega arith) in
       record {

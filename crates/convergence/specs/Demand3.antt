@@ -29,10 +29,11 @@ AcceptedSize n f = 7 * f + 2 ≤ 2 * n
 abbrev pub Halves : ℕ → ℕ → Type 0
 Halves n f = 11 * f + 3 ≤ 3 * n
 
--- Two phase ends of n heads with the struck limit f, e the earlier and e′ the later, k phases apart.
-pub record Demand3 (n f k : ℕ) (e e′ : End) : Type 0 where
-  pub range : Each n (λ i. e′ .struck i ≡ false → HeldBetween (lowest n e) (highest n e) (e′ .at i))
-  pub halving : Halves n f → spread n e′ ≤ halved k (spread n e)
+-- Two phase ends of receivers 0 .. N - 1, e the earlier and e′ the later, k phases apart; halves: what gives the right to halve. A receiver that does not
+-- exist counts as struck.
+pub record Demand3 (N : ℕ) (halves : Type 0) (k : ℕ) (e e′ : End) : Type 0 where
+  pub range : Each N (λ i. e′ .struck i ≡ false → HeldBetween (lowest N e) (highest N e) (e′ .at i))
+  pub halving : halves → spread N e′ ≤ halved k (spread N e)
 
 -- no round strikes more than f heads
 abbrev pub FewStruck : ℕ → ℕ → (ℕ → Faults) → Type 0
@@ -43,4 +44,4 @@ FewStruck n f F = (p : ℕ) → AtMost f n (F p .collect) × AtMost f n (F p .co
 abbrev pub Converges : Type 0
 Converges =
     (n f : ℕ) → AcceptedSize n f → (v : ℕ → ℤ) (F : ℕ → Faults) → FewStruck n f F
-    → (p k : ℕ) → Demand3 n f k (endAfter n f v F p) (endAfter n f v F (p + k))
+    → (p k : ℕ) → Demand3 n (Halves n f) k (endAfter n f v F p) (endAfter n f v F (p + k))

@@ -159,12 +159,12 @@ module _ (n f : ℕ) (v : ℕ → ℤ) (S : Sized n f) (range : Each n (λ i. is
     abbrev end : ℕ → End
     end p = asEnd (getD (E ws) (K - p) noEnd)
 
-    run : Run n f K (Halves n f) (λ p. n) end
+    run : Run n n f K (Halves n f) end
     unfolding firstHeads started
     run =
         record {
           large = omega (arith, S .limit);
-          more = λ p. le-refl n;
+          more = le-refl n;
           few = rw (sub-zero, earliest ws) (none-struck n f);
           holds = rw (sub-zero, earliest ws) (λ i m q. refl);
           step =

@@ -8,7 +8,7 @@ use lib.IntN.{ℤ}
 use Rattle.terms.specs.Positions.{isPosition}
 use Rattle.marks.specs.Marks.{bitOf}
 use Rattle.convergence.specs.Counting.{Each, AtMost}
-use Rattle.convergence.specs.Demand3.{Demand3, AcceptedSize}
+use Rattle.convergence.specs.Demand3.{Demand3, AcceptedSize, Halves}
 use Rattle.ring_spec.specs.Rounds.{Round, lost, mostRounds, PhaseEnd, phaseEnd, asEnd, endsAfter}
 
 -- at most f heads are struck in each round
@@ -23,7 +23,7 @@ noEnd = phaseEnd 0 0 (λ i. lost)
 -- any two of a list of ends, which has the latest first, k apart
 abbrev pub AnyTwo : ℕ → ℕ → List PhaseEnd → Type 0
 AnyTwo n f es =
-    (i k : ℕ) → i + k < length es → Demand3 n f k (asEnd (getD es (i + k) noEnd)) (asEnd (getD es i noEnd))
+    (i k : ℕ) → i + k < length es → Demand3 n (Halves n f) k (asEnd (getD es (i + k) noEnd)) (asEnd (getD es i noEnd))
 
 -- up to the last round of phase 65,535
 abbrev pub RingConverges : Type 0

@@ -196,8 +196,8 @@ last-struck F x = go (eqb (ending F) 0) (F .rounds .pending)
     go false w e = absurd (more (endsSoFar F) e)
 
 -- demand 3 of two phase ends, of the rows and words that hold them
-rows-converge : {n f k : ℕ} (x y : PhaseEnd) {ps qs : List ℤ} {v w : ℕ} → HoldsEnd n x ps v → HoldsEnd n y qs w → Demand3 n f k (asEnd x) (asEnd y)
-    → Demand3 n f k (endIn v ps) (endIn w qs)
+rows-converge : {n k : ℕ} {halves : Type 0} (x y : PhaseEnd) {ps qs : List ℤ} {v w : ℕ} → HoldsEnd n x ps v → HoldsEnd n y qs w → Demand3 n halves k (asEnd x) (asEnd y)
+    → Demand3 n halves k (endIn v ps) (endIn w qs)
 unfolding endIn spread
 rows-converge {n} x y {ps} {qs} H I D =
     let X = found-held n (x .struck) (λ i. x .heads i .seat .position) ps (H .held) in

@@ -11,7 +11,7 @@ use Rattle.terms.specs.declared.Entry.{Entry}
 use Rattle.marks.specs.Marks.{bitOf}
 use Rattle.convergence.specs.Counting.{Each}
 use Rattle.convergence.specs.Phases.{End}
-use Rattle.convergence.specs.Demand3.{Demand3}
+use Rattle.convergence.specs.Demand3.{Demand3, Halves}
 use Rattle.run_listing.specs.Held.{endIn}
 use Rattle.ring_spec.specs.Rounds.{PhaseEnd}
 use Rattle.ring_spec.specs.Converges.{noEnd}
@@ -49,7 +49,8 @@ pub record Whole (s : List ℕ) (r : PlayResult) (B B′ : Buffers) : Type 0 whe
   pub rows : (e : ℕ) → e < r .ends → HoldsEnd (readFile s .setup .n) (endNumber (endsPlayed (readFile s)) e) (row e (B′ .ends)) (getD (B′ .words) e 0)
   pub more-rows : drop (32 * r .ends) (B′ .ends) ≡ drop (32 * r .ends) (B .ends)
   pub more-words : drop (r .ends) (B′ .words) ≡ drop (r .ends) (B .words)
-  pub demand3 : (e k : ℕ) → e + k < r .ends → Demand3 (readFile s .setup .n) (readFile s .setup .f) k (endAt B′ e) (endAt B′ (e + k))
+  pub demand3 : (e k : ℕ) → e + k < r .ends
+      → Demand3 (readFile s .setup .n) (Halves (readFile s .setup .n) (readFile s .setup .f)) k (endAt B′ e) (endAt B′ (e + k))
 
 -- by whether the buffers have room: if not, 24, and they are as they were
 abbrev pub Plays : Bool → List ℕ → PlayResult → Buffers → Buffers → Type 0
