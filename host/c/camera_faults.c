@@ -185,7 +185,7 @@ static void frames(void) {
                 uint8_t count = length >= 12 ? (uint8_t)((length - 12) / 4) : 0;
                 int known = kind >= 1 && kind <= 4;
                 size_t right = kind == 3 ? 12 + 4 * (size_t)count : known ? lengths[kind] : 0;
-                int number = length < 4 || off ? FOCUS_LENGTH : !known ? FOCUS_KIND : length != right ? FOCUS_KIND_LENGTH : 0;
+                int number = length < 4 || off ? FOCUS_STATED_LENGTH : !known ? FOCUS_KIND : length != right ? FOCUS_KIND_LENGTH : 0;
                 build(bytes, length, (unsigned)length + (unsigned)off, kind, count);
                 frame("frame", bytes, length, (uint8_t)number);
             }
@@ -200,19 +200,19 @@ static void frames(void) {
             frame("count", bytes, length, count == other ? 0 : FOCUS_KIND_LENGTH);
         }
     /* faults together: the earlier number */
-    frame("length, then kind", bytes, build(bytes, 9, 8, 5, 0), FOCUS_LENGTH);
-    frame("length, then the kind's length", bytes, build(bytes, 9, 8, 1, 0), FOCUS_LENGTH);
+    frame("length, then kind", bytes, build(bytes, 9, 8, 5, 0), FOCUS_STATED_LENGTH);
+    frame("length, then the kind's length", bytes, build(bytes, 9, 8, 1, 0), FOCUS_STATED_LENGTH);
     frame("kind, then the kind's length", bytes, build(bytes, 9, 9, 0, 0), FOCUS_KIND);
-    frame("all three", bytes, build(bytes, 9, 8, 0, 0), FOCUS_LENGTH);
+    frame("all three", bytes, build(bytes, 9, 8, 0, 0), FOCUS_STATED_LENGTH);
     /* short and long slices */
     const uint8_t four_unknown[] = {4, 0, 5, 0}, four_known[] = {4, 0, 1, 0}, three[] = {4, 0, 2}, list7[] = {7, 0, 3, 0, 0, 1, 0};
     frame("4 bytes, unknown", four_unknown, 4, FOCUS_KIND);
     frame("4 bytes, known", four_known, 4, FOCUS_KIND_LENGTH);
-    frame("3 bytes", three, 3, FOCUS_LENGTH);
+    frame("3 bytes", three, 3, FOCUS_STATED_LENGTH);
     frame("a list without a count", list7, 7, FOCUS_KIND_LENGTH);
-    frame("no bytes", bytes, 0, FOCUS_LENGTH);
+    frame("no bytes", bytes, 0, FOCUS_STATED_LENGTH);
     frame("the longest field", bytes, build(bytes, 65535, 65535, 3, 255), FOCUS_KIND_LENGTH);
-    frame("more bytes than a field can say", bytes, build(bytes, 65536 + 7, 7, 2, 0), FOCUS_LENGTH);
+    frame("more bytes than a field can say", bytes, build(bytes, 65536 + 7, 7, 2, 0), FOCUS_STATED_LENGTH);
 }
 
 int main(void) {

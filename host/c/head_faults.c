@@ -39,7 +39,7 @@ static focus_head ended(void) {
 }
 
 static void starts(void) {
-    static const uint8_t order[] = {FOCUS_HEAD_COUNT, FOCUS_STRUCK_LIMIT, FOCUS_NUMBER, FOCUS_POSITION};
+    static const uint8_t order[] = {FOCUS_HEAD_COUNT, FOCUS_STRUCK_LIMIT, FOCUS_HEAD_NUMBER, FOCUS_POSITION};
     for (int faults = 0; faults < 16; faults++) {
         focus_head head = in_confession(9, 2), before = head;
         uint32_t n = faults & 1 ? 33 : 5, f = faults & 2 ? 20 : 1, number = faults & 4 ? n : n - 1;
@@ -50,7 +50,7 @@ static void starts(void) {
 }
 
 static void restarts(void) {
-    static const uint8_t order[] = {FOCUS_HEAD_COUNT, FOCUS_STRUCK_LIMIT, FOCUS_NUMBER, FOCUS_PHASE};
+    static const uint8_t order[] = {FOCUS_HEAD_COUNT, FOCUS_STRUCK_LIMIT, FOCUS_HEAD_NUMBER, FOCUS_PHASE};
     static const uint32_t times[][2] = {{0, 0}, {65536, 1}, {1, 2}, {7, 255}, {0, 9}, {UINT32_MAX, UINT32_MAX}};
     for (int faults = 0; faults < 16; faults++)
         for (size_t t = 0; t < 6; t++) {
@@ -98,8 +98,8 @@ static size_t faulty_list(uint8_t *frame, int faults, unsigned phase) {
 }
 
 static void hears(void) {
-    static const uint8_t order[] = {FOCUS_ENDED, FOCUS_NUMBER, FOCUS_HEARD,       FOCUS_LENGTH, FOCUS_KIND, FOCUS_KIND_LENGTH,
-                                    FOCUS_ROUND, FOCUS_SENDER, FOCUS_OTHER_PHASE, FOCUS_MARKS,  FOCUS_ENTRY};
+    static const uint8_t order[] = {FOCUS_ENDED, FOCUS_HEAD_NUMBER, FOCUS_HEARD,       FOCUS_STATED_LENGTH, FOCUS_KIND, FOCUS_KIND_LENGTH,
+                                    FOCUS_OTHER_ROUND, FOCUS_SENDER, FOCUS_OTHER_PHASE, FOCUS_MARKS,  FOCUS_ENTRY};
     for (int faults = 0; faults < HEAR; faults++) {
         uint8_t frame[FOCUS_FRAME_MAX + 1], copy[sizeof frame];
         unsigned phase = faults & ENDED ? 65535 : 1;

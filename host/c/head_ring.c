@@ -44,7 +44,7 @@ static void play(struct ring *r, uint32_t struck, liar lies) {
                 same("hear", focus_head_hear(&r->heads[i], k, frames[k], lengths[k]), 0);
             else if (lies) {
                 size_t length = lies(r, k, i, planted);
-                same("hear a liar", focus_head_hear(&r->heads[i], k, planted, length), length == 0 ? FOCUS_LENGTH : 0);
+                same("hear a liar", focus_head_hear(&r->heads[i], k, planted, length), length == 0 ? FOCUS_STATED_LENGTH : 0);
             }
         }
         same("close", focus_head_close(&r->heads[i]), 0);

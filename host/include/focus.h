@@ -24,10 +24,10 @@ extern "C" {
 enum focus_refusal {
     FOCUS_HEAD_COUNT = 1,   /* head count */
     FOCUS_STRUCK_LIMIT = 2, /* struck limit too high */
-    FOCUS_NUMBER = 3,       /* head or link number n or more */
+    FOCUS_HEAD_NUMBER = 3,  /* head or link number n or more */
     FOCUS_POSITION = 4,     /* position out of range */
     FOCUS_PHASE = 5,        /* phase out of range, or round neither 0 (collection) nor 1 (confession) */
-    FOCUS_LENGTH = 6,       /* fewer than 4 bytes, or the length field differs from the bytes given */
+    FOCUS_STATED_LENGTH = 6, /* fewer than 4 bytes, or the length field differs from the bytes given */
     FOCUS_KIND = 7,         /* unknown kind */
     FOCUS_KIND_LENGTH = 8,  /* a length wrong for its kind and count */
     FOCUS_SENDER = 9,       /* sender is not the link */
@@ -37,7 +37,7 @@ enum focus_refusal {
     FOCUS_RUN_RECORD = 13,  /* run record cut short, of wrong length, of unknown kind or out of order, or file ended before a start or inside a phase */
     FOCUS_STRUCK = 14,      /* more than f struck, or a mark at n or above */
     FOCUS_HEARD = 21,       /* link already heard this round */
-    FOCUS_ROUND = 22,       /* frame of the other round */
+    FOCUS_OTHER_ROUND = 22,/* frame of the other round */
     FOCUS_OTHER_PHASE = 23, /* frame of another phase */
     FOCUS_BUFFER = 24,      /* buffer too short */
     FOCUS_TRUSTED = 25,     /* too few trusted */

@@ -6,6 +6,7 @@ ghost use lib.ListN.{length};
 ghost use Rattle.terms.specs.Positions.{isPosition};
 ghost use Rattle.fields.specs.Bytes.{at4, signedOf};
 ghost use Rattle.entries.specs.Entries.{fits, entriesFit, numbers};
+use terms::Numbers;
 
 // Whether a word holds a position.
 pub fn is_position_word(x: u32) -> bool
@@ -57,7 +58,7 @@ pub fn entries_fit(m: u32, s: &[u8], n: u8) -> bool
 }
 
 // The first n entries of a list as an array, 0 from n on.
-pub fn numbers_at(s: &[u8], n: u8) -> [i32; 32]
+pub fn numbers_at(s: &[u8], n: u8) -> Numbers
     ensures { λ r. ⌜ r ≡ numbers (now (s .entry)) n ⌝ }
 {
     let mut out = [0i32; 32];

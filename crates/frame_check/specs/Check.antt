@@ -55,8 +55,8 @@ countField s = getD s 7 0
 -- 6, 7, 8, before the checks that follow
 unfoldable pub checkFrame : List ℕ → ℕ → ℕ
 checkFrame s more =
-    check (leb 4 (length s)) refusal.length
-    (check (eqb (lengthField s) (length s)) refusal.length
+    check (leb 4 (length s)) refusal.stated-length
+    (check (eqb (lengthField s) (length s)) refusal.stated-length
     (check (isKnown (kindField s)) refusal.kind
     (check (eqb (length s) (lengthOf (kindField s) (countField s))) refusal.kind-length more)))
 

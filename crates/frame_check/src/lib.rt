@@ -44,10 +44,10 @@ pub fn frame_refusal(frame: &[u8]) -> u8
     let known = is_known(kind);
     let due = length_of(kind, fields::byte_at(frame, 7));
     if len < 4 {
-        return refusal::LENGTH;
+        return refusal::STATED_LENGTH;
     }
     if stated != len {
-        return refusal::LENGTH;
+        return refusal::STATED_LENGTH;
     }
     if !known {
         return refusal::KIND;

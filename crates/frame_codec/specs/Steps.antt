@@ -15,7 +15,7 @@ fromMarks K n t = check (countFits K n t) refusal.marks (check (rangeFits K n t)
 -- 22, 9, 23, and 0 if none of them
 unfoldable pub commonRefusal : Kind → ℕ → ℕ → ℕ → List ℕ → ℕ
 commonRefusal K p r k s =
-    check (eqb (roundOf K) r) refusal.round (check (eqb (senderField s) k) refusal.sender (check (eqb (phaseField s) p) refusal.other-phase 0))
+    check (eqb (roundOf K) r) refusal.other-round (check (eqb (senderField s) k) refusal.sender (check (eqb (phaseField s) p) refusal.other-phase 0))
 
 -- what a frame of a kind says, if checks gave a number
 abbrev pub saidUnless : ℕ → Kind → ℕ → List ℕ → Said

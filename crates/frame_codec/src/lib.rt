@@ -81,7 +81,7 @@ fn common_refusal(frame: &[u8], kind: u16, phase: u16, round: u8, link: u8) -> u
     ensures { λ r. ⌜ r ≡ commonRefusal (kindOf kind) phase round link (now (frame .entry)) ⌝ }
 {
     if round_of(kind) != round {
-        return refusal::ROUND;
+        return refusal::OTHER_ROUND;
     }
     if fields::byte_at(frame, 4) != link {
         return refusal::SENDER;

@@ -5,6 +5,19 @@ ghost use mathlib.Core.Path.{_≡_};
 ghost use Prim.Native.Nat.{ℕ, _+_, _*_, _<_};
 ghost use lib.ListN.{length, getD, set};
 ghost use Rattle.frame_slots.specs.Slots.{slot, plantedIn, withPlanted, withLength};
+use terms::HEADS;
+
+// The longest frame, a list of 32 entries, has 140 bytes.
+pub const SLOT: usize = 140;
+
+// A slot for each link of a ring, and how many bytes it holds.
+pub const LINKS: usize = HEADS * HEADS;
+
+pub const BYTES: usize = LINKS * SLOT;
+
+pub type PlantedBytes = [u8; BYTES];
+
+pub type PlantedLengths = [u8; LINKS];
 
 // The bytes of slot k, as many as its length says, and are there.
 pub fn slot<'a, 'b>(bytes: &'a [u8], lengths: &'b [u8], k: u16) -> &'a [u8]
@@ -68,7 +81,7 @@ fn wipe(lengths: &mut [u8])
 }
 
 // Nothing is planted.
-pub fn clear(lengths: &mut [u8; 1024])
+pub fn clear(lengths: &mut PlantedLengths)
     ensures { λ _. ⌜ ((bytes : List ℕ) (k i : ℕ) → plantedIn bytes (now (lengths .exit)) k i ≡ []) ⌝ }
 {
     wipe(lengths);
@@ -83,7 +96,7 @@ fn put_length(lengths: &mut [u8], slot: usize, len: u8)
 }
 
 // Plants bytes on the link from k to i: at most 140 bytes, on the links of 32 heads; else nothing changes.
-pub fn plant(planted: &mut [u8; 143360], lengths: &mut [u8; 1024], k: u8, i: u8, bytes: &[u8])
+pub fn plant(planted: &mut PlantedBytes, lengths: &mut PlantedLengths, k: u8, i: u8, bytes: &[u8])
     ensures bytes { λ _. ⌜ now (planted .exit) ≡ withPlanted (now (planted .entry)) k i (now (bytes .entry)) ⌝ }
     ensures lengths { λ _. ⌜ now (lengths .exit) ≡ withLength (now (lengths .entry)) k i (now (bytes .entry)) ⌝ }
 {

@@ -60,7 +60,7 @@ rangeFits unknown n t = true
 unfoldable pub refusalOf : ℕ → ℕ → ℕ → ℕ → List ℕ → ℕ
 refusalOf n p r k s =
     checkFrame s
-    (check (eqb (roundOf (kindField s)) r) refusal.round
+    (check (eqb (roundOf (kindField s)) r) refusal.other-round
     (check (eqb (senderField s) k) refusal.sender
     (check (eqb (phaseField s) p) refusal.other-phase
     (check (countFits (kindField s) n (restField s)) refusal.marks

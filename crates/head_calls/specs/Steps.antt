@@ -11,7 +11,7 @@ use Rattle.head_spec.specs.declared.Seat.{Seat}
 
 -- 1, 2, 3, before the checks that follow
 abbrev pub checkMember : ℕ → ℕ → ℕ → ℕ → ℕ
-checkMember n f i rest = checkSize n f (check (ltb i n) refusal.number rest)
+checkMember n f i rest = checkSize n f (check (ltb i n) refusal.head-number rest)
 
 -- phases 1 to 65,535, and the two rounds
 abbrev pub isTime : ℕ → ℕ → Bool

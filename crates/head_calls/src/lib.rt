@@ -19,6 +19,7 @@ use settle_trust::Links;
 use terms::Entry;
 use terms::Table;
 use terms::refusal;
+use terms::Lists;
 
 // A table of nulls.
 pub fn no_entries() -> Table
@@ -137,7 +138,7 @@ fn member_refusal(n: u32, f: u32, number: u32, rest: u8) -> u8
     if size != 0 {
         return size;
     }
-    check(number < n, refusal::NUMBER, rest)
+    check(number < n, refusal::HEAD_NUMBER, rest)
 }
 
 // Whether there is such a phase, and such a round.
@@ -222,7 +223,7 @@ pub fn write(h: Head, buffer: &mut [u8]) -> Written
 // record as it was.
 
 // The lists received, without their marks, as settling takes them.
-fn laid_out(lists: [Row; 32]) -> [[i32; 32]; 32]
+fn laid_out(lists: [Row; 32]) -> Lists
     ensures { λ r. ⌜ r ≡ rows lists ⌝ }
 {
     let zeros = [0i32; 32];

@@ -25,7 +25,7 @@ fn link_refusal(seat: Seat, heard: u32, link: u32) -> u8
         return refusal::ENDED;
     }
     if seat.n as u32 <= link {
-        return refusal::NUMBER;
+        return refusal::HEAD_NUMBER;
     }
     if again {
         return refusal::HEARD;

@@ -38,7 +38,7 @@ answer (suc c) new old = record { refusal = suc c; head = old }
 -- ---- a start gives n, f, number and position, and opens phase 1; checks 1, 2, 3, 4
 
 unfoldable pub startRefusal : ℕ → ℕ → ℕ → ℤ → ℕ
-startRefusal n f i v = checkSize n f (check (ltb i n) refusal.number (check (isPosition v) refusal.position 0))
+startRefusal n f i v = checkSize n f (check (ltb i n) refusal.head-number (check (isPosition v) refusal.position 0))
 
 unfoldable pub started : ℕ → ℕ → ℕ → ℤ → Head
 started n f i v = opened (firstSeat n f i v) noEntries
@@ -50,7 +50,7 @@ start h n f i v = answer (startRefusal n f i v) (started n f i v) h
 
 unfoldable pub restartRefusal : ℕ → ℕ → ℕ → ℕ → ℕ → ℕ
 restartRefusal n f i p r =
-    checkSize n f (check (ltb i n) refusal.number (check (leb 1 p && leb p 65535 && ltb r 2) refusal.phase 0))
+    checkSize n f (check (ltb i n) refusal.head-number (check (leb 1 p && leb p 65535 && ltb r 2) refusal.phase 0))
 
 unfoldable pub restarted : ℕ → ℕ → ℕ → ℕ → ℕ → Head
 restarted n f i p r = opened (healedSeat n f i p r) noEntries
@@ -70,7 +70,7 @@ refusalTo x k s = refusalOf (x .n) (x .phase) (x .round) k s
 unfoldable pub hearRefusal : Head → ℕ → List ℕ → ℕ
 hearRefusal h k s =
     check (not (h .seat .ended)) refusal.ended
-    (check (ltb k (h .seat .n)) refusal.number
+    (check (ltb k (h .seat .n)) refusal.head-number
     (check (not (bitOf (h .heard) k)) refusal.heard
     (refusalTo (h .seat) k s)))
 

@@ -10,6 +10,13 @@ ghost use Rattle.run_piece.specs.Advances.{StateAt};
 use libc::STDIN_FILENO;
 use libc::STDOUT_FILENO;
 use run_state::Player;
+use run_state::Carry;
+use terms::Lists;
+use terms::Numbers;
+use run_stream::Page;
+use frame_slots::PlantedBytes;
+use frame_slots::PlantedLengths;
+use terms::Words;
 
 // What comes of a piece: the player after it, and whether all that it shows is written.
 struct Wrote {
@@ -32,7 +39,7 @@ fn write_front(bytes: &[u8], n: usize) -> bool {
     io::write_all(STDOUT_FILENO, &bytes[..n])
 }
 
-fn write_page(page: &[u8; 4096], n: usize) -> bool {
+fn write_page(page: &Page, n: usize) -> bool {
     write_front(page, n)
 }
 
@@ -40,12 +47,12 @@ fn write_page(page: &[u8; 4096], n: usize) -> bool {
 fn play_piece(
     p: Player,
     bytes: &[u8],
-    carry: &mut [u8; 1026],
-    positions: &mut [i32; 32],
-    marks: &mut [u32; 32],
-    lists: &mut [[i32; 32]; 32],
-    planted: &mut [u8; 143360],
-    lengths: &mut [u8; 1024],
+    carry: &mut Carry,
+    positions: &mut Numbers,
+    marks: &mut Words,
+    lists: &mut Lists,
+    planted: &mut PlantedBytes,
+    lengths: &mut PlantedLengths,
 ) -> Wrote
     ensures { λ r. ⌜ ((a : List ℕ) → StateAt a p (now (carry .entry)) (before positions marks lists planted lengths) → r .all ≡ true
         → StateAt (a ++ now (bytes .entry)) (r .player) (now (carry .exit)) (after positions marks lists planted lengths)) ⌝ }
@@ -78,12 +85,12 @@ fn play_piece(
 fn play_some(
     p: Player,
     piece: &mut [u8],
-    carry: &mut [u8; 1026],
-    positions: &mut [i32; 32],
-    marks: &mut [u32; 32],
-    lists: &mut [[i32; 32]; 32],
-    planted: &mut [u8; 143360],
-    lengths: &mut [u8; 1024],
+    carry: &mut Carry,
+    positions: &mut Numbers,
+    marks: &mut Words,
+    lists: &mut Lists,
+    planted: &mut PlantedBytes,
+    lengths: &mut PlantedLengths,
 ) -> Turn {
     let got = libc::read(STDIN_FILENO, piece);
     let len = io::count(got, piece);
@@ -117,12 +124,12 @@ fn play_some(
 fn play_all(
     p: Player,
     piece: &mut [u8],
-    carry: &mut [u8; 1026],
-    positions: &mut [i32; 32],
-    marks: &mut [u32; 32],
-    lists: &mut [[i32; 32]; 32],
-    planted: &mut [u8; 143360],
-    lengths: &mut [u8; 1024],
+    carry: &mut Carry,
+    positions: &mut Numbers,
+    marks: &mut Words,
+    lists: &mut Lists,
+    planted: &mut PlantedBytes,
+    lengths: &mut PlantedLengths,
 ) -> Turn {
     let mut turn = Turn {
         player: p,
@@ -148,13 +155,13 @@ fn play_all(
 
 fn main() {
     let mut piece = io::large_buffer();
-    let mut carry = [0u8; 1026];
+    let mut carry = [0u8; run_state::CARRY];
     let mut positions = [0i32; 32];
     let mut marks = [0u32; 32];
     let none = [0i32; 32];
     let mut lists = [none; 32];
-    let mut planted = [0u8; 143360];
-    let mut lengths = [0u8; 1024];
+    let mut planted = [0u8; frame_slots::BYTES];
+    let mut lengths = [0u8; frame_slots::LINKS];
     let mut page = io::buffer();
     let first = run_stream::first_page(&mut page);
     if !write_page(&page, first) {

@@ -13,6 +13,9 @@ use frame_spec::Said;
 use ring_round::Stage;
 use terms::Entry;
 use terms::Table;
+use terms::Lists;
+use terms::Numbers;
+use terms::Words;
 
 // The entry that a collection frame says; null where it says none.
 fn entry_in(frame: &[u8], n: u8, phase: u16, k: u8) -> Entry
@@ -27,7 +30,7 @@ fn entry_in(frame: &[u8], n: u8, phase: u16, k: u8) -> Entry
 }
 
 // What head k sends: a healed head silence, a healthy one its position.
-fn own_entry(s: Stage, positions: &[i32; 32], k: usize) -> Entry
+fn own_entry(s: Stage, positions: &Numbers, k: usize) -> Entry
     requires { ⌜ k < 32 ⌝ }
     ensures { λ r. ⌜ r ≡ ownEntry s (now (positions .entry)) k ⌝ }
 {
@@ -38,7 +41,7 @@ fn own_entry(s: Stage, positions: &[i32; 32], k: usize) -> Entry
 }
 
 // What each unstruck head hears of head k, where that is not struck either.
-fn entry_sent(s: Stage, positions: &[i32; 32], k: usize) -> Entry
+fn entry_sent(s: Stage, positions: &Numbers, k: usize) -> Entry
     requires { ⌜ k < 32 ⌝ }
     ensures { λ r. ⌜ r ≡ sent s (now (positions .entry)) k ⌝ }
 {
@@ -52,7 +55,7 @@ fn entry_sent(s: Stage, positions: &[i32; 32], k: usize) -> Entry
 }
 
 // Whether heads i and m send the same position.
-fn sends_alike(s: Stage, positions: &[i32; 32], i: usize, m: usize) -> bool
+fn sends_alike(s: Stage, positions: &Numbers, i: usize, m: usize) -> bool
     requires { ⌜ (i < 32) × (m < 32) ⌝ }
     ensures { λ r. ⌜ (r ≡ true → sends s (now (positions .entry)) i ≡ sends s (now (positions .entry)) m) ⌝ }
 {
@@ -66,7 +69,7 @@ fn sends_alike(s: Stage, positions: &[i32; 32], i: usize, m: usize) -> bool
 }
 
 // What is heard of head k, after `told` was heard of head `last`, or first where that is 32: heads that send the same are heard the same.
-fn entry_after(s: Stage, positions: &[i32; 32], k: usize, last: usize, told: Entry) -> Entry
+fn entry_after(s: Stage, positions: &Numbers, k: usize, last: usize, told: Entry) -> Entry
     requires { ⌜ (k < 32) × (last < 32 → told ≡ sent s (now positions) last) ⌝ }
     ensures { λ r. ⌜ r ≡ sent s (now (positions .entry)) k ⌝ }
 {
@@ -79,7 +82,7 @@ fn entry_after(s: Stage, positions: &[i32; 32], k: usize, last: usize, told: Ent
 }
 
 // What each unstruck head hears of the unstruck heads.
-fn entries_sent(s: Stage, positions: &[i32; 32]) -> [Entry; 32]
+fn entries_sent(s: Stage, positions: &Numbers) -> [Entry; 32]
     ensures { λ r. ⌜ ((k : ℕ) → hears s k ≡ true → getD r k Entry.Null ≡ sent s (now (positions .entry)) k) ⌝ }
 {
     let n = ring_round::head_count(s) as usize;
@@ -207,11 +210,11 @@ fn fill_lists(
 // A collection round: the list of each head that is not struck, from the positions and what is planted. The other lists stay as they were.
 pub fn collect(
     s: Stage,
-    positions: &[i32; 32],
+    positions: &Numbers,
     planted: &[u8],
     lengths: &[u8],
-    marks: &mut [u32; 32],
-    lists: &mut [[i32; 32]; 32],
+    marks: &mut Words,
+    lists: &mut Lists,
 )
     ensures { λ _. ⌜ ((i : ℕ) → rowIn (now (marks .exit)) (now (lists .exit)) i
         ≡ cond (hears s i)

@@ -16,11 +16,14 @@ use ring_round::Stage;
 use settle_midpoint::Settled;
 use settle_trust::Links;
 use terms::Table;
+use terms::Lists;
+use terms::Numbers;
+use terms::Words;
 
 // Hears a confession frame on link k: a list goes to its row.
 fn hear(
     links: Links,
-    rows: &mut [[i32; 32]; 32],
+    rows: &mut Lists,
     k: usize,
     frame: &[u8],
     n: u8,
@@ -62,11 +65,11 @@ fn own_reply(s: Stage, k: usize) -> Said
 // Hears what head k replies to each unstruck head, where it is not struck either.
 fn hear_reply(
     s: Stage,
-    marks: &[u32; 32],
-    lists: &[[i32; 32]; 32],
+    marks: &Words,
+    lists: &Lists,
     k: usize,
     links: Links,
-    rows: &mut [[i32; 32]; 32],
+    rows: &mut Lists,
 ) -> Links
     requires { ⌜ k < 32 ⌝ }
     ensures links { λ r. ⌜ r ≡ linksWith links k (replied s (now (marks .entry)) (now (lists .entry)) k) ⌝ }
@@ -103,7 +106,7 @@ fn is_same_row(a: &[i32], b: &[i32]) -> bool
 }
 
 // Whether heads k and m reply the same list.
-fn replies_alike(s: Stage, marks: &[u32; 32], lists: &[[i32; 32]; 32], k: usize, m: usize) -> bool
+fn replies_alike(s: Stage, marks: &Words, lists: &Lists, k: usize, m: usize) -> bool
     requires { ⌜ (k < 32) × (m < 32) ⌝ }
     ensures { λ r. ⌜ (r ≡ true → replies s (now (marks .entry)) (now (lists .entry)) k ≡ replies s (now (marks .entry)) (now (lists .entry)) m) ⌝ }
 {
@@ -120,7 +123,7 @@ fn replies_alike(s: Stage, marks: &[u32; 32], lists: &[[i32; 32]; 32], k: usize,
 }
 
 // Hears on link k what was heard on link m.
-fn hear_again(links: Links, rows: &mut [[i32; 32]; 32], k: usize, m: usize) -> Links
+fn hear_again(links: Links, rows: &mut Lists, k: usize, m: usize) -> Links
     requires { ⌜ (k < 32) × (m < 32) ⌝ }
     ensures links { λ r. ⌜ r ≡ linksWith links k (heardOn links (now (rows .entry)) m) ⌝ }
     ensures rows { λ r. ⌜ now (rows .exit) ≡ rowsWith (now (rows .entry)) k (heardOn links (now (rows .entry)) m) ⌝ }
@@ -142,11 +145,11 @@ fn hear_again(links: Links, rows: &mut [[i32; 32]; 32], k: usize, m: usize) -> L
 // Hears what head k replies, after head `last`, or first where that is 32: where both reply the same list, what was heard of the one is heard of the other.
 fn hear_after(
     s: Stage,
-    marks: &[u32; 32],
-    lists: &[[i32; 32]; 32],
+    marks: &Words,
+    lists: &Lists,
     k: usize,
     links: Links,
-    rows: &mut [[i32; 32]; 32],
+    rows: &mut Lists,
     last: usize,
 ) -> Links
     requires { ⌜ (k < 32) × (last < 32 → givenBy links (now rows) last ≡ givenOf (replied s (now marks) (now lists) last)) ⌝ }
@@ -163,9 +166,9 @@ fn hear_after(
 // Hears what the unstruck heads reply to each of them.
 fn hear_replies(
     s: Stage,
-    marks: &[u32; 32],
-    lists: &[[i32; 32]; 32],
-    rows: &mut [[i32; 32]; 32],
+    marks: &Words,
+    lists: &Lists,
+    rows: &mut Lists,
 ) -> Links
     requires { ⌜ length (now rows) ≡ 32 ⌝ }
     ensures { λ r. ⌜ Received r (now (rows .exit)) (givenAlike s (now (marks .entry)) (now (lists .entry))) ⌝ }
@@ -196,7 +199,7 @@ fn hear_planted(
     lengths: &[u8],
     i: usize,
     base: Links,
-    rows: &mut [[i32; 32]; 32],
+    rows: &mut Lists,
 ) -> Links
     requires { ⌜ (i < 32) × Untold s base (now rows) ⌝ }
     ensures given { λ r. ⌜ Received r (now (rows .exit)) (givenPlanted s base (now (rows .entry)) (plantedIn (now (planted .entry)) (now (lengths .entry))) i) ⌝ }
@@ -225,7 +228,7 @@ fn first_listed(m: u32) -> usize
 }
 
 // The position that a head settles from what its links gave; 0 where it is refused.
-fn settled(s: Stage, rows: &[[i32; 32]; 32], links: Links, reference: usize) -> i32
+fn settled(s: Stage, rows: &Lists, links: Links, reference: usize) -> i32
     requires { ⌜ reference < 32 ⌝ }
     ensures { λ r. ⌜ r ≡ settledFrom s (givenBy links (now (rows .entry))) ⌝ }
 {
@@ -244,7 +247,7 @@ fn position_for(
     lengths: &[u8],
     i: usize,
     base: Links,
-    rows: &mut [[i32; 32]; 32],
+    rows: &mut Lists,
     reference: usize,
 ) -> i32
     requires { ⌜ (i < 32) × Untold s base (now rows) × (reference < 32) ⌝ }
@@ -262,7 +265,7 @@ fn position_after(
     lengths: &[u8],
     i: usize,
     base: Links,
-    rows: &mut [[i32; 32]; 32],
+    rows: &mut Lists,
     reference: usize,
     last: usize,
     told: i32,
@@ -286,7 +289,7 @@ fn fill_positions(
     planted: &[u8],
     lengths: &[u8],
     base: Links,
-    rows: &mut [[i32; 32]; 32],
+    rows: &mut Lists,
     positions: &mut [i32],
 )
     requires { ⌜ Untold s base (now rows) × (length (now positions) ≡ 32) ⌝ }
@@ -313,11 +316,11 @@ fn fill_positions(
 // A confession round: the new position of each head that is not struck, from the lists and what is planted. The other positions stay as they were.
 pub fn confess(
     s: Stage,
-    marks: &[u32; 32],
-    lists: &[[i32; 32]; 32],
+    marks: &Words,
+    lists: &Lists,
     planted: &[u8],
     lengths: &[u8],
-    positions: &mut [i32; 32],
+    positions: &mut Numbers,
 )
     ensures { λ _. ⌜ ((i : ℕ) → getD (now (positions .exit)) i (pos 0)
         ≡ cond (hears s i)

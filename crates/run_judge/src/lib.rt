@@ -8,6 +8,7 @@ ghost use lib.IntN.{pos};
 ghost use Rattle.run_spec.specs.RunFile.{recordKind, allowedWhen, positionIn, positionsFit, startFault, fewMarks, roundFault, rises, pairFits, plantFault};
 use run_spec::Pair;
 use terms::refusal;
+use terms::Numbers;
 
 // The kinds of records.
 pub const START: u16 = 0x10;
@@ -79,7 +80,7 @@ pub fn start_fault(bytes: &[u8]) -> u8
 }
 
 // The positions of a start record.
-pub fn first_positions(bytes: &[u8]) -> [i32; 32]
+pub fn first_positions(bytes: &[u8]) -> Numbers
     ensures { λ r. ⌜ ((j : ℕ) → j < 32 → getD r j (pos 0) ≡ positionIn (now (bytes .entry)) j) ⌝ }
 {
     entries::numbers_at(fields::bytes_from(bytes, 6), 32)

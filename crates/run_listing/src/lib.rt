@@ -11,6 +11,7 @@ ghost use mathlib.Core.List.{_∷_, [], _++_};
 ghost use Rattle.run_spec.specs.Listing.{size, decimal, whole, textOf, hexDigit, title, verdict};
 ghost use Rattle.run_listing.specs.Texts.{bytesOf, endLine};
 use terms::Entry;
+use terms::Numbers;
 
 // The lowest and the highest position.
 pub struct Ends {
@@ -52,7 +53,7 @@ fn outer(v: i32, e: Entry, high: bool) -> Entry
 }
 
 // The lowest and the highest position of the first n heads that the mark word leaves.
-pub fn ends_of(positions: &[i32; 32], struck: u32, n: u8) -> Ends
+pub fn ends_of(positions: &Numbers, struck: u32, n: u8) -> Ends
     ensures { λ r. ⌜ Found n (endIn struck (now (positions .entry))) (r .low) (r .high) ⌝ }
 {
     let count = n as usize;
@@ -216,7 +217,7 @@ pub fn verdict_line(number: u8) -> Text
 }
 
 // The line of a phase end: the positions of n heads, and the mark words of its two rounds.
-pub fn end_line(phase: u16, positions: &[i32; 32], n: u8, collect: u32, confess: u32) -> Text
+pub fn end_line(phase: u16, positions: &Numbers, n: u8, collect: u32, confess: u32) -> Text
     ensures { λ r. ⌜ bytesOf r ≡ endLine n phase (now (positions .entry)) collect confess ⌝ }
     ensures { λ r. ⌜ r .len ≤ 64 ⌝ }
 {

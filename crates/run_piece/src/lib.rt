@@ -12,6 +12,12 @@ use run_listing::Text;
 use run_record::RecordResult;
 use run_state::Player;
 use terms::refusal;
+use run_state::Carry;
+use terms::Lists;
+use terms::Numbers;
+use frame_slots::PlantedBytes;
+use frame_slots::PlantedLengths;
+use terms::Words;
 
 // What comes of a piece: the player after it, how many of its bytes were taken, and the line that they show, if any.
 pub struct FeedResult {
@@ -128,12 +134,12 @@ fn front(bytes: &[u8], n: usize) -> &[u8]
 fn take_part(
     p: Player,
     rest: &[u8],
-    carry: &mut [u8; 1026],
-    positions: &mut [i32; 32],
-    marks: &mut [u32; 32],
-    lists: &mut [[i32; 32]; 32],
-    planted: &mut [u8; 143360],
-    lengths: &mut [u8; 1024],
+    carry: &mut Carry,
+    positions: &mut Numbers,
+    marks: &mut Words,
+    lists: &mut Lists,
+    planted: &mut PlantedBytes,
+    lengths: &mut PlantedLengths,
 ) -> FeedResult
     requires { ⌜ p .fault ≡ 0 ⌝ }
     ensures { λ r. ⌜ Used (now (rest .entry)) r ⌝ }
@@ -184,8 +190,8 @@ fn is_plant(p: Player, bytes: &[u8]) -> bool
 pub fn pass_plant(
     p: Player,
     rest: &[u8],
-    planted: &mut [u8; 143360],
-    lengths: &mut [u8; 1024],
+    planted: &mut PlantedBytes,
+    lengths: &mut PlantedLengths,
 ) -> PassResult
     ensures { λ r. ⌜ r .used ≤ length (now (rest .entry)) ⌝ }
     ensures { λ r. ⌜ Passes p (now (rest .entry)) r (now (planted .entry)) (now (lengths .entry)) (now (planted .exit)) (now (lengths .exit)) ⌝ }
@@ -203,12 +209,12 @@ pub fn pass_plant(
 pub fn advance(
     p: Player,
     rest: &[u8],
-    carry: &mut [u8; 1026],
-    positions: &mut [i32; 32],
-    marks: &mut [u32; 32],
-    lists: &mut [[i32; 32]; 32],
-    planted: &mut [u8; 143360],
-    lengths: &mut [u8; 1024],
+    carry: &mut Carry,
+    positions: &mut Numbers,
+    marks: &mut Words,
+    lists: &mut Lists,
+    planted: &mut PlantedBytes,
+    lengths: &mut PlantedLengths,
 ) -> FeedResult
     ensures { λ r. ⌜ Used (now (rest .entry)) r ⌝ }
     ensures { λ r. ⌜ Reads p (now (rest .entry)) r

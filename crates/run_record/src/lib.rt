@@ -12,6 +12,11 @@ ghost use Rattle.run_record.specs.Inner.{Turned};
 use run_listing::Text;
 use run_state::Player;
 use terms::refusal;
+use terms::Lists;
+use terms::Numbers;
+use frame_slots::PlantedBytes;
+use frame_slots::PlantedLengths;
+use terms::Words;
 
 // What comes of a record: the player after it, and the line that it shows, if any.
 pub struct RecordResult {
@@ -31,7 +36,7 @@ fn refuse(p: Player, number: u8) -> RecordResult
 }
 
 // A start record.
-fn take_start(p: Player, bytes: &[u8], positions: &mut [i32; 32]) -> RecordResult
+fn take_start(p: Player, bytes: &[u8], positions: &mut Numbers) -> RecordResult
     ensures { λ r. ⌜ ((F : File) (M : Memory) → F .setup .begun ≡ false → PlayerOf p F → MemoryOf F (withPositions M (now (positions .entry)))
         → Next F (judged start F (now (bytes .entry))) p (withPositions M (now (positions .entry))) r (withPositions M (now (positions .exit)))) ⌝ }
     ensures { λ r. ⌜ r .text .len ≤ 64 ⌝ }
@@ -51,11 +56,11 @@ fn take_start(p: Player, bytes: &[u8], positions: &mut [i32; 32]) -> RecordResul
 // Plays the pending round, if there is one, and answers the line of the phase that it ends, if it ends one.
 fn play_waiting(
     p: Player,
-    positions: &mut [i32; 32],
-    marks: &mut [u32; 32],
-    lists: &mut [[i32; 32]; 32],
-    planted: &[u8; 143360],
-    lengths: &[u8; 1024],
+    positions: &mut Numbers,
+    marks: &mut Words,
+    lists: &mut Lists,
+    planted: &PlantedBytes,
+    lengths: &PlantedLengths,
 ) -> Text
     ensures { λ r. ⌜ ((a s : List ℕ) → readFile a .setup .begun ≡ true → PlayerOf p (readFile a)
         → MemoryOf (readFile a) (before positions marks lists planted lengths)
@@ -72,11 +77,11 @@ fn play_waiting(
 fn take_round(
     p: Player,
     bytes: &[u8],
-    positions: &mut [i32; 32],
-    marks: &mut [u32; 32],
-    lists: &mut [[i32; 32]; 32],
-    planted: &[u8; 143360],
-    lengths: &mut [u8; 1024],
+    positions: &mut Numbers,
+    marks: &mut Words,
+    lists: &mut Lists,
+    planted: &PlantedBytes,
+    lengths: &mut PlantedLengths,
 ) -> RecordResult
     ensures { λ r. ⌜ ((a : List ℕ) → readFile a .setup .begun ≡ true → PlayerOf p (readFile a)
         → MemoryOf (readFile a) (before positions marks lists planted lengths)
@@ -99,8 +104,8 @@ fn take_round(
 pub fn pass_plant(
     p: Player,
     bytes: &[u8],
-    planted: &mut [u8; 143360],
-    lengths: &mut [u8; 1024],
+    planted: &mut PlantedBytes,
+    lengths: &mut PlantedLengths,
 ) -> Player
     ensures { λ r. ⌜ ((F : File) (M : Memory) → length (now (bytes .entry)) ≤ 146 → PlayerOf p F → MemoryOf F (withSlots M (now (planted .entry)) (now (lengths .entry)))
         → NextQuiet F (judged plant F (now (bytes .entry))) p (withSlots M (now (planted .entry)) (now (lengths .entry))) r (withSlots M (now (planted .exit)) (now (lengths .exit)))) ⌝ }
@@ -119,8 +124,8 @@ pub fn pass_plant(
 fn take_plant(
     p: Player,
     bytes: &[u8],
-    planted: &mut [u8; 143360],
-    lengths: &mut [u8; 1024],
+    planted: &mut PlantedBytes,
+    lengths: &mut PlantedLengths,
 ) -> RecordResult
     ensures { λ r. ⌜ ((F : File) (M : Memory) → length (now (bytes .entry)) ≤ 146 → PlayerOf p F → MemoryOf F (withSlots M (now (planted .entry)) (now (lengths .entry)))
         → Next F (judged plant F (now (bytes .entry))) p (withSlots M (now (planted .entry)) (now (lengths .entry))) r (withSlots M (now (planted .exit)) (now (lengths .exit)))) ⌝ }
@@ -136,11 +141,11 @@ fn take_plant(
 pub fn take_record(
     p: Player,
     bytes: &[u8],
-    positions: &mut [i32; 32],
-    marks: &mut [u32; 32],
-    lists: &mut [[i32; 32]; 32],
-    planted: &mut [u8; 143360],
-    lengths: &mut [u8; 1024],
+    positions: &mut Numbers,
+    marks: &mut Words,
+    lists: &mut Lists,
+    planted: &mut PlantedBytes,
+    lengths: &mut PlantedLengths,
 ) -> RecordResult
     ensures { λ r. ⌜ ((a : List ℕ) → PlayerOf p (readFile a)
         → MemoryOf (readFile a) (before positions marks lists planted lengths)

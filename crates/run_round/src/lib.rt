@@ -11,6 +11,11 @@ ghost use Rattle.run_round.specs.Inner.{stageOf};
 use ring_round::Stage;
 use run_listing::Text;
 use run_state::Player;
+use terms::Lists;
+use terms::Numbers;
+use frame_slots::PlantedBytes;
+use frame_slots::PlantedLengths;
+use terms::Words;
 
 // The ring in the pending round.
 fn stage_of(p: Player) -> Stage
@@ -28,11 +33,11 @@ fn stage_of(p: Player) -> Stage
 // Plays the pending round, and answers the line of the phase that it ends, if it ends one.
 pub fn play_round(
     p: Player,
-    positions: &mut [i32; 32],
-    marks: &mut [u32; 32],
-    lists: &mut [[i32; 32]; 32],
-    planted: &[u8; 143360],
-    lengths: &[u8; 1024],
+    positions: &mut Numbers,
+    marks: &mut Words,
+    lists: &mut Lists,
+    planted: &PlantedBytes,
+    lengths: &PlantedLengths,
 ) -> Text
     ensures { λ r. ⌜ ((a : List ℕ) → readFile a .setup .begun ≡ true → readFile a .rounds .pending ≡ true → PlayerOf p (readFile a)
         → MemoryOf (readFile a) (before positions marks lists planted lengths)

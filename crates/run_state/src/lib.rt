@@ -10,6 +10,11 @@ ghost use Rattle.run_state.specs.Changes.{freshPlayer, halted, withRound
 use run_judge::MOST_ROUNDS;
 use run_spec::Pair;
 
+// The longest record, a start with 255 positions, has 1,026 bytes; so many of a record that is cut are kept.
+pub const CARRY: usize = 1026;
+
+pub type Carry = [u8; CARRY];
+
 // What has been read of a run file, but for the heads' memory.
 pub struct Player {
     pub begun: bool, // a start was accepted

@@ -15,6 +15,17 @@ use run_piece::FeedResult;
 use run_piece::PassResult;
 use run_state::Player;
 use terms::refusal;
+use run_state::Carry;
+use terms::Lists;
+use terms::Numbers;
+use frame_slots::PlantedBytes;
+use frame_slots::PlantedLengths;
+use terms::Words;
+
+// A page of the listing, of 64 lines at least.
+pub const PAGE: usize = 4096;
+
+pub type Page = [u8; PAGE];
 
 // How the file ends, the last line of a phase, if its end plays one, and the last line of all.
 pub struct FinishResult {
@@ -27,8 +38,8 @@ pub struct FinishResult {
 fn pass_plants(
     p: Player,
     bytes: &[u8],
-    planted: &mut [u8; 143360],
-    lengths: &mut [u8; 1024],
+    planted: &mut PlantedBytes,
+    lengths: &mut PlantedLengths,
 ) -> PassResult
     ensures { λ r. ⌜ r .used ≤ length (now (bytes .entry)) ⌝ }
     ensures { λ r. ⌜ Passes p (now (bytes .entry)) r (now (planted .entry)) (now (lengths .entry)) (now (planted .exit)) (now (lengths .exit)) ⌝ }
@@ -50,12 +61,12 @@ fn pass_plants(
 fn step(
     p: Player,
     bytes: &[u8],
-    carry: &mut [u8; 1026],
-    positions: &mut [i32; 32],
-    marks: &mut [u32; 32],
-    lists: &mut [[i32; 32]; 32],
-    planted: &mut [u8; 143360],
-    lengths: &mut [u8; 1024],
+    carry: &mut Carry,
+    positions: &mut Numbers,
+    marks: &mut Words,
+    lists: &mut Lists,
+    planted: &mut PlantedBytes,
+    lengths: &mut PlantedLengths,
 ) -> FeedResult
     ensures { λ r. ⌜ Used (now (bytes .entry)) r ⌝ }
     ensures { λ r. ⌜ Reads p (now (bytes .entry)) r
@@ -84,12 +95,12 @@ fn step(
 pub fn feed(
     p: Player,
     bytes: &[u8],
-    carry: &mut [u8; 1026],
-    positions: &mut [i32; 32],
-    marks: &mut [u32; 32],
-    lists: &mut [[i32; 32]; 32],
-    planted: &mut [u8; 143360],
-    lengths: &mut [u8; 1024],
+    carry: &mut Carry,
+    positions: &mut Numbers,
+    marks: &mut Words,
+    lists: &mut Lists,
+    planted: &mut PlantedBytes,
+    lengths: &mut PlantedLengths,
 ) -> FeedResult
     ensures { λ r. ⌜ (r .used ≤ length (now (bytes .entry))) × (0 < length (now (bytes .entry)) → 0 < r .used) × (r .text .len ≤ 64) ⌝ }
     ensures { λ r. ⌜ ((a : List ℕ) → StateAt a p (now (carry .entry)) (before positions marks lists planted lengths)
@@ -136,11 +147,11 @@ fn ending(p: Player) -> u8
 // The end of the file: the pending round is played where it ends well.
 pub fn finish(
     p: Player,
-    positions: &mut [i32; 32],
-    marks: &mut [u32; 32],
-    lists: &mut [[i32; 32]; 32],
-    planted: &[u8; 143360],
-    lengths: &[u8; 1024],
+    positions: &mut Numbers,
+    marks: &mut Words,
+    lists: &mut Lists,
+    planted: &PlantedBytes,
+    lengths: &PlantedLengths,
 ) -> FinishResult
     ensures { λ r. ⌜ (r .line .len ≤ 64) × (r .verdict .len ≤ 64) ⌝ }
     ensures { λ r. ⌜ ((a carry : List ℕ) → StateAt a p carry (before positions marks lists planted lengths)
@@ -199,13 +210,13 @@ fn put(page: &mut [u8], len: usize, t: Text) -> usize
 pub fn fill(
     p: Player,
     bytes: &[u8],
-    page: &mut [u8; 4096],
-    carry: &mut [u8; 1026],
-    positions: &mut [i32; 32],
-    marks: &mut [u32; 32],
-    lists: &mut [[i32; 32]; 32],
-    planted: &mut [u8; 143360],
-    lengths: &mut [u8; 1024],
+    page: &mut Page,
+    carry: &mut Carry,
+    positions: &mut Numbers,
+    marks: &mut Words,
+    lists: &mut Lists,
+    planted: &mut PlantedBytes,
+    lengths: &mut PlantedLengths,
 ) -> FillResult
     ensures { λ r. ⌜ (r .used ≤ length (now (bytes .entry))) × (0 < length (now (bytes .entry)) → 0 < r .used) × (r .len ≤ 4096) ⌝ }
     ensures { λ r. ⌜ ((a : List ℕ) → StateAt a p (now (carry .entry)) (before positions marks lists planted lengths)
@@ -235,7 +246,7 @@ pub fn fill(
 }
 
 // The first page: the title.
-pub fn first_page(page: &mut [u8; 4096]) -> usize
+pub fn first_page(page: &mut Page) -> usize
     ensures { λ r. ⌜ (r ≤ 4096) × (take r (now (page .exit)) ≡ title) ⌝ }
 {
     put(page, 0, run_listing::title_line())
@@ -244,12 +255,12 @@ pub fn first_page(page: &mut [u8; 4096]) -> usize
 // The last page: what is left to show when the file has ended.
 pub fn last_page(
     p: Player,
-    page: &mut [u8; 4096],
-    positions: &mut [i32; 32],
-    marks: &mut [u32; 32],
-    lists: &mut [[i32; 32]; 32],
-    planted: &[u8; 143360],
-    lengths: &[u8; 1024],
+    page: &mut Page,
+    positions: &mut Numbers,
+    marks: &mut Words,
+    lists: &mut Lists,
+    planted: &PlantedBytes,
+    lengths: &PlantedLengths,
 ) -> usize
     ensures { λ r. ⌜ r ≤ 4096 ⌝ }
     ensures { λ r. ⌜ ((a carry : List ℕ) → StateAt a p carry (before positions marks lists planted lengths)

@@ -13,6 +13,12 @@ ghost use Rattle.run_whole.specs.Inner.{Put, soundNumber, soundRow, EndK
 use run_listing::Text;
 use run_state::Player;
 use terms::refusal;
+use run_state::Carry;
+use terms::Lists;
+use terms::Numbers;
+use frame_slots::PlantedBytes;
+use frame_slots::PlantedLengths;
+use terms::Words;
 
 // How the file ends, or 24 where a buffer is too short; how many bytes the listing has; and how many phase ends were played, the start among them.
 pub struct PlayResult {
@@ -67,7 +73,7 @@ fn put(out: &mut [u8], len: usize, t: Text) -> usize
 }
 
 // The number that a row has for head i: the position of a sound head, else 0.
-fn number_at(positions: &[i32; 32], n: u8, word: u32, i: usize) -> i32
+fn number_at(positions: &Numbers, n: u8, word: u32, i: usize) -> i32
     ensures { λ r. ⌜ r ≡ soundNumber n word (now (positions .entry)) i ⌝ }
 {
     if n as usize <= i {
@@ -80,7 +86,7 @@ fn number_at(positions: &[i32; 32], n: u8, word: u32, i: usize) -> i32
 }
 
 // Writes a row.
-fn fill_row(ends: &mut [i32], base: usize, positions: &[i32; 32], n: u8, word: u32)
+fn fill_row(ends: &mut [i32], base: usize, positions: &Numbers, n: u8, word: u32)
     requires { ⌜ base + 32 ≤ length (now ends) ⌝ }
     ensures { λ _. ⌜ now (ends .exit) ≡ paste (now (ends .entry)) base (soundRow n word (now (positions .entry)) 32) 32 ⌝ }
 {
@@ -98,7 +104,7 @@ fn keep(
     ends: &mut [i32],
     words: &mut [u32],
     count: usize,
-    positions: &[i32; 32],
+    positions: &Numbers,
     n: u8,
     word: u32,
 ) -> usize
@@ -125,12 +131,12 @@ fn step(
     out: &mut [u8],
     ends: &mut [i32],
     words: &mut [u32],
-    carry: &mut [u8; 1026],
-    positions: &mut [i32; 32],
-    marks: &mut [u32; 32],
-    lists: &mut [[i32; 32]; 32],
-    planted: &mut [u8; 143360],
-    lengths: &mut [u8; 1024],
+    carry: &mut Carry,
+    positions: &mut Numbers,
+    marks: &mut Words,
+    lists: &mut Lists,
+    planted: &mut PlantedBytes,
+    lengths: &mut PlantedLengths,
 ) -> Place
     requires { ⌜ at .used < length (now file) ⌝ }
     ensures { λ r. ⌜ (at .used < r .used) × (r .used ≤ length (now (file .entry))) ⌝ }
@@ -175,11 +181,11 @@ fn close(
     out: &mut [u8],
     ends: &mut [i32],
     words: &mut [u32],
-    positions: &mut [i32; 32],
-    marks: &mut [u32; 32],
-    lists: &mut [[i32; 32]; 32],
-    planted: &[u8; 143360],
-    lengths: &[u8; 1024],
+    positions: &mut Numbers,
+    marks: &mut Words,
+    lists: &mut Lists,
+    planted: &PlantedBytes,
+    lengths: &PlantedLengths,
 ) -> PlayResult
     ensures { λ r. ⌜ ((file carry : List ℕ) (B : Buffers) → at .used ≡ length file
         → Going file at carry (before positions marks lists planted lengths) B (lent out ends words) → Whole file r B (left out ends words)) ⌝ }
@@ -211,12 +217,12 @@ fn run(
     out: &mut [u8],
     ends: &mut [i32],
     words: &mut [u32],
-    carry: &mut [u8; 1026],
-    positions: &mut [i32; 32],
-    marks: &mut [u32; 32],
-    lists: &mut [[i32; 32]; 32],
-    planted: &mut [u8; 143360],
-    lengths: &mut [u8; 1024],
+    carry: &mut Carry,
+    positions: &mut Numbers,
+    marks: &mut Words,
+    lists: &mut Lists,
+    planted: &mut PlantedBytes,
+    lengths: &mut PlantedLengths,
 ) -> PlayResult
     requires { ⌜ hasRoom (length (now file)) (length (now out)) (length (now ends)) (length (now words)) ≡ true ⌝ }
     ensures { λ r. ⌜ Whole (now (file .entry)) r (lent out ends words) (left out ends words) ⌝ }
@@ -269,13 +275,13 @@ pub fn play(file: &[u8], out: &mut [u8], ends: &mut [i32], words: &mut [u32]) ->
             ends: 0,
         };
     }
-    let mut carry = [0u8; 1026];
+    let mut carry = [0u8; run_state::CARRY];
     let mut positions = [0i32; 32];
     let mut marks = [0u32; 32];
     let none = [0i32; 32];
     let mut lists = [none; 32];
-    let mut planted = [0u8; 143360];
-    let mut lengths = [0u8; 1024];
+    let mut planted = [0u8; frame_slots::BYTES];
+    let mut lengths = [0u8; frame_slots::LINKS];
     run(
         file,
         out,

@@ -14,17 +14,20 @@ ghost use Rattle.settle_midpoint.specs.Answers.{settling};
 use settle_midpoint::Order;
 use settle_trust::Links;
 use terms::Entry;
+use terms::Lists;
+use terms::Numbers;
+use terms::Words;
 
 // How n lists stand to the list of one link, the reference: how many have its mark word, how many another one that is not 0, and for each entry how many of the
 // first have its number.
 pub struct Comparison {
     pub alike: usize,
     pub apart: usize,
-    pub same: [u32; 32],
+    pub same: Words,
 }
 
 // One more for each entry at which two lists have the same number.
-fn add_same(a: &[i32; 32], b: &[i32; 32], same: &mut [u32; 32])
+fn add_same(a: &Numbers, b: &Numbers, same: &mut Words)
     requires { ⌜ (length (now same) ≡ 32) × Each 32 (λ j. getD (now same) j 0 < 32) ⌝ }
     ensures { λ _. ⌜ (length (now (same .exit)) ≡ 32) × Each 32 (λ j. getD (now (same .exit)) j 0 ≡ getD (now (same .entry)) j 0 + bit (sameNumber (now (a .entry)) (now (b .entry)) j)) ⌝ }
 {
@@ -46,7 +49,7 @@ fn is_apart(m: u32, word: u32) -> bool
 }
 
 // How the lists of the first n links stand to that of the reference.
-fn compare(lists: &[[i32; 32]; 32], marks: &[u32; 32], n: usize, reference: usize) -> Comparison
+fn compare(lists: &Lists, marks: &Words, n: usize, reference: usize) -> Comparison
     requires { ⌜ (n ≤ 32) × (reference < 32) ⌝ }
     ensures { λ r. ⌜ Compares n (now (marks .entry)) (now (lists .entry)) reference r ⌝ }
 {
@@ -97,8 +100,8 @@ fn lacks(x: u64, need: usize, alike: usize, apart: usize, same: usize) -> bool
 
 // The cell of trusted entry j as `trusted_cell` has it, from the lead's list alone where that decides.
 fn cell_by(
-    lists: &[[i32; 32]; 32],
-    marks: &[u32; 32],
+    lists: &Lists,
+    marks: &Words,
     confessed: u32,
     n: usize,
     need: usize,
@@ -128,7 +131,7 @@ fn cell_by(
 // The new position from what the links gave; `up`: whether an odd sum is rounded up. Each trusted entry goes to its place in the order as soon as it is
 // decided, from entry 0 up. The list of the link `reference` is looked at first: where most lists are like it, it decides nearly all entries.
 fn settle_after(
-    lists: &[[i32; 32]; 32],
+    lists: &Lists,
     links: Links,
     reference: usize,
     n: u8,
@@ -172,7 +175,7 @@ fn settle_after(
 
 // The same for every reference.
 pub fn settle_by(
-    lists: &[[i32; 32]; 32],
+    lists: &Lists,
     links: Links,
     reference: usize,
     n: u8,
@@ -189,7 +192,7 @@ pub fn settle_by(
 
 // The same of lists by value.
 pub fn settle(
-    lists: [[i32; 32]; 32],
+    lists: Lists,
     links: Links,
     n: u8,
     f: u8,

@@ -11,12 +11,15 @@ ghost use Rattle.convergence.specs.Trust.{support, trusted, choose};
 ghost use Rattle.settle_trust.specs.Received.{givenBy};
 use terms::Entry;
 use terms::Table;
+use terms::Lists;
+use terms::Numbers;
+use terms::Words;
 
 // Which links confessed, which gave a list, and the mark words of the lists, which stand beside this.
 pub struct Links {
     pub confessed: u32,
     pub listed: u32,
-    pub marks: [u32; 32],
+    pub marks: Words,
 }
 
 // How many of n links are looked at: those from 32 on gave nothing.
@@ -62,7 +65,7 @@ fn marks_given(confessed: bool, listed: bool, m: u32) -> u32
 }
 
 // The mark words of what the first n links gave, and 0 from there on.
-pub fn all_marks(links: Links, n: u8) -> [u32; 32]
+pub fn all_marks(links: Links, n: u8) -> Words
     ensures { λ r. ⌜ r ≡ marksTo links (min n 32) ⌝ }
 {
     let count = link_count(n);
@@ -78,7 +81,7 @@ pub fn all_marks(links: Links, n: u8) -> [u32; 32]
 }
 
 // The cell of entry j of a list with the mark word m.
-pub fn entry_cell(m: u32, list: &[i32; 32], j: usize) -> u64
+pub fn entry_cell(m: u32, list: &Numbers, j: usize) -> u64
     ensures { λ r. ⌜ CellOf r (entryAt m (now (list .entry)) j) ⌝ }
 {
     if marks::marked(m, j) {
@@ -110,7 +113,7 @@ pub fn number_of(x: u64) -> i32
 // ---- From what the links gave in a confession round to the trusted entries: support, and the one position that enough links support.
 
 // The cells of entry j of the first n lists.
-fn column(lists: &[[i32; 32]; 32], marks: &[u32; 32], n: usize, j: usize, cells: &mut [u64; 32])
+fn column(lists: &Lists, marks: &Words, n: usize, j: usize, cells: &mut [u64; 32])
     requires { ⌜ (n ≤ 32) × (n ≤ length (now cells)) ⌝ }
     ensures { λ _. ⌜ HoldsEach n (now (cells .exit)) (columnOf (now (marks .entry)) (now (lists .entry)) j) ⌝ }
 {
@@ -172,8 +175,8 @@ fn only(cells: &[u64; 32], n: usize, need: usize) -> u64
 
 // The cell of trusted entry j among the first n links, from their lists, the mark words of these, and how many of them have to agree.
 pub fn trusted_cell(
-    lists: &[[i32; 32]; 32],
-    marks: &[u32; 32],
+    lists: &Lists,
+    marks: &Words,
     confessed: u32,
     n: usize,
     need: usize,
@@ -194,7 +197,7 @@ pub fn trusted_cell(
 }
 
 // The support of the position u for head j among n links.
-pub fn support(lists: [[i32; 32]; 32], links: Links, n: u8, j: usize, u: i32) -> usize
+pub fn support(lists: Lists, links: Links, n: u8, j: usize, u: i32) -> usize
     ensures { λ r. ⌜ r ≡ support n (givenBy links lists) j u ⌝ }
 {
     let count = link_count(n);
@@ -205,7 +208,7 @@ pub fn support(lists: [[i32; 32]; 32], links: Links, n: u8, j: usize, u: i32) ->
 }
 
 // Trusted entry j.
-pub fn trusted_entry(lists: [[i32; 32]; 32], links: Links, n: u8, f: u8, j: usize) -> Entry
+pub fn trusted_entry(lists: Lists, links: Links, n: u8, f: u8, j: usize) -> Entry
     ensures { λ r. ⌜ r ≡ trusted n f (givenBy links lists) j ⌝ }
 {
     let need = lists_needed(links.confessed, n, f);
@@ -219,7 +222,7 @@ pub fn trusted_entry(lists: [[i32; 32]; 32], links: Links, n: u8, f: u8, j: usiz
 }
 
 // The trusted entries of heads 0 .. n - 1.
-pub fn trusted_table(lists: [[i32; 32]; 32], links: Links, n: u8, f: u8) -> Table
+pub fn trusted_table(lists: Lists, links: Links, n: u8, f: u8) -> Table
     ensures { λ r. ⌜ r ≡ tableOf n (trusted n f (givenBy links lists)) ⌝ }
 {
     let need = lists_needed(links.confessed, n, f);

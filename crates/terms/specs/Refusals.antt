@@ -16,8 +16,8 @@ abbrev pub struck-limit : ℕ
 struck-limit = 2
 
 -- head or link number n or more
-abbrev pub number : ℕ
-number = 3
+abbrev pub head-number : ℕ
+head-number = 3
 
 -- position out of range
 abbrev pub position : ℕ
@@ -28,8 +28,8 @@ abbrev pub phase : ℕ
 phase = 5
 
 -- fewer than 4 bytes, or the length field differs from the bytes given
-abbrev pub length : ℕ
-length = 6
+abbrev pub stated-length : ℕ
+stated-length = 6
 
 -- unknown kind
 abbrev pub kind : ℕ
@@ -69,8 +69,8 @@ abbrev pub heard : ℕ
 heard = 21
 
 -- frame of the other round
-abbrev pub round : ℕ
-round = 22
+abbrev pub other-round : ℕ
+other-round = 22
 
 -- frame of another phase
 abbrev pub other-phase : ℕ

@@ -2,14 +2,24 @@
 
 pub mod refusal;
 
+// A ring has 32 heads at most.
+pub const HEADS: usize = 32;
+
+// A number for each head, as the entries of a list or the heads' positions; a mark word for each; and a list for each.
+pub type Numbers = [i32; HEADS];
+
+pub type Words = [u32; HEADS];
+
+pub type Lists = [Numbers; HEADS];
+
 // An entry is either null or a position; zero steps is a position.
 pub enum Entry {
     Null,
     Position(i32),
 }
 
-// A table of entries, one for each head: bit j of marks is set where entry j is a position; entries holds 0 where it is null.
+// A table of entries, one for each head: bit j of marks is set if entry j is a position; entries holds 0 if it is null.
 pub struct Table {
     pub marks: u32,
-    pub entries: [i32; 32],
+    pub entries: Numbers,
 }

@@ -5,13 +5,13 @@ pub const HEAD_COUNT: u8 = 1; // head count
 
 pub const STRUCK_LIMIT: u8 = 2; // struck limit too high
 
-pub const NUMBER: u8 = 3; // head or link number n or more
+pub const HEAD_NUMBER: u8 = 3; // head or link number n or more
 
 pub const POSITION: u8 = 4; // position out of range
 
 pub const PHASE: u8 = 5; // phase out of range, or round neither 0 (collection) nor 1 (confession)
 
-pub const LENGTH: u8 = 6; // fewer than 4 bytes, or the length field differs from the bytes given
+pub const STATED_LENGTH: u8 = 6; // fewer than 4 bytes, or the length field differs from the bytes given
 
 pub const KIND: u8 = 7; // unknown kind
 
@@ -32,7 +32,7 @@ pub const STRUCK: u8 = 14; // more than f struck, or a mark at n or above
 // From the state.
 pub const HEARD: u8 = 21; // link already heard this round
 
-pub const ROUND: u8 = 22; // frame of the other round
+pub const OTHER_ROUND: u8 = 22; // frame of the other round
 
 pub const OTHER_PHASE: u8 = 23; // frame of another phase
 

@@ -19,8 +19,8 @@ use Rattle.frame_check.proofs.frame_refusal.Tie as tie
 -- the row of checks: the length field, whether the kind is known, and the length that kind and count ask
 abbrev row : List ℕ → ℕ → Bool → ℕ → ℕ
 row s stated known due =
-    check (leb 4 (length s)) refusal.length
-    (check (eqb stated (length s)) refusal.length
+    check (leb 4 (length s)) refusal.stated-length
+    (check (eqb stated (length s)) refusal.stated-length
     (check known refusal.kind
     (check (eqb (length s) due) refusal.kind-length 0)))
 
