@@ -132,7 +132,7 @@ module _ (n f : ℕ) (e : End) (F : Faults) (v : ℕ → ℤ) (L : Limits n f (F
     pub facts : Facts n (F .collect) (F .confess) (e .struck) v (trusted n f (givenTo e F i))
     facts j l = fact-of j l (F .collect j) (F .confess j) (e .struck j) (trusted n f (givenTo e F i) j) refl refl refl refl
 
-  -- two receivers trust two positions for one head only where n and the heads struck in both rounds are at most 4f
+  -- two receivers trust two positions for one head only if n and the heads struck in both rounds are at most 4f
   pub two-faced : (i i′ : ℕ)
       → Each n (λ j. TwoFaced (trusted n f (givenTo e F i) j) (trusted n f (givenTo e F i′) j) → n + sum n (λ k. both (F .collect k) (F .confess k)) ≤ 4 * f)
   unfolding support givenTo

@@ -93,7 +93,7 @@ not-both h l u w k e = go (decLeZ u h)
     go (yes q) = omega (arith, bit-le (leZ u h), gt-fails {a = l} {b = w} (omega arithZ))
     go (no q) = omega (arith, bit-le (leZ l w), gt-fails {a = u} {b = h} (not-le q))
 
--- What an entry weighs at two receivers, with h below l: twice where it is at most h at the one, twice where it is at least l at the other, and once
+-- What an entry weighs at two receivers, with h below l: twice if it is at most h at the one, twice if it is at least l at the other, and once
 -- for each null. Only that of a head struck in confession weighs more than 2, and only a two-faced one more than 3; t bounds these.
 abbrev weight : ℤ → ℤ → Entry → Entry → ℕ
 weight h l e e′ = 2 * passes (λ u. leZ u h) e + isNull e + 2 * passes (λ u. leZ l u) e′ + isNull e′
@@ -222,10 +222,10 @@ module _ (n f : ℕ) (c d p : ℕ → Bool) (v : ℕ → ℤ) (L : Limits n f c 
 
   -- ---- two receivers
 
-  -- Besides the facts on each: a head may be two-faced between them only where n + Σ c d is at most 4f (`two-faced` of `Links`).
+  -- Besides the facts on each: a head may be two-faced between them only if n + Σ c d is at most 4f (`two-faced` of `Links`).
   module _ (E E′ : ℕ → Entry) (A : Facts n c d p v E) (A′ : Facts n c d p v E′)
       (fourth : Each n (λ j. TwoFaced (E j) (E′ j) → n + sum n (λ k. both (c k) (d k)) ≤ 4 * f)) (large : Halves n f) where
-    -- what all entries weigh, with t j at least 1 where head j is two-faced
+    -- what all entries weigh, with t j at least 1 if head j is two-faced
     weigh : (h l : ℤ) → h <ℤ l → (t : ℕ → ℕ) → Each n (λ j. c j ≡ true → d j ≡ true → TwoFaced (E j) (E′ j) → 1 ≤ t j)
         → 2 * sum n (λ j. passes (λ u. leZ u h) (E j)) + nulls n E + 2 * sum n (λ j. passes (λ u. leZ l u) (E′ j)) + nulls n E′
         ≤ 2 * n + sum n (λ j. bit (d j)) + sum n t

@@ -1,5 +1,5 @@
 -- The trusted entry is what document 01 says it is: u, if exactly one position has support n - f or more and link j has not confessed. `trusted`
--- looks only at the positions that stand in a list. That is enough: any other has the support of the confessions alone, and where these are n - f,
+-- looks only at the positions that stand in a list. That is enough: any other has the support of the confessions alone, and if these are n - f,
 -- every position has the support.
 use mathlib.Core.Path.{_≡_, refl, ap, sym, _∙_}
 use mathlib.Core.List.{[], _∷_}
@@ -139,7 +139,7 @@ module _ (n f : ℕ) (G : ℕ → Given) (j : ℕ) where
   pub trusted-iff : (u : ℤ) → (trusted n f G j ≡ Position u) ↔ (Only n f G j u × (hasConfessed (G j) ≡ false))
   trusted-iff u = (trusted-only u, λ h. trusted-is u (h .0) (h .1))
 
--- ---- positions are whole numbers in a range: where all lists hold such only, "exactly one" is the same of these as of all whole numbers
+-- ---- positions are whole numbers in a range: if all lists hold such only, "exactly one" is the same of these as of all whole numbers
 
 pub record OnlyPosition (n f : ℕ) (G : ℕ → Given) (j : ℕ) (u : ℤ) : Type 0 where
   pub within : isPosition u ≡ true

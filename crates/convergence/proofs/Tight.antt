@@ -1,6 +1,6 @@
 -- The bound on halving is the right one. Of the accepted sizes with up to 32 heads, seven have 3n below 11f + 3, and at each of these there is a run
 -- in which the spread is 2 at the start and still 2 after the first phase; the runs are played here, by computation. So among all sizes taken, halving
--- is promised exactly where every run keeps it (`halves-exactly`).
+-- is promised exactly if every run keeps it (`halves-exactly`).
 use mathlib.Core.Path.{_≡_, refl}
 use mathlib.Core.List.{[], _∷_}
 use mathlib.Core.Logic.{_↔_, by-cases}

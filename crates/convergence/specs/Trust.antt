@@ -15,12 +15,12 @@ pub data Given : Type 0 where
   confessed : Given
   gave : (ℕ → Entry) → Given
 
--- 1 where an entry is the position u
+-- 1 if an entry is the position u
 abbrev pub is : ℤ → Entry → ℕ
 is u Null = 0
 is u (Position w) = bit (eqZ u w)
 
--- 1 where a link supports the position u for head j
+-- 1 if a link supports the position u for head j
 abbrev pub supports : ℕ → ℤ → Given → ℕ
 supports j u nothing = 0
 supports j u confessed = 1
@@ -40,7 +40,7 @@ pub record Only (n f : ℕ) (G : ℕ → Given) (j : ℕ) (u : ℤ) : Type 0 whe
   pub reaches : n - f ≤ support n G j u
   pub alone : (w : ℤ) → n - f ≤ support n G j w → w ≡ u
 
--- ---- to find it: where fewer than n - f links confessed, a position with the support stands in a list
+-- ---- to find it: if fewer than n - f links confessed, a position with the support stands in a list
 
 unfoldable pub confessions : ℕ → (ℕ → Given) → ℕ
 confessions n G = sum n (λ k. bit (hasConfessed (G k)))
@@ -82,7 +82,7 @@ choose false false none = Null
 choose false false (one u) = Position u
 choose false false many = Null
 
--- Trusted entry j: u, where u alone has support n - f or more and link j has not confessed, and else null (`trusted-iff`, in proofs/Support.antt).
+-- Trusted entry j: u, if u alone has support n - f or more and link j has not confessed, and else null (`trusted-iff`, in proofs/Support.antt).
 -- With n - f confessions or more every position has the support, so none has it alone.
 unfoldable pub trusted : ℕ → ℕ → (ℕ → Given) → ℕ → Entry
 trusted n f G j =

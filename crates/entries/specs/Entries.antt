@@ -1,4 +1,4 @@
--- A list as it travels: a mark word, and an entry of four bytes for each head, 0 where it is null.
+-- A list as it travels: a mark word, and an entry of four bytes for each head, 0 if it is null.
 use mathlib.Core.Bool.{Bool, true, false, cond, _&&_}
 use mathlib.Core.List.{List}
 use Prim.Native.Nat.{ℕ, zero, suc, _*_}
@@ -9,11 +9,11 @@ use Rattle.terms.specs.declared.Entry.{Entry}
 use Rattle.fields.specs.Bytes.{signedAt}
 use Rattle.marks.specs.Marks.{bitOf}
 
--- entry j of a list with the mark word m and the numbers E: null where it is not marked
+-- entry j of a list with the mark word m and the numbers E: null if it is not marked
 unfoldable pub entryAt : ℕ → List ℤ → ℕ → Entry
 entryAt m E j = cond (bitOf m j) (Entry.Position (getD E j (pos 0))) Entry.Null
 
--- a number that may stand in a list: a position where it is marked, and else 0
+-- a number that may stand in a list: a position if it is marked, and else 0
 abbrev pub fits : Bool → ℤ → Bool
 fits true v = isPosition v
 fits false v = eqZ v (pos 0)

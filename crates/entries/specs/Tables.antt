@@ -1,4 +1,4 @@
--- A table of entries as the code holds it: a mark word, and numbers that are 0 where the entry is null.
+-- A table of entries as the code holds it: a mark word, and numbers that are 0 if the entry is null.
 use mathlib.Core.List.{List}
 use Prim.Native.Nat.{ℕ, zero, suc, _+_, _*_, _^_}
 use lib.ListN.{set}

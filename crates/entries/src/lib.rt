@@ -23,7 +23,7 @@ fn word_within(s: &[u8], at: usize) -> u32
     fields::join4(s[at], s[at + 1], s[at + 2], s[at + 3])
 }
 
-// The same where it is known whether all are there: a loop over the words of a list asks that once.
+// The same if it is known whether all are there: a loop over the words of a list asks that once.
 fn word_in(whole: bool, s: &[u8], at: usize) -> u32
     requires { ⌜ (whole ≡ true → at + 4 ≤ length (now s)) ⌝ }
     ensures { λ r. ⌜ r ≡ at4 (now (s .entry)) at ⌝ }

@@ -1,4 +1,4 @@
--- Checks in a row, each with a number that is not 0. A row gives 0 just where each test holds and what stands at its end is 0; where a test fails it
+-- Checks in a row, each with a number that is not 0. A row gives 0 exactly if each test holds and what stands at its end is 0; if a test fails it
 -- gives that test's number, whatever stands at its end. Both laws speak of one check and the row after it, so that a row is taken check by check.
 use mathlib.Core.Path.{_≡_, refl}
 use mathlib.Core.Bool.{Bool, true, false, cond}
@@ -13,7 +13,7 @@ pub passed : {rest : ℕ} (test : Bool) (n : ℕ) → check test (suc n) rest �
 passed true n e = (refl, e)
 passed false n e = absurd (omega arith)
 
--- more: the row `rest` with `last` at its end in place of 0. It gives `last` where the row gives 0, and else the same as the row; so with one check before both
+-- more: the row `rest` with `last` at its end in place of 0. It gives `last` if the row gives 0, and else the same as the row; so with one check before both
 pub followed : (test : Bool) (n rest more last : ℕ) → more ≡ cond (eqb rest 0) last rest
     → check test (suc n) more ≡ cond (eqb (check test (suc n) rest) 0) last (check test (suc n) rest)
 followed true n rest more last e = e

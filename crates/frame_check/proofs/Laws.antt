@@ -1,4 +1,4 @@
--- The frame check gives 0 only where its four tests hold. So an accepted frame has as many bytes as its length field says, is of a known kind, and is
+-- The frame check gives 0 only if its four tests hold. So an accepted frame has as many bytes as its length field says, is of a known kind, and is
 -- as long as its kind and count say, which is never less than the seven bytes of the common fields. Where it gives a number, it gives the same
 -- number before any checks that follow.
 use mathlib.Core.Path.{_≡_, refl, sym}
@@ -21,7 +21,7 @@ known-long list count h = omega arith
 known-long confession count h = omega arith
 known-long unknown count h = absurd (true≢false (sym h))
 
--- checks that follow are asked only where the frame check accepts
+-- checks that follow are asked only if the frame check accepts
 pub checkFrame-refuses : (s : List ℕ) (more : ℕ) → checkFrame s more ≡ cond (eqb (frameRefusal s) 0) more (frameRefusal s)
 unfolding checkFrame
 checkFrame-refuses s more =

@@ -58,7 +58,7 @@ pub fn frame_refusal(frame: &[u8]) -> u8
     0
 }
 
-// The frame check with the rest of the frame, as that part of the caller's own bytes; empty where the frame is refused.
+// The frame check with the rest of the frame, as that part of the caller's own bytes; empty if the frame is refused.
 pub fn check<'a, 'b>(frame: &'a [u8], number: &'b mut u8) -> &'a [u8]
     ensures number { λ r. ⌜ now (number .exit) ≡ frameRefusal (now (frame .entry)) ⌝ }
     ensures rest { λ r. ⌜ now r ≡ restOf (now (frame .entry)) ⌝ }

@@ -15,7 +15,7 @@ use terms::Entry;
 use terms::Table;
 use terms::refusal;
 
-// The round that a kind belongs to, 2 where the kind is unknown.
+// The round that a kind belongs to, 2 if the kind is unknown.
 fn round_of(kind: u16) -> u8
     ensures { λ r. ⌜ r ≡ roundOf (kindOf kind) ⌝ }
 {

@@ -1,4 +1,4 @@
--- A frame is accepted just where the frame check gives 0 and each test after it holds; then it says what its kind means. Each way goes check by
+-- A frame is accepted exactly if the frame check gives 0 and each test after it holds; then it says what its kind means. Each way goes check by
 -- check along the row.
 use mathlib.Core.Path.{_≡_, refl, sym, _∙_}
 use mathlib.Core.Bool.{true, cond}

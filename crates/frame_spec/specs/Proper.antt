@@ -22,7 +22,7 @@ AcceptedMeaning (collected e) = Unit {0}
 AcceptedMeaning (listed t) = Unit {0}
 AcceptedMeaning confessed = Unit {0}
 
--- a table of n entries: positions where they are marked, and else 0
+-- a table of n entries: positions if they are marked, and else 0
 pub record ProperTable (n : ℕ) (t : Table) : Type 0 where
   pub below : t .marks < 2 ^ n
   pub long : length (t .entries) ≡ 32

@@ -49,6 +49,6 @@ fitsIn frame buffer = leb (length frame) (length buffer)
 unfoldable pub written : List ℕ → List ℕ → Written
 written frame buffer = cond (fitsIn frame buffer) (Written.Length (length frame)) (Written.Refused refusal.buffer)
 
--- the frame at the front, and the bytes after it as they were; all of it as it was where the frame is too long
+-- the frame at the front, and the bytes after it as they were; all of it as it was if the frame is too long
 unfoldable pub buffered : List ℕ → List ℕ → List ℕ
 buffered frame buffer = cond (fitsIn frame buffer) (frame ++ drop (length frame) buffer) buffer

@@ -30,7 +30,7 @@ pub struct FocusHead {
     pub healed: u8, // in this round
     pub ended: u8, // phase 65,535 has ended
     pub held: u8, // a position is held
-    pub position: i32, // where one is held
+    pub position: i32, // if one is held
     pub heard: u32, // the links heard in this round
     pub marks: u32, // the list: in collection what is heard so far, in confession the list of this phase
     pub entries: [i32; 32],
@@ -81,7 +81,7 @@ fn lists_of(rows: [Row; 32]) -> [FocusList; 32]
     lists
 }
 
-// A position, where one is held.
+// A position, if one is held.
 fn entry_in(held: u8, position: i32) -> Entry
     ensures { λ r. ⌜ r ≡ entryIn held position ⌝ }
 {
@@ -92,7 +92,7 @@ fn entry_in(held: u8, position: i32) -> Entry
     }
 }
 
-// Whether an entry is a position, and its number, 0 where it is null.
+// Whether an entry is a position, and its number, 0 if it is null.
 fn is_held(e: Entry) -> u8
     ensures { λ r. ⌜ r ≡ heldNumber e ⌝ }
 {
@@ -182,7 +182,7 @@ pub fn focus_of(h: Head) -> FocusHead
     }
 }
 
-// The answer on a block, where the call on its record answered a: the block changed where nothing was refused.
+// The answer on a block, if the call on its record answered a: the block changed if nothing was refused.
 pub fn answer(c: FocusHead, a: Answer) -> FocusAnswer
     ensures { λ r. ⌜ r ≡ focusAnswer c a ⌝ }
 {
@@ -317,7 +317,7 @@ pub extern "C" fn focus_head_write(h: &FocusHead, buffer: &mut [u8], length: &mu
     written(*h, buffer, length)
 }
 
-// The position that the head holds: 1, or 0 where it holds none.
+// The position that the head holds: 1, or 0 if it holds none.
 #[no_mangle]
 pub extern "C" fn focus_head_position(h: &FocusHead, position: &mut i32) -> u8
     ensures { λ r. ⌜ (r ≡ heldNumber (headOf (now (h .entry)) .seat .position))

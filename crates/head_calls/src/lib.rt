@@ -17,9 +17,9 @@ use head_spec::Seat;
 use settle_midpoint::Settled;
 use settle_trust::Links;
 use terms::Entry;
+use terms::Lists;
 use terms::Table;
 use terms::refusal;
-use terms::Lists;
 
 // A table of nulls.
 pub fn no_entries() -> Table
@@ -123,7 +123,7 @@ fn next_seat(seat: Seat, position: i32) -> Seat
 
 // ---- The calls.
 
-// One check: its number where it fails, and else what the checks that follow gave.
+// One check: its number if it fails, and else what the checks that follow gave.
 fn check(holds: bool, number: u8, rest: u8) -> u8
     ensures { λ r. ⌜ r ≡ check holds number rest ⌝ }
 {

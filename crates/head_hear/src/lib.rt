@@ -44,7 +44,7 @@ fn said_on(seat: Seat, heard: u32, link: u32, frame: &[u8]) -> Said
     frame_codec::read(frame, seat.n, seat.phase, seat.round, link as u8)
 }
 
-// A list with position v at k, where it has such a place.
+// A list with position v at k, if it has such a place.
 fn with_position(list: Table, k: usize, v: i32) -> Table
     ensures { λ r. ⌜ r ≡ withEntry list k (Entry.Position v) ⌝ }
 {

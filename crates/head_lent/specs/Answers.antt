@@ -1,4 +1,4 @@
--- What a call on a lent record gives back: a number, and a result in lent memory, which is as it was where there is none.
+-- What a call on a lent record gives back: a number, and a result in lent memory, which is as it was if there is none.
 use Prim.Native.Nat.{ℕ}
 use lib.IntN.{ℤ}
 use Rattle.terms.specs.declared.Entry.{Entry}
@@ -7,7 +7,7 @@ use Rattle.head_spec.specs.declared.Answer.{Answer}
 use Rattle.head_spec.specs.declared.Closed.{Closed}
 use Rattle.head_spec.specs.declared.Closing.{Closing}
 
--- 0 where the round is closed
+-- 0 if the round is closed
 abbrev pub closedNumber : Closed → ℕ
 closedNumber (Closed.Refused c) = c
 closedNumber Closed.Listed = 0
@@ -16,7 +16,7 @@ closedNumber (Closed.Settled k) = 0
 abbrev pub closedAnswer : Closing → Answer
 closedAnswer c = record { refusal = closedNumber (c .closed); head = c .head }
 
--- 0 where a frame was written
+-- 0 if a frame was written
 abbrev pub writtenNumber : Written → ℕ
 writtenNumber (Written.Refused c) = c
 writtenNumber (Written.Length n) = 0
@@ -26,7 +26,7 @@ abbrev pub writtenOr : Written → ℕ → ℕ
 writtenOr (Written.Refused c) old = old
 writtenOr (Written.Length n) old = n
 
--- 1 where an entry is a position
+-- 1 if an entry is a position
 abbrev pub heldNumber : Entry → ℕ
 heldNumber Entry.Null = 0
 heldNumber (Entry.Position v) = 1

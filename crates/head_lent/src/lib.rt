@@ -93,7 +93,7 @@ pub fn write(h: &Head, buffer: &mut [u8], length: &mut usize) -> u8
     written(*h, buffer, length)
 }
 
-// The position of a record by value, where it was lent: 1, or 0 where there is none.
+// The position of a record by value, where it was lent: 1, or 0 if there is none.
 pub fn held(h: Head, position: &mut i32) -> u8
     ensures { λ r. ⌜ (r ≡ heldNumber (h .seat .position)) × (now (position .exit) ≡ heldOr (h .seat .position) (now (position .entry))) ⌝ }
 {
@@ -108,7 +108,7 @@ pub fn held(h: Head, position: &mut i32) -> u8
     }
 }
 
-// The position that the record holds: 1, or 0 where it holds none.
+// The position that the record holds: 1, or 0 if it holds none.
 pub fn position(h: &Head, position: &mut i32) -> u8
     ensures { λ r. ⌜ (r ≡ heldNumber (now (h .entry) .seat .position))
         × (now (position .exit) ≡ heldOr (now (h .entry) .seat .position) (now (position .entry))) ⌝ }

@@ -68,7 +68,7 @@ both-passed true true m n e = (refl, refl, e)
 both-passed true false m n e = absurd (omega arith)
 both-passed false b m n e = absurd (omega arith)
 
--- the checks of the size pass just where it is accepted
+-- the checks of the size pass exactly if it is accepted
 pub sized-by : (n f : ℕ) → isCount n ≡ true → isLimit n f ≡ true → Sized n f
 unfolding isCount isLimit
 sized-by n f count limit =

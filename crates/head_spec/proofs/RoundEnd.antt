@@ -1,4 +1,4 @@
--- Closing a round. A collection round is never refused. A confession round is refused 25 just where too few entries are trusted, and else the record
+-- Closing a round. A collection round is never refused. A confession round is refused 25 exactly if too few entries are trusted, and else the record
 -- holds the position that was answered. What closing makes is a round just opened, and a proper record stays proper.
 use mathlib.Core.Path.{_≡_, refl, ap}
 use mathlib.Core.Bool.{Bool, true, false, cond}

@@ -12,7 +12,7 @@ use Rattle.head_spec.specs.declared.Head.{Head}
 use Rattle.head_spec.specs.declared.Closed.{Closed}
 use Rattle.head_spec.specs.Calls.{answer, startRefusal, started, start, restartRefusal, restarted, restart, hearRefusal, hear, writeAnswer, writeBuffer, closing, close}
 
--- start, restart and hearing answer so: the refusal, the new record where it is 0, and else the record that was
+-- start, restart and hearing answer so: the refusal, the new record if it is 0, and else the record that was
 pub answer-refusal : (c : ℕ) (new old : Head) → answer c new old .refusal ≡ c
 answer-refusal zero new old = refl
 answer-refusal (suc c) new old = refl

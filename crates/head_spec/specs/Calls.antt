@@ -30,7 +30,7 @@ use Rattle.head_spec.specs.declared.Closing.{Closing}
 use Rattle.head_spec.specs.Record.{noEntries, opened, trustedBy}
 use Rattle.head_spec.specs.Seats.{firstSeat, healedSeat, confessionSeat, nextSeat}
 
--- the record changed where nothing was refused
+-- the record changed if nothing was refused
 abbrev pub answer : ℕ → Head → Head → Answer
 answer zero new old = record { refusal = 0; head = new }
 answer (suc c) new old = record { refusal = suc c; head = old }
@@ -115,7 +115,7 @@ hearEach h (d ∷ D) = hearEach (hear h (d .link) (d .bytes) .head) D
 
 -- ---- writing; checks 26, 24
 
--- what a head has to say: in collection its position, or silence where it is healed; in confession its list, or a confession where it is healed
+-- what a head has to say: in collection its position, or silence if it is healed; in confession its list, or a confession if it is healed
 abbrev pub spokenIn : ℕ → Head → Meaning
 spokenIn zero h = collected (cond (h .seat .healed) Entry.Null (h .seat .position))
 spokenIn (suc r) h = cond (h .seat .healed) confessed (listed (h .list))

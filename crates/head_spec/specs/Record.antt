@@ -45,7 +45,7 @@ trustedBy h = trusted (h .seat .n) (h .seat .f) (given h)
 
 -- ---- what a frame that was heard amounts to
 
--- in a collection round: the entry that was said, null where no position was
+-- in a collection round: the entry that was said, null if no position was
 abbrev pub heardEntry : Meaning → Entry
 heardEntry (refused c) = Entry.Null
 heardEntry (collected e) = e

@@ -1,4 +1,4 @@
--- Counting by a loop: a test adds 1 or 0, a loop that adds g k in turn k has the sum of g, a count of n tests is at most n, and where the tests
+-- Counting by a loop: a test adds 1 or 0, a loop that adds g k in turn k has the sum of g, a count of n tests is at most n, and if the tests
 -- from 32 on say no, the first 32 are enough.
 use mathlib.Core.Path.{_≡_, refl, ap, sym, _∙_}
 use mathlib.Core.Bool.{Bool, true, false}

@@ -31,7 +31,7 @@ even m e = let h : m % 2 ≢ 1 = eqb-false (m % 2) 1 (sym (bit-zero m) ∙ e) in
 half-plus : (m j : ℕ) → (m + 2 ^ suc j) / 2 ≡ m / 2 + 2 ^ j
 half-plus m j = rw pow-succ' (omega arith)
 
--- the bit that is set, where it was not
+-- the bit that is set, if it was not
 pub bit-same : (m j : ℕ) → bitOf m j ≡ false → bitOf (m + 2 ^ j) j ≡ true
 bit-same m zero e = bit-zero (m + 1) ∙ eq-eqb ((m + 1) % 2) 1 (omega (arith, even m e))
 bit-same m (suc j) e = rw (bit-suc, half-plus) (bit-same (m / 2) j (sym (bit-suc m j) ∙ e))
@@ -62,7 +62,7 @@ bit-below m (suc n) (suc j) l h e =
     let k = rw pow-succ' at l in
     rw (pow-succ' 2 n, pow-succ' 2 j) (omega (arith, bit-below (m / 2) n j (omega arith) (omega arith) (sym (bit-suc m j) ∙ e)))
 
--- nothing is left of a shift by n just where the number is below 2 ^ n
+-- nothing is left of a shift by n exactly if the number is below 2 ^ n
 pub shift-none : (m n : ℕ) → eqb (m / 2 ^ n) 0 ≡ ltb m (2 ^ n)
 shift-none m n = go (decLt m (2 ^ n))
   where

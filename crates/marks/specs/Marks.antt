@@ -12,7 +12,7 @@ bitOf m j = eqb (m / 2 ^ j % 2) 1
 unfoldable pub marksBelow : ℕ → ℕ → Bool
 marksBelow m n = ltb m (2 ^ n)
 
--- m with bit k set, where a mark word has such a bit
+-- m with bit k set, if a mark word has such a bit
 unfoldable pub withMark : ℕ → ℕ → ℕ
 withMark m k = cond (ltb k 32 && not (bitOf m k)) (m + 2 ^ k) m
 

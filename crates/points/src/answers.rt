@@ -23,7 +23,7 @@ pub fn of_steps(v: i32) -> Answer {
     Answer::Number(print::wide(v))
 }
 
-// A count of heads or of bytes; null where it is more than 65,535.
+// A count of heads or of bytes; null if it is more than 65,535.
 pub fn of_count(n: usize) -> Answer {
     if n < 65536 {
         return Answer::Number(n as i64);

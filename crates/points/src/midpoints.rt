@@ -8,7 +8,7 @@ use crate::wrong;
 use terms::Table;
 ghost use Prim.Native.Nat.{_<_};
 
-// n, f, marks (bit j set where entry j is a position), five entries
+// n, f, marks (bit j set if entry j is a position), five entries
 struct Trusted(u32, u32, u32, i32, i32, i32, i32, i32);
 
 const MIDPOINTS: [Trusted; 10] = [

@@ -82,7 +82,7 @@ pub fn bytes(s: &[u8]) {
     }
 }
 
-// The first len bytes; all of them where they are fewer.
+// The first len bytes; all of them if they are fewer.
 pub fn front(s: &[u8], len: usize) -> &[u8] {
     if len < s.len() {
         return &s[0..len];

@@ -72,7 +72,7 @@ fn round_line(c: Round) {
     );
 }
 
-// A new position; 0 where it was refused.
+// A new position; 0 if it was refused.
 fn position(s: Settled) -> i32 {
     match s {
         Settled::Refused(_) => 0,

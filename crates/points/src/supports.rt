@@ -48,7 +48,7 @@ fn listed(c: Given) -> u32 {
     c.4 | c.6 | c.8
 }
 
-// Link k's position for every head; 0 where it gave none.
+// Link k's position for every head; 0 if it gave none.
 fn position(c: Given, k: usize) -> i32 {
     if marks::marked(c.4, k) {
         return c.5;

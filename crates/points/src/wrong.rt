@@ -16,14 +16,14 @@ pub fn half_towards_zero(a: i32, b: i32) -> i64 {
     (a as i64 + b as i64) / 2
 }
 
-// Half of a sum, an odd sum rounded to an even number: one more than rounded down, where the sum and that are odd.
+// Half of a sum, an odd sum rounded to an even number: one more than rounded down, if the sum and that are odd.
 pub fn half_to_even(a: i32, b: i32) -> i32 {
     let down = fields::unsigned(steps::half_sum(a, b, false));
     let odd = (fields::unsigned(a) ^ fields::unsigned(b)) & 1;
     fields::signed(std::num::wrapping_add_u32(down, down & odd))
 }
 
-// Nanometres divided towards zero; 0 where there is no denominator.
+// Nanometres divided towards zero; 0 if there is no denominator.
 pub fn nanometres(steps: i32, numerator: u32, denominator: u32) -> i64 {
     if denominator == 0 {
         return 0;

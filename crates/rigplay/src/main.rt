@@ -7,15 +7,15 @@ ghost use mathlib.Core.Path.{_≡_};
 ghost use Prim.Native.Nat.{ℕ};
 ghost use Rattle.run_state.specs.Memory.{before, after};
 ghost use Rattle.run_piece.specs.Advances.{StateAt};
-use libc::STDIN_FILENO;
-use libc::STDOUT_FILENO;
-use run_state::Player;
-use run_state::Carry;
-use terms::Lists;
-use terms::Numbers;
-use run_stream::Page;
 use frame_slots::PlantedBytes;
 use frame_slots::PlantedLengths;
+use libc::STDIN_FILENO;
+use libc::STDOUT_FILENO;
+use run_state::Carry;
+use run_state::Player;
+use run_stream::Page;
+use terms::Lists;
+use terms::Numbers;
 use terms::Words;
 
 // What comes of a piece: the player after it, and whether all that it shows is written.

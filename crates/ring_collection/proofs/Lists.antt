@@ -1,4 +1,4 @@
--- The list that a head fills: what head i hears of head k is what is planted, or what head k sent; and two tables of n entries are the same where their
+-- The list that a head fills: what head i hears of head k is what is planted, or what head k sent; and two tables of n entries are the same if their
 -- entries below n are.
 use mathlib.Core.Path.{_≡_, refl, ap, ap₂, _∙_}
 use mathlib.Core.Bool.{Bool, true, false, cond}

@@ -16,7 +16,7 @@ use Rattle.ring_round.specs.Memory.{heads, sends}
 abbrev pub ownEntry : Stage → List ℤ → ℕ → Entry
 ownEntry s positions k = cond (bitOf (s .before) k) Entry.Null (Entry.Position (getD positions k (pos 0)))
 
--- what is heard of head k, where it is not struck
+-- what is heard of head k, if it is not struck
 unfoldable pub sent : Stage → List ℤ → ℕ → Entry
 sent s positions k = heardEntry (said (heads s) (s .phase) 0 k (frameOf (heads s) k (s .phase) (sends s positions k)))
 

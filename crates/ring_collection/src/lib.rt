@@ -12,12 +12,12 @@ ghost use Rattle.ring_collection.specs.Inner.{ownEntry, sent, heard, hea
 use frame_spec::Said;
 use ring_round::Stage;
 use terms::Entry;
-use terms::Table;
 use terms::Lists;
 use terms::Numbers;
+use terms::Table;
 use terms::Words;
 
-// The entry that a collection frame says; null where it says none.
+// The entry that a collection frame says; null if it says none.
 fn entry_in(frame: &[u8], n: u8, phase: u16, k: u8) -> Entry
     ensures { λ r. ⌜ r ≡ heardEntry (said n phase 0 k (now (frame .entry))) ⌝ }
 {
@@ -40,7 +40,7 @@ fn own_entry(s: Stage, positions: &Numbers, k: usize) -> Entry
     Entry::Position(positions[k])
 }
 
-// What each unstruck head hears of head k, where that is not struck either.
+// What each unstruck head hears of head k, if that is not struck either.
 fn entry_sent(s: Stage, positions: &Numbers, k: usize) -> Entry
     requires { ⌜ k < 32 ⌝ }
     ensures { λ r. ⌜ r ≡ sent s (now (positions .entry)) k ⌝ }
@@ -68,7 +68,7 @@ fn sends_alike(s: Stage, positions: &Numbers, i: usize, m: usize) -> bool
     positions[i] == positions[m]
 }
 
-// What is heard of head k, after `told` was heard of head `last`, or first where that is 32: heads that send the same are heard the same.
+// What is heard of head k, after `told` was heard of head `last`, or first if that is 32: heads that send the same are heard the same.
 fn entry_after(s: Stage, positions: &Numbers, k: usize, last: usize, told: Entry) -> Entry
     requires { ⌜ (k < 32) × (last < 32 → told ≡ sent s (now positions) last) ⌝ }
     ensures { λ r. ⌜ r ≡ sent s (now (positions .entry)) k ⌝ }
@@ -123,7 +123,7 @@ fn mark_of(e: Entry) -> u32
     }
 }
 
-// The number of an entry, 0 where it is null.
+// The number of an entry, 0 if it is null.
 fn number_of(e: Entry) -> i32
     ensures { λ r. ⌜ r ≡ number e ⌝ }
 {
@@ -151,7 +151,7 @@ fn list_for(s: Stage, sent: [Entry; 32], planted: &[u8], lengths: &[u8], i: usiz
     Table { marks, entries }
 }
 
-// The list of head i, after head `last` filled the list `told`, or first where that is 32: heads that are told alike fill the same.
+// The list of head i, after head `last` filled the list `told`, or first if that is 32: heads that are told alike fill the same.
 fn list_after(
     s: Stage,
     sent: [Entry; 32],

@@ -29,7 +29,7 @@ isStruck s k = ltb k (heads s) && bitOf (s .struck) k
 abbrev pub ownReply : Stage → ℕ → Said
 ownReply s k = cond (bitOf (s .before) k) Said.Confession Said.List
 
--- what is heard of head k, where it is not struck
+-- what is heard of head k, if it is not struck
 unfoldable pub replied : Stage → List ℕ → List (List ℤ) → ℕ → Meaning
 replied s marks lists k = said (heads s) (s .phase) 1 k (frameOf (heads s) k (s .phase) (replies s marks lists k))
 

@@ -15,20 +15,13 @@ use frame_spec::Said;
 use ring_round::Stage;
 use settle_midpoint::Settled;
 use settle_trust::Links;
-use terms::Table;
 use terms::Lists;
 use terms::Numbers;
+use terms::Table;
 use terms::Words;
 
 // Hears a confession frame on link k: a list goes to its row.
-fn hear(
-    links: Links,
-    rows: &mut Lists,
-    k: usize,
-    frame: &[u8],
-    n: u8,
-    phase: u16,
-) -> Links
+fn hear(links: Links, rows: &mut Lists, k: usize, frame: &[u8], n: u8, phase: u16) -> Links
     requires { ⌜ k < 32 ⌝ }
     ensures links { λ r. ⌜ r ≡ linksWith links k (said n phase 1 k (now (frame .entry))) ⌝ }
     ensures rows { λ r. ⌜ now (rows .exit) ≡ rowsWith (now (rows .entry)) k (said n phase 1 k (now (frame .entry))) ⌝ }
@@ -62,7 +55,7 @@ fn own_reply(s: Stage, k: usize) -> Said
     Said::Confession
 }
 
-// Hears what head k replies to each unstruck head, where it is not struck either.
+// Hears what head k replies to each unstruck head, if it is not struck either.
 fn hear_reply(
     s: Stage,
     marks: &Words,
@@ -142,7 +135,7 @@ fn hear_again(links: Links, rows: &mut Lists, k: usize, m: usize) -> Links
     out
 }
 
-// Hears what head k replies, after head `last`, or first where that is 32: where both reply the same list, what was heard of the one is heard of the other.
+// Hears what head k replies, after head `last`, or first if that is 32: if both reply the same list, what was heard of the one is heard of the other.
 fn hear_after(
     s: Stage,
     marks: &Words,
@@ -164,12 +157,7 @@ fn hear_after(
 }
 
 // Hears what the unstruck heads reply to each of them.
-fn hear_replies(
-    s: Stage,
-    marks: &Words,
-    lists: &Lists,
-    rows: &mut Lists,
-) -> Links
+fn hear_replies(s: Stage, marks: &Words, lists: &Lists, rows: &mut Lists) -> Links
     requires { ⌜ length (now rows) ≡ 32 ⌝ }
     ensures { λ r. ⌜ Received r (now (rows .exit)) (givenAlike s (now (marks .entry)) (now (lists .entry))) ⌝ }
 {
@@ -219,7 +207,7 @@ fn hear_planted(
     links
 }
 
-// The lowest link that gave a list; 0 where none did.
+// The lowest link that gave a list; 0 if none did.
 fn first_listed(m: u32) -> usize
     ensures { λ r. ⌜ r < 32 ⌝ }
 {
@@ -227,7 +215,7 @@ fn first_listed(m: u32) -> usize
     if k < 32 { k as usize } else { 0 }
 }
 
-// The position that a head settles from what its links gave; 0 where it is refused.
+// The position that a head settles from what its links gave; 0 if it is refused.
 fn settled(s: Stage, rows: &Lists, links: Links, reference: usize) -> i32
     requires { ⌜ reference < 32 ⌝ }
     ensures { λ r. ⌜ r ≡ settledFrom s (givenBy links (now (rows .entry))) ⌝ }
@@ -258,7 +246,7 @@ fn position_for(
     settled(s, rows, links, reference)
 }
 
-// The same, after another head settled the position `told`: where both are told alike, both settle it. `last` is that head, or 32 before the first.
+// The same, after another head settled the position `told`: if both are told alike, both settle it. `last` is that head, or 32 before the first.
 fn position_after(
     s: Stage,
     planted: &[u8],

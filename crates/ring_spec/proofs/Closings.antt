@@ -1,4 +1,4 @@
--- What an unstruck head's record is when the round is closed: after collection its list stands, and after confession, where enough entries are
+-- What an unstruck head's record is when the round is closed: after collection its list stands, and after confession, if enough entries are
 -- trusted, it holds the midpoint of what it trusts. Either way the next round can open, up to the last phase.
 use mathlib.Core.Path.{_≡_, refl, ap, sym, subst, _∙_}
 use mathlib.Core.Bool.{true, false}

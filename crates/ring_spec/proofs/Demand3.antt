@@ -37,7 +37,7 @@ pub record Playable (n f : ℕ) (e : End) (R : Ring) : Type 0 where
       → Each n (λ i. bitOf (w .struck) i ≡ false → enough n (twoRounds f) (trusted n f (given (heardAt n f R w i))) ≡ true)
   pub nears : R .round ≡ 1 → (w : Round) → AtMost f n (bitOf (w .struck)) → Nearer n n f (Halves n f) e (endAt (afterRound n f R w))
 
--- the end that round w of a ring makes, where it is a confession round
+-- the end that round w of a ring makes, if it is a confession round
 abbrev endWith : ℕ → ℕ → Ring → Round → PhaseEnd
 endWith n f R w = phaseEnd (R .before) (w .struck) (afterRound n f R w .heads)
 

@@ -1,4 +1,4 @@
-// The records of a run file, judged: whether one is allowed where it stands, and the number of its first fault, 0 for none.
+// The records of a run file, judged: whether one is allowed here, and the number of its first fault, 0 for none.
 ghost use mathlib.Core.Path.{_≡_};
 ghost use mathlib.Core.Bool.{_&&_};
 ghost use Prim.Native.Nat.{ℕ, _<_};
@@ -7,8 +7,8 @@ ghost use lib.ListN.{getD, drop};
 ghost use lib.IntN.{pos};
 ghost use Rattle.run_spec.specs.RunFile.{recordKind, allowedWhen, positionIn, positionsFit, startFault, fewMarks, roundFault, rises, pairFits, plantFault};
 use run_spec::Pair;
-use terms::refusal;
 use terms::Numbers;
+use terms::refusal;
 
 // The kinds of records.
 pub const START: u16 = 0x10;

@@ -11,7 +11,7 @@ unfoldable pub heightOf : ℤ → ℕ
 heightOf (pos n) = n + 2147483648
 heightOf (negsuc n) = 2147483647 - n
 
--- of two positions, the higher one where a flag is set, else the lower
+-- of two positions, the higher one if a flag is set, else the lower
 abbrev pub outward : Bool → ℤ → ℤ → ℤ
 outward true = greater
 outward false = lesser

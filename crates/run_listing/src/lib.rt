@@ -71,7 +71,7 @@ pub fn ends_of(positions: &Numbers, struck: u32, n: u8) -> Ends
     Ends { low, high }
 }
 
-// How far apart two entries are; 0 where one is null.
+// How far apart two entries are; 0 if one is null.
 pub fn spread_of(low: Entry, high: Entry) -> u32
     ensures { λ r. ⌜ r ≡ apart low high ⌝ }
 {

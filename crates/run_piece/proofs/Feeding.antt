@@ -35,7 +35,7 @@ use Rattle.run_piece.proofs.Growing.{grown-none, judged-grown}
 abbrev pub Idle : File → File → Player → Memory → Player → Memory → Type 0
 Idle F G p M q M′ = accepted G ≡ accepted F → (M′ ≡ M) × (q ≡ halted p (q .have) (q .fault))
 
--- where a and the bytes after it lead, and with what they show, demand 3 is kept
+-- in the state after a and the bytes after it, with what they show, demand 3 is kept
 pub shows-there : {a xs : List ℕ} {p q : Player} {text carry : List ℕ} {M M′ : Memory}
     → StateAt (a ++ xs) q carry M′ → shown (readFile (a ++ xs)) ≡ shown (readFile a) ++ text → Idle (readFile a) (readFile (a ++ xs)) p M q M′
     → Advances a xs p M q text carry M′

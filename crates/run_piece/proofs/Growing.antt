@@ -1,4 +1,4 @@
--- What a record adds to the phase ends played: a start the first, a round record that of the pending round, where that was a confession round, and no other
+-- What a record adds to the phase ends played: a start the first, a round record that of the pending round, if that was a confession round, and no other
 -- record any. What it shows is the line of that end.
 use mathlib.Core.Path.{_≡_, refl, ap, sym, _∙_}
 use mathlib.Core.Bool.{Bool, true, false}

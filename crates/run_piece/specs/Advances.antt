@@ -1,5 +1,5 @@
--- The player's promise: where the bytes a lead, and fed b after them, it stands where a ++ b leads. Each piece shows the text by which the listing grows, and
--- the positions then held keep demand 3 with every phase end that the listing shows. Where no record was accepted, as where one is refused, the memory is as it
+-- The player's promise: fed b after exactly the bytes a, its state is that after a ++ b. Each piece shows the text by which the listing grows, and
+-- the positions then held keep demand 3 with every phase end that the listing shows. If no record was accepted, as when one is refused, the memory is as it
 -- was; the bytes of a record that is cut are scratch.
 use mathlib.Core.List.{List, [], _∷_, _++_}
 use mathlib.Core.Path.{_≡_}
@@ -14,7 +14,7 @@ use Rattle.run_state.specs.Changes.{halted}
 use Rattle.run_state.specs.State.{ringBefore, PlayerOf, MemoryOf}
 use Rattle.run_round.specs.Converged.{ConvergedIn}
 
--- the player, with the bytes of a record that is cut, and the memory lent to it, stand where the bytes a lead
+-- the player, with the bytes of a record that is cut, and the memory lent to it, are the state after the bytes a
 pub record StateAt (a : List ℕ) (p : Player) (carry : List ℕ) (M : Memory) : Type 0 where
   pub player : PlayerOf p (readFile a)
   pub part : readFile a .part ≡ take (p .have) carry

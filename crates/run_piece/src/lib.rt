@@ -1,4 +1,4 @@
-// One step over a piece of a run file, which may be cut anywhere, down to one byte: a record that stands whole in the piece is taken where it stands; one that
+// One step over a piece of a run file, which may be cut anywhere, down to one byte: a record that is whole in the piece is taken where it is; one that
 // is cut is gathered first.
 ghost use mathlib.Core.Bool.{true};
 ghost use mathlib.Core.List.{_++_};
@@ -8,16 +8,16 @@ ghost use lib.ListN.{length, take};
 ghost use Rattle.run_state.specs.Memory.{before, after};
 ghost use Rattle.run_state.specs.Changes.{halted};
 ghost use Rattle.run_piece.specs.Inner.{Missing, allowedTo, Whole, Plants, headedTo, Quiet, RecordTaken, Used, Reads, Passes};
-use run_listing::Text;
-use run_record::RecordResult;
-use run_state::Player;
-use terms::refusal;
-use run_state::Carry;
-use terms::Lists;
-use terms::Numbers;
 use frame_slots::PlantedBytes;
 use frame_slots::PlantedLengths;
+use run_listing::Text;
+use run_record::RecordResult;
+use run_state::Carry;
+use run_state::Player;
+use terms::Lists;
+use terms::Numbers;
 use terms::Words;
+use terms::refusal;
 
 // What comes of a piece: the player after it, how many of its bytes were taken, and the line that they show, if any.
 pub struct FeedResult {

@@ -9,14 +9,14 @@ ghost use Rattle.run_state.specs.Memory.{Memory, before, after, withPositions, 
 ghost use Rattle.run_state.specs.State.{PlayerOf, MemoryOf};
 ghost use Rattle.run_record.specs.Next.{Next, NextQuiet};
 ghost use Rattle.run_record.specs.Inner.{Turned};
-use run_listing::Text;
-use run_state::Player;
-use terms::refusal;
-use terms::Lists;
-use terms::Numbers;
 use frame_slots::PlantedBytes;
 use frame_slots::PlantedLengths;
+use run_listing::Text;
+use run_state::Player;
+use terms::Lists;
+use terms::Numbers;
 use terms::Words;
+use terms::refusal;
 
 // What comes of a record: the player after it, and the line that it shows, if any.
 pub struct RecordResult {

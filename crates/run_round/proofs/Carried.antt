@@ -33,7 +33,7 @@ module _ {n f : ℕ} {R : Ring} {w : Round} {s : Stage} {plant : ℕ → ℕ →
     pub hears-unstruck : hears s i ≡ true
     hears-unstruck = rw (heads-are, lt-ltb i n l, P .struck, q)
 
-    -- m: what the record of head k has to say, where it is not struck
+    -- m: what the record of head k has to say, if it is not struck
     module _ (k : ℕ) (b : k < n) (m : Meaning) (says : bitOf (w .struck) k ≡ false → spoken (openedAt n f R w k) ≡ m) where
       carries-same : carries s plant i k m ≡ carried n f R w i k
       unfolding carried

@@ -57,7 +57,7 @@ module _ (n f : ℕ) (v : ℕ → ℤ) (M : Memory) (same : Each n (λ i. getD (
         always = λ i l q v e. one-position (start-positions i l) e;
       }
 
--- the new position, where enough entries are trusted
+-- the new position, if enough entries are trusted
 settles-midpoint : (r n f : ℕ) (E : ℕ → Entry) → enough n (twoRounds f) E ≡ true → positionOf (settling r n (twoRounds f) E) ≡ midpoint r n (twoRounds f) E
 unfolding settling midpoint
 settles-midpoint r n f E e = rw e

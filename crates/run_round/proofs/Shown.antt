@@ -14,7 +14,7 @@ module _ (n f : ℕ) (R : Ring) (w : Round) where
   pub collection-line : R .round ≡ 0 → roundLine n f R w ≡ []
   collection-line c = ap (λ (r : ℕ). roundLine n f (in-round r) w) c
 
-  -- the end that this round makes, where it is a confession round
+  -- the end that this round makes, if it is a confession round
   abbrev pub madeBy : Ring → PhaseEnd
   madeBy x = phaseEnd (x .before) (w .struck) (afterRound n f x w .heads)
 

@@ -1,5 +1,5 @@
 -- A proper table is the table of its entries. Bit j of a mark word weighs 2^j, so the marks of the first j entries are the word's remainder by 2^j, and
--- a number is 0 where its entry is null.
+-- a number is 0 if its entry is null.
 use mathlib.Core.Path.{_≡_, refl, ap₂, sym, _∙_}
 use mathlib.Core.Bool.{Bool, true, false, cond}
 use mathlib.Core.List.{List, []}

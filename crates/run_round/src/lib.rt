@@ -8,13 +8,13 @@ ghost use Rattle.run_state.specs.Memory.{before, after};
 ghost use Rattle.run_state.specs.State.{PlayerOf, MemoryOf};
 ghost use Rattle.run_round.specs.Played.{Played};
 ghost use Rattle.run_round.specs.Inner.{stageOf};
+use frame_slots::PlantedBytes;
+use frame_slots::PlantedLengths;
 use ring_round::Stage;
 use run_listing::Text;
 use run_state::Player;
 use terms::Lists;
 use terms::Numbers;
-use frame_slots::PlantedBytes;
-use frame_slots::PlantedLengths;
 use terms::Words;
 
 // The ring in the pending round.

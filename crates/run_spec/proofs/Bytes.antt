@@ -160,7 +160,7 @@ one-accepted plant F s len may W =
     rw (W pending, pending) (omega arith)
 one-accepted other F s len may W = absurd (true≢false (sym may))
 
--- and where none is, a record that was judged has a fault
+-- and if none is, a record that was judged has a fault
 pub none-accepted : (K : RecordKind) (F : File) (s : List ℕ) (len : ℕ) → isAllowed K F len ≡ true → (F .rounds .pending ≡ true → F .setup .begun ≡ true)
     → accepted (judged K F s) ≡ accepted F → judged K F s .fault ≡ 0 → ⊥
 unfolding judged

@@ -102,7 +102,7 @@ module _ (F : File) where
 
   -- ---- the whole listing
 
-  -- what is left to show at the end: the pending round's line, where the file ends without fault
+  -- what is left to show at the end: the pending round's line, if the file ends without fault
   abbrev pub lastLine : List ℕ
   lastLine = cond (eqb (ending F) 0) (waitingLine F) []
 

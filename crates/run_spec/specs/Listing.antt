@@ -26,7 +26,7 @@ size (suc k) x = cond (ltb x 10) 1 (suc (size k (x / 10)))
 unfoldable pub decimal : ℕ → List ℕ
 decimal x = digits (size 9 x) x
 
--- with a minus sign where it is below zero
+-- with a minus sign if it is below zero
 abbrev pub whole : ℤ → List ℕ
 whole (pos x) = decimal x
 whole (negsuc x) = 45 ∷ decimal (suc x)

@@ -233,7 +233,7 @@ abbrev pub isEmpty : List ℕ → Bool
 isEmpty [] = true
 isEmpty (x ∷ xs) = false
 
--- the first fault, or 13: no start, a record cut short, or inside a phase; 0 where the file is played to its end
+-- the first fault, or 13: no start, a record cut short, or inside a phase; 0 if the file is played to its end
 unfoldable pub ending : File → ℕ
 ending F = check (eqb (F .fault) 0) (F .fault) (check (F .setup .begun && isEmpty (F .part) && endsPhase (given F)) refusal.run-record 0)
 
@@ -248,7 +248,7 @@ endsFrom S ws = endsAfter (S .n) (S .f) (S .first) ws
 abbrev pub endsSoFar : File → List PhaseEnd
 endsSoFar F = cond (F .setup .begun) (endsFrom (F .setup) (F .rounds .played)) []
 
--- the pending round is played where the file ends without fault
+-- the pending round is played if the file ends without fault
 unfoldable pub roundsPlayed : File → List Round
 roundsPlayed F = cond (eqb (ending F) 0) (allRounds (F .rounds)) (F .rounds .played)
 

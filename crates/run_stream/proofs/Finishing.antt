@@ -1,4 +1,4 @@
--- The end of the file: by the player's numbers it ends as the definition says, and what is left to show is the last round's line, where it is played, and
+-- The end of the file: by the player's numbers it ends as the definition says, and what is left to show is the last round's line, if it is played, and
 -- the verdict. The memory then holds what the rounds played leave, which keeps demand 3.
 use mathlib.Core.Path.{_≡_, refl, ap, sym, _∙_}
 use mathlib.Core.Bool.{Bool, true, false, cond, _&&_, true≢false}
@@ -41,7 +41,7 @@ begun-by p e = go (p .begun) (eqb (p .fault) 0) refl e
     go false true f e = absurd (omega arith)
     go false false f e = absurd (eqb-false (p .fault) 0 f e)
 
--- the rounds played are those played before, where the last one is not
+-- the rounds played are those played before, if the last one is not
 unplayed : (ok w : Bool) (ws : List Round) (x : Round) → (ok ≡ true → w ≡ false) → cond ok (thenPlayed w ws x) ws ≡ ws
 unplayed true true ws x h = absurd (true≢false (h refl))
 unplayed true false ws x h = refl

@@ -1,4 +1,4 @@
--- Step by step through a piece: after some bytes the player stands where they lead, with the text that they show, and the next step is one from there.
+-- Step by step through a piece: after some bytes the state is that after them, with the text that they show, and the next step is one from there.
 use mathlib.Core.Path.{_≡_, refl, ap, sym, _∙_}
 use mathlib.Core.List.{List, [], _++_, append-nil, append-assoc}
 use Prim.Native.Nat.{ℕ, _+_, _-_, _≤_, _<_}
@@ -64,7 +64,7 @@ pub record Reached (bytes : List ℕ) (p : Player) (carry₀ : List ℕ) (M₀ :
   pub within : at ≤ length bytes
   pub advances : (a : List ℕ) → StateAt a p carry₀ M₀ → Advances a (take at bytes) p M₀ q text carry M
 
--- one piece after the other, where no record is accepted by the two none is by either
+-- one piece after the other, if no record is accepted by the two none is by either
 idle-both : (F G H : File) (p : Player) {q r : Player} {M M′ M″ : Memory} → accepted F ≤ accepted G → accepted G ≤ accepted H → Idle F G p M q M′
     → Idle G H q M′ r M″ → Idle F H p M r M″
 idle-both F G H p {r} less more f g e =

@@ -10,17 +10,17 @@ ghost use Rattle.run_piece.specs.Inner.{Used, Reads, Passes};
 ghost use Rattle.run_stream.specs.Ends.{Ends, EndsWith};
 ghost use Rattle.run_spec.specs.Listing.{title};
 ghost use Rattle.run_stream.specs.Inner.{endingOf};
+use frame_slots::PlantedBytes;
+use frame_slots::PlantedLengths;
 use run_listing::Text;
 use run_piece::FeedResult;
 use run_piece::PassResult;
-use run_state::Player;
-use terms::refusal;
 use run_state::Carry;
+use run_state::Player;
 use terms::Lists;
 use terms::Numbers;
-use frame_slots::PlantedBytes;
-use frame_slots::PlantedLengths;
 use terms::Words;
+use terms::refusal;
 
 // A page of the listing, of 64 lines at least.
 pub const PAGE: usize = 4096;
@@ -130,7 +130,7 @@ pub fn feed(
     run_piece::quiet(player, used)
 }
 
-// How the file ends: the number of its first fault, or 13 where it has no start, ends inside a record or inside a phase.
+// How the file ends: the number of its first fault, or 13 if it has no start, ends inside a record or inside a phase.
 fn ending(p: Player) -> u8
     ensures { λ r. ⌜ r ≡ endingOf p ⌝ }
 {
@@ -144,7 +144,7 @@ fn ending(p: Player) -> u8
     refusal::RUN_RECORD
 }
 
-// The end of the file: the pending round is played where it ends well.
+// The end of the file: the pending round is played if it ends well.
 pub fn finish(
     p: Player,
     positions: &mut Numbers,

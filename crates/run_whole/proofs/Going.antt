@@ -1,4 +1,4 @@
--- From place to place through a file. What a piece shows is put behind the text that is there, and where it is the line of a phase end the ring stands there, with
+-- From place to place through a file. What a piece shows is put behind the text that is there, and if it is the line of a phase end the ring stands there, with
 -- its positions in memory, and these are kept. So at the end the buffers hold the listing and every phase end, and any two of these keep demand 3, since the
 -- ends of the file do.
 use mathlib.Core.Path.{_≡_, refl, ap, sym, _∙_}
@@ -91,7 +91,7 @@ rows-then a b ends words = go (F .setup .begun) refl
     go true e R = rw (same-heads a b e) R
     go false e R = tt
 
--- where there is a phase end, there was a start
+-- if there is a phase end, there was a start
 begun-so : (F : File) (x : PhaseEnd) (es : List PhaseEnd) → endsSoFar F ≡ x ∷ es → F .setup .begun ≡ true
 begun-so F x es = go (F .setup .begun)
   where
@@ -172,7 +172,7 @@ module _ {file : List ℕ} {at : Place} {carry : List ℕ} {M : Memory} {B₀ B 
 
 -- ---- the end of the file
 
--- where there is a phase end at last, there was a start
+-- if there is a phase end at last, there was a start
 begun-at : (F : File) (x : PhaseEnd) (es : List PhaseEnd) → endsPlayed F ≡ x ∷ es → F .setup .begun ≡ true
 unfolding endsPlayed
 begun-at F x es = go (F .setup .begun)
@@ -181,7 +181,7 @@ begun-at F x es = go (F .setup .begun)
     go true e = refl
     go false e = absurd (omega (arith, ap length e))
 
--- where the end of the file plays a round, its mark word is that of the pending round
+-- if the end of the file plays a round, its mark word is that of the pending round
 last-struck : (F : File) (x : PhaseEnd) → endsPlayed F ≡ x ∷ endsSoFar F → ringAtEnd F .before ≡ F .rounds .last .struck
 unfolding endsPlayed roundsPlayed ringAfter afterRound
 last-struck F x = go (eqb (ending F) 0) (F .rounds .pending)

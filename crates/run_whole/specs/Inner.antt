@@ -17,7 +17,7 @@ use Rattle.run_whole.specs.declared.Place.{Place}
 use Rattle.run_whole.specs.Buffers.{Buffers, row, hasRoom}
 use Rattle.run_whole.specs.Whole.{HoldsEnd, isSound}
 
--- a text is put behind the first len bytes, where there is room
+-- a text is put behind the first len bytes, if there is room
 pub record Put (t : Text) (len r : ℕ) (out out′ : List ℕ) : Type 0 where
   pub long : t .len ≤ 64 → length (bytesOf t) ≡ t .len
   pub puts : t .len ≤ 64 → len + t .len ≤ length out → (r ≡ len + t .len) × (out′ ≡ paste out len (bytesOf t) (t .len))
@@ -31,7 +31,7 @@ unfoldable pub soundRow : ℕ → ℕ → List ℤ → ℕ → List ℤ
 soundRow n word positions zero = []
 soundRow n word positions (suc k) = soundRow n word positions k ++ (soundNumber n word positions k ∷ [])
 
--- a phase end is kept, where there is one and room for it
+-- a phase end is kept, if there is one and room for it
 abbrev pub EndKept : Bool → ℕ → ℕ → List ℤ → ℕ → ℕ → List ℤ → List ℕ → List ℤ → List ℕ → Type 0
 EndKept true n word positions count r ends words ends′ words′ =
     32 * count + 32 ≤ length ends → count < length words

@@ -10,17 +10,17 @@ ghost use Rattle.run_state.specs.Memory.{before, after};
 ghost use Rattle.run_whole.specs.Buffers.{Buffers, lent, left, hasRoom};
 ghost use Rattle.run_whole.specs.Whole.{Whole, Plays, PlaysInto};
 ghost use Rattle.run_whole.specs.Inner.{Put, soundNumber, soundRow, EndKept, Going};
-use run_listing::Text;
-use run_state::Player;
-use terms::refusal;
-use run_state::Carry;
-use terms::Lists;
-use terms::Numbers;
 use frame_slots::PlantedBytes;
 use frame_slots::PlantedLengths;
+use run_listing::Text;
+use run_state::Carry;
+use run_state::Player;
+use terms::Lists;
+use terms::Numbers;
 use terms::Words;
+use terms::refusal;
 
-// How the file ends, or 24 where a buffer is too short; how many bytes the listing has; and how many phase ends were played, the start among them.
+// How the file ends, or 24 if a buffer is too short; how many bytes the listing has; and how many phase ends were played, the start among them.
 pub struct PlayResult {
     pub number: u8,
     pub len: usize,
@@ -262,7 +262,7 @@ fn run(
     )
 }
 
-// Plays a whole file: its listing at the front of out, and for each phase end a row of ends and a word of words. Refused 24 where one of the three is too
+// Plays a whole file: its listing at the front of out, and for each phase end a row of ends and a word of words. Refused 24 if one of the three is too
 // short for the most phase ends that a file of this length can have.
 pub fn play(file: &[u8], out: &mut [u8], ends: &mut [i32], words: &mut [u32]) -> PlayResult
     ensures { λ r. ⌜ Plays (hasRoom (length (now (file .entry))) (length (now (out .entry))) (length (now (ends .entry))) (length (now (words .entry))))

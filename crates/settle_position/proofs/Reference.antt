@@ -1,4 +1,4 @@
--- What the list of one link, the reference, decides by itself. A list with the lead's marks and its number at entry j says of head j what the reference says; a list with
+-- What the list of one link, the reference, decides by itself. A list with the reference's marks and its number at entry j says of head j what the reference says; a list with
 -- no marks says nothing; so any other position stands in the remaining lists alone. Where these are fewer than `need`, no other position reaches it.
 use mathlib.Core.Path.{_≡_, refl, ap, sym, _∙_}
 use mathlib.Core.Logic.{_≢_}
@@ -28,7 +28,7 @@ use Rattle.settle_trust.proofs.Cells.{holds-null, holds-same}
 use Rattle.settle_trust.proofs.Search.{is-le, only-seen, none-seen}
 use Rattle.settle_trust.proofs.Trusted.{decided-by-lists}
 
--- ---- one list, with the mark word m and the number a, beside the lead's, v and b
+-- ---- one list, with the mark word m and the number a, beside the reference's, v and b
 
 abbrev said : ℕ → ℕ → ℤ → Entry
 said j m a = cond (bitOf m j) (Position a) Null
@@ -62,7 +62,7 @@ module _ (j m v : ℕ) (a b : ℤ) where
       go false t true h n = rw (n tt) (omega arith)
       go false t false h n = omega (arith, is-le w (said j m a))
 
-  -- with the lead's marks, the position that it says is its number
+  -- with the reference's marks, the position that it says is its number
   number-same : {u : ℤ} (s : Bool) → cond s (Position a) Null ≡ Position u → cond s (Position b) Null ≡ Position u → a ≡ b
   number-same true p q = sym (same-position (sym p) (sym q))
   number-same false p q = absurd (not-null refl p)

@@ -1,2 +1,2 @@
--- How the settling functions go by a list that leads. What they promise is said by `midpoint` and `convergence`.
+-- How the settling functions go by a reference list. What they promise is said by `midpoint` and `convergence`.
 pub mod Reference

@@ -70,7 +70,7 @@ fn compare(lists: &Lists, marks: &Words, n: usize, reference: usize) -> Comparis
     Comparison { alike, apart, same }
 }
 
-// Whether the cell x of the lead's list decides: enough lists hold it, and those that may hold another position are too few.
+// Whether the cell x of the reference's list decides: enough lists hold it, and those that may hold another position are too few.
 fn decides(x: u64, need: usize, alike: usize, apart: usize, same: usize) -> bool
     requires { ⌜ (need ≤ 255) × (alike ≤ 32) × (apart ≤ 32) × (same ≤ 32) ⌝ }
     ensures { λ r. ⌜ (r ≡ true → Decides x need alike apart same) ⌝ }
@@ -84,7 +84,7 @@ fn decides(x: u64, need: usize, alike: usize, apart: usize, same: usize) -> bool
     alike + apart < same + need
 }
 
-// Whether there is no trusted position, by the cell x of the lead's list: the lists that may hold it are too few, and so are those that may hold another.
+// Whether there is no trusted position, by the cell x of the reference's list: the lists that may hold it are too few, and so are those that may hold another.
 fn lacks(x: u64, need: usize, alike: usize, apart: usize, same: usize) -> bool
     requires { ⌜ (need ≤ 255) × (alike ≤ 32) × (apart ≤ 32) × (same ≤ 32) ⌝ }
     ensures { λ r. ⌜ (r ≡ true → Lacks x need alike apart same) ⌝ }
@@ -98,7 +98,7 @@ fn lacks(x: u64, need: usize, alike: usize, apart: usize, same: usize) -> bool
     apart + alike < same + need
 }
 
-// The cell of trusted entry j as `trusted_cell` has it, from the lead's list alone where that decides.
+// The cell of trusted entry j as `trusted_cell` has it, from the reference's list alone if that decides.
 fn cell_by(
     lists: &Lists,
     marks: &Words,
@@ -129,7 +129,7 @@ fn cell_by(
 }
 
 // The new position from what the links gave; `up`: whether an odd sum is rounded up. Each trusted entry goes to its place in the order as soon as it is
-// decided, from entry 0 up. The list of the link `reference` is looked at first: where most lists are like it, it decides nearly all entries.
+// decided, from entry 0 up. The list of the link `reference` is looked at first: if most lists are like it, it decides nearly all entries.
 fn settle_after(
     lists: &Lists,
     links: Links,
@@ -191,13 +191,7 @@ pub fn settle_by(
 }
 
 // The same of lists by value.
-pub fn settle(
-    lists: Lists,
-    links: Links,
-    n: u8,
-    f: u8,
-    up: bool,
-) -> settle_midpoint::Settled
+pub fn settle(lists: Lists, links: Links, n: u8, f: u8, up: bool) -> settle_midpoint::Settled
     ensures { λ r. ⌜ r ≡ settling (bit up) n (twoRounds f) (trusted n f (givenBy links lists)) ⌝ }
 {
     settle_by(&lists, links, 0, n, f, up)

@@ -1,6 +1,6 @@
 -- The search of a column for the only position that stands in `need` lists. What was seen so far is held as one cell, 0 for none; a second position
--- ends the search. A turn looks at one cell: nothing changes where it is null, where it is the one found, or where too few lists hold it. A position
--- that stands in `need` lists stands in one of the first k where fewer than `need` are left, so the later ones change nothing.
+-- ends the search. A turn looks at one cell: nothing changes if it is null, if it is the one found, or if too few lists hold it. A position
+-- that stands in `need` lists stands in one of the first k if fewer than `need` are left, so the later ones change nothing.
 use mathlib.Core.Path.{_≡_, refl, ap, sym, _∙_}
 use mathlib.Core.Bool.{Bool, true, false, not, _&&_}
 use mathlib.Core.List.{List}
@@ -36,7 +36,7 @@ turn-by-tests true false s = refl
 turn-by-tests false true s = refl
 turn-by-tests false false s = refl
 
--- the entry e is seen after d, where r says whether enough lists hold e
+-- the entry e is seen after d; r says whether enough lists hold e
 see-cell : (ok : ℤ → Bool) {x y : ℕ} (d e : Entry) (r : Bool) → CellOf x d → CellOf y e → ((u : ℤ) → e ≡ Position u → ok u ≡ r)
     → seeEntry ok e (seenOf d) ≡ pick (not (eqb y 0) && (not (eqb y x) && r)) (pick (eqb x 0) (seenOf e) many) (seenOf d)
 see-cell ok d Null r p q o = rw (q .cell)

@@ -10,9 +10,9 @@ ghost use mathlib.Core.Bool.{false};
 ghost use Rattle.convergence.specs.Trust.{support, trusted, choose};
 ghost use Rattle.settle_trust.specs.Received.{givenBy};
 use terms::Entry;
-use terms::Table;
 use terms::Lists;
 use terms::Numbers;
+use terms::Table;
 use terms::Words;
 
 // Which links confessed, which gave a list, and the mark words of the lists, which stand beside this.
@@ -35,7 +35,7 @@ pub fn link_count(n: u8) -> usize
     first_32(n as usize)
 }
 
-// How many lists have to agree on a position for it to be trusted; 0 where the confessions alone reach n - f.
+// How many lists have to agree on a position for it to be trusted; 0 if the confessions alone reach n - f.
 pub fn lists_needed(confessed: u32, n: u8, f: u8) -> usize
     ensures { λ r. ⌜ r ≡ n - f - markedTo confessed (min n 32) ⌝ }
 {
@@ -152,8 +152,8 @@ fn is_another(cells: &[u64; 32], n: usize, need: usize, found: u64, x: u64) -> b
     need <= equal_to(cells, n, x)
 }
 
-// The cell of the only position that stands in `need` lists or more; 0 where there is none, or several. What stands in so many lists stands in an early
-// one, so the search ends where fewer than `need` are left.
+// The cell of the only position that stands in `need` lists or more; 0 if there is none, or several. What stands in so many lists stands in an early
+// one, so the search ends if fewer than `need` are left.
 fn only(cells: &[u64; 32], n: usize, need: usize) -> u64
     requires { ⌜ (n ≤ 32) × (0 < need) ⌝ }
     ensures { λ r. ⌜ ((E : ℕ → Entry) → HoldsEach n (now (cells .entry)) E → CellOf r (choose false false (agreed n need E))) ⌝ }

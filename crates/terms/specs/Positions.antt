@@ -14,11 +14,11 @@ unfoldable pub floorDiv : ℤ → ℕ → ℤ
 floorDiv (pos n) d = pos (n / d)
 floorDiv (negsuc n) d = negsuc (n / d)
 
--- half of z; an odd z is rounded down where r is 0, and up where r is 1 (document 01 has r = 0 throughout)
+-- half of z; an odd z is rounded down if r is 0, and up if r is 1 (document 01 has r = 0 throughout)
 unfoldable pub half : ℕ → ℤ → ℤ
 half r z = floorDiv (z +ℤ pos r) 2
 
--- how far b lies above a, where it does
+-- how far b lies above a, if it does
 unfoldable pub gap : ℤ → ℤ → ℕ
 gap a b = natAbs (b -ℤ a)
 

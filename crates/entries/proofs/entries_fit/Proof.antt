@@ -24,7 +24,7 @@ loop-holds c = (search needs, refl)
 word-in-requires : tie.Need-word-in-requires Inv-loop μ-loop
 word-in-requires c κs = λ t. omega (arith, leb-true)
 
--- the next entry fits just where `word_fits` says so
+-- the next entry fits exactly if `word_fits` says so
 next : (c : tie.After-word-fits Inv-loop μ-loop) →
     let l = c .before .before .before .before in
     let a = l .before .before .args in

@@ -1,4 +1,4 @@
--- `fields::half_at` meets its contract: where no byte is left at the place, both read as 0.
+-- `fields::half_at` meets its contract: if no byte is left at the place, both read as 0.
 use native.Mathlib.Omega.{arith}
 use lib.ListN.{List·getD-eq-default}
 use denote.Ref.{now}

@@ -1,4 +1,4 @@
--- `fields::word_at` meets its contract: where no byte is left at the place, each of the four reads as 0.
+-- `fields::word_at` meets its contract: if no byte is left at the place, each of the four reads as 0.
 use mathlib.Core.Path.{_≡_}
 use Prim.Native.Nat.{ℕ, _+_}
 use native.Mathlib.Omega.{arith}

@@ -18,7 +18,7 @@ returns-2 c =
     let d = c .before .before .before in
     rw (← d .before .byte-at .ensures, eq-eqb _ _ (d .if1 .left), ← c .before .before .word-at .ensures, ← c .before .marks-below .ensures, not-true (c .before .marks-below .result) (c .if2 .taken))
 
--- the row of checks, where count and marks passed
+-- the row of checks, if count and marks passed
 last-check : (c : tie.After-entries-fit)
     → let a = c .before .before .before .before .before .before .before .before .args in
     fromMarks list (a .n) (now (a .rest)) ≡ check (c .entries-fit .result) refusal.entry 0

@@ -1,4 +1,4 @@
--- `frame_slots::is_same` meets its contract: where nothing differs before place j, the bytes below j are the same.
+-- `frame_slots::is_same` meets its contract: if nothing differs before place j, the bytes below j are the same.
 use mathlib.Core.Path.{_≡_, sym, _∙_}
 use mathlib.Core.Logic.{⊎-elim}
 use mathlib.Core.Bool.{true, true≢false}

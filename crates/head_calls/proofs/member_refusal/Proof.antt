@@ -1,4 +1,4 @@
--- A refusal of the size stands whatever is checked after it; where the size is taken, the checks that follow decide.
+-- A refusal of the size stands whatever is checked after it; if the size is taken, the checks that follow decide.
 use mathlib.Core.Path.{sym, _∙_}
 use Rattle.settle_midpoint.proofs.Checks.{size-refused, size-taken}
 use borrow.Author.Needs.{needs}

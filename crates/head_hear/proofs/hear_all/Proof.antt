@@ -32,7 +32,7 @@ loop-holds : tie.Need-loop-holds Inv-loop μ-loop
 unfolding hearAll
 loop-holds c = (search needs, refl)
 
--- where a link has spoken: what was heard so far kept what the link spoke to
+-- if a link has spoken: what was heard so far kept what the link spoke to
 module _ (c : tie.After-said-on Inv-loop μ-loop) where
   abbrev here : tie.At-loop Inv-loop μ-loop
   here = c .before .before .before .before

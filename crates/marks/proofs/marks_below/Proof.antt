@@ -1,4 +1,4 @@
--- `marks::marks_below` meets its contract: the shift leaves nothing just where the word is below 2^n, which it is for each n from 32 up.
+-- `marks::marks_below` meets its contract: the shift leaves nothing exactly if the word is below 2^n, which it is for each n from 32 up.
 use mathlib.Core.Path.{sym}
 use Prim.Native.Nat.{_^_, _≤_}
 use native.Mathlib.Omega.{arith}

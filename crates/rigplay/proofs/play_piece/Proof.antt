@@ -1,4 +1,4 @@
--- `rigplay::play_piece` meets its contract: at the head of the loop the player stands where the bytes before `at` lead.
+-- `rigplay::play_piece` meets its contract: at the head of the loop the state is that after the bytes before `at`.
 use mathlib.Core.Path.{sym}
 use mathlib.Core.Bool.{true≢false}
 use mathlib.Core.List.{List, _++_}

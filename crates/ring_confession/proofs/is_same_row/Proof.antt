@@ -1,4 +1,4 @@
--- `ring_confession::is_same_row` meets its contract: where nothing differs before entry j, the numbers below j are the same.
+-- `ring_confession::is_same_row` meets its contract: if nothing differs before entry j, the numbers below j are the same.
 use mathlib.Core.Path.{_≡_, ap, sym, _∙_}
 use mathlib.Core.Logic.{⊎-elim}
 use mathlib.Core.Bool.{true, true≢false}

@@ -21,7 +21,7 @@ loop-holds : tie.Need-loop-holds Inv-loop μ-loop
 unfolding positionsFit
 loop-holds c = (search needs, refl)
 
--- the next position fits just where its word says so
+-- the next position fits exactly if its word says so
 next : (c : tie.After-is-position-word Inv-loop μ-loop) →
     let l = c .before .before .before in
     positionsFit (now (l .before .before .args .bytes)) (l .loop .j + 1) ≡ c .is-position-word .result

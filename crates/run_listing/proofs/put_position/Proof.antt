@@ -14,7 +14,7 @@ use Rattle.run_listing.proofs.Writing.{longer-then, longer-as}
 use Rattle.run_listing.proofs.put_position.Statement.{statement}
 use Rattle.run_listing.proofs.put_position.Tie as tie
 
--- a number is below zero where its height is below 2^31
+-- a number is below zero if its height is below 2^31
 whole-below : (v : ℤ) {h : ℕ} → SFits w32 v → h ≡ heightOf v → h < 2147483648 → 45 ∷ decimal (2147483648 - h) ≡ whole v
 unfolding heightOf
 whole-below (pos n) f e l = absurd (omega arith)

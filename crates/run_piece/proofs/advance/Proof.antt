@@ -1,4 +1,4 @@
--- `run_piece::advance` meets its contract: after a fault nothing is read, a whole record is taken where it stands, and what is cut is gathered.
+-- `run_piece::advance` meets its contract: after a fault nothing is read, a whole record is taken where it is, and what is cut is gathered.
 use native.Mathlib.Omega.{arith}
 use borrow.Author.Needs.{needs}
 use Rattle.run_piece.proofs.Feeding.{uses-all, uses-one, rests, stands-there}

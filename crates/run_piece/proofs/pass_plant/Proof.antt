@@ -1,4 +1,4 @@
--- `run_piece::pass_plant` meets its contract: a planted record is taken where it stands, and anything else is left.
+-- `run_piece::pass_plant` meets its contract: a planted record is taken where it is, and anything else is left.
 use native.Mathlib.Omega.{arith}
 use borrow.Author.Needs.{needs}
 use borrow.Author.Tests.{not-false}

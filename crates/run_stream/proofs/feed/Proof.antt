@@ -1,4 +1,4 @@
--- `run_stream::feed` meets its contract: at the head of the loop the bytes before `used` have shown nothing, and the player stands where they lead.
+-- `run_stream::feed` meets its contract: at the head of the loop the bytes before `used` have shown nothing, and the state is that after them.
 use Prim.Native.Nat.{_+_, _-_, _≤_, _<_}
 use native.Mathlib.Omega.{arith}
 use lib.ListN.{length}

@@ -1,4 +1,4 @@
--- `run_stream::fill` meets its contract: at the head of the loop the page holds the text that the bytes before `used` show, and the player stands where they lead.
+-- `run_stream::fill` meets its contract: at the head of the loop the page holds the text that the bytes before `used` show, and the state is that after them.
 use Prim.Native.Nat.{_+_, _-_, _≤_, _<_}
 use native.Mathlib.Omega.{arith}
 use lib.ListN.{length, take}

@@ -1,4 +1,4 @@
--- `run_stream::finish` meets its contract: the pending round is played where the file ends well, and no other.
+-- `run_stream::finish` meets its contract: the pending round is played if the file ends well, and no other.
 use mathlib.Core.Logic.{⊎-elim}
 use native.Mathlib.Omega.{arith}
 use borrow.Author.Needs.{needs}

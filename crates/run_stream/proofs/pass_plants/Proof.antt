@@ -1,4 +1,4 @@
--- `run_stream::pass_plants` meets its contract: at the head of the loop the bytes before `used` have shown nothing, and the player stands where they lead.
+-- `run_stream::pass_plants` meets its contract: at the head of the loop the bytes before `used` have shown nothing, and the state is that after them.
 use mathlib.Core.Path.{_≡_, refl}
 use mathlib.Core.List.{List}
 use Prim.Native.Nat.{ℕ, _+_, _-_, _≤_}

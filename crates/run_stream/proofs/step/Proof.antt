@@ -1,4 +1,4 @@
--- `run_stream::step` meets its contract: planted records show nothing; where there are none, the player still stands where it stood.
+-- `run_stream::step` meets its contract: planted records show nothing; if there are none, the state is as it was.
 use native.Mathlib.Omega.{arith}
 use denote.Ref.{now}
 use borrow.Author.Needs.{needs}

@@ -1,4 +1,4 @@
--- `run_whole::has_room` meets its contract: a quotient is below a number just where the dividend is below its multiple.
+-- `run_whole::has_room` meets its contract: a quotient is below a number exactly if the dividend is below its multiple.
 use native.Mathlib.Omega.{arith}
 use borrow.Author.Needs.{needs}
 use borrow.Author.Tests.{le-leb, lt-leb}

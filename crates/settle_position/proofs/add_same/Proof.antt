@@ -1,4 +1,4 @@
--- `settle_position::add_same` meets its contract: before entry j, the counts below j have one more where the two numbers are the same, and the others are as they were.
+-- `settle_position::add_same` meets its contract: before entry j, the counts below j have one more if the two numbers are the same, and the others are as they were.
 use mathlib.Core.Path.{_≡_, refl, ap, ap₂, _∙_}
 use mathlib.Core.Logic.{_≢_}
 use mathlib.Core.Bool.{Bool}

@@ -1,4 +1,4 @@
--- `settle_position::cell_by` meets its contract: link j confessed; or the lead's list decides; or the column is searched.
+-- `settle_position::cell_by` meets its contract: link j confessed; or the reference's list decides; or the column is searched.
 use mathlib.Core.Path.{sym, _∙_}
 use Prim.Native.Nat.{ℕ, _≤_}
 use native.Mathlib.Omega.{arith}

@@ -1,4 +1,4 @@
--- `settle_trust::lists_needed` meets its contract: a difference is 0 where the code does not subtract.
+-- `settle_trust::lists_needed` meets its contract: a difference is 0 if the code does not subtract.
 use mathlib.Core.Path.{_≡_, ap, _∙_}
 use Prim.Native.Nat.{min}
 use native.Mathlib.Omega.{arith}

@@ -34,7 +34,7 @@ mul-x c = omega arith
 element-copy-out-x : tie.Need-element-copy-out-x Inv-loop μ-loop
 element-copy-out-x c = omega arith
 
--- a turn, where the cells hold the entries E
+-- a turn, if the cells hold the entries E
 module _ (c : tie.After-is-another Inv-loop μ-loop) where
   abbrev here : tie.At-loop Inv-loop μ-loop
   here = c .before .before .before
