@@ -71,7 +71,7 @@ same-bits {x} {y} f g =
 
 is-held : {x y : ℕ} {u : ℤ} {e : Entry} → CellOf x (Position u) → CellOf y e → bit (eqb y x) ≡ is u e
 is-held {u = u} {e = Null} p q = rw (q .cell, p .cell) (ap bit (eqb·zero-suc (wordOf u)))
-is-held {u = u} {e = Position v} p q = ap bit (same-cells p q)
+is-held {e = Position v} p q = ap bit (same-cells p q)
 
 -- ---- the entry of a cell that is not 0
 

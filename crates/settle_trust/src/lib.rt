@@ -22,13 +22,14 @@ pub struct Links {
     pub marks: Words,
 }
 
-// How many of n links are looked at: those from 32 on gave nothing.
+// How many of n links are looked at: those from 32 on give nothing.
 fn first_32(n: usize) -> usize
     ensures { λ r. ⌜ r ≡ min n 32 ⌝ }
 {
     if 32 < n { 32 } else { n }
 }
 
+// How many links of a ring are looked at.
 pub fn link_count(n: u8) -> usize
     ensures { λ r. ⌜ r ≡ min n 32 ⌝ }
 {
