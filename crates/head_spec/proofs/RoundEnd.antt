@@ -40,7 +40,7 @@ module _ (h : Head) (runs : h .seat .ended ≡ false) where
   closes-collection r = rw (runs, r)
 
   module _ (confession : h .seat .round ≡ 1) where
-    pub closes-confession : close h ≡ closeSettled (settling (rounding (h .seat .phase)) (h .seat .n) (h .seat .f) (trustedBy h)) h
+    pub closes-confession : close h ≡ closeSettled (settling (rounding (h .seat .phase)) (h .seat .n) (twoRounds (h .seat .f)) (trustedBy h)) h
     unfolding close
     closes-confession = rw (runs, confession)
 
@@ -53,7 +53,7 @@ module _ (h : Head) (runs : h .seat .ended ≡ false) where
     too-few-trusted e = rw (runs, confession, e)
 
 -- the new position is the midpoint
-pub settled-midpoint : (h : Head) → settledBy h .seat .position ≡ midpoint (rounding (h .seat .phase)) (h .seat .n) (twoRounds (h .seat .f)) (trustedBy h)
+pub settled-midpoint : (h : Head) → settledBy h .position ≡ midpoint (rounding (h .seat .phase)) (h .seat .n) (twoRounds (h .seat .f)) (trustedBy h)
 unfolding midpoint
 settled-midpoint h = refl
 
