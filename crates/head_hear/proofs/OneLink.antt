@@ -40,7 +40,7 @@ says-something n p r k s e =
     let first = passed (leb 4 (length s)) _ e in
     let second = passed (eqb (lengthField s) (length s)) _ (first .1) in
     let third = passed (isKnown (kindField s)) _ (second .1) in
-    known-says (kindField s) n s (third .0)
+    known-says (kindField s) n (restField s) (third .0)
 
 -- ---- the answer to what was said
 

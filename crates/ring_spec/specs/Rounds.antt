@@ -1,5 +1,5 @@
 -- Document 01, "Strikes", for the records of a whole ring: memory lost, healed heads restarted, frames sent and delivered, rounds closed.
-use mathlib.Core.Bool.{false, cond, _&&_}
+use mathlib.Core.Bool.{Bool, false, cond, _&&_}
 use mathlib.Core.List.{List, [], _∷_}
 use Prim.Native.Nat.{ℕ, zero, suc, _+_, _/_, _%_}
 use lib.Dec.{eqb}
