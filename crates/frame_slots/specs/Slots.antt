@@ -1,8 +1,9 @@
 -- Frames side by side: a slot of 140 bytes, the longest frame, and a length for each.
 use mathlib.Core.Bool.{Bool, cond, _&&_}
 use mathlib.Core.List.{List}
-use Prim.Native.Nat.{ℕ, _+_, _*_}
-use lib.Dec.{ltb, leb}
+use mathlib.Core.Path.{_≡_}
+use Prim.Native.Nat.{ℕ, _+_, _*_, _≤_, _<_}
+use lib.Dec.{eqb, ltb, leb}
 use lib.ListN.{length, getD, set, take, drop}
 use Rattle.fields.specs.Bytes.{copied}
 
@@ -24,3 +25,9 @@ withPlanted bytes k i b = cond (isPlantable k i b) (copied bytes (140 * (32 * k 
 
 unfoldable pub withLength : List ℕ → ℕ → ℕ → List ℕ → List ℕ
 withLength lengths k i b = cond (isPlantable k i b) (set lengths (32 * k + i) (length b)) lengths
+
+-- read back, with b planted from k to i: on that link b, and on every other link of 32 heads, if its slot has at most 140 bytes, what was there
+abbrev pub PlantedThen : ℕ → ℕ → List ℕ → List ℕ → List ℕ → List ℕ → List ℕ → Type 0
+PlantedThen k i b bytes lengths bytes′ lengths′ =
+    length b ≤ 140 → (j m : ℕ) → j < 32 → m < 32 → length (plantedIn bytes lengths j m) ≤ 140
+    → plantedIn bytes′ lengths′ j m ≡ cond (eqb k j && eqb i m) b (plantedIn bytes lengths j m)

@@ -4,7 +4,7 @@ ghost use mathlib.Core.List.{List, []};
 ghost use mathlib.Core.Path.{_≡_};
 ghost use Prim.Native.Nat.{ℕ, _+_, _*_, _<_};
 ghost use lib.ListN.{length, getD, set};
-ghost use Rattle.frame_slots.specs.Slots.{slot, plantedIn, withPlanted, withLength};
+ghost use Rattle.frame_slots.specs.Slots.{slot, plantedIn, withPlanted, withLength, PlantedThen};
 use terms::HEADS;
 
 // The longest frame, a list of 32 entries, has 140 bytes.
@@ -99,6 +99,7 @@ fn put_length(lengths: &mut [u8], slot: usize, len: u8)
 pub fn plant(planted: &mut PlantedBytes, lengths: &mut PlantedLengths, k: u8, i: u8, bytes: &[u8])
     ensures bytes { λ _. ⌜ now (planted .exit) ≡ withPlanted (now (planted .entry)) k i (now (bytes .entry)) ⌝ }
     ensures lengths { λ _. ⌜ now (lengths .exit) ≡ withLength (now (lengths .entry)) k i (now (bytes .entry)) ⌝ }
+    ensures reads { λ _. ⌜ PlantedThen k i (now (bytes .entry)) (now (planted .entry)) (now (lengths .entry)) (now (planted .exit)) (now (lengths .exit)) ⌝ }
 {
     if 32 <= k {
         return;

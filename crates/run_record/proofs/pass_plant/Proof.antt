@@ -5,7 +5,6 @@ use Prim.Native.Nat.{_≤_}
 use lib.ListN.{length, drop, length-drop}
 use denote.Ref.{now}
 use borrow.Author.Needs.{needs}
-use Rattle.frame_slots.proofs.Slots.{planted-then}
 use Rattle.run_spec.specs.RunFile.{plant}
 use Rattle.run_state.specs.Changes.{withPairPlanted}
 use Rattle.run_state.proofs.Told.{plant-fault-as}
@@ -33,9 +32,8 @@ returns-2 c =
     let short : length (drop 6 s) ≤ 140 = omega (arith, length-drop 6 s) in
     rw (judged-taken plant F s (t .before .plant-fault .ensures ∙ sym (plant-fault-as T s)) (t .if1 .left))
     (plant-next s H short
-    (λ m j m-below j-below fits. rw (← k .byte-at .ensures, ← i .byte-at2 .ensures, ← x .bytes-from .ensures, p .plant .ensures .0, p .plant .ensures .1)
-    (planted-then (now (a .planted)) (now (a .lengths)) (now (x .bytes-from .result)) (k .byte-at .result) (i .byte-at2 .result) (search needs) (search needs)
-    (rw (x .bytes-from .ensures) short) m j m-below j-below fits))
+    (λ m j m-below j-below fits. rw (← k .byte-at .ensures, ← i .byte-at2 .ensures, ← x .bytes-from .ensures)
+    (p .plant .ensures .1 .1 (rw (x .bytes-from .ensures) short) m j m-below j-below fits))
     T (c .planted-pair .ensures ∙ ap₂ (withPairPlanted (a .p)) (k .byte-at .ensures) (i .byte-at2 .ensures)) none)
 
 pub pass-plant-spec : {M : Type 1} → statement M
