@@ -64,12 +64,13 @@ module _ {a : List ℕ} {p : Player} {carry : List ℕ} {M : Memory} (L : StateA
       → Grown (F .setup .n) (endsSoFar F) (cond (F .setup .begun) (endsFrom (F .setup) ws) []) (ringFrom (F .setup) ws) (bytesOf line)
       → EndsWith a M (record { number = n; line = line; verdict = v }) M′
   unfolding listingOf endsPlayed roundsPlayed
-  ends ws e l i v K U G =
+  ends {line} {v = t} ws e l i v K U G =
+      let whole : listingOf F ≡ shown F ++ bytesOf line ++ bytesOf t = rw (e, l, v, i, ends-by) in
       record {
         number = i ∙ sym ends-by;
         ends =
             record {
-              shows = rw (e, l, v, i, ends-by);
+              shows = whole ∙ append-assoc (shown F) (bytesOf line) (bytesOf t);
               held = rw (← e) at K;
               unplayed = rw (← e) at U;
               demand3 = held-converges (eqb (ending F) 0) a (rw (← e) at K);

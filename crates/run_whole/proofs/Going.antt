@@ -257,5 +257,5 @@ module _ {file : List ℕ} {at : Place} {carry : List ℕ} {M : Memory} {B₀ B 
       let (len, put) = Q .puts short′ (omega (arith, out-long told (omega (arith, told .count, room .out)), told .count, room .out)) in
       let whole =
       whole-told s {r = record { number = r .number; len = l′; ends = c }} {B₀ = B₀} {B = record { out = out′; ends = ends; words = words }} (E .number)
-      (rw (E .ends .shows, len) (told-put told (bytesOf (r .verdict)) (r .verdict .len) (Q .long short′) put)) in
+      (rw (E .ends .shows ∙ sym (append-assoc (shown F) (bytesOf (r .line)) (bytesOf (r .verdict))), len) (told-put told (bytesOf (r .verdict)) (r .verdict .len) (Q .long short′) put)) in
       rw (← is) whole
