@@ -2,7 +2,7 @@
 use mathlib.Core.Path.{_≡_}
 use mathlib.Core.Bool.{true, false}
 use mathlib.Core.List.{List, [], _∷_}
-use Prim.Native.Nat.{ℕ, zero, suc, _+_, _*_, _%_, _<_}
+use Prim.Native.Nat.{ℕ, zero, suc, _+_, _*_, _<_}
 use native.Mathlib.Omega.{arith}
 use lib.ListN.{length}
 use lib.IntN.{ℤ}
@@ -32,7 +32,7 @@ module _ (n f : ℕ) (v : ℕ → ℤ) (ws : List Round) where
   next-phase = omega (arith, counted n f v ws)
 
   pub next-ends : endsPhase (length ws + 1) ≡ true → ringAfter n f v ws .round ≡ 1
-  next-ends e = omega (arith, counted n f v ws, eqb-true ((length ws + 1) % 2) 0 e)
+  next-ends e = omega (arith, counted n f v ws, eqb-true)
 
   pub next-opens : endsPhase (length ws + 1) ≡ false → ringAfter n f v ws .round ≡ 0
-  next-opens e = omega (arith, counted n f v ws, eqb-false ((length ws + 1) % 2) 0 e)
+  next-opens e = omega (arith, counted n f v ws, eqb-false)

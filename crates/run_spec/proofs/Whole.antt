@@ -1,5 +1,5 @@
--- Records as they come: bytes that end inside a record are kept, the header of a record that is not allowed stops the file, and a record is judged when it is whole. All
--- follow from one law (`reads-on`): if every shorter front of a record is cut, its bytes are read as if they came at once.
+-- Records as they come: bytes that end inside a record are kept, a record that is not allowed stops the file at its header, and any other is judged when it is
+-- whole. All follow from one law (`reads-on`): if every shorter front of a record is cut, its bytes are read as if they came at once.
 use mathlib.Core.Path.{_≡_, refl, ap, sym, _∙_}
 use mathlib.Core.Bool.{Bool, true, false, not, cond, _&&_, true≢false, and-false}
 use mathlib.Core.List.{List, [], _∷_, _++_, append-nil}
