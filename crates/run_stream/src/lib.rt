@@ -227,7 +227,7 @@ pub fn fill(
     let mut used: usize = 0;
     let mut len: usize = 0;
     while used < bytes.len() && len <= 4032 {
-        let fed = feed(
+        let more = feed(
             player,
             &bytes[used..],
             carry,
@@ -237,9 +237,9 @@ pub fn fill(
             planted,
             lengths,
         );
-        player = fed.player;
-        used += fed.used;
-        let text = fed.text;
+        player = more.player;
+        used += more.used;
+        let text = more.text;
         len = put(page, len, text);
     }
     FillResult { player, used, len }
