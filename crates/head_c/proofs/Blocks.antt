@@ -1,105 +1,202 @@
--- A block is read as the record that was stored in it, and after a call as the record that the call makes of the one before. So C may keep a head all shift.
-use mathlib.Core.Path.{_≡_, refl, ap}
-use mathlib.Core.Bool.{Bool, true, false, cond}
-use mathlib.Core.List.{List, [], _∷_, map}
-use Prim.Native.Nat.{ℕ, zero, suc}
-use lib.IntN.{ℤ, pos}
+-- A block is read as the record that was put into it, if the record's numbers fit their words.
+use mathlib.Core.Path.{_≡_, refl, ap, sym, _∙_}
+use mathlib.Core.Bool.{Bool, true, false}
+use mathlib.Core.List.{List, [], _∷_, _++_, append-assoc}
+use Prim.Native.Nat.{ℕ, zero, suc, _+_, _-_, _*_, _<_}
+use native.Mathlib.Omega.{arith}
+use native.Mathlib.Nat.{mod-eq-of-lt}
+use native.Mathlib.Decide.{decLt}
+use lib.ListN.{length, getD, List·getD-append}
+use lib.Seq.{getD-append-add}
+use lib.IntN.{ℤ, pos, negsuc}
 use Rattle.terms.specs.declared.Entry.{Entry}
-use Rattle.terms.specs.Refusals.{ended}
+use Rattle.fields.specs.Bytes.{signedOf, wordOf}
+use Rattle.fields.proofs.Bytes.{signed-low, signed-high}
 use Rattle.convergence.specs.Counting.{bit}
-use Rattle.convergence.specs.Settling.{twoRounds}
-use Rattle.convergence.specs.Phases.{rounding}
-use Rattle.settle_midpoint.specs.Answers.{settling}
-use Rattle.settle_midpoint.specs.declared.Settled.{Settled}
-use Rattle.settle_midpoint.specs.declared.Settled.the-variants as settled
 use Rattle.head_spec.specs.declared.Row.{Row}
+use Rattle.head_spec.specs.declared.Seat.{Seat}
 use Rattle.head_spec.specs.declared.Head.{Head}
-use Rattle.head_spec.specs.declared.Closed.{Closed}
-use Rattle.head_spec.specs.declared.Closing.{Closing}
-use Rattle.head_spec.specs.Record.{trustedBy}
-use Rattle.head_spec.specs.Calls.{answer, startRefusal, start, restartRefusal, restart, hearRefusal, hear, closedCollection, closedPhase, closing, closeSettled, closeIn, close}
-use Rattle.head_c.specs.declared.FocusHead.{FocusHead}
-use Rattle.head_lent.specs.Answers.{closedAnswer, heldNumber, heldOr}
-use Rattle.head_c.specs.Blocks.{flag, entryIn, rowOf, listOf, headOf, focusOf, after}
+use Rattle.head_lent.specs.Answers.{heldNumber, heldOr}
+use Rattle.head_c.specs.Blocks.{IsBlock, flag, entryIn, upTo, numbersAt, listAt, seatOf, headOf, wordsOf, listWords, withHead}
+use Rattle.head_c.proofs.Copying.{upTo-list}
+use Rattle.head_c.proofs.Putting.{words-long, word-at, lists-long, first, second, third, first-long, second-long, third-long}
+
+-- ---- numbers of 32 bits with a sign
+
+-- from -2^31 to 2^31 - 1
+abbrev pub Fits32 : ℤ → Type 0
+Fits32 (pos n) = n < 2147483648
+Fits32 (negsuc n) = n < 2147483648
+
+pub signed-back : (v : ℤ) → Fits32 v → signedOf (wordOf v) ≡ v
+unfolding wordOf
+signed-back (pos n) h = signed-low n h
+signed-back (negsuc n) h = signed-high (4294967295 - n) (omega arith) ∙ ap negsuc (omega arith)
+
+pub signed-fits : (x : ℕ) → Fits32 (signedOf x)
+unfolding signedOf
+signed-fits x = go (decLt x 2147483648)
+  where
+    go : Dec (x < 2147483648) → Fits32 (signedOf x)
+    go (yes h) = rw (signed-low x h) h
+    go (no h) = rw (signed-high x (omega arith)) (omega arith)
+
+-- 32 numbers
+pub record FitNumbers (E : List ℤ) : Type 0 where
+  pub long : length E ≡ 32
+  pub each : (j : ℕ) → j < 32 → Fits32 (getD E j (pos 0))
+
+-- ---- records whose numbers fit
+
+abbrev pub FitEntry : Entry → Type 0
+FitEntry Entry.Null = Unit {0}
+FitEntry (Entry.Position v) = Fits32 v
+
+pub record FitSeat (s : Seat) : Type 0 where
+  pub n : s .n < 256
+  pub f : s .f < 256
+  pub number : s .number < 256
+  pub phase : s .phase < 65536
+  pub round : s .round < 256
+  pub position : FitEntry (s .position)
+
+abbrev none : Row
+none = record { entries = [] }
+
+pub record Fit (h : Head) : Type 0 where
+  pub seat : FitSeat (h .seat)
+  pub list : FitNumbers (h .list .entries)
+  pub marks : length (h .links .marks) ≡ 32
+  pub lists-long : length (h .lists) ≡ 32
+  pub lists : (k : ℕ) → k < 32 → FitNumbers (getD (h .lists) k none .entries)
+
+-- ---- what was put is read
 
 flag-back : (b : Bool) → flag (bit b) ≡ b
 flag-back true = refl
 flag-back false = refl
 
-entry-back : (e : Entry) → entryIn (heldNumber e) (heldOr e (pos 0)) ≡ e
-entry-back Entry.Null = refl
-entry-back (Entry.Position v) = refl
+entry-back : (e : Entry) → FitEntry e → entryIn (heldNumber e) (signedOf (wordOf (heldOr e (pos 0)))) ≡ e
+entry-back Entry.Null f = refl
+entry-back (Entry.Position v) f = ap Entry.Position (signed-back v f)
 
-rows-back : (l : List Row) → map rowOf (map listOf l) ≡ l
-rows-back [] = refl
-rows-back (r ∷ l) = ap (λ (m : List Row). r ∷ m) (rows-back l)
+-- number j of list k
+list-word : (l : List Row) (n k j : ℕ) → k < n → j < 32 → getD (listWords l n) (32 * k + j) 0 ≡ wordOf (getD (getD l k none .entries) j (pos 0))
+unfolding listWords
+list-word l zero k j b m = absurd (omega arith)
+list-word l (suc n) k j b m = go (decLt k n) (list-word l n k j)
+  where
+    row : ℕ → List ℕ
+    row i = wordsOf (getD l i none .entries)
 
-pub block-back : (h : Head) → headOf (focusOf h) ≡ h
-unfolding headOf focusOf
-block-back h = λ i.
-    let s = h .seat in
-    record {
-      seat =
-          record {
-            n = s .n;
-            f = s .f;
-            number = s .number;
-            phase = s .phase;
-            round = s .round;
-            healed = flag-back (s .healed) i;
-            ended = flag-back (s .ended) i;
-            position = entry-back (s .position) i;
-          };
-      heard = h .heard;
-      list = h .list;
-      links = h .links;
-      lists = rows-back (h .lists) i;
-    }
+    go : Dec (k < n) → (k < n → j < 32 → getD (listWords l n) (32 * k + j) 0 ≡ wordOf (getD (getD l k none .entries) j (pos 0)))
+        → getD (listWords l n ++ row n) (32 * k + j) 0 ≡ wordOf (getD (getD l k none .entries) j (pos 0))
+    go (yes h) before = List·getD-append (listWords l n) (row n) 0 (32 * k + j) (omega (arith, lists-long l n)) ∙ before h m
+    go (no h) before =
+        let e : k ≡ n = omega arith in
+        let place : 32 * k + j ≡ length (listWords l n) + j = omega (arith, lists-long l n) in
+        ap (λ (i : ℕ). getD (listWords l n ++ row n) i 0) place
+        ∙ getD-append-add (listWords l n) (row n) j 0
+        ∙ word-at (getD l n none .entries) j m
+        ∙ ap (λ (i : ℕ). wordOf (getD (getD l i none .entries) j (pos 0))) (sym e)
 
--- ---- start, restart and hearing
+-- numbers that stand somewhere as their words
+pub numbers-back : (w : List ℕ) (i : ℕ) (E : List ℤ) → FitNumbers E → ((j : ℕ) → j < 32 → getD w (i + j) 0 ≡ wordOf (getD E j (pos 0)))
+    → numbersAt w i ≡ E
+unfolding numbersAt
+numbers-back w i E F h =
+    upTo-list 32 _ E (pos 0) (F .long) (λ j l. ap signedOf (h j l) ∙ signed-back _ (F .each j l))
 
-after-answer : (c : FocusHead) (k : ℕ) (new : Head) → headOf (after c (answer k new (headOf c))) ≡ answer k new (headOf c) .head
-unfolding after
-after-answer c zero new = block-back new
-after-answer c (suc k) new = refl
+module _ (h : Head) (w : List ℕ) (block : IsBlock w) (F : Fit h) where
+  abbrev w′ : List ℕ
+  w′ = withHead h w
 
-pub after-start : (c : FocusHead) (n f i : ℕ) (v : ℤ) → headOf (after c (start (headOf c) n f i v)) ≡ start (headOf c) n f i v .head
-unfolding start
-after-start c n f i v = after-answer c (startRefusal n f i v) _
+  -- the words from 24 on, from 58 on and from 92 on
+  abbrev D : List ℕ
+  D = listWords (h .lists) 32
 
-pub after-restart : (c : FocusHead) (n f i p r : ℕ) → headOf (after c (restart (headOf c) n f i p r)) ≡ restart (headOf c) n f i p r .head
-unfolding restart
-after-restart c n f i p r = after-answer c (restartRefusal n f i p r) _
+  abbrev C : List ℕ
+  C = h .links .confessed ∷ h .links .listed ∷ (h .links .marks ++ D)
 
-pub after-hear : (c : FocusHead) (k : ℕ) (s : List ℕ) → headOf (after c (hear (headOf c) k s)) ≡ hear (headOf c) k s .head
-unfolding hear
-after-hear c k s = after-answer c (hearRefusal (headOf c) k s) _
+  abbrev B : List ℕ
+  B = h .heard ∷ h .list .marks ∷ (wordsOf (h .list .entries) ++ C)
 
--- ---- closing
+  from-92 : (i : ℕ) → getD w′ (92 + i) 0 ≡ getD D i 0
+  unfolding withHead
+  from-92 i =
+      let t = third h w block (F .marks) in
+      ap (λ (n : ℕ). getD (t ++ D) (n + i) 0) (sym (third-long h w block (F .marks))) ∙ getD-append-add t D i 0
 
-after-refused : (c : FocusHead) (k : ℕ) → headOf (after c (closedAnswer (closing (Closed.Refused k) (headOf c)))) ≡ headOf c
-unfolding after
-after-refused c zero = block-back (headOf c)
-after-refused c (suc k) = refl
+  from-58 : (i : ℕ) → getD w′ (58 + i) 0 ≡ getD C i 0
+  unfolding withHead
+  from-58 i =
+      let t = second h w block (F .marks) in
+      ap (λ (l : List ℕ). getD l (58 + i) 0) (append-assoc t _ D)
+      ∙ ap (λ (n : ℕ). getD (t ++ C) (n + i) 0) (sym (second-long h w block (F .marks)))
+      ∙ getD-append-add t C i 0
 
-after-settled : (c : FocusHead) (x : Settled) → headOf (after c (closedAnswer (closeSettled x (headOf c)))) ≡ closeSettled x (headOf c) .head
-unfolding after
-after-settled c (settled.Refused k) = after-refused c k
-after-settled c (settled.New k) = block-back (closedPhase (headOf c) (k .position))
+  from-24 : (i : ℕ) → getD w′ (24 + i) 0 ≡ getD B i 0
+  unfolding withHead
+  from-24 i =
+      let t = first h w block (F .marks) in
+      ap (λ (l : List ℕ). getD l (24 + i) 0) (append-assoc (second h w block (F .marks)) _ D ∙ append-assoc t _ C)
+      ∙ ap (λ (n : ℕ). getD (t ++ B) (n + i) 0) (sym (first-long h w block (F .marks)))
+      ∙ getD-append-add t B i 0
 
-after-round : (c : FocusHead) (r : ℕ) → headOf (after c (closedAnswer (closeIn r (headOf c)))) ≡ closeIn r (headOf c) .head
-unfolding after
-after-round c zero = block-back (closedCollection (headOf c))
-after-round c (suc r) = after-settled c (settling (rounding (headOf c .seat .phase)) (headOf c .seat .n) (twoRounds (headOf c .seat .f)) (trustedBy (headOf c)))
+  entries-back : numbersAt w′ 26 ≡ h .list .entries
+  entries-back = numbers-back w′ 26 (h .list .entries) (F .list) at-j
+    where
+      at-j : (j : ℕ) → j < 32 → getD w′ (26 + j) 0 ≡ wordOf (getD (h .list .entries) j (pos 0))
+      at-j j l =
+          let e : 26 + j ≡ 24 + suc (suc j) = omega arith in
+          ap (λ (i : ℕ). getD w′ i 0) e ∙ from-24 (suc (suc j))
+          ∙ List·getD-append (wordsOf (h .list .entries)) C 0 j (omega (arith, words-long (h .list .entries)))
+          ∙ word-at (h .list .entries) j l
 
-after-either : (c : FocusHead) (b : Bool) (x y : Closing) → headOf (after c (closedAnswer x)) ≡ x .head → headOf (after c (closedAnswer y)) ≡ y .head
-    → headOf (after c (closedAnswer (cond b x y))) ≡ cond b x y .head
-after-either c true x y p q = p
-after-either c false x y p q = q
+  marks-back : upTo 32 (λ k. getD w′ (60 + k) 0) ≡ h .links .marks
+  marks-back = upTo-list 32 _ (h .links .marks) 0 (F .marks) at-k
+    where
+      at-k : (k : ℕ) → k < 32 → getD w′ (60 + k) 0 ≡ getD (h .links .marks) k 0
+      at-k k l =
+          let e : 60 + k ≡ 58 + suc (suc k) = omega arith in
+          ap (λ (i : ℕ). getD w′ i 0) e ∙ from-58 (suc (suc k)) ∙ List·getD-append (h .links .marks) D 0 k (omega (arith, F .marks))
 
-pub after-close : (c : FocusHead) → headOf (after c (closedAnswer (close (headOf c)))) ≡ close (headOf c) .head
-unfolding close
-after-close c =
-    let h : Head = headOf c in
-    let r : ℕ = h .seat .round in
-    after-either c (h .seat .ended) (closing (Closed.Refused ended) h) (closeIn r h) (after-refused c ended) (after-round c r)
+  lists-back : upTo 32 (listAt w′) ≡ h .lists
+  lists-back = upTo-list 32 (listAt w′) (h .lists) none (F .lists-long) at-k
+    where
+      at-j : (k j : ℕ) → k < 32 → j < 32 → getD w′ (92 + 32 * k + j) 0 ≡ wordOf (getD (getD (h .lists) k none .entries) j (pos 0))
+      at-j k j l m =
+          let e : 92 + 32 * k + j ≡ 92 + (32 * k + j) = omega arith in
+          ap (λ (i : ℕ). getD w′ i 0) e ∙ from-92 (32 * k + j) ∙ list-word (h .lists) 32 k j l m
+
+      at-k : (k : ℕ) → k < 32 → listAt w′ k ≡ getD (h .lists) k none
+      at-k k l =
+          let E = getD (h .lists) k none .entries in
+          ap (λ (x : List ℤ). record { entries = x }) (numbers-back w′ (92 + 32 * k) E (F .lists k l) (λ j m. at-j k j l m))
+
+  seat-back : seatOf w′ ≡ h .seat
+  unfolding seatOf withHead
+  seat-back = λ i.
+      let s = h .seat in
+      let S = F .seat in
+      record {
+        n = mod-eq-of-lt (S .n) i;
+        f = mod-eq-of-lt (S .f) i;
+        number = mod-eq-of-lt (S .number) i;
+        phase = mod-eq-of-lt (S .phase) i;
+        round = mod-eq-of-lt (S .round) i;
+        healed = flag-back (s .healed) i;
+        ended = flag-back (s .ended) i;
+        position = entry-back (s .position) (S .position) i;
+      }
+
+  pub head-back : headOf w′ ≡ h
+  unfolding headOf
+  head-back = λ i.
+      record {
+        seat = seat-back i;
+        heard = from-24 0 i;
+        list = record { marks = from-24 1 i; entries = entries-back i };
+        links = record { confessed = from-58 0 i; listed = from-58 1 i; marks = marks-back i };
+        lists = lists-back i;
+      }

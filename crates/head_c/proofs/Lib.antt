@@ -1,4 +1,9 @@
-pub mod Filled
+-- What other crates may cite: a block is read as the record that was put into it, and after a call as the record that the call makes.
+pub mod Copying
+pub mod Reading
+pub mod Putting
 pub mod Blocks
-pub mod Lendings
-pub mod Carried
+pub mod Changes
+pub mod Hearing
+pub mod After
+pub mod Calls

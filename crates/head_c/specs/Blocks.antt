@@ -1,91 +1,136 @@
--- The record as C lends it: a block of numbers. Every block is a record, and every record has its block.
-use mathlib.Core.Bool.{Bool, not}
-use mathlib.Core.List.{List, map}
-use Prim.Native.Nat.{ℕ, zero, suc}
-use lib.Dec.{eqb}
+-- A head as C keeps it: a block of 1,116 words, one for each number. Every block is a record, whatever it holds (`headOf`), and a record is put into
+-- a block (`withHead`). Hearing changes a few words alone (`heardIn`). Words 9 to 23 are no part of a record: each call leaves them as they were.
+use mathlib.Core.Path.{_≡_}
+use mathlib.Core.Bool.{Bool, not, cond}
+use mathlib.Core.List.{List, [], _∷_, _++_}
+use Prim.Native.Nat.{ℕ, zero, suc, _+_, _*_, _%_}
+use lib.Dec.{eqb, ltb}
+use lib.ListN.{length, getD, set}
+use lib.Seq.{paste, slice}
 use lib.IntN.{ℤ, pos}
 use Rattle.terms.specs.declared.Entry.{Entry}
+use Rattle.fields.specs.Bytes.{signedOf, wordOf}
+use Rattle.marks.specs.Marks.{withMark}
 use Rattle.convergence.specs.Counting.{bit}
+use Rattle.frame_spec.specs.Said.{Meaning, refused, collected, listed, confessed}
 use Rattle.head_spec.specs.declared.Row.{Row}
+use Rattle.head_spec.specs.declared.Seat.{Seat}
 use Rattle.head_spec.specs.declared.Head.{Head}
 use Rattle.head_spec.specs.declared.Answer.{Answer}
-use Rattle.head_c.specs.declared.FocusList.{FocusList}
-use Rattle.head_c.specs.declared.FocusHead.{FocusHead}
-use Rattle.head_c.specs.declared.FocusAnswer.{FocusAnswer}
+use Rattle.head_spec.specs.Calls.{saidTo, hear}
 use Rattle.head_lent.specs.Answers.{heldNumber, heldOr}
+use Rattle.head_c.specs.Places as place
+
+abbrev pub IsBlock : List ℕ → Type 0
+IsBlock w = length w ≡ 1116
+
+-- g 0, .., g (k - 1)
+unfoldable pub upTo : {A : Type 0} → ℕ → (ℕ → A) → List A
+upTo zero g = []
+upTo (suc k) g = upTo k g ++ (g k ∷ [])
+
+-- ---- the record that a block is
 
 -- 0 is no
 abbrev pub flag : ℕ → Bool
 flag b = not (eqb b 0)
 
+-- a position, if one is held
 abbrev pub entryIn : ℕ → ℤ → Entry
 entryIn zero v = Entry.Null
 entryIn (suc b) v = Entry.Position v
 
-abbrev pub rowOf : FocusList → Row
-rowOf l = record { entries = l .entries }
+-- the 32 numbers from word i on
+unfoldable pub numbersAt : List ℕ → ℕ → List ℤ
+numbersAt w i = upTo 32 (λ j. signedOf (getD w (i + j) 0))
 
-abbrev pub listOf : Row → FocusList
-listOf l = record { entries = l .entries }
+-- the list received from link k
+abbrev pub listAt : List ℕ → ℕ → Row
+listAt w k = record { entries = numbersAt w (place.lists + 32 * k) }
 
--- the record of a block, with its position and the lists received
-abbrev pub recordOf : FocusHead → Entry → List Row → Head
-recordOf c e l =
+-- where the head stands
+unfoldable pub seatOf : List ℕ → Seat
+seatOf w =
     record {
-      seat =
+      n = getD w place.n 0 % 256;
+      f = getD w place.f 0 % 256;
+      number = getD w place.number 0 % 256;
+      phase = getD w place.phase 0 % 65536;
+      round = getD w place.round 0 % 256;
+      healed = flag (getD w place.healed 0);
+      ended = flag (getD w place.ended 0);
+      position = entryIn (getD w place.held 0) (signedOf (getD w place.position 0));
+    }
+
+unfoldable pub headOf : List ℕ → Head
+headOf w =
+    record {
+      seat = seatOf w;
+      heard = getD w place.heard 0;
+      list = record { marks = getD w place.marks 0; entries = numbersAt w place.entries };
+      links =
           record {
-            n = c .n;
-            f = c .f;
-            number = c .number;
-            phase = c .phase;
-            round = c .round;
-            healed = flag (c .healed);
-            ended = flag (c .ended);
-            position = e;
+            confessed = getD w place.confessed 0;
+            listed = getD w place.listed 0;
+            marks = upTo 32 (λ k. getD w (place.list-marks + k) 0);
           };
-      heard = c .heard;
-      list = record { marks = c .marks; entries = c .entries };
-      links = record { confessed = c .confessed; listed = c .listed; marks = c .words };
-      lists = l;
+      lists = upTo 32 (listAt w);
     }
 
-unfoldable pub headOf : FocusHead → Head
-headOf c = recordOf c (entryIn (c .held) (c .position)) (map rowOf (c .lists))
+-- ---- a record put into a block
 
--- the block of a record, with its two flags, its position and the lists received
-abbrev pub blockOf : Head → ℕ → ℕ → ℕ → ℤ → List FocusList → FocusHead
-blockOf h healed ended held v l =
-    record {
-      n = h .seat .n;
-      f = h .seat .f;
-      number = h .seat .number;
-      round = h .seat .round;
-      phase = h .seat .phase;
-      healed = healed;
-      ended = ended;
-      held = held;
-      position = v;
-      heard = h .heard;
-      marks = h .list .marks;
-      entries = h .list .entries;
-      confessed = h .links .confessed;
-      listed = h .links .listed;
-      words = h .links .marks;
-      lists = l;
-    }
+-- the words of 32 numbers
+unfoldable pub wordsOf : List ℤ → List ℕ
+wordsOf E = upTo 32 (λ j. wordOf (getD E j (pos 0)))
 
-unfoldable pub focusOf : Head → FocusHead
-focusOf h =
-    let s = h .seat in
-    blockOf h (bit (s .healed)) (bit (s .ended)) (heldNumber (s .position)) (heldOr (s .position) (pos 0)) (map listOf (h .lists))
+-- the words of the first k lists
+unfoldable pub listWords : List Row → ℕ → List ℕ
+listWords l zero = []
+listWords l (suc k) = listWords l k ++ wordsOf (getD l k (record { entries = [] }) .entries)
 
--- what is left in a block after a call: the record changed, or on a refusal what stood there
-abbrev pub left : ℕ → FocusHead → FocusHead → FocusHead
+abbrev pub seatWords : Seat → List ℕ
+seatWords s =
+    s .n ∷ s .f ∷ s .number ∷ s .phase ∷ s .round ∷ bit (s .healed) ∷ bit (s .ended) ∷ heldNumber (s .position)
+    ∷ wordOf (heldOr (s .position) (pos 0)) ∷ []
+
+unfoldable pub withHead : Head → List ℕ → List ℕ
+withHead h w =
+    seatWords (h .seat) ++ slice 9 24 w
+    ++ (h .heard ∷ h .list .marks ∷ wordsOf (h .list .entries))
+    ++ (h .links .confessed ∷ h .links .listed ∷ h .links .marks)
+    ++ listWords (h .lists) 32
+
+-- a block after a call: changed, or as it was if the call is refused
+abbrev pub left : ℕ → List ℕ → List ℕ → List ℕ
 left zero new old = new
 left (suc c) new old = old
 
-unfoldable pub after : FocusHead → Answer → FocusHead
-after c a = left (a .refusal) (focusOf (a .head)) c
+-- after a call that answers a, its record is put into the block
+unfoldable pub after : List ℕ → Answer → List ℕ
+after w a = left (a .refusal) (withHead (a .head) w) w
 
-abbrev pub focusAnswer : FocusHead → Answer → FocusAnswer
-focusAnswer c a = record { refusal = a .refusal; head = after c a }
+-- ---- hearing
+
+-- bit k of word i is set
+abbrev pub marked : ℕ → ℕ → List ℕ → List ℕ
+marked i k w = set w i (withMark (getD w i 0) k)
+
+-- what a frame on link k changes, by what it says
+abbrev pub changed : List ℕ → ℕ → Meaning → List ℕ
+changed w k (refused c) = w
+changed w k (collected Entry.Null) = marked place.heard k w
+changed w k (collected (Entry.Position v)) = set (marked place.marks k (marked place.heard k w)) (place.entries + k) (wordOf v)
+changed w k (listed t) =
+    paste (set (marked place.listed k (marked place.heard k w)) (place.list-marks + k) (t .marks)) (place.lists + 32 * k) (wordsOf (t .entries)) 32
+changed w k confessed = marked place.confessed k (marked place.heard k w)
+
+-- what hearing link k changes: a block has words for links 0 to 31, and no ring has more
+unfoldable pub heardIn : List ℕ → ℕ → Meaning → List ℕ
+heardIn w k m = cond (ltb k 32) (changed w k m) w
+
+-- What hearing bytes s on link k answers and leaves in a block: only those words are changed, and none if it is refused; and so the record that the
+-- block is hears the bytes.
+pub record Hears (w : List ℕ) (k : ℕ) (s : List ℕ) (r : ℕ) (w′ : List ℕ) : Type 0 where
+  pub refusal : r ≡ hear (headOf w) k s .refusal
+  pub block : w′ ≡ left r (heardIn w k (saidTo (headOf w .seat) k s)) w
+  pub head : headOf w′ ≡ hear (headOf w) k s .head

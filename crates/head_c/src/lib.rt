@@ -1,10 +1,22 @@
-// The record as C keeps and lends it: a block of numbers. Every block is a record, and every record has its block.
+// A head as C keeps it: a block of words, which each call changes in place. Each call changes the record that the block is as the call by value
+// changes it; specs/Blocks.antt says which record a block is. A refusal gives its number and leaves the block, and what else is lent, as it was.
 ghost use mathlib.Core.Path.{_≡_};
-ghost use mathlib.Core.List.{map};
+ghost use mathlib.Core.List.{_∷_};
+ghost use Prim.Native.Nat.{_+_, _≤_, _<_};
+ghost use lib.ListN.{length, getD};
+ghost use lib.Seq.{paste};
 ghost use lib.IntN.{pos};
-ghost use Rattle.head_lent.specs.Answers.{heldNumber, heldOr, closedNumber, closedAnswer, writtenNumber, writtenOr};
-ghost use Rattle.head_c.specs.Blocks.{entryIn, rowOf, listOf, headOf, focusOf, focusAnswer, after};
-ghost use Rattle.head_spec.specs.Calls.{start, restart, hear, writeAnswer, writeBuffer, close};
+ghost use Rattle.fields.specs.Bytes.{signedOf, wordOf};
+ghost use Rattle.frame_spec.specs.Said.{collected, listed, confessed, tableIn, saidOf, meant};
+ghost use Rattle.head_spec.specs.Record.{opened};
+ghost use Rattle.head_spec.specs.Calls.{start, restart, writeAnswer, writeBuffer, close};
+ghost use Rattle.head_hear.specs.Steps.{linkRefusal, saidOn};
+ghost use Rattle.head_lent.specs.Answers.{closedAnswer, writtenNumber, writtenOr, heldNumber, heldOr};
+ghost use Rattle.head_c.specs.Places as place;
+ghost use Rattle.head_c.specs.Blocks.{IsBlock, upTo, entryIn, numbersAt, listAt, seatOf, headOf};
+ghost use Rattle.head_c.specs.Blocks.{wordsOf, seatWords, withHead, after, marked, changed, Hears};
+ghost use Rattle.head_c.specs.Steps.{numberOf};
+use frame_spec::Said;
 use head_spec::Answer;
 use head_spec::Head;
 use head_spec::Row;
@@ -12,88 +24,151 @@ use head_spec::Seat;
 use settle_trust::Links;
 use terms::Entry;
 use terms::Table;
+use terms::refusal;
 
-// The numbers of a received list.
-#[repr(C)]
-pub struct FocusList {
-    pub entries: [i32; 32],
+pub mod place;
+
+// A head as C keeps it: 1,116 words.
+pub const WORDS: usize = 1116;
+
+pub type Block = [u32; WORDS];
+
+// ---- The record that a block is.
+
+// A position, if one is held.
+fn entry_in(held: u32, position: u32) -> Entry
+    ensures { λ r. ⌜ r ≡ entryIn held (signedOf position) ⌝ }
+{
+    if held == 0 {
+        return Entry::Null;
+    }
+    Entry::Position(fields::signed(position))
 }
 
-// A head's record. In healed, ended and held 0 stands for no, and every other number for yes.
-#[repr(C)]
-pub struct FocusHead {
-    pub n: u8,
-    pub f: u8,
-    pub number: u8,
-    pub round: u8, // 0 collection, 1 confession
-    pub phase: u16,
-    pub healed: u8, // in this round
-    pub ended: u8, // phase 65,535 has ended
-    pub held: u8, // a position is held
-    pub position: i32, // if one is held
-    pub heard: u32, // the links heard in this round
-    pub marks: u32, // the list: in collection what is heard so far, in confession the list of this phase
-    pub entries: [i32; 32],
-    pub confessed: u32, // the links that confessed, and those that gave a list
-    pub listed: u32,
-    pub words: [u32; 32], // the mark words of the lists received, and the lists
-    pub lists: [FocusList; 32],
+// Where the head stands.
+fn seat_in(h: &[u32]) -> Seat
+    requires { ⌜ IsBlock (now h) ⌝ }
+    ensures { λ r. ⌜ r ≡ seatOf (now (h .entry)) ⌝ }
+{
+    let position = entry_in(h[place::HELD], h[place::POSITION]);
+    Seat {
+        n: (h[place::N] % 256) as u8,
+        f: (h[place::F] % 256) as u8,
+        number: (h[place::NUMBER] % 256) as u8,
+        phase: (h[place::PHASE] % 65536) as u16,
+        round: (h[place::ROUND] % 256) as u8,
+        healed: h[place::HEALED] != 0,
+        ended: h[place::ENDED] != 0,
+        position,
+    }
 }
 
-// What a call that changes the block answers: 0 or the refusal's number, and the block.
-pub struct FocusAnswer {
-    pub refusal: u8,
-    pub head: FocusHead,
+// The 32 numbers from a word on.
+fn numbers_in(h: &[u32], from: usize) -> [i32; 32]
+    requires { ⌜ from + 32 ≤ length (now h) ⌝ }
+    ensures { λ r. ⌜ r ≡ numbersAt (now (h .entry)) from ⌝ }
+{
+    let mut out = [0i32; 32];
+    let mut j: usize = 0;
+    while j < 32 {
+        let v = fields::signed(h[from + j]);
+        out[j] = v;
+        j += 1;
+    }
+    out
 }
 
-// The lists received, in the record's form and in the block's.
-fn rows_of(lists: [FocusList; 32]) -> [Row; 32]
-    ensures { λ r. ⌜ r ≡ map rowOf lists ⌝ }
+// The lists received.
+fn lists_in(h: &[u32]) -> [Row; 32]
+    requires { ⌜ IsBlock (now h) ⌝ }
+    ensures { λ r. ⌜ r ≡ upTo 32 (listAt (now (h .entry))) ⌝ }
 {
     let none = Row {
         entries: [0i32; 32],
     };
-    let mut rows = [none; 32];
+    let mut out = [none; 32];
     let mut k: usize = 0;
     while k < 32 {
-        let l = lists[k];
-        let e = l.entries;
-        rows[k] = Row { entries: e };
+        let entries = numbers_in(h, place::LISTS + 32 * k);
+        out[k] = Row { entries };
         k += 1;
     }
-    rows
+    out
 }
 
-fn lists_of(rows: [Row; 32]) -> [FocusList; 32]
-    ensures { λ r. ⌜ r ≡ map listOf rows ⌝ }
+// The list.
+fn list_in(h: &[u32]) -> Table
+    requires { ⌜ IsBlock (now h) ⌝ }
+    ensures { λ r. ⌜ r ≡ headOf (now (h .entry)) .list ⌝ }
 {
-    let none = FocusList {
-        entries: [0i32; 32],
-    };
-    let mut lists = [none; 32];
+    let entries = numbers_in(h, place::ENTRIES);
+    Table {
+        marks: h[place::MARKS],
+        entries,
+    }
+}
+
+// Which links confessed or gave a list, and the mark words of the lists.
+fn links_in(h: &[u32]) -> Links
+    requires { ⌜ IsBlock (now h) ⌝ }
+    ensures { λ r. ⌜ r ≡ headOf (now (h .entry)) .links ⌝ }
+{
+    let mut marks = [0u32; 32];
     let mut k: usize = 0;
     while k < 32 {
-        let l = rows[k];
-        let e = l.entries;
-        lists[k] = FocusList { entries: e };
+        marks[k] = h[place::LIST_MARKS + k];
         k += 1;
     }
-    lists
-}
-
-// A position, if one is held.
-fn entry_in(held: u8, position: i32) -> Entry
-    ensures { λ r. ⌜ r ≡ entryIn held position ⌝ }
-{
-    if held != 0 {
-        Entry::Position(position)
-    } else {
-        Entry::Null
+    Links {
+        confessed: h[place::CONFESSED],
+        listed: h[place::LISTED],
+        marks,
     }
 }
 
-// Whether an entry is a position, and its number, 0 if it is null.
-fn is_held(e: Entry) -> u8
+// All of it.
+fn head_of(h: &[u32]) -> Head
+    requires { ⌜ IsBlock (now h) ⌝ }
+    ensures { λ r. ⌜ r ≡ headOf (now (h .entry)) ⌝ }
+{
+    let seat = seat_in(h);
+    let list = list_in(h);
+    let links = links_in(h);
+    let lists = lists_in(h);
+    Head {
+        seat,
+        heard: h[place::HEARD],
+        list,
+        links,
+        lists,
+    }
+}
+
+// ---- A record put into a block.
+
+// Puts 32 numbers from a word on.
+fn put_numbers(h: &mut [u32], from: usize, numbers: &[i32; 32])
+    requires { ⌜ from + 32 ≤ length (now h) ⌝ }
+    ensures { λ _. ⌜ now (h .exit) ≡ paste (now (h .entry)) from (wordsOf (now (numbers .entry))) 32 ⌝ }
+{
+    let mut j: usize = 0;
+    while j < 32 {
+        h[from + j] = fields::unsigned(numbers[j]);
+        j += 1;
+    }
+}
+
+// Puts the list.
+fn put_list(h: &mut [u32], list: Table)
+    requires { ⌜ IsBlock (now h) ⌝ }
+    ensures { λ _. ⌜ now (h .exit) ≡ paste (now (h .entry)) place.marks (list .marks ∷ wordsOf (list .entries)) 33 ⌝ }
+{
+    h[place::MARKS] = list.marks;
+    put_numbers(h, place::ENTRIES, &list.entries);
+}
+
+// Whether an entry is a position.
+fn is_held(e: Entry) -> u32
     ensures { λ r. ⌜ r ≡ heldNumber e ⌝ }
 {
     match e {
@@ -102,175 +177,203 @@ fn is_held(e: Entry) -> u8
     }
 }
 
-fn number_of(e: Entry) -> i32
-    ensures { λ r. ⌜ r ≡ heldOr e (pos 0) ⌝ }
+// The word of its number, 0 if it is null.
+fn word_of(e: Entry) -> u32
+    ensures { λ r. ⌜ r ≡ wordOf (heldOr e (pos 0)) ⌝ }
 {
     match e {
         Entry::Null => 0,
-        Entry::Position(v) => v,
+        Entry::Position(v) => fields::unsigned(v),
     }
 }
 
-// The record that a block is.
-pub fn head_of(c: FocusHead) -> Head
-    ensures { λ r. ⌜ r ≡ headOf c ⌝ }
+// Puts where the head stands.
+fn put_seat(h: &mut [u32], s: Seat)
+    requires { ⌜ IsBlock (now h) ⌝ }
+    ensures { λ _. ⌜ now (h .exit) ≡ paste (now (h .entry)) 0 (seatWords s) 9 ⌝ }
 {
-    let entries = c.entries;
-    let marks = c.words;
-    let list = Table {
-        marks: c.marks,
-        entries: entries,
-    };
-    let links = Links {
-        confessed: c.confessed,
-        listed: c.listed,
-        marks: marks,
-    };
-    let lists = c.lists;
-    let rows = rows_of(lists);
-    let position = entry_in(c.held, c.position);
-    let seat = Seat {
-        n: c.n,
-        f: c.f,
-        number: c.number,
-        phase: c.phase,
-        round: c.round,
-        healed: c.healed != 0,
-        ended: c.ended != 0,
-        position: position,
-    };
-    Head {
-        seat: seat,
-        heard: c.heard,
-        list: list,
-        links: links,
-        lists: rows,
+    let e = s.position;
+    h[place::N] = s.n as u32;
+    h[place::F] = s.f as u32;
+    h[place::NUMBER] = s.number as u32;
+    h[place::PHASE] = s.phase as u32;
+    h[place::ROUND] = s.round as u32;
+    h[place::HEALED] = s.healed as u32;
+    h[place::ENDED] = s.ended as u32;
+    h[place::HELD] = is_held(e);
+    h[place::POSITION] = word_of(e);
+}
+
+// Clears what the links gave.
+fn clear_links(h: &mut [u32])
+    requires { ⌜ IsBlock (now h) ⌝ }
+    ensures { λ _. ⌜ now (h .exit) ≡ paste (now (h .entry)) place.confessed (upTo 1058 (λ _. 0)) 1058 ⌝ }
+{
+    let mut j: usize = 0;
+    while j < 1058 {
+        h[place::CONFESSED + j] = 0;
+        j += 1;
     }
 }
 
-// The block of a record.
-pub fn focus_of(h: Head) -> FocusHead
-    ensures { λ r. ⌜ r ≡ focusOf h ⌝ }
+// Puts a record with nothing heard, as start, restart and closing make it.
+fn put_opened(h: &mut [u32], seat: Seat, list: Table)
+    requires { ⌜ IsBlock (now h) ⌝ }
+    ensures { λ _. ⌜ now (h .exit) ≡ withHead (opened seat list) (now (h .entry)) ⌝ }
 {
-    let seat = h.seat;
-    let list = h.list;
-    let entries = list.entries;
-    let links = h.links;
-    let marks = links.marks;
-    let rows = h.lists;
-    let lists = lists_of(rows);
-    let e = seat.position;
-    let held = is_held(e);
-    let position = number_of(e);
-    FocusHead {
-        n: seat.n,
-        f: seat.f,
-        number: seat.number,
-        round: seat.round,
-        phase: seat.phase,
-        healed: seat.healed as u8,
-        ended: seat.ended as u8,
-        held: held,
-        position: position,
-        heard: h.heard,
-        marks: list.marks,
-        entries: entries,
-        confessed: links.confessed,
-        listed: links.listed,
-        words: marks,
-        lists: lists,
-    }
+    put_seat(h, seat);
+    h[place::HEARD] = 0;
+    put_list(h, list);
+    clear_links(h);
 }
 
-// The answer on a block, if the call on its record answered a: the block changed if nothing was refused.
-pub fn answer(c: FocusHead, a: Answer) -> FocusAnswer
-    ensures { λ r. ⌜ r ≡ focusAnswer c a ⌝ }
+// Leaves what a call answers in the block, and gives its number. A record that a call makes has nothing heard.
+fn put_answer(h: &mut [u32], a: Answer) -> u8
+    requires { ⌜ IsBlock (now h) × (a .refusal ≡ 0 → a .head ≡ opened (a .head .seat) (a .head .list)) ⌝ }
+    ensures { λ r. ⌜ (r ≡ a .refusal) × (now (h .exit) ≡ after (now (h .entry)) a) ⌝ }
 {
-    let number = a.refusal;
-    if number == 0 {
-        let h = a.head;
-        FocusAnswer {
-            refusal: 0,
-            head: focus_of(h),
-        }
-    } else {
-        FocusAnswer {
-            refusal: number,
-            head: c,
+    if a.refusal == 0 {
+        let head = a.head;
+        let seat = head.seat;
+        let list = head.list;
+        put_opened(h, seat, list);
+    }
+    a.refusal
+}
+
+// ---- What hearing changes.
+
+// Sets bit k of a word.
+fn put_mark(h: &mut [u32], at: usize, k: usize)
+    requires { ⌜ at < length (now h) ⌝ }
+    ensures { λ _. ⌜ now (h .exit) ≡ marked at k (now (h .entry)) ⌝ }
+{
+    h[at] = marks::with_mark(h[at], k);
+}
+
+// Takes an entry of link k.
+fn take_entry(h: &mut [u32], k: usize, e: Entry)
+    requires { ⌜ IsBlock (now h) × (k < 32) ⌝ }
+    ensures { λ _. ⌜ now (h .exit) ≡ changed (now (h .entry)) k (collected e) ⌝ }
+{
+    put_mark(h, place::HEARD, k);
+    match e {
+        Entry::Null => {}
+        Entry::Position(v) => {
+            put_mark(h, place::MARKS, k);
+            h[place::ENTRIES + k] = fields::unsigned(v);
         }
     }
 }
 
-// ---- The calls from C, on a block that it keeps and lends. Each makes of the block's record what the call by value makes of it (crates/layout/specs/Blocks.antt says
-// which record a block is). A refusal gives its number and leaves the block, and what else is lent, as it was.
-
-// ---- the calls by value, on the record that the block is
-
-pub fn started(c: FocusHead, n: u32, f: u32, number: u32, position: i32) -> FocusAnswer
-    ensures { λ r. ⌜ r ≡ focusAnswer c (start (headOf c) n f number position) ⌝ }
+// Takes a list of link k.
+fn take_list(h: &mut [u32], k: usize, t: Table)
+    requires { ⌜ IsBlock (now h) × (k < 32) ⌝ }
+    ensures { λ _. ⌜ now (h .exit) ≡ changed (now (h .entry)) k (listed t) ⌝ }
 {
-    answer(c, head_calls::start(head_of(c), n, f, number, position))
+    put_mark(h, place::HEARD, k);
+    put_mark(h, place::LISTED, k);
+    h[place::LIST_MARKS + k] = t.marks;
+    put_numbers(h, place::LISTS + 32 * k, &t.entries);
 }
 
-pub fn restarted(c: FocusHead, n: u32, f: u32, number: u32, phase: u32, round: u32) -> FocusAnswer
-    ensures { λ r. ⌜ r ≡ focusAnswer c (restart (headOf c) n f number phase round) ⌝ }
+// Takes a confession of link k.
+fn take_confession(h: &mut [u32], k: usize)
+    requires { ⌜ IsBlock (now h) × (k < 32) ⌝ }
+    ensures { λ _. ⌜ now (h .exit) ≡ changed (now (h .entry)) k confessed ⌝ }
 {
-    answer(
-        c,
-        head_calls::restart(head_of(c), n, f, number, phase, round),
-    )
+    put_mark(h, place::HEARD, k);
+    put_mark(h, place::CONFESSED, k);
 }
 
-pub fn heard(c: FocusHead, link: u32, frame: &[u8]) -> FocusAnswer
-    ensures { λ r. ⌜ r ≡ focusAnswer c (hear (headOf c) link (now (frame .entry))) ⌝ }
+// Takes what was said on link k, in a frame to one of n heads; a refusal changes nothing.
+fn take_said(h: &mut [u32], k: usize, what: Said, frame: &[u8], n: u8)
+    requires { ⌜ IsBlock (now h) × (k < 32) ⌝ }
+    ensures { λ _. ⌜ now (h .exit) ≡ changed (now (h .entry)) k (meant what (tableIn n (now (frame .entry)))) ⌝ }
 {
-    answer(c, head_hear::hear(head_of(c), link, frame))
+    match what {
+        Said::Refused(_) => {}
+        Said::Collection(entry) => take_entry(h, k, entry),
+        Said::List => take_list(h, k, frame_codec::table_in(frame, n)),
+        Said::Confession => take_confession(h, k),
+    }
 }
 
-pub fn closed(c: FocusHead) -> FocusAnswer
-    ensures { λ r. ⌜ r ≡ focusAnswer c (closedAnswer (close (headOf c))) ⌝ }
+// Refusals 26, 3 and 21 of a link.
+fn link_refusal(h: &[u32], link: u32) -> u8
+    requires { ⌜ IsBlock (now h) ⌝ }
+    ensures { λ r. ⌜ r ≡ linkRefusal (seatOf (now (h .entry))) (getD (now (h .entry)) place.heard 0) link ⌝ }
 {
-    answer(c, head_lent::closed(head_of(c)))
+    let again = marks::marked(h[place::HEARD], link as usize);
+    if h[place::ENDED] != 0 {
+        return refusal::ENDED;
+    }
+    if h[place::N] % 256 <= link {
+        return refusal::HEAD_NUMBER;
+    }
+    if again {
+        return refusal::HEARD;
+    }
+    0
 }
 
-pub fn written(c: FocusHead, buffer: &mut [u8], length: &mut usize) -> u8
-    ensures { λ r. ⌜ (r ≡ writtenNumber (writeAnswer (headOf c) (now (buffer .entry))))
-        × (now (buffer .exit) ≡ writeBuffer (headOf c) (now (buffer .entry)))
-        × (now (length .exit) ≡ writtenOr (writeAnswer (headOf c) (now (buffer .entry))) (now (length .entry))) ⌝ }
+// What a link says to the head: refused for itself, or what its frame says.
+fn said_on(h: &[u32], link: u32, frame: &[u8]) -> Said
+    requires { ⌜ IsBlock (now h) ⌝ }
+    ensures { λ r. ⌜ r ≡ saidOf (saidOn (seatOf (now (h .entry))) (getD (now (h .entry)) place.heard 0) link (now (frame .entry))) ⌝ }
 {
-    head_lent::written(head_of(c), buffer, length)
+    let refused = link_refusal(h, link);
+    if refused != 0 {
+        return Said::Refused(refused);
+    }
+    let n = (h[place::N] % 256) as u8;
+    let phase = (h[place::PHASE] % 65536) as u16;
+    let round = (h[place::ROUND] % 256) as u8;
+    frame_codec::read(frame, n, phase, round, link as u8)
 }
 
-pub fn held(c: FocusHead, position: &mut i32) -> u8
-    ensures { λ r. ⌜ (r ≡ heldNumber (headOf c .seat .position))
-        × (now (position .exit) ≡ heldOr (headOf c .seat .position) (now (position .entry))) ⌝ }
+// The number of a refusal, 0 if something is said.
+fn number_in(what: Said) -> u8
+    ensures { λ r. ⌜ r ≡ numberOf what ⌝ }
 {
-    head_lent::held(head_of(c), position)
+    match what {
+        Said::Refused(number) => number,
+        Said::Collection(_) => 0,
+        Said::List => 0,
+        Said::Confession => 0,
+    }
 }
 
-// ---- the calls
+// Hears a frame on a link.
+fn hear(h: &mut [u32], link: u32, frame: &[u8]) -> u8
+    requires { ⌜ IsBlock (now h) ⌝ }
+    ensures { λ r. ⌜ Hears (now (h .entry)) link (now (frame .entry)) r (now (h .exit)) ⌝ }
+{
+    let n = (h[place::N] % 256) as u8;
+    let what = said_on(h, link, frame);
+    let number = number_in(what);
+    if link < 32 {
+        take_said(h, link as usize, what, frame, n);
+    }
+    number
+}
+
+// ---- The calls.
 
 // Starts the head with a position, in phase 1: 0, or 1, 2, 3, 4.
 #[no_mangle]
-pub extern "C" fn focus_head_start(
-    h: &mut FocusHead,
-    n: u32,
-    f: u32,
-    number: u32,
-    position: i32,
-) -> u8
+pub extern "C" fn focus_head_start(h: &mut Block, n: u32, f: u32, number: u32, position: i32) -> u8
     ensures { λ r. ⌜ (r ≡ start (headOf (now (h .entry))) n f number position .refusal)
         × (now (h .exit) ≡ after (now (h .entry)) (start (headOf (now (h .entry))) n f number position)) ⌝ }
 {
-    let out = started(*h, n, f, number, position);
-    *h = out.head;
-    out.refusal
+    let a = head_calls::start(head_of(h), n, f, number, position);
+    put_answer(h, a)
 }
 
 // Starts a head that was healed, in the phase and round given, with no position: 0, or 1, 2, 3, 5.
 #[no_mangle]
 pub extern "C" fn focus_head_restart(
-    h: &mut FocusHead,
+    h: &mut Block,
     n: u32,
     f: u32,
     number: u32,
@@ -280,48 +383,53 @@ pub extern "C" fn focus_head_restart(
     ensures { λ r. ⌜ (r ≡ restart (headOf (now (h .entry))) n f number phase round .refusal)
         × (now (h .exit) ≡ after (now (h .entry)) (restart (headOf (now (h .entry))) n f number phase round)) ⌝ }
 {
-    let out = restarted(*h, n, f, number, phase, round);
-    *h = out.head;
-    out.refusal
+    let a = head_calls::restart(head_of(h), n, f, number, phase, round);
+    put_answer(h, a)
 }
 
 // Hears a frame on a link: 0, or 26, 3, 21, 6, 7, 8, 22, 9, 23, 10, 11.
 #[no_mangle]
-pub extern "C" fn focus_head_hear(h: &mut FocusHead, link: u32, frame: &[u8]) -> u8
-    ensures { λ r. ⌜ (r ≡ hear (headOf (now (h .entry))) link (now (frame .entry)) .refusal)
-        × (now (h .exit) ≡ after (now (h .entry)) (hear (headOf (now (h .entry))) link (now (frame .entry)))) ⌝ }
+pub extern "C" fn focus_head_hear(h: &mut Block, link: u32, frame: &[u8]) -> u8
+    ensures { λ r. ⌜ Hears (now (h .entry)) link (now (frame .entry)) r (now (h .exit)) ⌝ }
 {
-    let out = heard(*h, link, frame);
-    *h = out.head;
-    out.refusal
+    hear(h, link, frame)
 }
 
 // Closes the round: 0, or 26, 25.
 #[no_mangle]
-pub extern "C" fn focus_head_close(h: &mut FocusHead) -> u8
-    ensures { λ r. ⌜ (r ≡ closedNumber (close (headOf (now (h .entry))) .closed))
+pub extern "C" fn focus_head_close(h: &mut Block) -> u8
+    ensures { λ r. ⌜ (r ≡ closedAnswer (close (headOf (now (h .entry)))) .refusal)
         × (now (h .exit) ≡ after (now (h .entry)) (closedAnswer (close (headOf (now (h .entry)))))) ⌝ }
 {
-    let out = closed(*h);
-    *h = out.head;
-    out.refusal
+    let a = head_lent::closed(head_of(h));
+    put_answer(h, a)
 }
 
 // Writes what the head has to say at the front of the buffer, and the frame's length: 0, or 26, 24.
 #[no_mangle]
-pub extern "C" fn focus_head_write(h: &FocusHead, buffer: &mut [u8], length: &mut usize) -> u8
+pub extern "C" fn focus_head_write(h: &Block, buffer: &mut [u8], length: &mut usize) -> u8
     ensures { λ r. ⌜ (r ≡ writtenNumber (writeAnswer (headOf (now (h .entry))) (now (buffer .entry))))
         × (now (buffer .exit) ≡ writeBuffer (headOf (now (h .entry))) (now (buffer .entry)))
         × (now (length .exit) ≡ writtenOr (writeAnswer (headOf (now (h .entry))) (now (buffer .entry))) (now (length .entry))) ⌝ }
 {
-    written(*h, buffer, length)
+    let seat = seat_in(h); // what a head says is in its seat and its list
+    let list = list_in(h);
+    head_lent::written(head_calls::opened(seat, list), buffer, length)
 }
 
 // The position that the head holds: 1, or 0 if it holds none.
 #[no_mangle]
-pub extern "C" fn focus_head_position(h: &FocusHead, position: &mut i32) -> u8
+pub extern "C" fn focus_head_position(h: &Block, position: &mut i32) -> u8
     ensures { λ r. ⌜ (r ≡ heldNumber (headOf (now (h .entry)) .seat .position))
         × (now (position .exit) ≡ heldOr (headOf (now (h .entry)) .seat .position) (now (position .entry))) ⌝ }
 {
-    held(*h, position)
+    let seat = seat_in(h);
+    let e = seat.position;
+    match e {
+        Entry::Null => 0,
+        Entry::Position(v) => {
+            *position = v;
+            1
+        }
+    }
 }

@@ -1,10 +1,11 @@
--- `head_c::entry_in` meets its contract, by its test.
-use mathlib.Core.Path.{_≡_, refl, sym, ap, _∙_}
+-- A word that is not 0 says that the position is held.
+use mathlib.Core.Path.{_≡_, refl, ap, _∙_}
 use Prim.Native.Nat.{ℕ, zero, suc}
 use lib.IntN.{ℤ}
 use mir.Facts.{toZ-ofZ}
 use Rattle.terms.specs.declared.Entry.{Entry}
 use Rattle.head_c.specs.Blocks.{entryIn}
+use borrow.Author.Needs.{needs}
 use Rattle.head_c.proofs.entry_in.Statement.{statement}
 use Rattle.head_c.proofs.entry_in.Tie as tie
 
@@ -12,11 +13,15 @@ held : (b : ℕ) (v : ℤ) → (b ≡ 0 → ⊥) → Entry.Position v ≡ entryI
 held zero v n = absurd (n refl)
 held (suc b) v n = refl
 
-returns : tie.Need-returns
-returns c = ap Entry.Position (toZ-ofZ (c .before .fits .position)) ∙ held (c .before .args .held) (c .before .args .position) (c .if1 .taken)
-
 returns-2 : tie.Need-returns-2
-returns-2 c = ap (λ (b : ℕ). entryIn b (c .before .args .position)) (sym (c .if1 .left))
+returns-2 c =
+    let v = toZ-ofZ (record { sfits = c .signed .ok }) ∙ c .signed .ensures in
+    ap Entry.Position v ∙ held (c .before .before .args .held) _ (c .before .if1 .left)
 
 pub entry-in-spec : {M : Type 1} → statement M
-entry-in-spec = tie.close (tie.spec returns returns-2)
+entry-in-spec =
+    tie.close
+    (tie.spec
+    (λ c. search needs)
+    (λ c κs. search needs)
+    returns-2)

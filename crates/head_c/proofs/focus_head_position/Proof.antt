@@ -1,25 +1,39 @@
--- `head_c::focus_head_position` meets its contract: a walk of its MIR, by hand, around the call of `head_c::held`.
-use mathlib.Core.Path.{_≡_}
-use base.Logic.{emp, id⊢}
-use contract.Monad.{factI}
-use contract.Running.{givenOf}
+-- The position of the seat, if one is held.
+use mathlib.Core.Path.{_≡_, refl, ap, sym, _∙_}
+use mir.Facts.{toZ-ofZ}
+use lib.IntN.{ℤ}
+use Prim.Native.Nat.{ℕ}
+use Rattle.terms.specs.declared.Entry.{Entry}
+use Rattle.head_spec.specs.declared.Seat.{Seat}
 use Rattle.head_lent.specs.Answers.{heldNumber, heldOr}
 use Rattle.head_c.specs.Blocks.{headOf}
-use Rattle.head_lent_logic.proofs.ReadMeets.{reads-number}
-use Rattle.head_c.proofs.Lendings.{blocks}
-use Rattle.head_c.proofs.held as core
-use Rattle.head_c.proofs.held.Symbol as core-def
-use Rattle.head_c.proofs.held.Symbol.{name as #core}
-use Rattle.head_c.proofs.held.Met as core-thm
-use Rattle.head_c.proofs.focus_head_position.Key.{name as #f}
-use Rattle.head_c.proofs.focus_head_position as f
-use Rattle.head_c.proofs.focus_head_position.Statement as stated
-use Rattle.head_c.proofs.focus_head_position.Code as code
+use borrow.Author.Needs.{needs}
+use Rattle.head_c.proofs.focus_head_position.Statement.{statement}
+use Rattle.head_c.proofs.focus_head_position.Tie as tie
 
-pub focus-head-position-spec : {M : Type 1} → stated.statement M
-unfolding code.routine
-focus-head-position-spec 𝓤 H 𝓜 𝓖 𝓡 =
-    reads-number 𝓤 H (𝓖 .A) (givenOf 𝓤 H 𝓜 𝓖) blocks (f.clauses 𝓤 H (𝓖 .A) (𝓜 .mem) (𝓡 .run)) (core.clauses 𝓤 H (𝓖 .A) (𝓜 .mem) (𝓡 .run)) code.function #core (λ κs a. tt) (λ κs a. id⊢ 𝓤 _)
-    (λ h old r v. (r ≡ heldNumber (headOf h .seat .position)) × (v ≡ heldOr (headOf h .seat .position) old)) (λ κs a r z. id⊢ 𝓤 _)
-    (λ κs a ghost r v e. factI 𝓤 _ (emp 𝓤) e)
-    code.env #f 𝓜 𝓡 (code.unfolded 𝓤 H 𝓜 𝓡) core-def.routine code.calls-head-c·held (core-thm.met 𝓤 H 𝓜 𝓖 𝓡)
+-- s was read, and its position found to be e
+found : {s t : Seat} {e : Entry} {n : ℕ} {v : ℤ} (old : ℤ) → s ≡ t → s .position ≡ e → n ≡ heldNumber e → v ≡ heldOr e old
+    → (n ≡ heldNumber (t .position)) × (v ≡ heldOr (t .position) old)
+found old p q a b =
+    let same = sym q ∙ ap (λ (x : Seat). x .position) p in
+    (a ∙ ap heldNumber same, b ∙ ap (λ (x : Entry). heldOr x old) same)
+
+returns : tie.Need-returns
+unfolding headOf
+returns c = let s = c .before .before in found _ (s .seat-in .ensures) (c .enum-told .given .1) refl refl
+
+returns-2 : tie.Need-returns-2
+unfolding headOf
+returns-2 c =
+    let s = c .before .before .before in
+    found _ (s .seat-in .ensures) (c .before .e .given .1) refl (toZ-ofZ (record { sfits = c .known-told .given .0 .1 }))
+
+pub focus-head-position-spec : {M : Type 1} → statement M
+focus-head-position-spec =
+    tie.close
+    (tie.spec
+    (λ c κs. search needs)
+    (λ c. search needs)
+    (λ c. search needs)
+    returns
+    returns-2)

@@ -1,26 +1,71 @@
--- `head_c::focus_head_write` meets its contract: a walk of its MIR, by hand, around the call of `head_c::written`.
-use mathlib.Core.Path.{_≡_}
-use base.Logic.{emp, id⊢}
-use contract.Monad.{factI}
-use contract.Running.{givenOf}
-use Rattle.head_spec.specs.Calls.{writeAnswer, writeBuffer}
+-- What a head writes depends on its seat and its list alone.
+use mathlib.Core.Path.{_≡_, refl, ap, ap₂, _∙_}
+use mathlib.Core.Bool.{cond}
+use mathlib.Core.List.{List}
+use Prim.Native.Nat.{ℕ, zero, suc}
+use denote.Ref.{now}
+use Rattle.terms.specs.Refusals as refusal
+use Rattle.frame_spec.specs.Said.{Meaning}
+use Rattle.frame_spec.specs.Written.{frameOf, written, buffered}
+use Rattle.frame_spec.specs.declared.Written.{Written}
+use Rattle.head_spec.specs.declared.Head.{Head}
+use Rattle.head_spec.specs.Record.{opened}
+use Rattle.head_spec.specs.Calls.{spokenIn, spoken, writeAnswer, writeBuffer}
 use Rattle.head_lent.specs.Answers.{writtenNumber, writtenOr}
 use Rattle.head_c.specs.Blocks.{headOf}
-use Rattle.head_lent_logic.proofs.ReadMeets.{reads-bytes}
-use Rattle.head_c.proofs.Lendings.{blocks}
-use Rattle.head_c.proofs.written as core
-use Rattle.head_c.proofs.written.Symbol as core-def
-use Rattle.head_c.proofs.written.Symbol.{name as #core}
-use Rattle.head_c.proofs.written.Met as core-thm
-use Rattle.head_c.proofs.focus_head_write.Key.{name as #f}
-use Rattle.head_c.proofs.focus_head_write as f
-use Rattle.head_c.proofs.focus_head_write.Statement as stated
-use Rattle.head_c.proofs.focus_head_write.Code as code
+use borrow.Author.Needs.{needs}
+use Rattle.head_c.proofs.focus_head_write.Statement.{statement}
+use Rattle.head_c.proofs.focus_head_write.Tie as tie
 
-pub focus-head-write-spec : {M : Type 1} → stated.statement M
-unfolding code.routine
-focus-head-write-spec 𝓤 H 𝓜 𝓖 𝓡 =
-    reads-bytes 𝓤 H (𝓖 .A) (givenOf 𝓤 H 𝓜 𝓖) blocks (f.clauses 𝓤 H (𝓖 .A) (𝓜 .mem) (𝓡 .run)) (core.clauses 𝓤 H (𝓖 .A) (𝓜 .mem) (𝓡 .run)) code.function #core (λ κs a. tt) (λ κs a. id⊢ 𝓤 _)
-    (λ h buffer old r zs v. (r ≡ writtenNumber (writeAnswer (headOf h) buffer)) × (zs ≡ writeBuffer (headOf h) buffer) × (v ≡ writtenOr (writeAnswer (headOf h) buffer) old)) (λ κs a r z. id⊢ 𝓤 _)
-    (λ κs a ghost r zs v e. factI 𝓤 _ (emp 𝓤) e)
-    code.env #f 𝓜 𝓡 (code.unfolded 𝓤 H 𝓜 𝓡) core-def.routine code.calls-head-c·written (core-thm.met 𝓤 H 𝓜 𝓖 𝓡)
+module _ (h : Head) (buffer : List ℕ) where
+  abbrev bare : Head
+  bare = opened (h .seat) (h .list)
+
+  frame : Meaning → List ℕ
+  frame m = frameOf (h .seat .n) (h .seat .number) (h .seat .phase) m
+
+  same-spoken : spoken bare ≡ spoken h
+  unfolding spoken
+  same-spoken = go (h .seat .round)
+    where
+      go : (r : ℕ) → spokenIn r bare ≡ spokenIn r h
+      go zero = refl
+      go (suc r) = refl
+
+  same-answer : writeAnswer bare buffer ≡ writeAnswer h buffer
+  unfolding writeAnswer frame
+  same-answer = ap (λ (m : Meaning). cond (h .seat .ended) (Written.Refused refusal.ended) (written (frame m) buffer)) same-spoken
+
+  same-buffer : writeBuffer bare buffer ≡ writeBuffer h buffer
+  unfolding writeBuffer frame
+  same-buffer = ap (λ (m : Meaning). cond (h .seat .ended) buffer (buffered (frame m) buffer)) same-spoken
+
+  as-written : {x : Head} {r len : ℕ} {out : List ℕ} (old : ℕ) → x ≡ bare
+      → (r ≡ writtenNumber (writeAnswer x buffer)) × (out ≡ writeBuffer x buffer) × (len ≡ writtenOr (writeAnswer x buffer) old)
+      → (r ≡ writtenNumber (writeAnswer h buffer)) × (out ≡ writeBuffer h buffer) × (len ≡ writtenOr (writeAnswer h buffer) old)
+  as-written old e p =
+      let a = ap (λ (y : Head). writeAnswer y buffer) e ∙ same-answer in
+      let b = ap (λ (y : Head). writeBuffer y buffer) e ∙ same-buffer in
+      (p .0 ∙ ap writtenNumber a, p .1 ∙ b, p .2 ∙ ap (λ (y : Written). writtenOr y old) a)
+
+returns : tie.Need-returns
+unfolding headOf
+returns c =
+    let p = c .before .before in
+    let made = p .before .before .before in
+    let list = made .before in
+    let seat = list .before .before in
+    let a = seat .before .before .before .args in
+    let same = made .opened .ensures ∙ ap₂ opened (seat .seat-in .ensures) (list .list-in .ensures) in
+    as-written (headOf (now (a .h))) (now (a .buffer)) (now (a .length)) same (p .written .ensures)
+
+pub focus-head-write-spec : {M : Type 1} → statement M
+focus-head-write-spec =
+    tie.close
+    (tie.spec
+    (λ c κs. search needs)
+    (λ c κs. search needs)
+    (λ c κs. search needs)
+    (λ c κs. search needs)
+    (λ c. search needs)
+    returns)

@@ -1,0 +1,57 @@
+-- What start, restart and closing leave in a block, from the call by value on the record that the block is: a record with nothing heard, or the block
+-- as it was.
+use mathlib.Core.Path.{_≡_, refl, ap, _∙_}
+use mathlib.Core.Bool.{Bool, true, false, cond}
+use mathlib.Core.List.{List}
+use Prim.Native.Nat.{ℕ, zero, suc}
+use native.Mathlib.Omega.{arith}
+use lib.IntN.{ℤ}
+use Rattle.terms.specs.Refusals as refusal
+use Rattle.convergence.specs.Settling.{enough}
+use Rattle.settle_midpoint.specs.Answers.{settling}
+use Rattle.settle_midpoint.specs.declared.Kept.{Kept}
+use Rattle.settle_midpoint.specs.declared.Settled.the-variants as settled
+use Rattle.head_spec.specs.declared.Head.{Head}
+use Rattle.head_spec.specs.declared.Answer.{Answer}
+use Rattle.head_spec.specs.declared.Closed.{Closed}
+use Rattle.head_spec.specs.Record.{opened, trustedBy}
+use Rattle.head_spec.specs.Calls.{answer, startRefusal, started, start, restartRefusal, restarted, restart}
+use Rattle.head_spec.specs.Calls.{closedCollection, closedPhase, closing, closeSettled, closeIn, close}
+use Rattle.head_lent.specs.Answers.{closedAnswer}
+use Rattle.head_c.specs.Blocks.{after}
+
+pub answered : (w : List ℕ) {r : ℕ} {w′ : List ℕ} {a b : Answer} → (r ≡ a .refusal) × (w′ ≡ after w a) → a ≡ b → (r ≡ b .refusal) × (w′ ≡ after w b)
+answered w p e = (p .0 ∙ ap (λ (x : Answer). x .refusal) e, p .1 ∙ ap (after w) e)
+
+-- ---- a call that is not refused makes a record with nothing heard
+
+abbrev pub Opens : Answer → Type 0
+Opens a = a .refusal ≡ 0 → a .head ≡ opened (a .head .seat) (a .head .list)
+
+answer-opens : (c : ℕ) (new old : Head) → new ≡ opened (new .seat) (new .list) → Opens (answer c new old)
+answer-opens zero new old e z = e
+answer-opens (suc c) new old e z = absurd (omega arith)
+
+pub start-opens : (h : Head) (n f i : ℕ) (v : ℤ) → Opens (start h n f i v)
+unfolding start started
+start-opens h n f i v = answer-opens (startRefusal n f i v) (started n f i v) h refl
+
+pub restart-opens : (h : Head) (n f i p r : ℕ) → Opens (restart h n f i p r)
+unfolding restart restarted
+restart-opens h n f i p r = answer-opens (restartRefusal n f i p r) (restarted n f i p r) h refl
+
+pub close-opens : (h : Head) → Opens (closedAnswer (close h))
+unfolding close closedCollection closedPhase settling
+close-opens h = go (h .seat .ended) (h .seat .round)
+  where
+    settles : (b : Bool) (k : Kept) → Opens (closedAnswer (closeSettled (cond b (settled.New k) (settled.Refused refusal.trusted)) h))
+    settles true k z = refl
+    settles false k z = absurd (omega arith)
+
+    go : (b : Bool) (r : ℕ) → Opens (closedAnswer (cond b (closing (Closed.Refused refusal.ended) h) (closeIn r h)))
+    go true r z = absurd (omega arith)
+    go false zero z = refl
+    go false (suc r) z = settles (enough (h .seat .n) (h .seat .f) (trustedBy h)) _ z
+
+pub opens-as : {a b : Answer} → a ≡ b → Opens b → Opens a
+opens-as e p = rw e p

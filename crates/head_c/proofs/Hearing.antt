@@ -1,0 +1,187 @@
+-- Hearing in a block: it changes what hearing changes of the record that the block is, for all that a frame can say, and the code changes just that.
+use mathlib.Core.Path.{_≡_, refl, ap, sym, _∙_}
+use mathlib.Core.Logic.{by-cases}
+use mathlib.Core.Bool.{Bool, true, false, not, cond}
+use mathlib.Core.List.{List}
+use Prim.Native.Nat.{ℕ, zero, suc, _+_, _*_, _≤_, _<_}
+use native.Mathlib.Omega.{arith}
+use native.Mathlib.Decide.{ℕ-discrete, decLt}
+use lib.Dec.{ltb}
+use lib.ListN.{getD, set, getD-replicate}
+use lib.Seq.{set-out, getD-set-same, getD-set-other}
+use lib.IntN.{pos}
+use borrow.Author.Tests.{lt-ltb, le-ltb}
+use Rattle.terms.specs.Refusals as refusal
+use Rattle.terms.specs.Refusals.{check}
+use Rattle.terms.specs.declared.Entry.{Entry}
+use Rattle.fields.specs.Bytes.{at4, signedOf, signedAt}
+use Rattle.marks.specs.Marks.{bitOf, withMark}
+use Rattle.marks.proofs.Marks.{with-past}
+use Rattle.entries.specs.Entries.{zeros, numbers}
+use Rattle.entries.proofs.Entries.{numbers-length}
+use Rattle.frame_check.specs.Check.{Kind, position, silence, list, confession, unknown, kindField}
+use Rattle.frame_spec.specs.declared.Said.{Said}
+use Rattle.frame_spec.specs.Said.{Meaning, refused, collected, listed, confessed, entriesField, refusalOf, tableIn, meaning}
+use Rattle.frame_spec.specs.Said.{unlessRefused, said, saidOf, meant}
+use Rattle.frame_spec.proofs.OneMeaning.{meant-said}
+use Rattle.head_spec.specs.declared.Head.{Head}
+use Rattle.head_spec.specs.declared.Answer.{Answer}
+use Rattle.head_spec.specs.Calls.{answer, saidTo, refusalTo, hearRefusal, taken, hear}
+use Rattle.head_hear.specs.Steps.{linkRefusal}
+use Rattle.head_hear.proofs.OneLink.{linkSays, refused-heard, entry-heard, list-heard, confession-heard}
+use Rattle.head_c.specs.Blocks.{IsBlock, numbersAt, listAt, headOf, left, changed, heardIn, Hears}
+use Rattle.head_c.specs.Steps.{numberOf}
+use Rattle.head_c.proofs.Changes.{null-is, position-is, list-is, confession-is}
+use Rattle.head_c.proofs.Copying.{upTo-long}
+use Rattle.head_c.proofs.Blocks.{Fits32, signed-fits, FitNumbers, FitEntry}
+
+-- ---- what hearing changes
+
+-- what is said, with numbers of 32 bits
+abbrev pub FitMeaning : Meaning → Type 0
+FitMeaning (refused c) = Unit {0}
+FitMeaning (collected e) = FitEntry e
+FitMeaning (listed t) = FitNumbers (t .entries)
+FitMeaning confessed = Unit {0}
+
+-- a link from 32 on has no place in a record either
+module _ (w : List ℕ) (k : ℕ) (past : 32 ≤ k) where
+  taken-past : (m : Meaning) → headOf w ≡ taken (headOf w) k m
+  unfolding headOf numbersAt
+  taken-past m = sym (go m)
+    where
+      h : Head
+      h = headOf w
+
+      unmarked : (x : ℕ) → withMark x k ≡ x
+      unmarked x = with-past x k past
+
+      go : (m : Meaning) → taken h k m ≡ h
+      go (refused c) = refl
+      go (collected Entry.Null) = rw (unmarked (h .heard))
+      go (collected (Entry.Position v)) =
+          let entries = set-out (h .list .entries) k v (omega (arith, upTo-long 32 (λ j. signedOf (getD w (26 + j) 0)))) in
+          rw (unmarked (h .heard), unmarked (h .list .marks), entries)
+      go (listed t) =
+          let marks = set-out (h .links .marks) k (t .marks) (omega (arith, upTo-long 32 (λ j. getD w (60 + j) 0))) in
+          let lists = set-out (h .lists) k (record { entries = t .entries }) (omega (arith, upTo-long 32 (listAt w))) in
+          rw (unmarked (h .heard), unmarked (h .links .listed), marks, lists)
+      go confessed = rw (unmarked (h .heard), unmarked (h .links .confessed))
+
+pub heard-is : (w : List ℕ) → IsBlock w → (k : ℕ) (m : Meaning) → FitMeaning m → headOf (heardIn w k m) ≡ taken (headOf w) k m
+unfolding heardIn
+heard-is w block k m F = by-cases (decLt k 32)
+    (λ l. rw (lt-ltb k 32 l) (go l m F))
+    (λ d. let past : 32 ≤ k = omega arith in rw (le-ltb k 32 past) (taken-past w k past m))
+  where
+    go : k < 32 → (m : Meaning) → FitMeaning m → headOf (changed w k m) ≡ taken (headOf w) k m
+    go l (refused c) F = refl
+    go l (collected Entry.Null) F = null-is w block k l
+    go l (collected (Entry.Position v)) F = position-is w block k l v F
+    go l (listed t) F = list-is w block k l t F
+    go l confessed F = confession-is w block k l
+
+-- ---- what a frame says fits
+
+number-fits : (s : List ℕ) (n j : ℕ) → j < 32 → Fits32 (getD (numbers s n) j (pos 0))
+unfolding numbers zeros
+number-fits s zero j l = rw (getD-replicate 32 j (pos 0) (pos 0) l) (omega arith)
+number-fits s (suc n) j l = go (ℕ-discrete j n) (number-fits s n j l)
+  where
+    go : Dec (j ≡ n) → Fits32 (getD (numbers s n) j (pos 0)) → Fits32 (getD (set (numbers s n) n (signedAt s (4 * n))) j (pos 0))
+    go (yes q) before = rw (q, getD-set-same (numbers s n) n (signedAt s (4 * n)) (pos 0) (omega (arith, numbers-length s n))) (signed-fits _)
+    go (no d) before = rw (getD-set-other (numbers s n) n j (signedAt s (4 * n)) (pos 0) d) before
+
+said-fits : (n p r k : ℕ) (s : List ℕ) → FitMeaning (said n p r k s)
+unfolding said tableIn
+said-fits n p r k s = go (refusalOf n p r k s) (kindField s)
+  where
+    go : (c : ℕ) (K : Kind) → FitMeaning (unlessRefused c (meaning K n s))
+    go zero position = signed-fits (at4 s 7)
+    go zero silence = tt
+    go zero list = record { long = numbers-length (entriesField s) n; each = number-fits (entriesField s) n }
+    go zero confession = tt
+    go zero unknown = tt
+    go (suc c) K = tt
+
+-- ---- the promise of hearing
+
+module _ (w : List ℕ) (block : IsBlock w) (k : ℕ) (s : List ℕ) where
+  head-heard : headOf (left (hear (headOf w) k s .refusal) (heardIn w k (saidTo (headOf w .seat) k s)) w) ≡ hear (headOf w) k s .head
+  unfolding hear
+  head-heard = go (hearRefusal (headOf w) k s)
+    where
+      m : Meaning
+      m = saidTo (headOf w .seat) k s
+
+      go : (c : ℕ) → let a = answer c (taken (headOf w) k m) (headOf w) in headOf (left (a .refusal) (heardIn w k m) w) ≡ a .head
+      go zero = let x = headOf w .seat in heard-is w block k m (said-fits (x .n) (x .phase) (x .round) k s)
+      go (suc c) = refl
+
+  hears : {r : ℕ} {w′ : List ℕ} → r ≡ hear (headOf w) k s .refusal → w′ ≡ left r (heardIn w k (saidTo (headOf w .seat) k s)) w → Hears w k s r w′
+  hears e q = record { refusal = e; block = q; head = rw (q, e) head-heard }
+
+-- ---- what the code makes of a block
+
+pub heard-below : (w : List ℕ) (k : ℕ) (m : Meaning) → k < 32 → heardIn w k m ≡ changed w k m
+unfolding heardIn
+heard-below w k m l = rw (lt-ltb k 32 l)
+
+pub heard-past : (w : List ℕ) (k : ℕ) (m : Meaning) → 32 ≤ k → heardIn w k m ≡ w
+unfolding heardIn
+heard-past w k m l = rw (le-ltb k 32 l)
+
+-- a refusal changes nothing
+heard-refused : (w : List ℕ) (k c : ℕ) → heardIn w k (refused c) ≡ w
+unfolding heardIn
+heard-refused w k c = go (ltb k 32)
+  where
+    go : (b : Bool) → cond b w w ≡ w
+    go true = refl
+    go false = refl
+
+module _ (w : List ℕ) (block : IsBlock w) (k : ℕ) (s : List ℕ) where
+  abbrev h : Head
+  h = headOf w
+
+  -- the number that was said is that of hearing
+  number-said : (what : Said) → what ≡ saidOf (linkSays h k s) → numberOf what ≡ hear h k s .refusal
+  number-said (Said.Refused c) e = ap (λ (a : Answer). a .refusal) (refused-heard h k s e refl)
+  number-said (Said.Collection x) e = ap (λ (a : Answer). a .refusal) (entry-heard h k s e refl refl refl)
+  number-said Said.List e = ap (λ (a : Answer). a .refusal) (list-heard h k s e refl refl refl refl refl)
+  number-said Said.Confession e = ap (λ (a : Answer). a .refusal) (confession-heard h k s e refl refl refl)
+
+  -- what was said, with the table of a list beside it, is what the link says
+  meant-link : meant (saidOf (linkSays h k s)) (tableIn (h .seat .n) s) ≡ linkSays h k s
+  meant-link = go (linkRefusal (h .seat) (h .heard) k)
+    where
+      go : (c : ℕ) → let m = unlessRefused c (saidTo (h .seat) k s) in meant (saidOf m) (tableIn (h .seat .n) s) ≡ m
+      go zero = meant-said (h .seat .n) (h .seat .phase) (h .seat .round) k s
+      go (suc c) = refl
+
+  -- it changes what the frame alone does, unless hearing is refused
+  link-block : heardIn w k (linkSays h k s) ≡ left (hear h k s .refusal) (heardIn w k (saidTo (h .seat) k s)) w
+  unfolding hear hearRefusal said
+  link-block = go (not (h .seat .ended)) (ltb k (h .seat .n)) (not (bitOf (h .heard) k))
+    where
+      row : Bool → Bool → Bool → ℕ → ℕ
+      row a b c rest = check a refusal.ended (check b refusal.head-number (check c refusal.heard rest))
+
+      frame : (c : ℕ) (m : Meaning) (new : Head)
+          → heardIn w k (unlessRefused c m) ≡ left (answer c new h .refusal) (heardIn w k (unlessRefused c m)) w
+      frame zero m new = refl
+      frame (suc c) m new = heard-refused w k (suc c)
+
+      go : (a b c : Bool) → let m = saidTo (h .seat) k s in
+          heardIn w k (unlessRefused (row a b c 0) m) ≡ left (answer (row a b c (refusalTo (h .seat) k s)) (taken h k m) h .refusal) (heardIn w k m) w
+      go true true true = frame (refusalTo (h .seat) k s) (meaning (kindField s) (h .seat .n) s) _
+      go true true false = heard-refused w k _
+      go true false c = heard-refused w k _
+      go false b c = heard-refused w k _
+
+  pub hears-said : {what : Said} {r : ℕ} {w′ : List ℕ} → what ≡ saidOf (linkSays h k s) → r ≡ numberOf what
+      → w′ ≡ heardIn w k (meant what (tableIn (h .seat .n) s)) → Hears w k s r w′
+  hears-said {what} {r} {w′} e a q =
+      let n = a ∙ number-said what e in
+      let m : meant what (tableIn (h .seat .n) s) ≡ linkSays h k s = rw e meant-link in
+      hears w block k s n (q ∙ ap (heardIn w k) m ∙ link-block ∙ rw n)

@@ -1,0 +1,145 @@
+-- A record put into a block part by part, from the front on: what is written so far stands before the rest of the block, so that each store goes on
+-- where the last one ended.
+use mathlib.Core.Path.{_≡_, refl, ap, ap₂, sym, _∙_}
+use mathlib.Core.List.{List, [], _∷_, _++_, append-assoc, append-nil}
+use Prim.Native.Nat.{ℕ, zero, suc, _+_, _*_, _≤_, _<_}
+use native.Mathlib.Omega.{arith}
+use native.Mathlib.Nat.{add-zero, add-suc}
+use lib.ListN.{length, getD, set, take, drop, length-append, length-drop, take-append-drop, drop-of-length-le}
+use lib.ListN.{replicate, length-replicate, getD-replicate}
+use lib.Seq.{take-at, take-all, take-suc-set, drop-set-lt, drop-drop, drop-append-le, drop-append-add, append-snoc, length-take-le, length-slice}
+use lib.Seq.{sets, sets-eq, paste, slice}
+use lib.IntN.{ℤ, pos}
+use Rattle.fields.specs.Bytes.{wordOf}
+use Rattle.terms.specs.declared.Table.{Table}
+use Rattle.entries.specs.Entries.{zeros}
+use Rattle.convergence.specs.Counting.{bit}
+use Rattle.head_spec.specs.declared.Row.{Row}
+use Rattle.head_spec.specs.declared.Seat.{Seat}
+use Rattle.head_spec.specs.declared.Head.{Head}
+use Rattle.head_spec.specs.Record.{noLinks, noLists, opened}
+use Rattle.head_lent.specs.Answers.{heldNumber, heldOr}
+use Rattle.head_c.specs.Blocks.{IsBlock, upTo, wordsOf, listWords, seatWords, withHead}
+use Rattle.head_c.proofs.Copying.{upTo-long, upTo-at, upTo-same, upTo-list}
+
+-- ---- the words of numbers and of lists
+
+pub words-long : (E : List ℤ) → length (wordsOf E) ≡ 32
+unfolding wordsOf
+words-long E = upTo-long 32 _
+
+pub word-at : (E : List ℤ) (j : ℕ) → j < 32 → getD (wordsOf E) j 0 ≡ wordOf (getD E j (pos 0))
+unfolding wordsOf
+word-at E j l = upTo-at 32 _ j 0 l
+
+pub lists-long : (l : List Row) (k : ℕ) → length (listWords l k) ≡ 32 * k
+unfolding listWords
+lists-long l zero = refl
+lists-long l (suc k) =
+    let row = getD l k (record { entries = [] }) .entries in
+    length-append (listWords l k) (wordsOf row) ∙ omega (arith, lists-long l k, words-long row)
+
+-- ---- nothing heard: only zeros
+
+abbrev blank : ℕ → List ℕ
+blank n = upTo n (λ i. 0)
+
+blank-both : (m n : ℕ) → blank m ++ blank n ≡ blank (m + n)
+unfolding upTo
+blank-both m zero = append-nil (blank m) ∙ ap blank (sym (add-zero m))
+blank-both m (suc n) =
+    sym (append-assoc (blank m) (blank n) (0 ∷ [])) ∙ ap (λ (l : List ℕ). l ++ (0 ∷ [])) (blank-both m n) ∙ ap blank (sym (add-suc m n))
+
+blank-is : (n : ℕ) → replicate n 0 ≡ blank n
+blank-is n = sym (upTo-list n (λ i. 0) (replicate n 0) 0 (length-replicate n 0) (λ i l. sym (getD-replicate n i 0 0 l)))
+
+no-words : wordsOf zeros ≡ blank 32
+unfolding wordsOf zeros wordOf
+no-words = upTo-same 32 _ (λ i. 0) (λ j l. ap wordOf (getD-replicate 32 j (pos 0) (pos 0) l))
+
+no-lists : (k : ℕ) → k ≤ 32 → listWords noLists k ≡ blank (32 * k)
+unfolding listWords noLists upTo
+no-lists zero l = refl
+no-lists (suc k) l =
+    let more : 32 * suc k ≡ 32 * k + 32 = omega arith in
+    let row = getD-replicate {A = Row} 32 k (record { entries = zeros }) (record { entries = [] }) (omega arith) in
+    ap₂ (λ (a b : List ℕ). a ++ b) (no-lists k (omega arith)) (ap (λ (r : Row). wordsOf (r .entries)) row ∙ no-words)
+    ∙ blank-both (32 * k) 32 ∙ ap blank (sym more)
+
+no-links : 0 ∷ 0 ∷ noLinks .marks ≡ blank 34
+unfolding noLinks
+no-links = blank-is 34
+
+-- ---- stores behind X, in a list that was w
+
+module _ {A : Type 0} (w X : List A) (i : ℕ) (e : length X ≡ i) where
+  on-paste : (s : List A) (n : ℕ) → length s ≡ n → i + n ≤ length w → paste (X ++ drop i w) i s n ≡ X ++ s ++ drop (i + n) w
+  on-paste s n q fits =
+      let rest : drop (i + n) (X ++ drop i w) ≡ drop (i + n) w = rw (← e) (drop-append-add X (drop (length X) w) n ∙ drop-drop n (length X) w) in
+      rw (take-at X (drop i w) i e, take-all n s (omega arith), rest)
+
+  on-gap : (j : ℕ) → i ≤ j → j ≤ length w → X ++ drop i w ≡ X ++ slice i j w ++ drop j w
+  on-gap j l fits =
+      let split : drop i w ≡ slice i j w ++ drop j w =
+      ap (drop i) (sym (take-append-drop j w)) ∙ drop-append-le i (take j w) (drop j w) (omega (arith, length-take-le j w fits)) in
+      ap (λ (r : List A). X ++ r) split ∙ sym (append-assoc X _ _)
+
+-- a word stored before what is copied behind it
+pub set-paste : {A : Type 0} (w s : List A) (i n : ℕ) (a : A) → i < length w → paste (set w i a) (suc i) s n ≡ paste w i (a ∷ s) (suc n)
+set-paste {A = A} w s i n a h =
+    let e : suc i + n ≡ i + suc n = omega arith in
+    rw (take-suc-set w i a h, drop-set-lt (suc i + n) w i a (omega arith), e)
+    (ap (λ (l : List A). l ++ drop (i + suc n) w) (append-snoc (take i w) a (take n s)))
+
+-- ---- a seat
+
+pub put-words : (s : Seat) (w : List ℕ) → IsBlock w → {healed ended held position : ℕ} → healed ≡ bit (s .healed) → ended ≡ bit (s .ended)
+    → held ≡ heldNumber (s .position) → position ≡ wordOf (heldOr (s .position) (pos 0))
+    → sets w 0 (s .n ∷ s .f ∷ s .number ∷ s .phase ∷ s .round ∷ healed ∷ ended ∷ held ∷ position ∷ []) ≡ paste w 0 (seatWords s) 9
+put-words s w block p q r t = rw (p, q, r, t) (sets-eq (seatWords s) w 0 (omega arith))
+
+-- ---- a record, of which the part before the lists is what stands before each of its parts
+
+module _ (h : Head) (w : List ℕ) (block : IsBlock w) (long : length (h .links .marks) ≡ 32) where
+  -- what stands before the links heard, before the links that confessed, and before the lists
+  abbrev pub first : List ℕ
+  first = seatWords (h .seat) ++ slice 9 24 w
+
+  abbrev pub second : List ℕ
+  second = first ++ (h .heard ∷ h .list .marks ∷ wordsOf (h .list .entries))
+
+  abbrev pub third : List ℕ
+  third = second ++ (h .links .confessed ∷ h .links .listed ∷ h .links .marks)
+
+  pub first-long : length first ≡ 24
+  first-long = length-append (seatWords (h .seat)) (slice 9 24 w) ∙ omega (arith, length-slice 9 24 w (omega arith))
+
+  pub second-long : length second ≡ 58
+  second-long = length-append first _ ∙ omega (arith, first-long, words-long (h .list .entries))
+
+  pub third-long : length third ≡ 92
+  third-long = length-append second _ ∙ omega (arith, second-long)
+
+-- a record with nothing heard
+pub put-record : (s : Seat) (t : Table) (w : List ℕ) → IsBlock w → {w₁ w₂ w₃ : List ℕ} → w₁ ≡ paste w 0 (seatWords s) 9
+    → w₂ ≡ paste (set w₁ 24 0) 25 (t .marks ∷ wordsOf (t .entries)) 33 → w₃ ≡ paste w₂ 58 (blank 1058) 1058 → w₃ ≡ withHead (opened s t) w
+unfolding withHead noLinks
+put-record s t w block {w₁} {w₂} {w₃} a b c =
+    let h = opened s t in
+    let x = first h w block refl in
+    let y = second h w block refl in
+    let words = t .marks ∷ wordsOf (t .entries) in
+    let long = first-long h w block refl in
+    let a′ : w₁ ≡ x ++ drop 24 w = a ∙ on-gap w (seatWords s) 9 refl 24 (omega arith) (omega arith) in
+    let b′ : w₂ ≡ y ++ drop 58 w =
+    b
+    ∙ rw a′ (set-paste (x ++ drop 24 w) words 24 33 0 (omega (arith, long, length-append x (drop 24 w), length-drop 24 w)))
+    ∙ on-paste w x 24 long (0 ∷ words) 34 (omega (arith, words-long (t .entries))) (omega arith) in
+    let rest : blank 1058 ≡ 0 ∷ 0 ∷ (noLinks .marks ++ listWords noLists 32) =
+    sym (ap₂ (λ (l m : List ℕ). l ++ m) no-links (no-lists 32 (omega arith)) ∙ blank-both 34 1024) in
+    c
+    ∙ rw b′ (on-paste w y 58 (second-long h w block refl) (blank 1058) 1058 (upTo-long 1058 _) (omega arith))
+    ∙ ap (λ (l : List ℕ). y ++ blank 1058 ++ l) (drop-of-length-le w {i = 1116} (omega arith))
+    ∙ append-nil (y ++ blank 1058)
+    ∙ ap (λ (l : List ℕ). y ++ l) rest
+    ∙ sym (append-assoc y (0 ∷ 0 ∷ noLinks .marks) (listWords noLists 32))

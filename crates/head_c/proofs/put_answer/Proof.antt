@@ -1,0 +1,42 @@
+-- The record is put into the block if nothing is refused.
+use mathlib.Core.Path.{_≡_, refl, ap, sym, _∙_}
+use mathlib.Core.List.{List}
+use Prim.Native.Nat.{ℕ, zero, suc}
+use denote.Ref.{now}
+use Rattle.head_spec.specs.declared.Head.{Head}
+use Rattle.head_c.specs.Blocks.{left, withHead, after}
+use borrow.Author.Needs.{needs}
+use Rattle.head_c.proofs.put_answer.Statement.{statement}
+use Rattle.head_c.proofs.put_answer.Tie as tie
+
+unchanged : (c : ℕ) (new old : List ℕ) → (c ≡ 0 → ⊥) → old ≡ left c new old
+unchanged zero new old n = absurd (n refl)
+unchanged (suc c) new old n = refl
+
+returns : tie.Need-returns
+unfolding after
+returns c =
+    let p = c .before .before in
+    let i = p .before .before .before .before .before in
+    let b = i .before .before .before in
+    let a = b .args .a in
+    let w = now (b .args .h) in
+    let z = i .if1 .taken in
+    (refl, p .put-opened .ensures ∙ ap (λ (h : Head). withHead h w) (sym (b .pre .1 z)) ∙ ap (λ (n : ℕ). left n (withHead (a .head) w) w) (sym z))
+
+returns-2 : tie.Need-returns-2
+unfolding after
+returns-2 c =
+    let b = c .before .before .before in
+    let a = b .args .a in
+    let w = now (b .args .h) in
+    (refl, unchanged (a .refusal) (withHead (a .head) w) w (c .if1 .left))
+
+pub put-answer-spec : {M : Type 1} → statement M
+put-answer-spec =
+    tie.close
+    (tie.spec
+    (λ c κs. search needs)
+    (λ c. search needs)
+    returns
+    returns-2)

@@ -1,0 +1,61 @@
+-- Where each number of a head stands in its block of 1,116 words. src/place.rt has the same table for the code.
+use Prim.Native.Nat.{ℕ}
+
+-- ---- the seat; 9 to 15 are room for what it gets later
+
+abbrev pub n : ℕ
+n = 0
+
+abbrev pub f : ℕ
+f = 1
+
+abbrev pub number : ℕ
+number = 2
+
+abbrev pub phase : ℕ
+phase = 3
+
+abbrev pub round : ℕ
+round = 4
+
+abbrev pub healed : ℕ
+healed = 5
+
+abbrev pub ended : ℕ
+ended = 6
+
+-- whether a position is held, and the position
+abbrev pub held : ℕ
+held = 7
+
+abbrev pub position : ℕ
+position = 8
+
+-- ---- 16 to 23 are room for what C keeps beside a head
+
+-- ---- what was heard
+
+-- the links heard in this round
+abbrev pub heard : ℕ
+heard = 24
+
+-- the list: its marks, and its 32 numbers
+abbrev pub marks : ℕ
+marks = 25
+
+abbrev pub entries : ℕ
+entries = 26
+
+-- the links that confessed, and those that gave a list
+abbrev pub confessed : ℕ
+confessed = 58
+
+abbrev pub listed : ℕ
+listed = 59
+
+-- the lists received: 32 mark words, and 32 lists of 32 numbers
+abbrev pub list-marks : ℕ
+list-marks = 60
+
+abbrev pub lists : ℕ
+lists = 92

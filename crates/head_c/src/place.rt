@@ -1,0 +1,37 @@
+// Where each number of a head stands in its block. specs/Places.antt has the same table.
+
+// Of the seat; 9 to 15 are room for what it gets later.
+pub const N: usize = 0;
+
+pub const F: usize = 1;
+
+pub const NUMBER: usize = 2;
+
+pub const PHASE: usize = 3;
+
+pub const ROUND: usize = 4; // 0 collection, 1 confession
+
+pub const HEALED: usize = 5; // in healed, ended and held 0 is no, and every other number yes
+
+pub const ENDED: usize = 6;
+
+pub const HELD: usize = 7; // a position is held
+
+pub const POSITION: usize = 8; // two's complement, as all numbers with a sign
+
+// 16 to 23 are room for what C keeps beside a head.
+
+// Of what was heard.
+pub const HEARD: usize = 24; // the links heard in this round
+
+pub const MARKS: usize = 25; // the list: its marks, and its 32 numbers
+
+pub const ENTRIES: usize = 26;
+
+pub const CONFESSED: usize = 58; // the links that confessed, and those that gave a list
+
+pub const LISTED: usize = 59;
+
+pub const LIST_MARKS: usize = 60; // the lists received: 32 mark words, and 32 lists of 32 numbers
+
+pub const LISTS: usize = 92;
