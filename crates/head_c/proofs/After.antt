@@ -7,7 +7,7 @@ use Prim.Native.Nat.{ℕ, zero, suc}
 use native.Mathlib.Omega.{arith}
 use lib.IntN.{ℤ}
 use Rattle.terms.specs.Refusals as refusal
-use Rattle.convergence.specs.Settling.{enough}
+use Rattle.convergence.specs.Settling.{twoRounds, enough}
 use Rattle.settle_midpoint.specs.Answers.{settling}
 use Rattle.settle_midpoint.specs.declared.Kept.{Kept}
 use Rattle.settle_midpoint.specs.declared.Settled.the-variants as settled
@@ -51,7 +51,7 @@ close-opens h = go (h .seat .ended) (h .seat .round)
     go : (b : Bool) (r : ℕ) → Opens (closedAnswer (cond b (closing (Closed.Refused refusal.ended) h) (closeIn r h)))
     go true r z = absurd (omega arith)
     go false zero z = refl
-    go false (suc r) z = settles (enough (h .seat .n) (h .seat .f) (trustedBy h)) _ z
+    go false (suc r) z = settles (enough (h .seat .n) (twoRounds (h .seat .f)) (trustedBy h)) _ z
 
 pub opens-as : {a b : Answer} → a ≡ b → Opens b → Opens a
 opens-as e p = rw e p

@@ -17,7 +17,7 @@ use Rattle.marks.specs.Marks.{bitOf}
 use Rattle.entries.specs.Entries.{fits, zeros}
 use Rattle.frame_spec.specs.Said.{collected}
 use Rattle.frame_spec.specs.Proper.{ProperTable, Proper}
-use Rattle.convergence.specs.Settling.{enough}
+use Rattle.convergence.specs.Settling.{twoRounds, enough}
 use Rattle.settle_midpoint.specs.Answers.{settling}
 use Rattle.settle_midpoint.specs.declared.Kept.{Kept}
 use Rattle.settle_midpoint.specs.declared.Settled.the-variants as settled
@@ -126,4 +126,4 @@ module _ (w : List ℕ) (block : IsBlock w) where
       go : (b : Bool) (r : ℕ) → Back (cond b (closing (Closed.Refused refusal.ended) h) (closeIn r h))
       go true r Q = refl
       go false zero Q = put-back (confessionSeat (h .seat)) (h .list) Q
-      go false (suc r) Q = settles (enough (h .seat .n) (h .seat .f) (trustedBy h)) _ Q
+      go false (suc r) Q = settles (enough (h .seat .n) (twoRounds (h .seat .f)) (trustedBy h)) _ Q

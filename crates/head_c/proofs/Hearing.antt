@@ -21,7 +21,7 @@ use Rattle.entries.specs.Entries.{zeros, numbers}
 use Rattle.entries.proofs.Entries.{numbers-length}
 use Rattle.frame_check.specs.Check.{Kind, position, silence, list, confession, unknown, kindField}
 use Rattle.frame_spec.specs.declared.Said.{Said}
-use Rattle.frame_spec.specs.Said.{Meaning, refused, collected, listed, confessed, entriesField, refusalOf, tableIn, meaning}
+use Rattle.frame_spec.specs.Said.{Meaning, refused, collected, listed, confessed, restField, entriesIn, refusalOf, tableIn, meaning}
 use Rattle.frame_spec.specs.Said.{unlessRefused, said, saidOf, meant}
 use Rattle.frame_spec.proofs.OneMeaning.{meant-said}
 use Rattle.head_spec.specs.declared.Head.{Head}
@@ -96,10 +96,10 @@ said-fits : (n p r k : ℕ) (s : List ℕ) → FitMeaning (said n p r k s)
 unfolding said tableIn
 said-fits n p r k s = go (refusalOf n p r k s) (kindField s)
   where
-    go : (c : ℕ) (K : Kind) → FitMeaning (unlessRefused c (meaning K n s))
-    go zero position = signed-fits (at4 s 7)
+    go : (c : ℕ) (K : Kind) → FitMeaning (unlessRefused c (meaning K n (restField s)))
+    go zero position = signed-fits (at4 (restField s) 0)
     go zero silence = tt
-    go zero list = record { long = numbers-length (entriesField s) n; each = number-fits (entriesField s) n }
+    go zero list = record { long = numbers-length (entriesIn (restField s)) n; each = number-fits (entriesIn (restField s)) n }
     go zero confession = tt
     go zero unknown = tt
     go (suc c) K = tt
@@ -152,10 +152,10 @@ module _ (w : List ℕ) (block : IsBlock w) (k : ℕ) (s : List ℕ) where
   number-said Said.Confession e = ap (λ (a : Answer). a .refusal) (confession-heard h k s e refl refl refl)
 
   -- what was said, with the table of a list beside it, is what the link says
-  meant-link : meant (saidOf (linkSays h k s)) (tableIn (h .seat .n) s) ≡ linkSays h k s
+  meant-link : meant (saidOf (linkSays h k s)) (tableIn (h .seat .n) (restField s)) ≡ linkSays h k s
   meant-link = go (linkRefusal (h .seat) (h .heard) k)
     where
-      go : (c : ℕ) → let m = unlessRefused c (saidTo (h .seat) k s) in meant (saidOf m) (tableIn (h .seat .n) s) ≡ m
+      go : (c : ℕ) → let m = unlessRefused c (saidTo (h .seat) k s) in meant (saidOf m) (tableIn (h .seat .n) (restField s)) ≡ m
       go zero = meant-said (h .seat .n) (h .seat .phase) (h .seat .round) k s
       go (suc c) = refl
 
@@ -174,14 +174,14 @@ module _ (w : List ℕ) (block : IsBlock w) (k : ℕ) (s : List ℕ) where
 
       go : (a b c : Bool) → let m = saidTo (h .seat) k s in
           heardIn w k (unlessRefused (row a b c 0) m) ≡ left (answer (row a b c (refusalTo (h .seat) k s)) (taken h k m) h .refusal) (heardIn w k m) w
-      go true true true = frame (refusalTo (h .seat) k s) (meaning (kindField s) (h .seat .n) s) _
+      go true true true = frame (refusalTo (h .seat) k s) (meaning (kindField s) (h .seat .n) (restField s)) _
       go true true false = heard-refused w k _
       go true false c = heard-refused w k _
       go false b c = heard-refused w k _
 
   pub hears-said : {what : Said} {r : ℕ} {w′ : List ℕ} → what ≡ saidOf (linkSays h k s) → r ≡ numberOf what
-      → w′ ≡ heardIn w k (meant what (tableIn (h .seat .n) s)) → Hears w k s r w′
+      → w′ ≡ heardIn w k (meant what (tableIn (h .seat .n) (restField s))) → Hears w k s r w′
   hears-said {what} {r} {w′} e a q =
       let n = a ∙ number-said what e in
-      let m : meant what (tableIn (h .seat .n) s) ≡ linkSays h k s = rw e meant-link in
+      let m : meant what (tableIn (h .seat .n) (restField s)) ≡ linkSays h k s = rw e meant-link in
       hears w block k s n (q ∙ ap (heardIn w k) m ∙ link-block ∙ rw n)

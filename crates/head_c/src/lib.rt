@@ -7,7 +7,7 @@ ghost use lib.ListN.{length, getD};
 ghost use lib.Seq.{paste};
 ghost use lib.IntN.{pos};
 ghost use Rattle.fields.specs.Bytes.{signedOf, wordOf};
-ghost use Rattle.frame_spec.specs.Said.{collected, listed, confessed, tableIn, saidOf, meant};
+ghost use Rattle.frame_spec.specs.Said.{collected, listed, confessed, restField, tableIn, saidOf, meant};
 ghost use Rattle.head_spec.specs.Record.{opened};
 ghost use Rattle.head_spec.specs.Calls.{start, restart, writeAnswer, writeBuffer, close};
 ghost use Rattle.head_hear.specs.Steps.{linkRefusal, saidOn};
@@ -289,7 +289,7 @@ fn take_confession(h: &mut [u32], k: usize)
 // Takes what was said on link k, in a frame to one of n heads; a refusal changes nothing.
 fn take_said(h: &mut [u32], k: usize, what: Said, frame: &[u8], n: u8)
     requires { ⌜ IsBlock (now h) × (k < 32) ⌝ }
-    ensures { λ _. ⌜ now (h .exit) ≡ changed (now (h .entry)) k (meant what (tableIn n (now (frame .entry)))) ⌝ }
+    ensures { λ _. ⌜ now (h .exit) ≡ changed (now (h .entry)) k (meant what (tableIn n (restField (now (frame .entry))))) ⌝ }
 {
     match what {
         Said::Refused(_) => {}

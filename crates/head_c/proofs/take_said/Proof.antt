@@ -3,7 +3,7 @@ use mathlib.Core.Path.{ap, sym, _∙_}
 use denote.Ref.{now}
 use Rattle.terms.specs.declared.Table.{Table}
 use Rattle.frame_spec.specs.declared.Said.{Said}
-use Rattle.frame_spec.specs.Said.{listed, tableIn, meant}
+use Rattle.frame_spec.specs.Said.{listed, restField, tableIn, meant}
 use Rattle.head_c.specs.Blocks.{changed}
 use borrow.Author.Needs.{needs}
 use Rattle.head_c.proofs.take_said.Statement.{statement}
@@ -13,14 +13,14 @@ returns-2 : tie.Need-returns-2
 returns-2 c =
     let p = c .before .before in
     let a = p .before .before .before .before .before .before .before .args in
-    let t = tableIn (a .n) (now (a .frame)) in
+    let t = tableIn (a .n) (restField (now (a .frame))) in
     p .take-entry .ensures ∙ ap (λ (x : Said). changed (now (a .h)) (a .k) (meant x t)) (sym (p .before .before .before .what .given .1))
 
 returns-3 : tie.Need-returns-3
 returns-3 c =
     let p = c .before .before in
     let a = p .before .before .before .before .before .before .before .args in
-    let t = tableIn (a .n) (now (a .frame)) in
+    let t = tableIn (a .n) (restField (now (a .frame))) in
     p .take-list .ensures
     ∙ ap (λ (x : Table). changed (now (a .h)) (a .k) (listed x)) (p .before .table-in .ensures)
     ∙ ap (λ (x : Said). changed (now (a .h)) (a .k) (meant x t)) (sym (p .before .before .before .enum-told2 .given .1))
@@ -29,7 +29,7 @@ returns-4 : tie.Need-returns-4
 returns-4 c =
     let p = c .before .before in
     let a = p .before .before .before .before .before .before .args in
-    let t = tableIn (a .n) (now (a .frame)) in
+    let t = tableIn (a .n) (restField (now (a .frame))) in
     p .take-confession .ensures ∙ ap (λ (x : Said). changed (now (a .h)) (a .k) (meant x t)) (sym (p .before .before .enum-told3 .given .1))
 
 pub take-said-spec : {M : Type 1} → statement M
