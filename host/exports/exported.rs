@@ -20,7 +20,7 @@ mod c {
 }
 
 /// The 32-bit numbers of a block, and its bytes.
-const WORDS: usize = 1096;
+const WORDS: usize = 1116;
 pub const SIZE: usize = 4 * WORDS;
 
 /// Whether the header has blocks of this size.
@@ -28,8 +28,8 @@ pub fn as_in_header() -> bool {
     include_str!("../include/focus.h").contains(&format!("opaque[{WORDS}]"))
 }
 
-/// The bytes of a block that hold nothing: its owner may write them.
-pub const NOTHING: Range<usize> = 9..12;
+/// The bytes of a block, words 9 to 23, that no call changes.
+pub const BESIDE: Range<usize> = 36..96;
 
 /// A head's block, as C keeps it.
 #[repr(C, align(4))]

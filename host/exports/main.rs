@@ -22,7 +22,7 @@ mod spoil;
 mod tally;
 
 use calls::Call;
-use exported::{Block, NOTHING, SIZE};
+use exported::{Block, BESIDE, SIZE};
 use random::Random;
 use rules::head::Head;
 use std::panic::{catch_unwind, AssertUnwindSafe};
@@ -53,11 +53,12 @@ impl Pair {
 
     fn ask(&mut self, tally: &mut Tally, call: &Call) -> Result<u8, String> {
         self.calls += 1;
-        self.blocks[1].0[NOTHING].fill(self.calls as u8);
+        self.blocks[1].0[BESIDE].fill(self.calls as u8);
         let (export, plain) = (call.exported(&mut self.blocks[1]), call.plain(&mut self.head));
         let known = tally.count(call.index(), plain.number);
         let guarded = [0, 2].iter().all(|&at| self.blocks[at] == Block([0xa5; SIZE]));
-        if export == plain && known && guarded {
+        let beside = self.blocks[1].0[BESIDE].iter().all(|&byte| byte == self.calls as u8);
+        if export == plain && known && guarded && beside {
             return Ok(plain.number);
         }
         let name = CALLS[call.index()].0;

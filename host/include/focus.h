@@ -81,10 +81,11 @@ uint8_t focus_play(const uint8_t *file, size_t bytes, uint8_t *out, size_t out_s
 
 /* ---- a head that C keeps: crates/head_c/src/lib.rt has what its calls promise; crates/head_spec/specs/Calls.antt defines the calls */
 
-/* A head's block: one piece of memory all shift, which each call changes in place. Its contents are the calls' own; bytes 9 to 11 hold nothing.
- * Every content is some record, so no block makes a call undefined, not even one that was never started; a block of zeros is a head of no ring. */
+/* A head's block: 1,116 words all shift, of which each call changes those that it must, in place. Words 9 to 23 are room for later calls: no call
+ * changes them. Every content is some record, so no block makes a call undefined, not even one that was never started; a block of zeros is a head of
+ * no ring. Promised of each call: crates/head_c/specs/Blocks.antt says which record a block is, and crates/head_c/src/lib.rt which words change. */
 typedef struct focus_head {
-    uint32_t opaque[1096];
+    uint32_t opaque[1116];
 } focus_head;
 
 /* The longest frame: a list of 32 entries. */
