@@ -124,23 +124,23 @@ module _ (h : Head) (w : List ℕ) (block : IsBlock w) (F : Fit h) where
   from-92 : (i : ℕ) → getD w′ (92 + i) 0 ≡ getD D i 0
   unfolding withHead
   from-92 i =
-      let t = third h w block (F .marks) in
+      let t = third h w in
       ap (λ (n : ℕ). getD (t ++ D) (n + i) 0) (sym (third-long h w block (F .marks))) ∙ getD-append-add t D i 0
 
   from-58 : (i : ℕ) → getD w′ (58 + i) 0 ≡ getD C i 0
   unfolding withHead
   from-58 i =
-      let t = second h w block (F .marks) in
+      let t = second h w in
       ap (λ (l : List ℕ). getD l (58 + i) 0) (append-assoc t _ D)
-      ∙ ap (λ (n : ℕ). getD (t ++ C) (n + i) 0) (sym (second-long h w block (F .marks)))
+      ∙ ap (λ (n : ℕ). getD (t ++ C) (n + i) 0) (sym (second-long h w block))
       ∙ getD-append-add t C i 0
 
   from-24 : (i : ℕ) → getD w′ (24 + i) 0 ≡ getD B i 0
   unfolding withHead
   from-24 i =
-      let t = first h w block (F .marks) in
-      ap (λ (l : List ℕ). getD l (24 + i) 0) (append-assoc (second h w block (F .marks)) _ D ∙ append-assoc t _ C)
-      ∙ ap (λ (n : ℕ). getD (t ++ B) (n + i) 0) (sym (first-long h w block (F .marks)))
+      let t = first h w in
+      ap (λ (l : List ℕ). getD l (24 + i) 0) (append-assoc (second h w) _ D ∙ append-assoc t _ C)
+      ∙ ap (λ (n : ℕ). getD (t ++ B) (n + i) 0) (sym (first-long h w block))
       ∙ getD-append-add t B i 0
 
   entries-back : numbersAt w′ 26 ≡ h .list .entries

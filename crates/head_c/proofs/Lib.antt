@@ -7,3 +7,4 @@ pub mod Changes
 pub mod Hearing
 pub mod After
 pub mod Calls
+pub mod Beside

@@ -98,9 +98,9 @@ pub put-words : (s : Seat) (w : List ℕ) → IsBlock w → {healed ended held p
     → sets w 0 (s .n ∷ s .f ∷ s .number ∷ s .phase ∷ s .round ∷ healed ∷ ended ∷ held ∷ position ∷ []) ≡ paste w 0 (seatWords s) 9
 put-words s w block p q r t = rw (p, q, r, t) (sets-eq (seatWords s) w 0 (omega arith))
 
--- ---- a record, of which the part before the lists is what stands before each of its parts
+-- ---- a record
 
-module _ (h : Head) (w : List ℕ) (block : IsBlock w) (long : length (h .links .marks) ≡ 32) where
+module _ (h : Head) (w : List ℕ) where
   -- what stands before the links heard, before the links that confessed, and before the lists
   abbrev pub first : List ℕ
   first = seatWords (h .seat) ++ slice 9 24 w
@@ -111,14 +111,15 @@ module _ (h : Head) (w : List ℕ) (block : IsBlock w) (long : length (h .links 
   abbrev pub third : List ℕ
   third = second ++ (h .links .confessed ∷ h .links .listed ∷ h .links .marks)
 
-  pub first-long : length first ≡ 24
-  first-long = length-append (seatWords (h .seat)) (slice 9 24 w) ∙ omega (arith, length-slice 9 24 w (omega arith))
+  module _ (block : IsBlock w) where
+    pub first-long : length first ≡ 24
+    first-long = length-append (seatWords (h .seat)) (slice 9 24 w) ∙ omega (arith, length-slice 9 24 w (omega arith))
 
-  pub second-long : length second ≡ 58
-  second-long = length-append first _ ∙ omega (arith, first-long, words-long (h .list .entries))
+    pub second-long : length second ≡ 58
+    second-long = length-append first _ ∙ omega (arith, first-long, words-long (h .list .entries))
 
-  pub third-long : length third ≡ 92
-  third-long = length-append second _ ∙ omega (arith, second-long)
+    pub third-long : length (h .links .marks) ≡ 32 → length third ≡ 92
+    third-long long = length-append second _ ∙ omega (arith, second-long)
 
 -- a record with nothing heard
 pub put-record : (s : Seat) (t : Table) (w : List ℕ) → IsBlock w → {w₁ w₂ w₃ : List ℕ} → w₁ ≡ paste w 0 (seatWords s) 9
@@ -126,10 +127,10 @@ pub put-record : (s : Seat) (t : Table) (w : List ℕ) → IsBlock w → {w₁ w
 unfolding withHead noLinks
 put-record s t w block {w₁} {w₂} {w₃} a b c =
     let h = opened s t in
-    let x = first h w block refl in
-    let y = second h w block refl in
+    let x = first h w in
+    let y = second h w in
     let words = t .marks ∷ wordsOf (t .entries) in
-    let long = first-long h w block refl in
+    let long = first-long h w block in
     let a′ : w₁ ≡ x ++ drop 24 w = a ∙ on-gap w (seatWords s) 9 refl 24 (omega arith) (omega arith) in
     let b′ : w₂ ≡ y ++ drop 58 w =
     b
@@ -138,7 +139,7 @@ put-record s t w block {w₁} {w₂} {w₃} a b c =
     let rest : blank 1058 ≡ 0 ∷ 0 ∷ (noLinks .marks ++ listWords noLists 32) =
     sym (ap₂ (λ (l m : List ℕ). l ++ m) no-links (no-lists 32 (omega arith)) ∙ blank-both 34 1024) in
     c
-    ∙ rw b′ (on-paste w y 58 (second-long h w block refl) (blank 1058) 1058 (upTo-long 1058 _) (omega arith))
+    ∙ rw b′ (on-paste w y 58 (second-long h w block) (blank 1058) 1058 (upTo-long 1058 _) (omega arith))
     ∙ ap (λ (l : List ℕ). y ++ blank 1058 ++ l) (drop-of-length-le w {i = 1116} (omega arith))
     ∙ append-nil (y ++ blank 1058)
     ∙ ap (λ (l : List ℕ). y ++ l) rest

@@ -21,6 +21,7 @@ use Rattle.head_spec.specs.Calls.{saidTo, hear}
 use Rattle.head_lent.specs.Answers.{heldNumber, heldOr}
 use Rattle.head_c.specs.Places as place
 
+-- as many words as the code's type says
 abbrev pub IsBlock : List ℕ → Type 0
 IsBlock w = length w ≡ 1116
 

@@ -1,0 +1,69 @@
+-- Every call leaves words 9 to 23 of a block as they were, whatever it answers.
+use mathlib.Core.Path.{_≡_, refl, ap, sym, _∙_}
+use mathlib.Core.List.{List, _∷_}
+use mathlib.Core.Logic.{by-cases}
+use Prim.Native.Nat.{ℕ, zero, suc, _+_, _*_, _-_, _≤_, _<_}
+use native.Mathlib.Omega.{arith}
+use native.Mathlib.Decide.{decLt}
+use lib.ListN.{length, getD, set, take, length-append, length-set, List·getD-append}
+use lib.Seq.{getD-append-add, getD-drop, getD-take, getD-set-other, slice}
+use Rattle.terms.specs.declared.Entry.{Entry}
+use Rattle.fields.specs.Bytes.{wordOf}
+use Rattle.frame_spec.specs.Said.{Meaning, refused, collected, listed, confessed}
+use Rattle.head_spec.specs.declared.Head.{Head}
+use Rattle.head_spec.specs.declared.Answer.{Answer}
+use Rattle.head_c.specs.Blocks.{IsBlock, wordsOf, seatWords, withHead, left, after, marked, changed, heardIn}
+use Rattle.head_c.proofs.Copying.{copied-before}
+use Rattle.head_c.proofs.Putting.{words-long, first, second, third, first-long, second-long}
+use Rattle.head_c.proofs.Hearing.{heard-below, heard-past}
+
+module _ (w : List ℕ) (block : IsBlock w) (i : ℕ) (from : 9 ≤ i) (to : i < 24) where
+  put-beside : (h : Head) → getD (withHead h w) i 0 ≡ getD w i 0
+  unfolding withHead
+  put-beside h =
+      let j = i - 9 in
+      let e : i ≡ 9 + j = omega arith in
+      let longer = length-append (second h w) (h .links .confessed ∷ h .links .listed ∷ h .links .marks) in
+      List·getD-append (third h w) _ 0 i (omega (arith, second-long h w block, longer))
+      ∙ List·getD-append (second h w) _ 0 i (omega (arith, second-long h w block))
+      ∙ List·getD-append (first h w) _ 0 i (omega (arith, first-long h w block))
+      ∙ ap (λ (n : ℕ). getD (first h w) n 0) e
+      ∙ getD-append-add (seatWords (h .seat)) (slice 9 24 w) j 0
+      ∙ getD-drop 9 (take 24 w) j 0
+      ∙ getD-take 24 w (9 + j) 0 (omega arith)
+      ∙ ap (λ (n : ℕ). getD w n 0) (sym e)
+
+  -- start, restart and closing
+  pub after-beside : (a : Answer) → getD (after w a) i 0 ≡ getD w i 0
+  unfolding after
+  after-beside a = go (a .refusal)
+    where
+      go : (c : ℕ) → getD (left c (withHead (a .head) w) w) i 0 ≡ getD w i 0
+      go zero = put-beside (a .head)
+      go (suc c) = refl
+
+  -- hearing
+  once-beside : (k : ℕ) → getD (marked 24 k w) i 0 ≡ getD w i 0
+  once-beside k = getD-set-other w 24 i _ 0 (omega arith)
+
+  twice-beside : (at k : ℕ) → 24 ≤ at → getD (marked at k (marked 24 k w)) i 0 ≡ getD w i 0
+  twice-beside at k far = getD-set-other (marked 24 k w) at i _ 0 (omega arith) ∙ once-beside k
+
+  changed-beside : (k : ℕ) → k < 32 → (m : Meaning) → getD (changed w k m) i 0 ≡ getD w i 0
+  changed-beside k b (refused c) = refl
+  changed-beside k b (collected Entry.Null) = once-beside k
+  changed-beside k b (collected (Entry.Position v)) =
+      getD-set-other (marked 25 k (marked 24 k w)) (26 + k) i (wordOf v) 0 (omega arith) ∙ twice-beside 25 k (omega arith)
+  changed-beside k b confessed = twice-beside 58 k (omega arith)
+  changed-beside k b (listed t) =
+      let two = marked 59 k (marked 24 k w) in
+      let l = set two (60 + k) (t .marks) in
+      let long : length l ≡ 1116 = simp length-set block in
+      copied-before l (wordsOf (t .entries)) (92 + 32 * k) 32 0 (words-long (t .entries)) (omega arith) i (omega arith)
+      ∙ getD-set-other two (60 + k) i (t .marks) 0 (omega arith)
+      ∙ twice-beside 59 k (omega arith)
+
+  pub heard-beside : (k : ℕ) (m : Meaning) → getD (heardIn w k m) i 0 ≡ getD w i 0
+  heard-beside k m = by-cases (decLt k 32)
+      (λ l. rw (heard-below w k m l) (changed-beside k l m))
+      (λ d. rw (heard-past w k m (omega arith)) refl)
