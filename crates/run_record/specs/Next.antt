@@ -18,6 +18,7 @@ pub record Next (F G : File) (p : Player) (M : Memory) (r : RecordResult) (M′ 
   pub player : PlayerOf (r .player) G
   pub whole : r .player .have ≡ 0
   pub memory : MemoryOf G M′
+  -- demand 1 for the player: "A refusal gives only its number and leaves head, player and lent buffers unchanged"
   pub refused : (G .fault ≡ 0 → ⊥) → (M′ ≡ M) × (r .player ≡ halted p 0 (G .fault))
   pub shows : shown G ≡ shown F ++ bytesOf (r .text)
   pub room : r .text .len ≤ 64

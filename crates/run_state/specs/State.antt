@@ -26,7 +26,8 @@ pub record PlayerOf (p : Player) (F : File) : Type 0 where
   pub last : lastPair (F .rounds .last .plants) ≡ p .last
   pub fault : F .fault ≡ p .fault
 
--- the memory holds what the records of the heads hold, and what is planted in the pending round
+-- The memory holds what the records of the heads hold, and what is planted in the pending round. Free, since nothing reads it: the numbers of heads that were
+-- struck or that the ring does not have, the lists in a collection round, the slots if no round is pending, and the bytes of a slot past its length.
 pub record MemoryOf (F : File) (M : Memory) : Type 0 where
   pub keeps : F .setup .begun ≡ true → HeadsOf (F .setup .n) (ringBefore F) M
   pub slots : F .rounds .pending ≡ true → (k i : ℕ) → k < 32 → i < 32 → plantedIn (M .planted) (M .lengths) k i ≡ planted (F .rounds .last .plants) k i

@@ -206,7 +206,7 @@ fn put(page: &mut [u8], len: usize, t: Text) -> usize
     len + count
 }
 
-// Takes bytes of a piece as long as the page has room for a line.
+// Takes bytes of a piece as long as the page has room for a line. What the page holds after its first `len` bytes is free.
 pub fn fill(
     p: Player,
     bytes: &[u8],
@@ -245,14 +245,14 @@ pub fn fill(
     FillResult { player, used, len }
 }
 
-// The first page: the title.
+// The first page: the title. What the page holds after it is free.
 pub fn first_page(page: &mut Page) -> usize
     ensures { λ r. ⌜ (r ≤ 4096) × (take r (now (page .exit)) ≡ title) ⌝ }
 {
     put(page, 0, run_listing::title_line())
 }
 
-// The last page: what is left to show when the file has ended.
+// The last page: what is left to show when the file has ended. What the page holds after it is free.
 pub fn last_page(
     p: Player,
     page: &mut Page,
