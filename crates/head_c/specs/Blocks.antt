@@ -49,7 +49,7 @@ numbersAt w i = upTo 32 (λ j. signedOf (getD w (i + j) 0))
 abbrev pub listAt : List ℕ → ℕ → Row
 listAt w k = record { entries = numbersAt w (place.lists + 32 * k) }
 
--- where the head stands
+-- the seat
 unfoldable pub seatOf : List ℕ → Seat
 seatOf w =
     record {

@@ -45,7 +45,7 @@ fn entry_in(held: u32, position: u32) -> Entry
     Entry::Position(fields::signed(position))
 }
 
-// Where the head stands.
+// The seat.
 fn seat_in(h: &[u32]) -> Seat
     requires { ⌜ IsBlock (now h) ⌝ }
     ensures { λ r. ⌜ r ≡ seatOf (now (h .entry)) ⌝ }
@@ -126,7 +126,7 @@ fn links_in(h: &[u32]) -> Links
     }
 }
 
-// All of it.
+// The record.
 fn head_of(h: &[u32]) -> Head
     requires { ⌜ IsBlock (now h) ⌝ }
     ensures { λ r. ⌜ r ≡ headOf (now (h .entry)) ⌝ }
@@ -187,7 +187,7 @@ fn word_of(e: Entry) -> u32
     }
 }
 
-// Puts where the head stands.
+// Puts the seat.
 fn put_seat(h: &mut [u32], s: Seat)
     requires { ⌜ IsBlock (now h) ⌝ }
     ensures { λ _. ⌜ now (h .exit) ≡ paste (now (h .entry)) 0 (seatWords s) 9 ⌝ }
