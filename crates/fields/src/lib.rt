@@ -2,7 +2,7 @@
 ghost use mathlib.Core.Path.{_≡_};
 ghost use Prim.Native.Nat.{_+_, _*_, _≤_, _<_};
 ghost use lib.ListN.{length, getD, drop, set};
-ghost use Rattle.fields.specs.Bytes.{at2, at4, signedOf, signedAt, wordOf, put2, put4, over, copied};
+ghost use Rattle.fields.specs.Bytes.{at2, at4, signedOf, wordOf, put2, put4, over, copied};
 ghost use mathlib.Core.List.{[]};
 ghost use lib.Seq.{paste};
 
@@ -82,13 +82,6 @@ pub fn signed(x: u32) -> i32
     } else {
         -1 - (4294967295 - x) as i32
     }
-}
-
-// The number of four bytes, with a sign.
-pub fn signed_at(s: &[u8], at: usize) -> i32
-    ensures { λ r. ⌜ r ≡ signedAt (now (s .entry)) at ⌝ }
-{
-    signed(word_at(s, at))
 }
 
 // ---- Fields of a slice of bytes, written: little-endian numbers. A byte past the end is not written.

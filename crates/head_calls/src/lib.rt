@@ -22,7 +22,7 @@ use terms::Table;
 use terms::refusal;
 
 // A table of nulls.
-pub fn no_entries() -> Table
+fn no_entries() -> Table
     ensures { λ r. ⌜ r ≡ noEntries ⌝ }
 {
     let entries = [0i32; 32]; // a null entry holds 0

@@ -20,7 +20,7 @@ pub struct Ends {
 }
 
 // How far v lies above the lowest number of 32 bits.
-pub fn height(v: i32) -> u32
+fn height(v: i32) -> u32
     ensures { λ r. ⌜ r ≡ heightOf v ⌝ }
 {
     let w = fields::unsigned(v);
@@ -53,7 +53,7 @@ fn outer(v: i32, e: Entry, high: bool) -> Entry
 }
 
 // The lowest and the highest position of the first n heads that the mark word leaves.
-pub fn ends_of(positions: &Numbers, struck: u32, n: u8) -> Ends
+fn ends_of(positions: &Numbers, struck: u32, n: u8) -> Ends
     ensures { λ r. ⌜ Found n (endIn struck (now (positions .entry))) (r .low) (r .high) ⌝ }
 {
     let count = n as usize;
@@ -72,7 +72,7 @@ pub fn ends_of(positions: &Numbers, struck: u32, n: u8) -> Ends
 }
 
 // How far apart two entries are; 0 if one is null.
-pub fn spread_of(low: Entry, high: Entry) -> u32
+fn spread_of(low: Entry, high: Entry) -> u32
     ensures { λ r. ⌜ r ≡ apart low high ⌝ }
 {
     let Entry::Position(a) = low else {

@@ -49,7 +49,7 @@ pub fn lists_needed(confessed: u32, n: u8, f: u8) -> usize
 }
 
 // The cell of a position: one more than its word. The cell of a null entry is 0.
-pub fn cell_of(v: i32) -> u64
+fn cell_of(v: i32) -> u64
     ensures { λ r. ⌜ r ≡ cellFor (Entry.Position v) ⌝ }
 {
     1 + fields::unsigned(v) as u64
@@ -94,7 +94,7 @@ pub fn entry_cell(m: u32, list: &Numbers, j: usize) -> u64
 }
 
 // The mark of the entry that a cell holds.
-pub fn mark_of(x: u64) -> u32
+fn mark_of(x: u64) -> u32
     ensures { λ r. ⌜ r ≡ mark (cellEntry x) ⌝ }
 {
     if x == 0 { 0 } else { 1 }
