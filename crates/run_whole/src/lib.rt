@@ -98,7 +98,7 @@ fn fill_row(ends: &mut [i32], base: usize, positions: &Numbers, n: u8, word: u32
     }
 }
 
-// HeadsOf a phase end, if there is one and room for it, and answers how many there are then.
+// Keeps a phase end, if there is one and room for it, and answers how many there are then.
 fn keep(
     some: bool,
     ends: &mut [i32],
