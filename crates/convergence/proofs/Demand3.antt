@@ -2,7 +2,7 @@
 -- `Links` hold at each of its receivers, and then any two ends are as `Ends` says. Besides: no receiver ever meets refusal 25, and each keeps an
 -- entry.
 use mathlib.Core.Path.{_≡_, refl}
-use Prim.Native.Nat.{ℕ, suc, _+_, _*_, _≤_, _<_}
+use Prim.Native.Nat.{ℕ, zero, suc, _+_, _*_, _≤_, _<_}
 use native.Mathlib.Omega.{arith}
 use native.Mathlib.Nat.{le-refl}
 use borrow.Author.Tests.{le-leb}
@@ -18,7 +18,7 @@ use Rattle.convergence.proofs.Sums.{sum-none}
 use Rattle.convergence.proofs.Support.{same-position}
 use Rattle.convergence.proofs.OnePhase.{Facts, Between, Limits, few-nulls, some-kept, range, closer}
 use Rattle.convergence.proofs.Links.{facts, two-faced}
-use Rattle.convergence.proofs.Ends.{number, AllHold, Inside, held-position, held-between, sound-holds, Nearer, Run, few-at, holds-at, any-two}
+use Rattle.convergence.proofs.Ends.{number, AllHold, Inside, held-position, held-between, sound-holds, Nearer, Run, holds-at, any-two}
 
 -- ---- one phase of a ring
 
@@ -56,11 +56,10 @@ module _ (n f : ℕ) (e : End) (F : Faults) (L : Limits n f (F .collect) (F .con
     before-inside j l s = held-between m M (e .at j) (I j l s)
 
   -- at the heads and any receivers after them
-  pub nearer : (N r : ℕ) → r ≤ 1 → Nearer n N f (Halves n f) e (after r n f e F)
+  nearer : (N r : ℕ) → r ≤ 1 → Nearer n N (Halves n f) e (after r n f e F)
   unfolding after
   nearer N r small =
       record {
-        few = L .few-d;
         between =
             λ m M I i l s. let H = holds-inside m M I in
             rw (settled-is r n f (table i) (few-nulls-in-phase H i))
@@ -82,32 +81,34 @@ module _ (n f : ℕ) (size : AcceptedSize n f) (v : ℕ → ℤ) (F : ℕ → Fa
   abbrev end : ℕ → End
   end = endAfter n f v F
 
-  -- the phase after end p is within the limits
-  limits : (p : ℕ) → AtMost f n (end p .struck) → Limits n f (F (suc p) .collect) (F (suc p) .confess) (end p .struck)
-  limits p few = record { size = size; few-c = within (suc p) .0; few-d = within (suc p) .1; few-p = few }
+  pub few-struck : (p : ℕ) → AtMost f n (end p .struck)
+  unfolding endAfter start after
+  few-struck zero = omega (arith, sum-none n)
+  few-struck (suc p) = within (suc p) .1
 
-  run : (K : ℕ) → Run n n f K (Halves n f) end
+  -- the phase after end p is within the limits
+  limits : (p : ℕ) → Limits n f (F (suc p) .collect) (F (suc p) .confess) (end p .struck)
+  limits p = record { size = size; few-c = within (suc p) .0; few-d = within (suc p) .1; few-p = few-struck p }
+
+  run : Run n n f (Halves n f) end
   unfolding endAfter start
-  run K =
+  run =
       record {
         large = omega arith;
         more = le-refl n;
-        few = omega (arith, sum-none n);
+        few = few-struck;
         holds = λ j l s. refl;
-        step = λ p h few. nearer n f (end p) (F (suc p)) (limits p few) n (rounding (suc p)) (rounding-le (suc p));
+        step = λ p. nearer n f (end p) (F (suc p)) (limits p) n (rounding (suc p)) (rounding-le (suc p));
       }
 
   -- at each receiver i of the phase after end p
   module _ (p i : ℕ) where
-    few-struck : AtMost f n (end p .struck)
-    few-struck = few-at (run p) p (le-refl p)
-
     -- refusal 25 does not happen
     pub few-nulls-in-ring : nulls n (trusted n f (givenTo (end p) (F (suc p)) i)) ≤ 3 * f
-    few-nulls-in-ring = few-nulls-in-phase n f (end p) (F (suc p)) (limits p few-struck) (holds-at (run p) p (le-refl p)) i
+    few-nulls-in-ring = few-nulls-in-phase n f (end p) (F (suc p)) (limits p) (holds-at run p) i
 
     pub something-kept : let z = nulls n (trusted n f (givenTo (end p) (F (suc p)) i)) in 2 * trim f z + z < n
-    something-kept = some-kept-in-phase n f (end p) (F (suc p)) (limits p few-struck) (holds-at (run p) p (le-refl p)) i
+    something-kept = some-kept-in-phase n f (end p) (F (suc p)) (limits p) (holds-at run p) i
 
 pub converges : Converges
-converges n f size v F within p k = any-two (run n f size v F within (p + k)) p k (le-refl (p + k))
+converges n f size v F within = any-two (run n f size v F within)

@@ -163,75 +163,66 @@ bounds n N f e few large more H = go (lowest N e) refl (best-lowest N e) (highes
 
 -- ---- from one end to the next, and to any later one
 
--- Receivers 0 .. N - 1, of which 0 .. n - 1 are the heads, with the struck limit f: each receiver that is not struck holds a position, and between the
--- bounds of the heads of before; any two of them are near if Q holds.
-pub record Nearer (n N f : ℕ) (Q : Type 0) (e e′ : End) : Type 0 where
-  pub few : AtMost f n (e′ .struck)
+-- Receivers 0 .. N - 1, of which 0 .. n - 1 are the heads: each receiver that is not struck holds a position, and between the bounds of the heads of
+-- before; any two of them are near if Q holds.
+pub record Nearer (n N : ℕ) (Q : Type 0) (e e′ : End) : Type 0 where
   pub between : (m M : ℤ) → Inside n e m M → Inside N e′ m M
   pub near : Q → (m M : ℤ) → Inside n e m M → (i i′ : ℕ) → i < N → i′ < N → (a b : ℤ) → soundAt e′ i ≡ Position a → soundAt e′ i′ ≡ Position b
       → b ≤ℤ (a +ℤ pos ((gap m M + 1) / 2))
 
--- ends 0 .. K, each nearer than the one before
-pub record Run (n N f K : ℕ) (Q : Type 0) (E : ℕ → End) : Type 0 where
+-- ends 0, 1, 2 .., each nearer than the one before, with the struck limit f
+pub record Run (n N f : ℕ) (Q : Type 0) (E : ℕ → End) : Type 0 where
   pub large : f < n
   pub more : n ≤ N
-  pub few : AtMost f n (E 0 .struck)
+  pub few : (p : ℕ) → AtMost f n (E p .struck)
   pub holds : AllHold N (E 0)
-  pub step : (p : ℕ) → p < K → AtMost f n (E p .struck) → Nearer n N f Q (E p) (E (suc p))
+  pub step : (p : ℕ) → Nearer n N Q (E p) (E (suc p))
 
-module _ {n N f K : ℕ} {Q : Type 0} {E : ℕ → End} (R : Run n N f K Q E) where
-  pub few-at : (p : ℕ) → p ≤ K → AtMost f n (E p .struck)
-  few-at zero h = R .few
-  few-at (suc p) h = R .step p h (few-at p (omega arith)) .few
-
-  nearer-at : (p : ℕ) → p < K → Nearer n N f Q (E p) (E (suc p))
-  nearer-at p h = R .step p h (few-at p (omega arith))
-
+module _ {n N f : ℕ} {Q : Type 0} {E : ℕ → End} (R : Run n N f Q E) where
   heads-inside : (p : ℕ) (m M : ℤ) → Inside N (E p) m M → Inside n (E p) m M
   heads-inside p m M I j l = I j (omega (arith, R .more))
 
-  pub holds-at : (p : ℕ) → p ≤ K → AllHold N (E p)
-  holds-at zero h = R .holds
-  holds-at (suc p) h =
-      let B = bounds n N f (E p) (few-at p (omega arith)) (R .large) (R .more) (holds-at p (omega arith)) in
+  pub holds-at : (p : ℕ) → AllHold N (E p)
+  holds-at zero = R .holds
+  holds-at (suc p) =
+      let B = bounds n N f (E p) (R .few p) (R .large) (R .more) (holds-at p) in
       λ i l s. held-position (Position (B .low)) (Position (B .high)) (E (suc p) .at i)
-      (nearer-at p h .between (B .low) (B .high) (heads-inside p (B .low) (B .high) (B .inside)) i l s)
+      (R .step p .between (B .low) (B .high) (heads-inside p (B .low) (B .high) (B .inside)) i l s)
 
-  bounds-at : (p : ℕ) → p ≤ K → Bounds N (E p)
-  bounds-at p h = bounds n N f (E p) (few-at p h) (R .large) (R .more) (holds-at p h)
+  bounds-at : (p : ℕ) → Bounds N (E p)
+  bounds-at p = bounds n N f (E p) (R .few p) (R .large) (R .more) (holds-at p)
 
-  spread-halves : Q → (p : ℕ) → p < K → spread N (E (suc p)) ≤ (spread N (E p) + 1) / 2
+  spread-halves : Q → (p : ℕ) → spread N (E (suc p)) ≤ (spread N (E p) + 1) / 2
   unfolding spread
-  spread-halves q p h =
-      let B = bounds-at p (omega arith) in
-      let B′ = bounds-at (suc p) h in
+  spread-halves q p =
+      let B = bounds-at p in
+      let B′ = bounds-at (suc p) in
       let a = B′ .low-held in
       let b = B′ .high-held in
       let s = (gap (B .low) (B .high) + 1) / 2 in
+      let inside = heads-inside p (B .low) (B .high) (B .inside) in
       rw (B .is-low, B .is-high, B′ .is-low, B′ .is-high)
       (omega (
         arithZ,
-        nearer-at p h .near q (B .low) (B .high) (heads-inside p (B .low) (B .high) (B .inside)) (a .0) (b .0) (a .1) (b .1) (B′ .low) (B′ .high) (a .2) (b .2),
+        R .step p .near q (B .low) (B .high) inside (a .0) (b .0) (a .1) (b .1) (B′ .low) (B′ .high) (a .2) (b .2),
         gap-lin (B′ .low) (B′ .high) (B′ .low-high),
         sum-lin (B′ .low) (pos s),
         pos-lin s,
       ))
 
-  stays-inside : (p k : ℕ) → p + k ≤ K → (m M : ℤ) → Inside N (E p) m M → Inside N (E (p + k)) m M
-  stays-inside p zero h m M I = rw add-zero I
-  stays-inside p (suc k) h m M I =
-      rw add-suc (nearer-at (p + k) (omega arith) .between m M (heads-inside (p + k) m M (stays-inside p k (omega arith) m M I)))
+  stays-inside : (p k : ℕ) (m M : ℤ) → Inside N (E p) m M → Inside N (E (p + k)) m M
+  stays-inside p zero m M I = rw add-zero I
+  stays-inside p (suc k) m M I = rw add-suc (R .step (p + k) .between m M (heads-inside (p + k) m M (stays-inside p k m M I)))
 
-  halves-again : Q → (p k : ℕ) → p + k ≤ K → spread N (E (p + k)) ≤ halved k (spread N (E p))
-  halves-again q p zero h = rw add-zero (omega (arith, halved-zero (spread N (E p))))
-  halves-again q p (suc k) h =
-      rw add-suc
-      (omega (arith, spread-halves q (p + k) (omega arith), halves-again q p k (omega arith), halved-suc k (spread N (E p))))
+  halves-again : Q → (p k : ℕ) → spread N (E (p + k)) ≤ halved k (spread N (E p))
+  halves-again q p zero = rw add-zero (omega (arith, halved-zero (spread N (E p))))
+  halves-again q p (suc k) =
+      rw add-suc (omega (arith, spread-halves q (p + k), halves-again q p k, halved-suc k (spread N (E p))))
 
-  pub any-two : (p k : ℕ) → p + k ≤ K → Demand3 N Q k (E p) (E (p + k))
-  any-two p k h =
-      let B = bounds-at p (omega arith) in
+  pub any-two : (p k : ℕ) → Demand3 N Q k (E p) (E (p + k))
+  any-two p k =
+      let B = bounds-at p in
       record {
-        range = rw (B .is-low, B .is-high) (stays-inside p k h (B .low) (B .high) (B .inside));
-        halving = λ q. halves-again q p k h;
+        range = rw (B .is-low, B .is-high) (stays-inside p k (B .low) (B .high) (B .inside));
+        halving = λ q. halves-again q p k;
       }

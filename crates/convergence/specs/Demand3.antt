@@ -1,6 +1,6 @@
 -- Demand 3, for a ring played on what its links carry. `Phases` says what a phase end is, who is struck, what the struck heads may send, and
 -- what the lowest, the highest and the spread are. proofs/Demand3.antt proves `Converges`.
-use mathlib.Core.Bool.{Bool, false}
+use mathlib.Core.Bool.{false}
 use mathlib.Core.Path.{_≡_}
 use Prim.Native.Nat.{ℕ, _+_, _-_, _*_, _/_, _^_, _≤_}
 use lib.IntN.{ℤ}

@@ -1,12 +1,14 @@
--- Demand 3 of a ring of records and frames. After any rounds within the limits the next round can be played: the start opens the first, and each
--- phase takes its end to a nearer one and opens the next. So any two ends are as demand 3 says.
-use mathlib.Core.Path.{_≡_, refl, sym, subst}
+-- Demand 3 of a ring of records and frames. After any rounds within the limits the next round can be played (`playable`). So at each phase end the ring of
+-- records agrees on the sound heads with the ring of messages, for the faults that its rounds amount to (`refines`). Any two ends of messages are as
+-- `converges` says, and so are any two of records (`ring-converges`).
+use mathlib.Core.Path.{_≡_, refl}
 use mathlib.Core.Bool.{true, false}
 use mathlib.Core.List.{List, [], _∷_}
-use Prim.Native.Nat.{ℕ, zero, suc, _+_, _-_, _≤_, _<_}
+use Prim.Native.Nat.{ℕ, zero, suc, _+_, _-_, _*_, _≤_, _<_}
 use native.Mathlib.Omega.{arith}
-use native.Mathlib.Nat.{le-refl, le-of-suc-le-suc, sub-zero}
-use lib.ListN.{length, getD}
+use native.Mathlib.Nat.{le-of-suc-le-suc}
+use lib.ListN.{length, getD, drop, length-drop, drop-of-length-le}
+use lib.Seq.{drop-cons}
 use lib.IntN.{ℤ}
 use Rattle.terms.specs.Positions.{isPosition}
 use Rattle.marks.specs.Marks.{bitOf}
@@ -14,66 +16,78 @@ use Rattle.marks.proofs.Marks.{bit-none}
 use Rattle.convergence.specs.Counting.{Each, AtMost}
 use Rattle.convergence.specs.Settling.{twoRounds, enough}
 use Rattle.convergence.specs.Trust.{trusted}
-use Rattle.convergence.specs.Phases.{End}
-use Rattle.convergence.specs.Demand3.{Halves}
-use Rattle.convergence.proofs.Sums.{sums-le}
-use Rattle.convergence.proofs.Ends.{Nearer, Run, any-two}
+use Rattle.convergence.specs.Phases.{Faults, start, endAfter}
+use Rattle.convergence.specs.Demand3.{AcceptedSize, FewStruck}
+use Rattle.convergence.proofs.Sums.{sum-none}
+use Rattle.convergence.proofs.Same.{SameEnd, demand3-same}
+use Rattle.convergence.proofs.Demand3.{few-struck, converges}
 use Rattle.head_spec.specs.Record.{given}
 use Rattle.head_spec.specs.Calls.{started}
 use Rattle.head_spec.proofs.Proper.{Sized, start-accepted}
 use Rattle.head_spec.proofs.Hearing.{fresh-started}
-use Rattle.ring_spec.specs.Rounds.{Round, Ring, mostRounds, afterRound, PhaseEnd, phaseEnd, asEnd, withEnd, firstHeads, ringAfter, endsAfter}
-use Rattle.ring_spec.specs.Converges.{FewStruckIn, noEnd, AnyTwo, RingConverges}
+use Rattle.ring_spec.specs.Rounds.{Round, Ring, mostRounds, roundThen, afterRound, PhaseEnd, phaseEnd, asEnd, withEnd, firstHeads, ringAfter, endsAfter}
+use Rattle.ring_spec.specs.Converges.{FewStruckIn, noEnd, RingConverges}
 use Rattle.ring_spec.proofs.OneRound.{RingReady, heardAt}
-use Rattle.ring_spec.proofs.Closings.{after-collection, after-confession, collection-next, confession-next}
-use Rattle.ring_spec.proofs.OnePhase.{endAt, calm, phase-nearer}
+use Rattle.ring_spec.proofs.Closings.{after-confession, collection-next, confession-next}
+use Rattle.ring_spec.proofs.OnePhase.{faultsIn, endAt, calm, phase-same}
 use Rattle.ring_spec.proofs.Counts.{counted}
 
--- A ring that can play its next round, e the last phase end: a confession round settles, whoever is struck in it, and its end is nearer.
-pub record Playable (n f : ℕ) (e : End) (R : Ring) : Type 0 where
-  pub ready : RingReady n f R
-  pub last : R .round ≡ 0 → e ≡ endAt R
-  pub settles : R .round ≡ 1 → (w : Round) → AtMost f n (bitOf (w .struck))
-      → Each n (λ i. bitOf (w .struck) i ≡ false → enough n (twoRounds f) (trusted n f (given (heardAt n f R w i))) ≡ true)
-  pub nears : R .round ≡ 1 → (w : Round) → AtMost f n (bitOf (w .struck)) → Nearer n n f (Halves n f) e (endAt (afterRound n f R w))
+-- ---- the faults of a run
 
--- the end that round w of a ring makes, if it is a confession round
-abbrev endWith : ℕ → ℕ → Ring → Round → PhaseEnd
-endWith n f R w = phaseEnd (R .before) (w .struck) (afterRound n f R w .heads)
+-- a round that strikes no head
+abbrev noRound : Round
+noRound = record { struck = 0; plants = [] }
 
--- one round more, es the ends so far
-module _ (n f : ℕ) (R : Ring) (w : Round) (es : List PhaseEnd) (P : Playable n f (asEnd (getD es 0 noEnd)) R)
-    (few-before : AtMost f n (bitOf (R .before))) (few : AtMost f n (bitOf (w .struck))) (more : R .round ≡ 1 → R .phase < 65535) where
-  playable-next : Playable n f (asEnd (getD (withEnd (R .round) (endWith n f R w) es) 0 noEnd)) (afterRound n f R w)
-  unfolding afterRound
-  playable-next = go (R .round) refl
-    where
-      S : RingReady n f R
-      S = P .ready
+-- round j of a run, counted from 1, if there is one
+abbrev roundAt : List Round → ℕ → Round
+roundAt ws j = getD ws (length ws - j) noRound
 
-      go : (r : ℕ) → R .round ≡ r → Playable n f (asEnd (getD (withEnd r (endWith n f R w) es) 0 noEnd)) (afterRound n f R w)
-      go zero c =
-          let next = after-collection n f R w S c .1 in
-          record {
-            ready = collection-next n f R w S c;
-            last = λ d. absurd (omega arith);
-            settles = λ d b few-b i l q. calm n f R w b S c few-before few few-b i l q;
-            nears =
-                λ d b few-b. subst (λ (e : End). Nearer n n f (Halves n f) e (endAt (afterRound n f (afterRound n f R w) b))) (sym (P .last c))
-                (phase-nearer n f R w b S c few-before few few-b);
-          }
-      go (suc r) c =
-          let now : R .round ≡ 1 = omega (arith, S .round) in
-          let next = after-confession n f R w S now .1 in
-          record {
-            ready = confession-next n f R w S now (P .settles now w few) (more now);
-            last = λ d. refl;
-            settles = λ d. absurd (omega arith);
-            nears = λ d. absurd (omega arith);
-          }
+-- the faults of phase p of a run: what is planted in its two rounds
+unfoldable pub faultsOf : ℕ → List Round → ℕ → Faults
+faultsOf n ws p = faultsIn n p (roundAt ws (2 * p - 1)) (roundAt ws (2 * p))
 
 pub none-struck : (n f : ℕ) → AtMost f n (bitOf 0)
-none-struck n f = simp bit-none (omega (arith, sums-le n ((λ j. 0) ∷ []) [] (λ j l. omega arith)))
+none-struck n f = simp bit-none (omega (arith, sum-none n))
+
+few-in : (n f j : ℕ) (ws : List Round) → FewStruckIn n f ws → AtMost f n (bitOf (getD ws j noRound .struck))
+few-in n f j [] W = none-struck n f
+few-in n f zero (w ∷ ws) W = W .0
+few-in n f (suc j) (w ∷ ws) W = few-in n f j ws (W .1)
+
+few-earlier : (n f j : ℕ) (ws : List Round) → FewStruckIn n f ws → FewStruckIn n f (drop j ws)
+few-earlier n f zero ws W = W
+few-earlier n f (suc j) [] W = W
+few-earlier n f (suc j) (w ∷ ws) W = few-earlier n f j ws (W .1)
+
+few-faults : (n f : ℕ) (ws : List Round) → FewStruckIn n f ws → FewStruck n f (faultsOf n ws)
+unfolding faultsOf faultsIn
+few-faults n f ws W p = (few-in n f _ ws W, few-in n f _ ws W)
+
+-- ---- the next round can be played
+
+-- the ring is ready, and in a confession round no closing is refused, whoever is struck in it
+pub record Playable (n f : ℕ) (R : Ring) : Type 0 where
+  pub ready : RingReady n f R
+  pub settles : R .round ≡ 1 → (w : Round) → AtMost f n (bitOf (w .struck))
+      → Each n (λ i. bitOf (w .struck) i ≡ false → enough n (twoRounds f) (trusted n f (given (heardAt n f R w i))) ≡ true)
+
+playable-next : (n f : ℕ) (R : Ring) (w : Round) → Playable n f R → AtMost f n (bitOf (R .before)) → AtMost f n (bitOf (w .struck))
+    → (R .round ≡ 1 → R .phase < 65535) → Playable n f (afterRound n f R w)
+playable-next n f R w P few-before few more = go (R .round) refl
+  where
+    S : RingReady n f R
+    S = P .ready
+
+    go : (r : ℕ) → R .round ≡ r → Playable n f (afterRound n f R w)
+    go zero c =
+        record {
+          ready = collection-next n f R w S c;
+          settles = λ d b few-b. calm n f R w b S c (endAt R) (record { struck = λ i l. refl; at = λ i l q. refl }) few-before few few-b;
+        }
+    go (suc r) c =
+        let now : R .round ≡ 1 = omega (arith, S .round) in
+        let next = after-confession n f R w S now .1 in
+        record { ready = confession-next n f R w S now (P .settles now w few) (more now); settles = λ d. absurd (omega arith) }
 
 module _ (n f : ℕ) (v : ℕ → ℤ) (S : Sized n f) (range : Each n (λ i. isPosition (v i) ≡ true)) where
   abbrev R : List Round → Ring
@@ -87,9 +101,9 @@ module _ (n f : ℕ) (v : ℕ → ℤ) (S : Sized n f) (range : Each n (λ i. is
   few-before [] W = none-struck n f
   few-before (w ∷ ws) W = W .0
 
-  start-playable : Playable n f (asEnd (getD (E []) 0 noEnd)) (R [])
-  unfolding ringAfter endsAfter firstHeads started
-  start-playable =
+  pub playable : (ws : List Round) → FewStruckIn n f ws → length ws < mostRounds → Playable n f (R ws)
+  unfolding ringAfter firstHeads started
+  playable [] W l =
       record {
         ready =
             record {
@@ -103,82 +117,61 @@ module _ (n f : ℕ) (v : ℕ → ℤ) (S : Sized n f) (range : Each n (λ i. is
                     seat = record { count = refl; limit = refl; number = refl; phase = refl; round = refl; healed = refl; runs = refl };
                   };
             };
-        last = λ c. refl;
         settles = λ c. absurd (omega arith);
-        nears = λ c. absurd (omega arith);
       }
-
-  pub playable : (ws : List Round) → FewStruckIn n f ws → length ws < mostRounds → Playable n f (asEnd (getD (E ws) 0 noEnd)) (R ws)
-  unfolding ringAfter endsAfter
-  playable [] W l = start-playable
   playable (w ∷ ws) W l =
-      playable-next n f (R ws) w (E ws) (playable ws (W .1) (omega arith)) (few-before ws (W .1)) (W .0)
-      (λ c. omega (arith, counted n f v ws .played))
+      playable-next n f (R ws) w (playable ws (W .1) (omega arith)) (few-before ws (W .1)) (W .0) (λ c. omega (arith, counted n f v ws .played))
 
   -- ---- the ends
 
-  -- each is nearer than the one before
-  linked : (ws : List Round) → FewStruckIn n f ws → length ws ≤ mostRounds → (j : ℕ) → suc j < length (E ws)
-      → Nearer n n f (Halves n f) (asEnd (getD (E ws) (suc j) noEnd)) (asEnd (getD (E ws) j noEnd))
+  -- end i, with the latest first: the ring without the rounds after it
+  ends-are : (ws : List Round) (i : ℕ) → i < length (E ws) → asEnd (getD (E ws) i noEnd) ≡ endAt (R (drop (2 * i + R ws .round) ws))
   unfolding ringAfter endsAfter afterRound
-  linked [] W l j m = absurd (omega arith)
-  linked (w ∷ ws) W l j m = go (R ws .round) refl j m (linked ws (W .1) (omega arith))
+  ends-are [] zero m = refl
+  ends-are [] (suc i) m = absurd (omega arith)
+  ends-are (w ∷ ws) i m = go (R ws .round) (counted n f v ws .small) (ends-are ws) i m
     where
-      P : Playable n f (asEnd (getD (E ws) 0 noEnd)) (R ws)
-      P = playable ws (W .1) (omega arith)
+      end : PhaseEnd
+      end = phaseEnd (R ws .before) (w .struck) (R (w ∷ ws) .heads)
 
-      -- end j of a list is nearer than the one before
-      Near : List PhaseEnd → ℕ → Type 0
-      Near es j = Nearer n n f (Halves n f) (asEnd (getD es (suc j) noEnd)) (asEnd (getD es j noEnd))
+      go : (r : ℕ) → r < 2 → ((j : ℕ) → j < length (E ws) → asEnd (getD (E ws) j noEnd) ≡ endAt (R (drop (2 * j + r) ws)))
+          → (i : ℕ) → i < length (withEnd r end (E ws)) → asEnd (getD (withEnd r end (E ws)) i noEnd) ≡ endAt (R (drop (2 * i + roundThen r) (w ∷ ws)))
+      go zero s ih i m = let z : 2 * i + 1 ≡ suc (2 * i + 0) = omega arith in rw z (ih i m)
+      go (suc r) s ih zero m = refl
+      go (suc r) s ih (suc i) m = let z : 2 * suc i + 0 ≡ suc (2 * i + suc r) = omega arith in rw z (ih i (le-of-suc-le-suc m))
 
-      go : (r : ℕ) → R ws .round ≡ r → (j : ℕ) → suc j < length (withEnd r (endWith n f (R ws) w) (E ws))
-          → ((j : ℕ) → suc j < length (E ws) → Near (E ws) j) → Near (withEnd r (endWith n f (R ws) w) (E ws)) j
-      go zero c j m ih = ih j m
-      go (suc r) c zero m ih = P .nears (omega (arith, P .ready .round)) w (W .0)
-      go (suc r) c (suc j) m ih = ih j (le-of-suc-le-suc m)
+  -- the ring after p phases, without the last j rounds
+  stands : (ws : List Round) → FewStruckIn n f ws → length ws ≤ mostRounds → (p j : ℕ) → length ws ≡ 2 * p + j
+      → SameEnd n (endAt (R (drop j ws))) (endAfter n f v (faultsOf n ws) p)
+  unfolding ringAfter firstHeads started endAfter start faultsOf
+  stands ws W l zero j e = rw (drop-of-length-le ws {i = j} (omega arith)) (record { struck = λ i m. bit-none i; at = λ i m q. refl })
+  stands ws W l (suc p) j e =
+      let us = drop (suc (suc j)) ws in
+      let few = few-earlier n f (suc (suc j)) ws W in
+      let C = counted n f v us in
+      let d = length-drop (suc (suc j)) ws in
+      let c : R us .round ≡ 0 = omega arith in
+      let q : R us .phase ≡ suc p = omega arith in
+      let x : length ws - (2 * suc p - 1) ≡ suc j = omega arith in
+      let y : length ws - 2 * suc p ≡ j = omega arith in
+      rw (drop-cons ws j noRound (omega arith), drop-cons ws (suc j) noRound (omega arith), x, y, ← q)
+      (phase-same n f (R us) _ _ (playable us few (omega arith) .ready) c _ (stands ws W l p (suc (suc j)) (omega arith))
+      (few-struck n f (S .limit) v (faultsOf n ws) (few-faults n f ws W) p) (few-in n f (suc j) ws W) (few-in n f j ws W))
 
-  -- the earliest is the start
-  abbrev startEnd : PhaseEnd
-  startEnd = phaseEnd 0 0 (firstHeads n f v)
-
-  earliest : (ws : List Round) → getD (E ws) (length (E ws) - 1) noEnd ≡ startEnd
-  unfolding endsAfter
-  earliest [] = refl
-  earliest (w ∷ ws) = go _ (R ws .round) (omega (arith, counted n f v ws)) (earliest ws)
-    where
-      go : (e : PhaseEnd) (r : ℕ) → 1 ≤ length (E ws) → getD (E ws) (length (E ws) - 1) noEnd ≡ startEnd
-          → getD (withEnd r e (E ws)) (length (withEnd r e (E ws)) - 1) noEnd ≡ startEnd
-      go e zero l h = h
-      go e (suc r) l h = let z : suc (length (E ws)) - 1 ≡ suc (length (E ws) - 1) = omega arith in rw z h
-
-  module _ (ws : List Round) (W : FewStruckIn n f ws) (l : length ws ≤ mostRounds) where
-    abbrev K : ℕ
-    K = length (E ws) - 1
-
-    -- end p, counted from the start
-    abbrev end : ℕ → End
-    end p = asEnd (getD (E ws) (K - p) noEnd)
-
-    run : Run n n f K (Halves n f) end
-    unfolding firstHeads started
-    run =
-        record {
-          large = omega (arith, S .limit);
-          more = le-refl n;
-          few = rw (sub-zero, earliest ws) (none-struck n f);
-          holds = rw (sub-zero, earliest ws) (λ i m q. refl);
-          step =
-              λ p h few. let j = K - suc p in
-              let z : K - p ≡ suc j = omega arith in
-              rw z (linked ws W l j (omega arith));
-        }
-
-    any-two-ends : AnyTwo n f (E ws)
-    any-two-ends i k h =
-        let c = any-two run (K - (i + k)) k (omega arith) in
-        let x : K - (K - (i + k)) ≡ i + k = omega arith in
-        let y : K - (K - (i + k) + k) ≡ i = omega arith in
-        record { range = rw (x, y) at (c .range); halving = rw (x, y) at (c .halving) }
+-- On sound heads the phase ends of the records are those of the messages, for the faults that the rounds amount to: end i of a list that has the latest
+-- first.
+pub refines : (n f : ℕ) (v : ℕ → ℤ) (ws : List Round) → n ≤ 32 → AcceptedSize n f → Each n (λ i. isPosition (v i) ≡ true) → FewStruckIn n f ws
+    → length ws ≤ mostRounds → let es = endsAfter n f v ws in
+    (i : ℕ) → i < length es → SameEnd n (asEnd (getD es i noEnd)) (endAfter n f v (faultsOf n ws) (length es - 1 - i))
+refines n f v ws most limit range W l i m =
+    let S : Sized n f = record { some = omega arith; most = most; limit = limit } in
+    let p = length (endsAfter n f v ws) - 1 - i in
+    let j = 2 * i + ringAfter n f v ws .round in
+    rw (ends-are n f v S range ws i m) (stands n f v S range ws W l p j (omega (arith, counted n f v ws)))
 
 pub ring-converges : RingConverges
-ring-converges n f v ws most limit range W l = any-two-ends n f v (record { some = omega arith; most = most; limit = limit }) range ws W l
+ring-converges n f v ws most limit range W l i k h =
+    let same = refines n f v ws most limit range W l in
+    let K = length (endsAfter n f v ws) - 1 in
+    let z : K - i ≡ K - (i + k) + k = omega arith in
+    demand3-same (same (i + k) h) (same i (omega arith)) (rw z (converges n f limit v (faultsOf n ws) (few-faults n f ws W) (K - (i + k)) k))

@@ -1,12 +1,11 @@
 -- A phase of a ring, played on records and frames, is a phase in the sense of `convergence`: planted bytes amount to faults, since a frame says
--- something or nothing, and what each unstruck record holds after its two rounds is what a head of `convergence` holds. So no closing is refused, and
--- the end is nearer.
+-- something or nothing, and from an end that agrees on the sound heads each unstruck record comes to hold what a head of `convergence` holds
+-- (`phase-same`). So no closing is refused.
 use mathlib.Core.Path.{_≡_, refl, ap, ap₂, sym, _∙_}
 use mathlib.Core.Logic.{_≢_}
 use mathlib.Core.Bool.{Bool, true, false, cond}
 use Prim.Native.Nat.{ℕ, _*_, _≤_, _<_}
 use native.Mathlib.Omega.{arith}
-use lib.IntN.{ℤ}
 use borrow.Author.Tests.{le-leb}
 use Rattle.terms.specs.declared.Entry.{Entry}
 use Rattle.terms.specs.declared.Entry.the-variants.{Null, Position}
@@ -17,11 +16,10 @@ use Rattle.convergence.specs.Settling.{nulls, twoRounds, midpoint, enough}
 use Rattle.convergence.specs.Trust.{Given, gave, hasConfessed, saysOf, trusted}
 use Rattle.convergence.specs.Trust as Trust
 use Rattle.convergence.specs.Phases.{End, Faults, gives, listOf, givenTo, after, rounding}
-use Rattle.convergence.specs.Demand3.{Halves}
 use Rattle.convergence.proofs.OnePhase.{Limits}
-use Rattle.convergence.proofs.Ends.{number, AllHold, Nearer}
-use Rattle.convergence.proofs.Same.{SameOf, nulls-same, midpoint-same, trusted-same-of}
-use Rattle.convergence.proofs.Demand3.{settled-is, few-nulls-in-phase, nearer, rounding-le}
+use Rattle.convergence.proofs.Ends.{number, AllHold}
+use Rattle.convergence.proofs.Same.{SameOf, nulls-same, midpoint-same, trusted-same-of, SameEnd}
+use Rattle.convergence.proofs.Demand3.{settled-is, few-nulls-in-phase}
 use Rattle.frame_spec.specs.Said.{collected, listed, confessed, said}
 use Rattle.head_spec.specs.declared.Head.{Head}
 use Rattle.head_spec.specs.Record.{given, heardEntry, givenOf}
@@ -31,8 +29,8 @@ use Rattle.ring_spec.proofs.OneRound.{RingReady, says-entry, says-list,
 use Rattle.ring_spec.proofs.Closings.{collection-closed, confession-settles, after-collection, collection-next}
 
 -- the faults that the planted bytes of phase p amount to, whatever they are: a in its collection round, b in its confession round
-unfoldable pub faultsOf : ℕ → ℕ → Round → Round → Faults
-faultsOf n p a b =
+unfoldable pub faultsIn : ℕ → ℕ → Round → Round → Faults
+faultsIn n p a b =
     record {
       collect = bitOf (a .struck);
       told = λ k i. heardEntry (said n p 0 k (planted (a .plants) k i));
@@ -48,45 +46,31 @@ held : (x : Entry) → x ≢ Null → x ≡ Position (number x)
 held Null d = absurd (d refl)
 held (Position u) d = refl
 
--- an end is nearer by what its sound heads hold
-nearer-same : {n N f : ℕ} {Q : Type 0} {e : End} {s : ℕ → Bool} {x y : ℕ → Entry} → Nearer n N f Q e (record { struck = s; at = x })
-    → Each N (λ i. s i ≡ false → y i ≡ x i) → Nearer n N f Q e (record { struck = s; at = y })
-nearer-same {s} {x} {y} P h =
-    record {
-      few = P .few;
-      between = λ m M I i l q. rw (h i l q) (P .between m M I i l q);
-      near =
-          λ large m M I i i′ l l′ a b q q′. P .near large m M I i i′ l l′ a b (sound (s i) (x i) (y i) a (h i l) q)
-          (sound (s i′) (x i′) (y i′) b (h i′ l′) q′);
-    }
-  where
-    sound : (b : Bool) (x y : Entry) (a : ℤ) → (b ≡ false → y ≡ x) → cond b Null y ≡ Position a → cond b Null x ≡ Position a
-    sound true x y a h q = q
-    sound false x y a h q = sym (h refl) ∙ q
-
 -- two links that gave the same
 same-given : {j : ℕ} {g g₁ g₂ : Given} → g ≡ g₁ → SameOf j g₁ g₂ → SameOf j g g₂
 same-given {j} e s = record { confesses = ap hasConfessed e ∙ s .confesses; says = ap (saysOf j) e ∙ s .says }
 
-module _ (n f : ℕ) (R : Ring) (a b : Round) (S : RingReady n f R) (collection : R .round ≡ 0) where
+-- e: the end that the phase starts from, in the sense of `convergence`
+module _ (n f : ℕ) (R : Ring) (a b : Round) (S : RingReady n f R) (collection : R .round ≡ 0) (e : End) (same : SameEnd n (endAt R) e) where
   abbrev R₁ : Ring
   R₁ = afterRound n f R a
 
   abbrev F : Faults
-  F = faultsOf n (R .phase) a b
+  F = faultsIn n (R .phase) a b
 
   -- each sound head holds a position
-  pub ring-holds : AllHold n (endAt R)
-  ring-holds i l q =
-      let H = S .heads i l q in
-      held (R .heads i .seat .position) (H .fresh .proper .seat .holds (H .seat .round ∙ collection) (H .seat .healed))
+  holds : AllHold n e
+  holds i l q =
+      let p = same .struck i l ∙ q in
+      let H = S .heads i l p in
+      held (e .at i) (λ z. H .fresh .proper .seat .holds (H .seat .round ∙ collection) (H .seat .healed) (same .at i l p ∙ z))
 
   -- ---- the collection round
 
   -- entry j of the list that head i fills
-  said-entry : (i j : ℕ) → j < n → heardEntry (saidIn n f R a i j) ≡ listOf (endAt R) F i j
-  unfolding listOf faultsOf
-  said-entry i j l = go (bitOf (a .struck) j) (bitOf (R .before) j) refl refl
+  said-entry : (i j : ℕ) → j < n → heardEntry (saidIn n f R a i j) ≡ listOf e F i j
+  unfolding listOf faultsIn
+  said-entry i j l = rw (← same .struck j l) (go (bitOf (a .struck) j) (bitOf (R .before) j) refl refl)
     where
       told : Entry
       told = heardEntry (said n (R .phase) 0 j (planted (a .plants) j i))
@@ -95,12 +79,12 @@ module _ (n f : ℕ) (R : Ring) (a b : Round) (S : RingReady n f R) (collection 
       spoke q = said-spoken n f R a S i j l q ∙ says-entry (opened-in n f R a S j l q collection)
 
       go : (c p : Bool) → bitOf (a .struck) j ≡ c → bitOf (R .before) j ≡ p
-          → heardEntry (saidIn n f R a i j) ≡ gives c p told Null (R .heads j .seat .position)
-      go true p q e = ap heardEntry (said-planted n f R a i j q) ∙ rw collection
-      go false true q e = ap heardEntry (spoke q) ∙ rw e
-      go false false q e = ap heardEntry (spoke q) ∙ rw (e, opened-same n f R a j q e)
+          → heardEntry (saidIn n f R a i j) ≡ gives c p told Null (e .at j)
+      go true p q t = ap heardEntry (said-planted n f R a i j q) ∙ rw collection
+      go false true q t = ap heardEntry (spoke q) ∙ rw t
+      go false false q t = ap heardEntry (spoke q) ∙ rw (t, opened-same n f R a j q t) (same .at j l t)
 
-  list-same : (i : ℕ) → i < n → bitOf (a .struck) i ≡ false → Each n (λ j. tableAt (R₁ .heads i .list) j ≡ listOf (endAt R) F i j)
+  list-same : (i : ℕ) → i < n → bitOf (a .struck) i ≡ false → Each n (λ j. tableAt (R₁ .heads i .list) j ≡ listOf e F i j)
   unfolding afterRound closedCollection
   list-same i l q j m =
       ap (λ (h : Head). tableAt (h .list) j) (collection-closed n f R a S i l q collection)
@@ -116,8 +100,8 @@ module _ (n f : ℕ) (R : Ring) (a b : Round) (S : RingReady n f R) (collection 
   confession = after-collection n f R a S collection .1
 
   -- what link k gave head i, as far as head j goes
-  given-same : (i j k : ℕ) → i < n → bitOf (b .struck) i ≡ false → j < n → k < n → SameOf j (given (heardAt n f R₁ b i) k) (givenTo (endAt R) F i k)
-  unfolding givenTo faultsOf afterRound
+  given-same : (i j k : ℕ) → i < n → bitOf (b .struck) i ≡ false → j < n → k < n → SameOf j (given (heardAt n f R₁ b i) k) (givenTo e F i k)
+  unfolding givenTo faultsIn afterRound
   given-same i j k l q m t =
       same-given (heard-given n f R₁ b S₁ i l q k t) (go (bitOf (b .struck) k) (bitOf (a .struck) k) refl refl)
     where
@@ -125,37 +109,36 @@ module _ (n f : ℕ) (R : Ring) (a b : Round) (S : RingReady n f R) (collection 
       replied = givenOf (said n (R .phase) 1 k (planted (b .plants) k i))
 
       spoke : (c : Bool) → bitOf (b .struck) k ≡ false → bitOf (a .struck) k ≡ c → saidIn n f R₁ b i k ≡ cond c confessed (listed (openedAt n f R₁ b k .list))
-      spoke c d e =
+      spoke c d s =
           said-spoken n f R₁ b S₁ i k t d
           ∙ says-list (opened-in n f R₁ b S₁ k t d confession)
-          ∙ ap (λ (x : Bool). cond x confessed (listed (openedAt n f R₁ b k .list))) e
+          ∙ ap (λ (x : Bool). cond x confessed (listed (openedAt n f R₁ b k .list))) s
 
       go : (d c : Bool) → bitOf (b .struck) k ≡ d → bitOf (a .struck) k ≡ c
-          → SameOf j (givenOf (saidIn n f R₁ b i k)) (gives d c replied Trust.confessed (gave (listOf (endAt R) F k)))
-      go true c d e =
+          → SameOf j (givenOf (saidIn n f R₁ b i k)) (gives d c replied Trust.confessed (gave (listOf e F k)))
+      go true c d s =
           let (p, r) = after-collection n f R a S collection in
           same-given (ap givenOf (said-planted n f R₁ b i k d ∙ ap₂ (λ (p r : ℕ). said n p r k (planted (b .plants) k i)) p r))
           (record { confesses = refl; says = refl })
-      go false true d e = same-given (ap givenOf (spoke true d e)) (record { confesses = refl; says = refl })
-      go false false d e =
-          same-given (ap givenOf (spoke false d e ∙ ap (λ (h : Head). listed (h .list)) (opened-same n f R₁ b k d e)))
-          (record { confesses = refl; says = list-same k t e j m })
+      go false true d s = same-given (ap givenOf (spoke true d s)) (record { confesses = refl; says = refl })
+      go false false d s =
+          same-given (ap givenOf (spoke false d s ∙ ap (λ (h : Head). listed (h .list)) (opened-same n f R₁ b k d s)))
+          (record { confesses = refl; says = list-same k t s j m })
 
   -- ---- within the limits
 
-  module _ (few-before : AtMost f n (bitOf (R .before))) (few-a : AtMost f n (bitOf (a .struck)))
-      (few-b : AtMost f n (bitOf (b .struck))) where
-    limits : Limits n f (F .collect) (F .confess) (endAt R .struck)
-    unfolding faultsOf
-    limits = record { size = S .size .limit; few-c = few-a; few-d = few-b; few-p = few-before }
+  module _ (few-e : AtMost f n (e .struck)) (few-a : AtMost f n (bitOf (a .struck))) (few-b : AtMost f n (bitOf (b .struck))) where
+    limits : Limits n f (F .collect) (F .confess) (e .struck)
+    unfolding faultsIn
+    limits = record { size = S .size .limit; few-c = few-a; few-d = few-b; few-p = few-e }
 
     module _ (i : ℕ) (l : i < n) (q : bitOf (b .struck) i ≡ false) where
       -- the trusted entries of head i are those of `convergence`
-      trusted-same : Each n (λ j. trusted n f (given (heardAt n f R₁ b i)) j ≡ trusted n f (givenTo (endAt R) F i) j)
+      trusted-same : Each n (λ j. trusted n f (given (heardAt n f R₁ b i)) j ≡ trusted n f (givenTo e F i) j)
       trusted-same j m = trusted-same-of n f _ _ j (λ k t. given-same i j k l q m t) m
 
-      few : nulls n (trusted n f (givenTo (endAt R) F i)) ≤ 3 * f
-      few = few-nulls-in-phase n f (endAt R) F limits ring-holds i
+      few : nulls n (trusted n f (givenTo e F i)) ≤ 3 * f
+      few = few-nulls-in-phase n f e F limits holds i
 
       -- never refused 25
       pub calm : enough n (twoRounds f) (trusted n f (given (heardAt n f R₁ b i))) ≡ true
@@ -163,17 +146,14 @@ module _ (n f : ℕ) (R : Ring) (a b : Round) (S : RingReady n f R) (collection 
       calm = le-leb (nulls n (trusted n f (given (heardAt n f R₁ b i)))) (3 * f) (omega (arith, nulls-same n _ _ trusted-same, few))
 
       -- and the new position is that of `convergence`
-      pub settles-as : afterRound n f R₁ b .heads i .seat .position ≡ after (rounding (R .phase)) n f (endAt R) F .at i
+      settles-as : afterRound n f R₁ b .heads i .seat .position ≡ after (rounding (R .phase)) n f e F .at i
       unfolding afterRound after
       settles-as =
           confession-settles n f R₁ b S₁ i l q confession calm
           ∙ ap (λ (p : ℕ). Position (midpoint (rounding p) n (twoRounds f) (trusted n f (given (heardAt n f R₁ b i))))) (after-collection n f R a S collection .0)
           ∙ ap Position (midpoint-same (rounding (R .phase)) n (twoRounds f) _ _ trusted-same)
-          ∙ sym (settled-is (rounding (R .phase)) n f (trusted n f (givenTo (endAt R) F i)) few)
+          ∙ sym (settled-is (rounding (R .phase)) n f (trusted n f (givenTo e F i)) few)
 
-    abbrev R₂ : Ring
-    R₂ = afterRound n f R₁ b
-
-    pub phase-nearer : Nearer n n f (Halves n f) (endAt R) (endAt R₂)
-    unfolding afterRound after faultsOf
-    phase-nearer = nearer-same (nearer n f (endAt R) F limits n (rounding (R .phase)) (rounding-le (R .phase))) settles-as
+    pub phase-same : SameEnd n (endAt (afterRound n f R₁ b)) (after (rounding (R .phase)) n f e F)
+    unfolding afterRound after faultsIn
+    phase-same = record { struck = λ i l. refl; at = settles-as }

@@ -35,7 +35,7 @@ module _ (n f : ℕ) (v : ℕ → ℤ) (ws : List Round) (most : n ≤ 32) (limi
 
   -- another round may be played
   module _ (l : length ws < mostRounds) where
-    P : Playable n f (asEnd (getD (endsAfter n f v ws) 0 noEnd)) R
+    P : Playable n f R
     P = playable n f v S range ws W l
 
     pub restarts : Each n (λ i. restartRefusal n f i (R .phase) (R .round) ≡ 0)

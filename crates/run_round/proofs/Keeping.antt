@@ -14,7 +14,7 @@ use Rattle.entries.specs.Tables.{tableAt, tableOf}
 use Rattle.convergence.specs.Counting.{Each, AtMost}
 use Rattle.convergence.specs.Settling.{twoRounds, midpoint, enough}
 use Rattle.convergence.specs.Trust.{Given, trusted}
-use Rattle.convergence.specs.Phases.{End, rounding}
+use Rattle.convergence.specs.Phases.{rounding}
 use Rattle.convergence.proofs.Same.{nulls-same, midpoint-same, trusted-same}
 use Rattle.frame_spec.specs.Said.{collected, listed, confessed}
 use Rattle.settle_midpoint.specs.Answers.{settling}
@@ -131,7 +131,7 @@ module _ {n f : ℕ} {R : Ring} {w : Round} {s : Stage} {plant : ℕ → ℕ →
 
   -- ---- a confession round
 
-  module _ {e : End} (A : Playable n f e R) (few : AtMost f n (bitOf (w .struck))) (confession : R .round ≡ 1) where
+  module _ (A : Playable n f R) (few : AtMost f n (bitOf (w .struck))) (confession : R .round ≡ 1) where
     abbrev S : RingReady n f R
     S = A .ready
 

@@ -3,17 +3,13 @@
 use mathlib.Core.Path.{_≡_, ap}
 use mathlib.Core.Bool.{true}
 use native.Mathlib.Omega.{arith}
-use lib.ListN.{getD}
 use Rattle.convergence.specs.Counting.{bit}
-use Rattle.ring_spec.specs.Rounds.{asEnd}
-use Rattle.ring_spec.specs.Converges.{noEnd}
 use Rattle.ring_spec.proofs.Demand3.{Playable, playable}
-use Rattle.run_spec.specs.RunFile.{File, endsFrom}
+use Rattle.run_spec.specs.RunFile.{File}
 use Rattle.run_spec.proofs.Reached.{Reached}
 use Rattle.run_spec.proofs.Streaming.{ringOf}
 
 -- `taken` gives Reached of every file that was read and has begun
-pub waiting-playable : (F : File) → Reached F → F .rounds .pending ≡ true
-    → Playable (F .setup .n) (F .setup .f) (asEnd (getD (endsFrom (F .setup) (F .rounds .played)) 0 noEnd)) (ringOf F)
+pub waiting-playable : (F : File) → Reached F → F .rounds .pending ≡ true → Playable (F .setup .n) (F .setup .f) (ringOf F)
 waiting-playable F I pending =
     playable (F .setup .n) (F .setup .f) (F .setup .first) (I .size) (I .ranges) (F .rounds .played) (I .rounds) (omega (arith, I .count, ap bit pending))
