@@ -59,7 +59,7 @@ insert-positions x (y ∷ ys) h a = go (leZ x y) (insert-positions x ys h (a .1)
     go false r = (a .0, r)
 
 -- each entry is null or in range
-abbrev InRange : ℕ → (ℕ → Entry) → Type 0
+abbrev pub InRange : ℕ → (ℕ → Entry) → Type 0
 InRange n E = Each n (λ j. (u : ℤ) → E j ≡ Position u → isPosition u ≡ true)
 
 ordered-positions : (n : ℕ) (E : ℕ → Entry) → InRange n E → AllPositions (ordered n E)
@@ -86,7 +86,7 @@ midpoint-position r n R E small h =
 
 -- ---- trusted entries
 
-listed-position : (n : ℕ) (t : Table) → ProperTable n t → InRange n (tableAt t)
+pub listed-position : (n : ℕ) (t : Table) → ProperTable n t → InRange n (tableAt t)
 unfolding entryAt
 listed-position n t P j l u e = go (bitOf (t .marks) j) (getD (t .entries) j (pos 0)) (P .fit j l) e
   where

@@ -1,23 +1,22 @@
--- What a head settles in a confession round. It depends on what links 0 .. n - 1 give alone. The unstruck heads give all alike; so heads to which the struck
--- ones plant the same settle the same.
+-- What a head settles in a confession round: the unstruck heads give all alike, and the struck ones what is planted.
 use mathlib.Core.Path.{_≡_, refl, ap, sym, _∙_, fun-ext}
 use mathlib.Core.Bool.{Bool, true, false, not, cond, _&&_, true≢false}
 use mathlib.Core.List.{List}
 use Prim.Native.Nat.{ℕ, _<_}
+use native.Mathlib.Omega.{arith}
 use lib.Dec.{ltb}
 use lib.IntN.{ℤ}
 use borrow.Author.Tests.{lt-ltb}
-use Rattle.terms.specs.declared.Entry.{Entry}
+use Rattle.terms.specs.Positions.{isPosition}
+use Rattle.terms.specs.declared.Entry.the-variants.{Position}
 use Rattle.terms.specs.declared.Table.{Table}
 use Rattle.marks.specs.Marks.{bitOf}
-use Rattle.convergence.specs.Counting.{Each}
-use Rattle.convergence.specs.Settling.{Rule, twoRounds}
-use Rattle.convergence.specs.Trust.{Given, nothing, trusted}
+use Rattle.convergence.specs.Settling.{twoRounds}
+use Rattle.convergence.specs.Trust.{Given, nothing, saysOf, trusted}
 use Rattle.convergence.specs.Phases.{rounding}
-use Rattle.convergence.proofs.Same.{ordered-same, trusted-same}
-use Rattle.settle_midpoint.specs.Answers.{settling, settlingFrom}
+use Rattle.convergence.proofs.Support.{not-null}
+use Rattle.settle_midpoint.specs.Answers.{settling}
 use Rattle.settle_midpoint.specs.declared.Settled.{Settled}
-use Rattle.settle_midpoint.proofs.Middle.{settling-from}
 use Rattle.frame_spec.specs.declared.Said.{Said}
 use Rattle.frame_spec.specs.Said.{Meaning, listed, confessed, said, meant}
 use Rattle.frame_spec.specs.Written.{frameOf}
@@ -26,8 +25,11 @@ use Rattle.settle_trust.specs.declared.Links.{Links}
 use Rattle.settle_trust.specs.Received.{givenBy}
 use Rattle.head_spec.specs.Record.{givenOf}
 use Rattle.ring_round.specs.declared.Stage.{Stage}
-use Rattle.ring_round.specs.Memory.{heads, ToldAlike, rowIn, replies, givenEntry, positionOf, newPosition}
-use Rattle.ring_confession.specs.Inner.{isStruck, ownReply, replied, Received, RowsKept, givenAlike, Untold, givenPlanted, settledFrom}
+use Rattle.ring_round.specs.Memory.{heads, hears, rowIn, replies, givenEntry, positionOf, newPosition}
+use Rattle.ring_shared.specs.Planted.{givenTo, settledFrom, Alike}
+use Rattle.ring_shared.proofs.Settling.{settled-same}
+use Rattle.ring_shared.proofs.Told.{given-positions}
+use Rattle.ring_confession.specs.Inner.{ownReply, replied, Received, RowsKept, givenAlike, Untold}
 
 -- ---- what an unstruck head replies
 
@@ -50,14 +52,6 @@ replied-alike s marks lists k m e =
 
 -- ---- what is settled
 
-settling-same : (r n : ℕ) (R : Rule) (E E′ : ℕ → Entry) → Each n (λ j. E j ≡ E′ j) → settling r n R E ≡ settling r n R E′
-settling-same r n R E E′ h = settling-from r n R E ∙ ap (settlingFrom r n R) (ordered-same n E E′ h) ∙ sym (settling-from r n R E′)
-
-settled-same : (s : Stage) (G G′ : ℕ → Given) → Each (heads s) (λ k. G k ≡ G′ k) → settledFrom s G ≡ settledFrom s G′
-unfolding settledFrom
-settled-same s G G′ h =
-    ap positionOf (settling-same (rounding (s .phase)) (heads s) (twoRounds (s .f)) _ _ (λ j l. trusted-same (heads s) (s .f) G G′ j l h))
-
 -- x: what settling answered, from n heads, rounded by r
 pub settled-is : (s : Stage) (G : ℕ → Given) {n r : ℕ} {x : Settled} → n ≡ heads s → r ≡ rounding (s .phase)
     → x ≡ settling r n (twoRounds (s .f)) (trusted n (s .f) G) → positionOf x ≡ settledFrom s G
@@ -74,24 +68,8 @@ module _ (s : Stage) (g : Links) (rows rows′ : List (List ℤ)) (h : RowsKept 
   pub untold-kept : Untold s g rows → Untold s g rows′
   untold-kept u = record { marks-long = u .marks-long; rows-long = h .long; untold = λ k e. ap (λ (G : ℕ → Given). G k) (h .gives) ∙ u .untold k e }
 
-  pub planted-kept : (plant : ℕ → ℕ → List ℕ) (i : ℕ) → givenPlanted s g rows′ plant i ≡ givenPlanted s g rows plant i
-  unfolding givenPlanted
-  planted-kept plant i =
-      ap {B = ℕ → Given} (λ (G : ℕ → Given). λ k. cond (isStruck s k) (givenOf (said (heads s) (s .phase) 1 k (plant k i))) (G k)) (h .gives)
-
--- heads told alike settle the same
-pub told-settled : (s : Stage) (g : Links) (rows : List (List ℤ)) (plant : ℕ → ℕ → List ℕ) (i m : ℕ) → ToldAlike s plant i m
-    → settledFrom s (givenPlanted s g rows plant m) ≡ settledFrom s (givenPlanted s g rows plant i)
-unfolding givenPlanted
-told-settled s g rows plant i m h = settled-same s _ _ go
-  where
-    go : (k : ℕ) → k < heads s → givenPlanted s g rows plant m k ≡ givenPlanted s g rows plant i k
-    go k l = rw (lt-ltb k (heads s) l) (pick (bitOf (s .struck) k) (h k l))
-      where
-        pick : (b : Bool) → (b ≡ true → plant k i ≡ plant k m)
-            → cond b (givenOf (said (heads s) (s .phase) 1 k (plant k m))) (givenBy g rows k) ≡ cond b (givenOf (said (heads s) (s .phase) 1 k (plant k i))) (givenBy g rows k)
-        pick true e = rw (e refl)
-        pick false e = refl
+  pub planted-kept : (plant : ℕ → ℕ → List ℕ) (i : ℕ) → givenTo s (givenBy g rows′) plant i ≡ givenTo s (givenBy g rows) plant i
+  planted-kept plant i = ap (λ (G : ℕ → Given). givenTo s G plant i) (h .gives)
 
 -- the links and the rows hold what the unstruck heads give alike
 module _ (s : Stage) (marks : List ℕ) (lists : List (List ℤ)) (g : Links) (rows : List (List ℤ)) (h : Received g rows (givenAlike s marks lists)) where
@@ -104,9 +82,17 @@ module _ (s : Stage) (marks : List ℕ) (lists : List (List ℤ)) (g : Links) (r
       go true false x e = absurd (true≢false (sym e))
       go false b x e = refl
 
+  pub alike-given : Alike s (givenBy g rows)
+  unfolding givenAlike replied
+  alike-given = record { untold = alike-untold .untold; ranged = λ k l j m u q. go k j m u (hears s k) (sym (ap (saysOf j) (h .gives k)) ∙ q) }
+    where
+      go : (k j : ℕ) → j < heads s → (u : ℤ) (b : Bool) → saysOf j (cond b (givenOf (replied s marks lists k)) nothing) ≡ Position u → isPosition u ≡ true
+      go k j m u true q = given-positions (heads s) (s .phase) 1 k _ (omega arith) j m u q
+      go k j m u false q = absurd (not-null refl q)
+
   module _ (plant : ℕ → ℕ → List ℕ) (i : ℕ) where
-    given-same : (k : ℕ) → k < heads s → givenPlanted s g rows plant i k ≡ givenEntry s marks lists plant i k
-    unfolding givenPlanted givenAlike givenEntry replied
+    given-same : (k : ℕ) → k < heads s → givenTo s (givenBy g rows) plant i k ≡ givenEntry s marks lists plant i k
+    unfolding givenTo givenAlike givenEntry replied
     given-same k l = rw (h .gives k, lt-ltb k (heads s) l) (go (bitOf (s .struck) k))
       where
         go : (b : Bool) → cond b (givenOf (said (heads s) (s .phase) 1 k (plant k i)))
@@ -115,6 +101,6 @@ module _ (s : Stage) (marks : List ℕ) (lists : List (List ℤ)) (g : Links) (r
         go true = refl
         go false = refl
 
-    pub new-settled : settledFrom s (givenPlanted s g rows plant i) ≡ newPosition s marks lists plant i
+    pub new-settled : settledFrom s (givenTo s (givenBy g rows) plant i) ≡ newPosition s marks lists plant i
     unfolding settledFrom newPosition
     new-settled = settled-same s _ _ given-same

@@ -1,29 +1,22 @@
 -- What the private functions promise each other. Readers of the public promises do not need this file.
 use mathlib.Core.Path.{_≡_}
-use mathlib.Core.Bool.{Bool, true, cond, _&&_}
+use mathlib.Core.Bool.{true, cond}
 use mathlib.Core.List.{List, []}
 use Prim.Native.Nat.{ℕ}
-use lib.Dec.{ltb}
 use lib.ListN.{length, getD, set}
 use lib.IntN.{ℤ}
 use Rattle.marks.specs.Marks.{bitOf}
-use Rattle.convergence.specs.Settling.{twoRounds}
-use Rattle.convergence.specs.Trust.{Given, nothing, trusted}
-use Rattle.convergence.specs.Phases.{rounding}
+use Rattle.convergence.specs.Trust.{Given, nothing}
 use Rattle.frame_spec.specs.declared.Said.{Said}
 use Rattle.frame_spec.specs.Said.{Meaning, refused, collected, listed, confessed, said}
 use Rattle.frame_spec.specs.Written.{frameOf}
-use Rattle.settle_midpoint.specs.Answers.{settling}
 use Rattle.settle_trust.specs.declared.Links.{Links}
 use Rattle.settle_trust.specs.Received.{givenBy}
 use Rattle.head_spec.specs.Record.{givenOf}
 use Rattle.head_spec.specs.Calls.{withConfession, withList}
 use Rattle.ring_round.specs.declared.Stage.{Stage}
-use Rattle.ring_round.specs.Memory.{heads, hears, replies, positionOf}
-
--- whether head k is played and struck in this round
-abbrev pub isStruck : Stage → ℕ → Bool
-isStruck s k = ltb k (heads s) && bitOf (s .struck) k
+use Rattle.ring_round.specs.Memory.{heads, hears, replies}
+use Rattle.ring_shared.specs.Planted.{isStruck}
 
 -- what head k replies, beside its list
 abbrev pub ownReply : Stage → ℕ → Said
@@ -79,11 +72,3 @@ pub record Untold (s : Stage) (g : Links) (rows : List (List ℤ)) : Type 0 wher
   pub marks-long : length (g .marks) ≡ 32
   pub rows-long : length rows ≡ 32
   pub untold : (k : ℕ) → isStruck s k ≡ true → givenBy g rows k ≡ nothing
-
--- what link k gives head i: what is planted, or what it gave
-unfoldable pub givenPlanted : Stage → Links → List (List ℤ) → (ℕ → ℕ → List ℕ) → ℕ → ℕ → Given
-givenPlanted s g rows plant i k = cond (isStruck s k) (givenOf (said (heads s) (s .phase) 1 k (plant k i))) (givenBy g rows k)
-
--- the position that a head settles, from what its links give
-unfoldable pub settledFrom : Stage → (ℕ → Given) → ℤ
-settledFrom s G = positionOf (settling (rounding (s .phase)) (heads s) (twoRounds (s .f)) (trusted (heads s) (s .f) G))

@@ -10,7 +10,8 @@ ghost use Rattle.settle_trust.specs.Received.{givenBy};
 ghost use Rattle.head_spec.specs.Record.{givenOf};
 ghost use Rattle.ring_round.specs.Memory.{hears, replies, newPosition};
 ghost use Rattle.frame_slots.specs.Slots.{plantedIn};
-ghost use Rattle.ring_confession.specs.Inner.{ownReply, replied, linksWith, rowsWith, heardOn, Heard, Received, RowsKept, givenAlike, Untold, givenPlanted, settledFrom};
+ghost use Rattle.ring_confession.specs.Inner.{ownReply, replied, linksWith, rowsWith, heardOn, Heard, Received, RowsKept, givenAlike, Untold};
+ghost use Rattle.ring_shared.specs.Planted.{givenTo, settledFrom};
 use frame_spec::Said;
 use ring_round::Stage;
 use settle_midpoint::Settled;
@@ -190,7 +191,7 @@ fn hear_planted(
     rows: &mut Lists,
 ) -> Links
     requires { ⌜ (i < 32) × Untold s base (now rows) ⌝ }
-    ensures given { λ r. ⌜ Received r (now (rows .exit)) (givenPlanted s base (now (rows .entry)) (plantedIn (now (planted .entry)) (now (lengths .entry))) i) ⌝ }
+    ensures given { λ r. ⌜ Received r (now (rows .exit)) (givenTo s (givenBy base (now (rows .entry))) (plantedIn (now (planted .entry)) (now (lengths .entry))) i) ⌝ }
     ensures kept { λ r. ⌜ RowsKept base (now (rows .entry)) (now (rows .exit)) ⌝ }
 {
     let n = ring_round::head_count(s);
@@ -239,7 +240,7 @@ fn position_for(
     reference: usize,
 ) -> i32
     requires { ⌜ (i < 32) × Untold s base (now rows) × (reference < 32) ⌝ }
-    ensures position { λ r. ⌜ r ≡ settledFrom s (givenPlanted s base (now (rows .entry)) (plantedIn (now (planted .entry)) (now (lengths .entry))) i) ⌝ }
+    ensures position { λ r. ⌜ r ≡ settledFrom s (givenTo s (givenBy base (now (rows .entry))) (plantedIn (now (planted .entry)) (now (lengths .entry))) i) ⌝ }
     ensures kept { λ r. ⌜ RowsKept base (now (rows .entry)) (now (rows .exit)) ⌝ }
 {
     let links = hear_planted(s, planted, lengths, i, base, rows);
@@ -259,8 +260,8 @@ fn position_after(
     told: i32,
 ) -> i32
     requires { ⌜ (i < 32) × Untold s base (now rows) × (reference < 32)
-        × (last < 32 → told ≡ settledFrom s (givenPlanted s base (now rows) (plantedIn (now planted) (now lengths)) last)) ⌝ }
-    ensures position { λ r. ⌜ r ≡ settledFrom s (givenPlanted s base (now (rows .entry)) (plantedIn (now (planted .entry)) (now (lengths .entry))) i) ⌝ }
+        × (last < 32 → told ≡ settledFrom s (givenTo s (givenBy base (now rows)) (plantedIn (now planted) (now lengths)) last)) ⌝ }
+    ensures position { λ r. ⌜ r ≡ settledFrom s (givenTo s (givenBy base (now (rows .entry))) (plantedIn (now (planted .entry)) (now (lengths .entry))) i) ⌝ }
     ensures kept { λ r. ⌜ RowsKept base (now (rows .entry)) (now (rows .exit)) ⌝ }
 {
     if last < 32 {
@@ -283,7 +284,7 @@ fn fill_positions(
     requires { ⌜ Untold s base (now rows) × (length (now positions) ≡ 32) ⌝ }
     ensures { λ _. ⌜ ((i : ℕ) → getD (now (positions .exit)) i (pos 0)
         ≡ cond (hears s i)
-        (settledFrom s (givenPlanted s base (now (rows .entry)) (plantedIn (now (planted .entry)) (now (lengths .entry))) i))
+        (settledFrom s (givenTo s (givenBy base (now (rows .entry))) (plantedIn (now (planted .entry)) (now (lengths .entry))) i))
         (getD (now (positions .entry)) i (pos 0))) ⌝ }
 {
     let n = ring_round::head_count(s) as usize;
@@ -318,5 +319,8 @@ pub fn confess(
     let none = [0i32; 32];
     let mut rows = [none; 32];
     let links = hear_replies(s, marks, lists, &mut rows);
+    if ring_shared::settle_all(s, &rows, links, planted, lengths, positions) {
+        return;
+    }
     fill_positions(s, planted, lengths, links, &mut rows, positions);
 }

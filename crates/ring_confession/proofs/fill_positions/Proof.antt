@@ -15,7 +15,9 @@ use lib.IntN.{pos}
 use Rattle.marks.specs.Marks.{bitOf}
 use Rattle.ring_round.specs.Memory.{heads}
 use Rattle.frame_slots.specs.Slots.{plantedIn}
-use Rattle.ring_confession.specs.Inner.{RowsKept, givenPlanted, settledFrom}
+use Rattle.settle_trust.specs.Received.{givenBy}
+use Rattle.ring_shared.specs.Planted.{givenTo, settledFrom}
+use Rattle.ring_confession.specs.Inner.{RowsKept}
 use Rattle.ring_round.proofs.Filling.{Filled, filled-none, filled-passed, filled-set}
 use Rattle.ring_confession.proofs.Settling.{untold-kept, planted-kept}
 use Rattle.ring_confession.proofs.fill_positions.Statement.{statement}
@@ -24,10 +26,10 @@ use Rattle.ring_confession.proofs.fill_positions.Tie as tie
 abbrev Inv-loop : tie.InvT-loop
 Inv-loop s planted lengths base rows₀ positions₀ n reference last₀ told₀ i₀ rows positions last told i =
     (i ≤ n) × (length positions ≡ 32)
-    × Filled (λ j. not (bitOf (s .struck) j)) (λ j. settledFrom s (givenPlanted s base rows₀ (plantedIn planted lengths) j))
+    × Filled (λ j. not (bitOf (s .struck) j)) (λ j. settledFrom s (givenTo s (givenBy base rows₀) (plantedIn planted lengths) j))
     (λ j. getD positions₀ j (pos 0)) i (λ j. getD positions j (pos 0))
     × RowsKept base rows₀ rows
-    × (last < 32 → toZ w32 told ≡ settledFrom s (givenPlanted s base rows₀ (plantedIn planted lengths) last))
+    × (last < 32 → toZ w32 told ≡ settledFrom s (givenTo s (givenBy base rows₀) (plantedIn planted lengths) last))
 
 abbrev μ-loop : tie.MeasureT-loop
 μ-loop s planted lengths base rows₀ positions₀ n reference last₀ told₀ i₀ rows positions last told i = n - i

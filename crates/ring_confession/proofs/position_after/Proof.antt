@@ -4,7 +4,8 @@ use mir.Facts.{toZ-ofZ}
 use denote.Ref.{now}
 use borrow.Author.Needs.{needs}
 use Rattle.frame_slots.specs.Slots.{plantedIn}
-use Rattle.ring_confession.proofs.Settling.{told-settled}
+use Rattle.settle_trust.specs.Received.{givenBy}
+use Rattle.ring_shared.proofs.Settling.{told-settled}
 use Rattle.ring_confession.proofs.position_after.Statement.{statement}
 use Rattle.ring_confession.proofs.position_after.Tie as tie
 
@@ -14,7 +15,7 @@ returns c =
     let a = s .args in (
       toZ-ofZ (s .fits .told)
           ∙ s .pre .3 (search needs)
-          ∙ told-settled (a .s) (a .base) (now (a .rows)) (plantedIn (now (a .planted)) (now (a .lengths))) (a .i) (a .last) (c .before .is-told-alike .ensures (c .if2 .taken)),
+          ∙ told-settled (a .s) (givenBy (a .base) (now (a .rows))) (plantedIn (now (a .planted)) (now (a .lengths))) (a .i) (a .last) (c .before .is-told-alike .ensures (c .if2 .taken)),
       record { long = s .pre .1 .rows-long; gives = refl },
     )
 

@@ -6,7 +6,7 @@ use borrow.Author.Needs.{needs}
 use Rattle.settle_trust.specs.Received.{givenBy}
 use Rattle.settle_midpoint.specs.declared.Settled.{Settled}
 use Rattle.ring_round.specs.Memory.{positionOf}
-use Rattle.ring_confession.specs.Inner.{settledFrom}
+use Rattle.ring_shared.specs.Planted.{settledFrom}
 use Rattle.ring_confession.proofs.Settling.{settled-is}
 use Rattle.ring_confession.proofs.settled.Statement.{statement}
 use Rattle.ring_confession.proofs.settled.Tie as tie

@@ -1,0 +1,237 @@
+// A confession round of a whole ring, from what the unstruck heads give all of them alike: their lists are compared once, and each head adds what is planted to it
+// alone.
+ghost use mathlib.Core.Bool.{true, false};
+ghost use mathlib.Core.Path.{_≡_};
+ghost use Prim.Native.Nat.{ℕ, _-_, _≤_, _<_};
+ghost use lib.ListN.{length, getD};
+ghost use lib.IntN.{pos};
+ghost use Rattle.marks.specs.Marks.{markedTo};
+ghost use Rattle.convergence.specs.Counting.{Each};
+ghost use Rattle.convergence.specs.Trust.{Given, trusted};
+ghost use Rattle.frame_spec.specs.Said.{said};
+ghost use Rattle.frame_slots.specs.Slots.{plantedIn};
+ghost use Rattle.settle_trust.specs.Received.{givenBy};
+ghost use Rattle.settle_shared.specs.Codes.{entryOf};
+ghost use Rattle.head_spec.specs.Record.{givenOf};
+ghost use Rattle.ring_round.specs.Memory.{heads};
+ghost use Rattle.ring_shared.specs.Planted.{AllSettled, SettlesAll, givenTo};
+ghost use Rattle.ring_shared.specs.Inner.{Counted, Told, SharedBy, CodesOf, settledAt, SettledLast};
+use frame_spec::Said;
+use ring_round::Stage;
+use settle_midpoint::Settled;
+use settle_trust::Links;
+use terms::Lists;
+use terms::Numbers;
+use terms::Words;
+
+// Hears a confession frame on link k: a list counts for each entry at which it has the code, a confession is marked.
+fn count_frame(
+    frame: &[u8],
+    n: u8,
+    phase: u16,
+    k: usize,
+    codes: &Numbers,
+    same: &mut Words,
+    confessed: u32,
+) -> u32
+    requires { ⌜ (n ≤ 32) × (k < 32) ⌝ }
+    ensures { λ r. ⌜ Counted n (now (codes .entry)) k (givenOf (said n phase 1 k (now (frame .entry)))) (now (same .entry)) confessed (now (same .exit)) r ⌝ }
+{
+    match frame_codec::read(frame, n, phase, 1, k as u8) {
+        Said::Refused(_) => confessed,
+        Said::Collection(_) => confessed,
+        Said::List => {
+            let table = frame_codec::table_in(frame, n);
+            let entries = table.entries;
+            settle_shared::tally(table.marks, &entries, codes, same, n);
+            confessed
+        }
+        Said::Confession => marks::with_mark(confessed, k),
+    }
+}
+
+// Hears what is planted from the struck heads to head i. Answers which of them confessed.
+fn count_planted(
+    s: Stage,
+    planted: &[u8],
+    lengths: &[u8],
+    i: usize,
+    codes: &Numbers,
+    same: &mut Words,
+) -> u32
+    requires { ⌜ (i < 32) × Each (heads s) (λ j. getD (now same) j 0 ≤ 32) ⌝ }
+    ensures { λ r. ⌜ Told s (plantedIn (now (planted .entry)) (now (lengths .entry))) i (now (codes .entry)) (now (same .entry)) (now (same .exit)) r ⌝ }
+{
+    let n = ring_round::head_count(s);
+    let count = n as usize;
+    let mut confessed: u32 = 0;
+    let mut k: usize = 0;
+    while k < count {
+        if marks::marked(s.struck, k) {
+            let frame = frame_slots::planted(planted, lengths, k as u8, i as u8);
+            confessed = count_frame(frame, n, s.phase, k, codes, same, confessed);
+        }
+        k += 1;
+    }
+    confessed
+}
+
+// How many lists are needed, with so many more confessions.
+fn need_after(need: usize, confessed: u32, n: usize) -> usize
+    ensures { λ r. ⌜ r ≡ need - markedTo confessed n ⌝ }
+{
+    let c = marks::marked_to(confessed, n);
+    if need <= c { 0 } else { need - c }
+}
+
+// The codes of the trusted entries of head i.
+fn codes_for(
+    s: Stage,
+    planted: &[u8],
+    lengths: &[u8],
+    i: usize,
+    need: usize,
+    codes: &Numbers,
+    counts: &Words,
+    out: &mut Numbers,
+)
+    requires { ⌜ (i < 32) × Each (heads s) (λ j. getD (now counts) j 0 ≤ 32) ⌝ }
+    ensures { λ _. ⌜ ((G : ℕ → Given) → SharedBy s need (now (codes .entry)) (now (counts .entry)) G
+        → CodesOf s (givenTo s G (plantedIn (now (planted .entry)) (now (lengths .entry))) i) (now (out .exit))) ⌝ }
+{
+    let n = ring_round::head_count(s);
+    let mut same = *counts;
+    let confessed = count_planted(s, planted, lengths, i, codes, &mut same);
+    let left = need_after(need, confessed, n as usize);
+    settle_shared::trust_codes(codes, &same, left, confessed, n, out);
+}
+
+// The position that a head settles from the codes of its trusted entries; 0 if it is refused.
+fn position_from(s: Stage, codes: &Numbers) -> i32
+    ensures { λ r. ⌜ r ≡ settledAt s (now (codes .entry)) ⌝ }
+{
+    let n = ring_round::head_count(s);
+    let up = steps::rounds_up(s.phase);
+    match settle_shared::settle_codes(codes, n, s.f, up) {
+        Settled::Refused(_) => 0,
+        Settled::New(kept) => kept.position,
+    }
+}
+
+// Whether the first n codes are the same. All are looked at, without a branch, so that many are compared at once.
+fn is_same_front(a: &Numbers, b: &Numbers, n: usize) -> bool
+    requires { ⌜ n ≤ 32 ⌝ }
+    ensures { λ r. ⌜ (r ≡ true → Each n (λ j. getD (now (a .entry)) j (pos 0) ≡ getD (now (b .entry)) j (pos 0))) ⌝ }
+{
+    let mut same = true;
+    let mut j: usize = 0;
+    while j < n {
+        if a[j] != b[j] {
+            same = false;
+        }
+        j += 1;
+    }
+    same
+}
+
+// The new position of head i, after head `last` settled `told` from the codes `settled`, or first if that is 32. Heads that are told alike, or have the same trusted
+// entries, settle the same.
+fn position_after(
+    s: Stage,
+    planted: &[u8],
+    lengths: &[u8],
+    i: usize,
+    need: usize,
+    codes: &Numbers,
+    counts: &Words,
+    settled: &mut Numbers,
+    last: usize,
+    told: i32,
+) -> i32
+    requires { ⌜ (i < 32) × Each (heads s) (λ j. getD (now counts) j 0 ≤ 32) ⌝ }
+    ensures { λ r. ⌜ ((G : ℕ → Given) → SharedBy s need (now (codes .entry)) (now (counts .entry)) G
+        → (last < 32 → SettledLast s (givenTo s G (plantedIn (now (planted .entry)) (now (lengths .entry))) last) (now (settled .entry)) told)
+        → SettledLast s (givenTo s G (plantedIn (now (planted .entry)) (now (lengths .entry))) i) (now (settled .exit)) r) ⌝ }
+{
+    if last < 32 {
+        if ring_round::is_told_alike(s, planted, lengths, i, last) {
+            return told;
+        }
+    }
+    let mut own = [0i32; 32];
+    codes_for(s, planted, lengths, i, need, codes, counts, &mut own);
+    if last < 32 {
+        if is_same_front(&own, settled, ring_round::head_count(s) as usize) {
+            return told;
+        }
+    }
+    *settled = own;
+    position_from(s, &own)
+}
+
+// Stores the new position of each unstruck head.
+fn fill_positions(
+    s: Stage,
+    planted: &[u8],
+    lengths: &[u8],
+    need: usize,
+    codes: &Numbers,
+    counts: &Words,
+    positions: &mut [i32],
+)
+    requires { ⌜ (length (now positions) ≡ 32) × Each (heads s) (λ j. getD (now counts) j 0 ≤ 32) ⌝ }
+    ensures { λ _. ⌜ ((G : ℕ → Given) → SharedBy s need (now (codes .entry)) (now (counts .entry)) G
+        → AllSettled s G (plantedIn (now (planted .entry)) (now (lengths .entry))) (now (positions .entry)) (now (positions .exit))) ⌝ }
+{
+    let n = ring_round::head_count(s) as usize;
+    let mut settled = [0i32; 32];
+    let mut last: usize = 32;
+    let mut told: i32 = 0;
+    let mut i: usize = 0;
+    while i < n {
+        if !marks::marked(s.struck, i) {
+            told = position_after(
+                s,
+                planted,
+                lengths,
+                i,
+                need,
+                codes,
+                counts,
+                &mut settled,
+                last,
+                told,
+            );
+            last = i;
+            positions[i] = told;
+        }
+        i += 1;
+    }
+}
+
+// Stores the new position of each unstruck head, from what the links give all of them alike and from what is planted. Answers no, and leaves the positions as they
+// were, if no head is struck or if what is given alike does not decide which positions can be trusted.
+pub fn settle_all(
+    s: Stage,
+    rows: &Lists,
+    links: Links,
+    planted: &[u8],
+    lengths: &[u8],
+    positions: &mut Numbers,
+) -> bool
+    ensures { λ r. ⌜ SettlesAll r s (givenBy links (now (rows .entry))) (plantedIn (now (planted .entry)) (now (lengths .entry))) (now (positions .entry)) (now (positions .exit)) ⌝ }
+{
+    if s.struck == 0 {
+        return false;
+    }
+    let n = ring_round::head_count(s);
+    let struck = marks::marked_to(s.struck, n as usize);
+    let mut codes = [0i32; 32];
+    let mut counts = [0u32; 32];
+    if !settle_shared::share(rows, links, n, s.f, struck, &mut codes, &mut counts) {
+        return false;
+    }
+    let need = settle_trust::lists_needed(links.confessed, n, s.f);
+    fill_positions(s, planted, lengths, need, &codes, &counts, positions);
+    true
+}

@@ -1,0 +1,31 @@
+-- `settle_shared::trust_codes` meets its contract: the codes are picked, and dropped if their links confessed; if none did, there is nothing to drop.
+use mathlib.Core.Path.{_≡_, ap, sym, _∙_}
+use mathlib.Core.Bool.{cond}
+use Prim.Native.Nat.{ℕ, _<_}
+use native.Mathlib.Omega.{arith}
+use lib.IntN.{ℤ}
+use borrow.Author.Needs.{needs}
+use Rattle.marks.specs.Marks.{bitOf}
+use Rattle.marks.proofs.Marks.{bit-none}
+use Rattle.settle_shared.specs.Codes.{noCode}
+use Rattle.settle_shared.proofs.trust_codes.Statement.{statement}
+use Rattle.settle_shared.proofs.trust_codes.Tie as tie
+
+returns : tie.Need-returns
+returns c small =
+    let p = c .before .before .before in
+    let n = p .before .before in
+    let m : n .link-count .result ≡ n .before .args .n = omega (arith, n .link-count .ensures) in
+    λ j l. c .drop-confessed .ensures .1 j (rw m l) ∙ ap (cond (bitOf (n .before .args .confessed) j) noCode) (p .pick .ensures .1 j (rw m l))
+
+returns-2 : tie.Need-returns-2
+returns-2 c small =
+    let p = c .before in
+    let n = p .before .before in
+    let m : n .link-count .result ≡ n .before .args .n = omega (arith, n .link-count .ensures) in
+    λ j l. p .pick .ensures .1 j (rw m l) ∙ rw (c .if1 .left, bit-none j)
+
+pub trust-codes-spec : {M : Type 1} → statement M
+trust-codes-spec =
+    tie.close
+    (tie.spec (λ c κs. search needs) (λ c κs. search needs) (λ c κs. search needs) returns returns-2)

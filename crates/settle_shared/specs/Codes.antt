@@ -1,0 +1,40 @@
+-- Entries as codes: one number for each, so that two entries are the same if their codes are.
+use mathlib.Core.Path.{_≡_}
+use mathlib.Core.Bool.{cond}
+use mathlib.Core.List.{List}
+use Prim.Native.Nat.{ℕ, _+_, _%_}
+use lib.IntN.{ℤ, pos}
+use lib.ListN.{length, getD}
+use Rattle.terms.specs.Positions.{eqZ}
+use Rattle.terms.specs.declared.Entry.{Entry}
+use Rattle.terms.specs.declared.Entry.the-variants.{Null, Position}
+use Rattle.marks.specs.Marks.{bitOf}
+use Rattle.convergence.specs.Counting.{Each, bit}
+use Rattle.convergence.specs.Trust.{Given, nothing, confessed, gave}
+
+-- the code of a null entry: a number that is no position
+abbrev pub noCode : ℤ
+noCode = pos 1000001
+
+abbrev pub codeOf : Entry → ℤ
+codeOf Null = noCode
+codeOf (Position u) = u
+
+-- the entry of a code
+abbrev pub entryOf : ℤ → Entry
+entryOf c = cond (eqZ c noCode) Null (Position c)
+
+-- the code of entry j of a list with the mark word m and the numbers E
+abbrev pub codeAt : ℕ → List ℤ → ℕ → ℤ
+codeAt m E j = cond (bitOf m j) (getD E j (pos 0)) noCode
+
+-- 1 if a link gave a list with the code c at entry j
+abbrev pub holds : ℕ → ℤ → Given → ℕ
+holds j c nothing = 0
+holds j c confessed = 0
+holds j c (gave l) = bit (eqZ (codeOf (l j)) c)
+
+-- one more for each entry at which a list has the code; counts are words
+pub record Tallied (n m : ℕ) (E codes : List ℤ) (same same′ : List ℕ) : Type 0 where
+  pub long : length same′ ≡ length same
+  pub counts : Each n (λ j. getD same′ j 0 ≡ (getD same j 0 + bit (eqZ (codeAt m E j) (getD codes j (pos 0)))) % 4294967296)
