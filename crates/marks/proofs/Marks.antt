@@ -9,8 +9,8 @@ use native.Mathlib.Nat.{div-div-eq-div-mul, div-eq-of-lt, div-lt-iff-lt-mul, div
 use native.Mathlib.Decide.{decLt}
 use lib.Dec.{eqb, ltb}
 use lib.Pow.{pow-pos}
-use borrow.Author.Tests.{eq-eqb, ne-eqb, eqb-false, lt-ltb, le-ltb}
-use Rattle.marks.specs.Marks.{bitOf, withMark}
+use borrow.Author.Tests.{eq-eqb, ne-eqb, eqb-true, eqb-false, lt-ltb, le-ltb}
+use Rattle.marks.specs.Marks.{bitOf, allMarked, withMark}
 
 pub bit-zero : (m : ℕ) → bitOf m 0 ≡ eqb (m % 2) 1
 unfolding bitOf
@@ -61,6 +61,16 @@ bit-below m (suc n) zero l h e = let k = rw pow-succ' at l in rw pow-succ' (omeg
 bit-below m (suc n) (suc j) l h e =
     let k = rw pow-succ' at l in
     rw (pow-succ' 2 n, pow-succ' 2 j) (omega (arith, bit-below (m / 2) n j (omega arith) (omega arith) (sym (bit-suc m j) ∙ e)))
+
+-- a number one below 2 ^ n has each bit below n
+pub bit-all : (m n j : ℕ) → m + 1 ≡ 2 ^ n → j < n → bitOf m j ≡ true
+bit-all m zero j e l = absurd (omega arith)
+bit-all m (suc n) zero e l = let k = rw pow-succ' at e in bit-zero m ∙ eq-eqb (m % 2) 1 (omega arith)
+bit-all m (suc n) (suc j) e l = let k = rw pow-succ' at e in rw bit-suc (bit-all (m / 2) n j (omega arith) (omega arith))
+
+pub all-bits : (m n j : ℕ) → allMarked m n ≡ true → j < n → bitOf m j ≡ true
+unfolding allMarked
+all-bits m n j e l = bit-all m n j (eqb-true (m + 1) (2 ^ n) e) l
 
 -- nothing is left of a shift by n exactly if the number is below 2 ^ n
 pub shift-none : (m n : ℕ) → eqb (m / 2 ^ n) 0 ≡ ltb m (2 ^ n)
@@ -116,4 +126,10 @@ module _ (m k : ℕ) (l : k < 32) where
 pub mark-is : (k : ℕ) → k < 32 → 1 * 2 ^ k % 4294967296 ≡ 2 ^ k
 mark-is k l =
     let h : 1 * 2 ^ k < 4294967296 = omega (arith, pow-le-pow-right {n = 2} (omega arith) {i = k} {j = 31} (omega arith)) in
+    mod-eq-of-lt h ∙ omega arith
+
+-- and of a mark one place further, in 64 bits
+pub power-is : (k : ℕ) → k ≤ 32 → 1 * 2 ^ k % 18446744073709551616 ≡ 2 ^ k
+power-is k l =
+    let h : 1 * 2 ^ k < 18446744073709551616 = omega (arith, pow-le-pow-right {n = 2} (omega arith) {i = k} {j = 32} (omega arith)) in
     mod-eq-of-lt h ∙ omega arith

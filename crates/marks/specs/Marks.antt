@@ -12,6 +12,10 @@ bitOf m j = eqb (m / 2 ^ j % 2) 1
 unfoldable pub marksBelow : ℕ → ℕ → Bool
 marksBelow m n = ltb m (2 ^ n)
 
+-- the first n bits are set, and no other
+unfoldable pub allMarked : ℕ → ℕ → Bool
+allMarked m n = eqb (m + 1) (2 ^ n)
+
 -- m with bit k set, if a mark word has such a bit
 unfoldable pub withMark : ℕ → ℕ → ℕ
 withMark m k = cond (ltb k 32 && not (bitOf m k)) (m + 2 ^ k) m

@@ -1,7 +1,7 @@
 // Mark words: a bit for each entry of a list, or for each head.
 ghost use mathlib.Core.Path.{_≡_};
 ghost use Prim.Native.Nat.{_^_, _<_};
-ghost use Rattle.marks.specs.Marks.{bitOf, marksBelow, withMark, markedTo};
+ghost use Rattle.marks.specs.Marks.{bitOf, marksBelow, allMarked, withMark, markedTo};
 
 // Whether bit j of a mark word is set.
 pub fn marked(m: u32, j: usize) -> bool
@@ -15,6 +15,16 @@ pub fn marks_below(m: u32, n: usize) -> bool
     ensures { λ r. ⌜ r ≡ marksBelow m n ⌝ }
 {
     if n < 32 { m >> n == 0 } else { true }
+}
+
+// Whether the first n bits are set, and no other.
+pub fn all_marked(m: u32, n: usize) -> bool
+    ensures { λ r. ⌜ r ≡ allMarked m n ⌝ }
+{
+    if 32 < n {
+        return false;
+    }
+    m as u64 + 1 == 1u64 << n
 }
 
 // The mark of bit k.
