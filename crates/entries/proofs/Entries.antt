@@ -1,7 +1,7 @@
 -- Entries of a list. Whether a word may stand there is read off its bits, since a position's word is a small one, or one near 2^32. What is
 -- said of the first j entries goes on to entry j by one step of its definition.
 use mathlib.Core.Path.{_≡_, refl, sym, _∙_}
-use mathlib.Core.Bool.{Bool, true, false, and-true}
+use mathlib.Core.Bool.{Bool, true, false, and-true, and-false}
 use mathlib.Core.List.{List}
 use mathlib.Core.Logic.{_≢_}
 use Prim.Native.Nat.{ℕ, zero, suc, _+_, _-_, _*_, _≤_, _<_}
@@ -55,6 +55,16 @@ pub fits-next : (m : ℕ) (s : List ℕ) (j : ℕ) {mark fit : Bool} {x : ℕ} �
     → entriesFit m s (j + 1) ≡ fit
 unfolding entriesFit
 fits-next m s j a b c d = rw (add-one j, a, d, b, c)
+
+-- of a list without nulls: the word x is a position, or it is not
+module _ (m : ℕ) (s : List ℕ) (j : ℕ) (marked : bitOf m j ≡ true) {good : Bool} {x : ℕ} (word : x ≡ at4 s (4 * j)) (test : good ≡ isPosition (signedOf x)) where
+  pub full-next : {fit : Bool} → fit ≡ entriesFit m s j → good ≡ true → fit ≡ entriesFit m s (j + 1)
+  unfolding entriesFit
+  full-next {fit} a b = rw (add-one j, ← a, marked, ← word, ← test, b) (sym (and-true fit))
+
+  pub full-misfit : good ≡ false → false ≡ entriesFit m s (j + 1)
+  unfolding entriesFit
+  full-misfit b = rw (add-one j, marked, ← word, ← test, b) (sym (and-false (entriesFit m s j)))
 
 -- an entry that does not fit, and any after it
 pub misfit : (m : ℕ) (s : List ℕ) (j n : ℕ) → entriesFit m s j ≡ false → j ≤ n → entriesFit m s n ≡ false

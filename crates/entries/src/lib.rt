@@ -1,10 +1,11 @@
 // The entries of a list, in the bytes of a frame and as an array.
 ghost use mathlib.Core.Bool.{true};
 ghost use mathlib.Core.Path.{_≡_};
-ghost use Prim.Native.Nat.{_+_, _≤_};
+ghost use Prim.Native.Nat.{ℕ, _+_, _*_, _≤_};
 ghost use lib.ListN.{length};
 ghost use Rattle.terms.specs.Positions.{isPosition};
 ghost use Rattle.fields.specs.Bytes.{at4, signedOf};
+ghost use Rattle.marks.specs.Marks.{allMarked};
 ghost use Rattle.entries.specs.Entries.{fits, entriesFit, numbers};
 use terms::Numbers;
 
@@ -41,8 +42,8 @@ fn word_fits(mark: bool, x: u32) -> bool
     if mark { is_position_word(x) } else { x == 0 }
 }
 
-// Whether the first n entries of a list may stand there.
-pub fn entries_fit(m: u32, s: &[u8], n: u8) -> bool
+// Whether the first n entries of a list may stand there, one by one.
+fn each_fits(m: u32, s: &[u8], n: u8) -> bool
     ensures { λ r. ⌜ r ≡ entriesFit m (now (s .entry)) n ⌝ }
 {
     let count = n as usize;
@@ -55,6 +56,34 @@ pub fn entries_fit(m: u32, s: &[u8], n: u8) -> bool
         j += 1;
     }
     true
+}
+
+// The same of a list without nulls. All words are looked at, without a branch, so that many are tested at once.
+fn all_fit(s: &[u8], n: u8) -> bool
+    requires { ⌜ 4 * n ≤ length (now s) ⌝ }
+    ensures { λ r. ⌜ ((m : ℕ) → allMarked m n ≡ true → r ≡ entriesFit m (now (s .entry)) n) ⌝ }
+{
+    let count = n as usize;
+    let mut fit = true;
+    let mut i: usize = 0;
+    while i < count {
+        if !is_position_word(word_within(s, 4 * i)) {
+            fit = false;
+        }
+        i += 1;
+    }
+    fit
+}
+
+// Whether the first n entries of a list may stand there.
+pub fn entries_fit(m: u32, s: &[u8], n: u8) -> bool
+    ensures { λ r. ⌜ r ≡ entriesFit m (now (s .entry)) n ⌝ }
+{
+    let count = n as usize;
+    if 4 * count <= s.len() && marks::all_marked(m, count) {
+        return all_fit(s, n);
+    }
+    each_fits(m, s, n)
 }
 
 // The first n entries of a list as an array, 0 from n on.

@@ -34,18 +34,18 @@ fn length_of(kind: u16, count: u8) -> usize
     }
 }
 
-// The frame check: 0, or 6, 7, 8, in that order. Every field is read first: a byte past the end reads as 0.
+// The frame check: 0, or 6, 7, 8, in that order. A byte past the end reads as 0.
 pub fn frame_refusal(frame: &[u8]) -> u8
     ensures { λ r. ⌜ r ≡ frameRefusal (now (frame .entry)) ⌝ }
 {
     let len = frame.len();
+    if len < 4 {
+        return refusal::STATED_LENGTH;
+    }
     let stated = fields::half_at(frame, 0) as usize;
     let kind = fields::half_at(frame, 2);
     let known = is_known(kind);
     let due = length_of(kind, fields::byte_at(frame, 7));
-    if len < 4 {
-        return refusal::STATED_LENGTH;
-    }
     if stated != len {
         return refusal::STATED_LENGTH;
     }

@@ -2,11 +2,11 @@
 use mathlib.Core.Path.{_≡_, refl, ap, sym, _∙_}
 use mathlib.Core.Bool.{Bool, true, false}
 use mathlib.Core.List.{List, [], _++_, append-nil}
-use Prim.Native.Nat.{ℕ, _+_, _≤_, _<_}
+use Prim.Native.Nat.{ℕ, zero, suc, _+_, _≤_, _<_}
 use native.Mathlib.Omega.{arith}
 use native.Mathlib.Decide.{decLe}
-use lib.ListN.{length, take, length-append}
-use lib.Seq.{length-take-le}
+use lib.ListN.{length, take, getD, length-append}
+use lib.Seq.{length-take-le, getD-take}
 use borrow.Author.Needs.{needs}
 use Rattle.terms.specs.Refusals as refusal
 use Rattle.run_spec.specs.RunFile.{File, unread, plant, lengthOf, kindOf, judged, stopped, withPart, feed, readFile, accepted}
@@ -14,6 +14,7 @@ use Rattle.run_spec.specs.Listing.{shown}
 use Rattle.run_spec.proofs.Streaming.{feed-append, part-shows, stop-shows}
 use Rattle.run_spec.proofs.Whole.{stands, Cut, Heads, heads-take, heads-stand, stands-long, feed-cut, feed-refused, feed-whole, feed-stopped, judged-empty, kept, kept-on}
 use Rattle.run_spec.proofs.Bytes.{cost, none-accepted}
+use Rattle.run_spec.specs.declared.Pair.{Pair}
 use Rattle.run_listing.specs.declared.Text.{Text}
 use Rattle.run_listing.specs.Texts.{bytesOf}
 use Rattle.run_state.specs.declared.Player.{Player}
@@ -22,13 +23,13 @@ use Rattle.run_state.specs.Memory.{Memory}
 use Rattle.run_state.specs.Changes.{halted}
 use Rattle.run_state.specs.State.{PlayerOf, MemoryOf}
 use Rattle.run_state.proofs.Told.{part-tells, allowed-as}
-use Rattle.run_record.specs.Next.{Next, NextQuiet}
+use Rattle.run_record.specs.Next.{Next, NextQuiet, afterPlant}
 use Rattle.run_listing.proofs.Writing.{empty-text}
 use Rattle.run_round.proofs.Converging.{held-converges}
 use Rattle.run_record.proofs.Records.{stopped-next, plant-place}
 use Rattle.run_piece.specs.declared.FeedResult.{FeedResult}
 use Rattle.run_piece.specs.Advances.{StateAt, Advances, GrownTo, AdvancesOnce}
-use Rattle.run_piece.specs.Inner.{Missing, allowedTo, Whole, Plants, headedTo, Quiet, RecordTaken, Used}
+use Rattle.run_piece.specs.Inner.{Missing, allowedTo, Whole, Plants, Waits, withLast, headedTo, Quiet, RecordTaken, Used}
 use Rattle.run_piece.proofs.Growing.{grown-none, judged-grown}
 
 -- from the player p and the memory M: no record was accepted by which F became G, so that the memory M′ is the same, and the player q but for part and fault
@@ -63,7 +64,7 @@ Judges p b t M M′ =
     (a : List ℕ) → PlayerOf p (readFile a) → MemoryOf (readFile a) M → stands (readFile a) b ≡ true → length b ≡ lengthOf b
     → Next (readFile a) (judged (kindOf b) (readFile a) b) p M t M′
 
--- what `run_record::pass_plant` promises of a record b
+-- what `run_record::plant_record` promises of a record b
 abbrev JudgesPlant : Player → List ℕ → Player → Memory → Memory → Type 0
 JudgesPlant p b q M M′ = (F : File) → length b ≤ 146 → PlayerOf p F → MemoryOf F M → NextQuiet F (judged plant F b) p M q M′
 
@@ -105,6 +106,23 @@ uses-one W u T h =
 
 pub uses-all : {q : Player} {rest : List ℕ} {r : FeedResult} → Quiet q (length rest) r → Used rest r
 uses-all Q = record { within = omega (arith, Q .used); some = λ h. omega (arith, Q .used); room = omega (arith, Q .none) }
+
+-- a planted record that stands in the piece
+module _ {rest : List ℕ} {used : ℕ} (P : Plants rest used) where
+  plant-long : 6 ≤ used
+  plant-long = stands-long plant true true used (P .allowed) .0
+
+  plant-short : {b : List ℕ} → b ≡ take used rest → length b ≤ 146
+  plant-short e = omega (arith, ap length e, length-take-le used rest (P .within), plant-place true true used (P .allowed))
+
+  plant-whole : {p : Player} {count marks : ℕ} {pair : Pair} → Waits p count marks pair → Whole p rest
+  plant-whole W =
+      record {
+        fresh = W .fresh;
+        within = omega (arith, P .long, P .within);
+        long = omega (arith, plant-long, P .long);
+        allowed = rw (P .kind, W .pending, ← P .long) (P .allowed);
+      }
 
 -- a player that is halted at once is the same but for part and fault
 halts : (p : Player) {q : Player} {h c : ℕ} → q ≡ halted p h c → q ≡ halted p (q .have) (q .fault)
@@ -156,20 +174,36 @@ module _ {a : List ℕ} {p : Player} {before : List ℕ} {M : Memory} (L : State
         (heads-stand F same ∙ allowed-as (L .player) (kindOf rest) (lengthOf rest) ∙ W .allowed)
         (ap length e ∙ long ∙ u ∙ sym (same .long))
 
-  -- a planted record that stands in the piece
-  pub plant-there : {q : Player} {used : ℕ} {b : List ℕ} {M′ : Memory} (rest : List ℕ) → Plants p rest → used ≡ lengthOf rest → b ≡ take used rest
-      → JudgesPlant p b q M M′ → AdvancesOnce a (take used rest) p M q [] before M′
-  plant-there {q} {used} {b} {M′} rest P u e N =
-      let t : Text = record { len = 0; bytes = [] } in
-      let W = P .whole in
-      let same : Heads b rest = rw (← e) at (heads-take used rest (omega (arith, W .long))) in
-      let kind : kindOf b ≡ plant = same .kind ∙ P .kind in
-      let f =
-      stands-there {r = record { player = q; used = used; text = t }} {t = record { player = q; text = t }} {carry = before} {M′ = M′} rest (P .sound)
-      (record { player = refl; used = refl; text = refl })
-      (λ a′ T H may whole. rw kind (N (readFile a′) (omega (arith, plant-place (readFile a′) (lengthOf b) (rw kind at may))) T H t refl))
-      W u e in
-      rw (empty-text t refl) at f
+  module _ {count marks : ℕ} {pair : Pair} (W : Waits p count marks pair) where
+    -- nothing is taken
+    pub none-passed : AdvancesOnce a [] p M (withLast p pair) [] before M
+    none-passed = rw (← W .last) (none-there L)
+
+    module _ {used : ℕ} {b : List ℕ} {M′ : Memory} (rest : List ℕ) (P : Plants rest used) (e : b ≡ take used rest) where
+      -- a planted record with a fault is left
+      pub plant-left : (c : ℕ) → (c ≡ 0 → ⊥) → JudgesPlant p b (afterPlant p c b) M M′ → AdvancesOnce a [] p M (withLast p pair) [] before M′
+      plant-left zero h N = absurd (h refl)
+      plant-left (suc c) h N =
+          let n = N F (plant-short P e) (L .player) (L .memory) (record { len = 0; bytes = [] }) refl in
+          rw (n .refused (λ z. omega (arith, n .player .fault)) .0) none-passed
+
+      -- any other is taken
+      pub plant-there : {from to c : ℕ} → c ≡ 0 → JudgesPlant p b (afterPlant p c b) M M′ → from ≡ getD rest 4 0 → to ≡ getD rest 5 0
+          → AdvancesOnce a (take used rest) p M (withLast p (record { some = true; from = from; to = to })) [] before M′
+      plant-there {from} {to} {c} z N f g =
+          let t : Text = record { len = 0; bytes = [] } in
+          let q : Player = withLast p (record { some = true; from = from; to = to }) in
+          let long = plant-long P in
+          let same : Heads b rest = rw (← e) at (heads-take used rest (omega arith)) in
+          let kind : kindOf b ≡ plant = same .kind ∙ P .kind in
+          let is : afterPlant p c b ≡ q =
+          rw (z, e, getD-take used rest 4 0 (omega arith), getD-take used rest 5 0 (omega arith), ← f, ← g, W .fresh, W .sound) in
+          let s =
+          stands-there {r = record { player = q; used = used; text = t }} {t = record { player = q; text = t }} {carry = before} {M′ = M′} rest (W .sound)
+          (record { player = refl; used = refl; text = refl })
+          (λ a′ T H may all. rw (kind, ← is) (N (readFile a′) (plant-short P e) T H t refl))
+          (plant-whole P W) (P .long) e in
+          rw (empty-text t refl) at s
 
   module _ {rest carry : List ℕ} {want used : ℕ} (G : Gathered (p .have) before rest carry want used) (ok : p .fault ≡ 0) where
     abbrev s : List ℕ

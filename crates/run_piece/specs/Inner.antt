@@ -6,6 +6,7 @@ use Prim.Native.Nat.{ℕ, _+_, _≤_, _<_}
 use lib.ListN.{length, take}
 use Rattle.terms.specs.Refusals as refusal
 use Rattle.run_spec.specs.RunFile.{plant, lengthOf, kindOf, allowedWhen}
+use Rattle.run_spec.specs.declared.Pair.{Pair}
 use Rattle.run_listing.specs.Texts.{bytesOf}
 use Rattle.run_state.specs.declared.Player.{Player}
 use Rattle.run_record.specs.declared.RecordResult.{RecordResult}
@@ -32,11 +33,37 @@ pub record Whole (p : Player) (s : List ℕ) : Type 0 where
   pub long : 6 ≤ lengthOf s
   pub allowed : allowedTo p s ≡ true
 
--- a piece begins with a whole planted record that is allowed
-pub record Plants (p : Player) (s : List ℕ) : Type 0 where
-  pub whole : Whole p s
+-- a piece begins with a whole planted record of this size
+pub record Plants (s : List ℕ) (size : ℕ) : Type 0 where
   pub kind : kindOf s ≡ plant
+  pub long : size ≡ lengthOf s
+  pub within : size ≤ length s
+  pub allowed : allowedWhen plant true true size ≡ true
+
+-- a planted record may come next: the player has no fault and no bytes of a record, and a round is pending, with these struck heads and this last pair
+pub record Waits (p : Player) (count marks : ℕ) (pair : Pair) : Type 0 where
   pub sound : p .fault ≡ 0
+  pub fresh : p .have ≡ 0
+  pub pending : p .pending ≡ true
+  pub n : p .n ≡ count
+  pub struck : p .struck ≡ marks
+  pub last : p .last ≡ pair
+
+-- the player with another last pair
+abbrev pub withLast : Player → Pair → Player
+withLast p last =
+    record {
+      begun = p .begun;
+      n = p .n;
+      f = p .f;
+      given = p .given;
+      pending = p .pending;
+      before = p .before;
+      struck = p .struck;
+      last = last;
+      have = p .have;
+      fault = p .fault;
+    }
 
 -- what the player becomes with a record's header, by whether that record is allowed
 abbrev pub headedTo : Player → Bool → Player

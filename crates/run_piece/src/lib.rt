@@ -7,11 +7,12 @@ ghost use Prim.Native.Nat.{_+_, _≤_, _<_, min};
 ghost use lib.ListN.{length, take};
 ghost use Rattle.run_state.specs.Memory.{before, after};
 ghost use Rattle.run_state.specs.Changes.{halted};
-ghost use Rattle.run_piece.specs.Inner.{Missing, allowedTo, Whole, Plants, headedTo, Quiet, RecordTaken, Used, Reads, Passes};
+ghost use Rattle.run_piece.specs.Inner.{Missing, allowedTo, Whole, Plants, Waits, withLast, headedTo, Quiet, RecordTaken, Used, Reads, Passes};
 use frame_slots::PlantedBytes;
 use frame_slots::PlantedLengths;
 use run_listing::Text;
 use run_record::RecordResult;
+use run_spec::Pair;
 use run_state::Carry;
 use run_state::Player;
 use terms::Lists;
@@ -172,37 +173,62 @@ pub struct PassResult {
     pub used: usize,
 }
 
-// Whether a piece begins with a whole planted record that is allowed.
-fn is_plant(p: Player, bytes: &[u8]) -> bool
-    ensures { λ r. ⌜ (r ≡ true → Plants p (now (bytes .entry))) ⌝ }
-{
-    let fault = p.fault;
-    if fault != 0 {
-        return false;
-    }
-    if fields::half_at(bytes, 2) != run_judge::PLANT {
-        return false;
-    }
-    is_whole(p, bytes)
+// A planted record passed: how many bytes it takes, and the last planted pair after it.
+pub struct PlantResult {
+    pub used: usize,
+    pub last: Pair,
 }
 
-// Takes the planted record at the front of a piece, if a whole one stands there. It shows nothing, so no text goes with it.
+// The size of the planted record at the front of a piece; 0 if no whole one stands there.
+fn plant_size(bytes: &[u8]) -> usize
+    ensures { λ r. ⌜ (0 < r → Plants (now (bytes .entry)) r) ⌝ }
+{
+    let len = bytes.len();
+    if len < 6 {
+        return 0;
+    }
+    if fields::half_at(bytes, 2) != run_judge::PLANT {
+        return 0;
+    }
+    let size = fields::half_at(bytes, 0);
+    if len < size as usize {
+        return 0;
+    }
+    if !run_judge::is_allowed(run_judge::PLANT, size, true, true) {
+        return 0;
+    }
+    size as usize
+}
+
+// Takes the planted record at the front of a piece, if a whole one stands there that has no fault. It shows nothing.
 pub fn pass_plant(
-    p: Player,
+    n: u8,
+    struck: u32,
+    last: Pair,
     rest: &[u8],
     planted: &mut PlantedBytes,
     lengths: &mut PlantedLengths,
-) -> PassResult
+) -> PlantResult
     ensures { λ r. ⌜ r .used ≤ length (now (rest .entry)) ⌝ }
-    ensures { λ r. ⌜ Passes p (now (rest .entry)) r (now (planted .entry)) (now (lengths .entry)) (now (planted .exit)) (now (lengths .exit)) ⌝ }
+    ensures { λ r. ⌜ ((p : Player) → Waits p n struck last → Passes p (now (rest .entry)) (record { player = withLast p (r .last); used = r .used })
+        (now (planted .entry)) (now (lengths .entry)) (now (planted .exit)) (now (lengths .exit))) ⌝ }
 {
-    if !is_plant(p, rest) {
-        return PassResult { player: p, used: 0 };
+    let used = plant_size(rest);
+    if used == 0 {
+        return PlantResult { used: 0, last };
     }
-    let used = fields::half_at(rest, 0) as usize;
     let whole = front(rest, used);
-    let player = run_record::pass_plant(p, whole, planted, lengths);
-    PassResult { player, used }
+    if run_record::plant_record(whole, n, struck, last, planted, lengths) != 0 {
+        return PlantResult { used: 0, last };
+    }
+    let from = fields::byte_at(rest, 4);
+    let to = fields::byte_at(rest, 5);
+    let last = Pair {
+        some: true,
+        from,
+        to,
+    };
+    PlantResult { used, last }
 }
 
 // One step: a whole record, or bytes of one that is cut. After a fault nothing is read.

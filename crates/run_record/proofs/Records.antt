@@ -13,7 +13,8 @@ use Rattle.convergence.specs.Counting.{Each}
 use Rattle.frame_spec.proofs.Listing.{and-both}
 use Rattle.head_spec.proofs.Proper.{both-passed}
 use Rattle.ring_spec.specs.Rounds.{Ring, ringAfter, mostRounds}
-use Rattle.run_spec.specs.RunFile.{File, given, RecordKind, start, round, plant, isAllowed, countIn, limitIn, positionIn, struckIn, fewMarks, senderIn, receiverIn, recordFault, withRecord, stopped, judged}
+use Rattle.run_spec.specs.RunFile.{File, given, RecordKind, start, round, plant, allowedWhen, isAllowed, countIn, limitIn, positionIn, struckIn, fewMarks, senderIn, receiverIn, plantFault, recordFault, withRecord, stopped, judged}
+use Rattle.run_spec.specs.declared.Pair.{Pair}
 use Rattle.run_spec.specs.Listing.{title, shown}
 use Rattle.run_spec.proofs.Streaming.{start-shows, plant-shows, stop-shows}
 use Rattle.frame_slots.specs.Slots.{plantedIn}
@@ -27,11 +28,11 @@ use Rattle.run_state.specs.Heads.{HeadsOf}
 use Rattle.run_state.specs.Changes.{freshPlayer, halted, withRoundGiven, withPairPlanted}
 use Rattle.run_state.specs.State.{ringBefore, PlayerOf, MemoryOf}
 use Rattle.run_round.specs.Played.{Played}
-use Rattle.run_record.specs.Next.{Next}
+use Rattle.run_record.specs.Next.{Next, afterPlant}
 use Rattle.run_record.specs.Inner.{Turned}
 use Rattle.run_round.proofs.Keeping.{start-positions, start-keeps}
 use Rattle.run_listing.proofs.Writing.{empty-text}
-use Rattle.run_state.proofs.Told.{start-tells, stop-tells, round-tells, plant-tells}
+use Rattle.run_state.proofs.Told.{start-tells, stop-tells, round-tells, plant-tells, plant-fault-as}
 
 shows-none : (l : List ℕ) (t : Text) → t .len ≡ 0 → l ≡ l ++ bytesOf t
 shows-none l t e = rw (empty-text t e) (sym (append-nil l))
@@ -57,8 +58,8 @@ module _ (F : File) (len : ℕ) where
   pub round-place : isAllowed round F len ≡ true → F .setup .begun ≡ true
   round-place e = and-both (F .setup .begun) _ e .0
 
-  pub plant-place : isAllowed plant F len ≡ true → len ≤ 146
-  plant-place e = leb-true len 146 (and-both (F .rounds .pending && leb 6 len) _ e .1)
+pub plant-place : (begun pending : Bool) (len : ℕ) → allowedWhen plant begun pending len ≡ true → len ≤ 146
+plant-place begun pending len e = leb-true len 146 (and-both (pending && leb 6 len) _ e .1)
 
 start-small : (F : File) (s : List ℕ) → recordFault start F s ≡ 0 → countIn s ≤ 32
 unfolding isCount
@@ -68,6 +69,17 @@ start-small F s sound =
 
 pub round-room : (F : File) (s : List ℕ) → recordFault round F s ≡ 0 → given F < mostRounds
 round-room F s sound = ltb-true (given F) _ (both-passed (fewMarks (F .setup .n) (F .setup .f) (struckIn s)) _ 13 25 sound .1)
+
+-- ---- a planted record
+
+-- its fault, by the player's numbers
+pub plant-told : {F : File} {p : Player} {n struck : ℕ} {last : Pair} → PlayerOf p F → p .n ≡ n → p .struck ≡ struck → p .last ≡ last
+    → (s : List ℕ) → plantFault n struck last s ≡ recordFault plant F s
+plant-told T a b c s = sym (plant-fault-as T s ∙ rw (a, b, c))
+
+pub after-stopped : (p : Player) (c : ℕ) (s : List ℕ) → (c ≡ 0 → ⊥) → afterPlant p c s ≡ halted p 0 c
+after-stopped p zero s h = absurd (h refl)
+after-stopped p (suc c) s h = refl
 
 -- ---- a round record
 

@@ -1,15 +1,15 @@
 -- What a record changes: the player, its memory, and the listing.
-use mathlib.Core.List.{_++_}
+use mathlib.Core.List.{List, _++_}
 use mathlib.Core.Path.{_≡_}
-use Prim.Native.Nat.{_≤_}
-use Rattle.run_spec.specs.RunFile.{File}
+use Prim.Native.Nat.{ℕ, zero, suc, _≤_}
+use Rattle.run_spec.specs.RunFile.{File, senderIn, receiverIn}
 use Rattle.run_spec.specs.Listing.{shown}
 use Rattle.run_listing.specs.declared.Text.{Text}
 use Rattle.run_listing.specs.Texts.{bytesOf}
 use Rattle.run_state.specs.declared.Player.{Player}
 use Rattle.run_record.specs.declared.RecordResult.{RecordResult}
 use Rattle.run_state.specs.Memory.{Memory}
-use Rattle.run_state.specs.Changes.{halted}
+use Rattle.run_state.specs.Changes.{halted, withPairPlanted}
 use Rattle.run_state.specs.State.{PlayerOf, MemoryOf}
 
 -- a record is taken, by which the file F becomes G: from the player p and its memory M to the player after it, its memory M′, and the text by which the listing
@@ -26,3 +26,8 @@ pub record Next (F G : File) (p : Player) (M : Memory) (r : RecordResult) (M′ 
 -- the same of a record that shows nothing: q is the player after it
 abbrev pub NextQuiet : File → File → Player → Memory → Player → Memory → Type 0
 NextQuiet F G p M q M′ = (t : Text) → t .len ≡ 0 → Next F G p M (record { player = q; text = t }) M′
+
+-- the player after a planted record s, by the number of its fault: stopped, or with one pair more
+abbrev pub afterPlant : Player → ℕ → List ℕ → Player
+afterPlant p zero s = withPairPlanted p (senderIn s) (receiverIn s)
+afterPlant p (suc c) s = halted p 0 (suc c)

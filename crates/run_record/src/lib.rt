@@ -7,11 +7,12 @@ ghost use lib.ListN.{length, drop};
 ghost use Rattle.run_spec.specs.RunFile.{File, given, readFile, start, round, plant, kindOf, lengthOf, isAllowed, judged, stopped};
 ghost use Rattle.run_state.specs.Memory.{Memory, before, after, withPositions, withSlots};
 ghost use Rattle.run_state.specs.State.{PlayerOf, MemoryOf};
-ghost use Rattle.run_record.specs.Next.{Next, NextQuiet};
+ghost use Rattle.run_record.specs.Next.{Next, NextQuiet, afterPlant};
 ghost use Rattle.run_record.specs.Inner.{Turned};
 use frame_slots::PlantedBytes;
 use frame_slots::PlantedLengths;
 use run_listing::Text;
+use run_spec::Pair;
 use run_state::Player;
 use terms::Lists;
 use terms::Numbers;
@@ -100,23 +101,39 @@ fn take_round(
     }
 }
 
-// The player after a planted record, which shows nothing.
-pub fn pass_plant(
-    p: Player,
+// A planted record, judged by the numbers of the player, and planted if it has no fault. Answers the number of its fault, 0 for none.
+pub fn plant_record(
     bytes: &[u8],
+    n: u8,
+    struck: u32,
+    last: Pair,
     planted: &mut PlantedBytes,
     lengths: &mut PlantedLengths,
-) -> Player
-    ensures { λ r. ⌜ ((F : File) (M : Memory) → length (now (bytes .entry)) ≤ 146 → PlayerOf p F → MemoryOf F (withSlots M (now (planted .entry)) (now (lengths .entry)))
-        → NextQuiet F (judged plant F (now (bytes .entry))) p (withSlots M (now (planted .entry)) (now (lengths .entry))) r (withSlots M (now (planted .exit)) (now (lengths .exit)))) ⌝ }
+) -> u8
+    ensures { λ r. ⌜ ((F : File) (M : Memory) (p : Player) → p .n ≡ n → p .struck ≡ struck → p .last ≡ last → length (now (bytes .entry)) ≤ 146 → PlayerOf p F
+        → MemoryOf F (withSlots M (now (planted .entry)) (now (lengths .entry)))
+        → NextQuiet F (judged plant F (now (bytes .entry))) p (withSlots M (now (planted .entry)) (now (lengths .entry)))
+        (afterPlant p r (now (bytes .entry))) (withSlots M (now (planted .exit)) (now (lengths .exit)))) ⌝ }
 {
-    let fault = run_judge::plant_fault(bytes, p.n, p.struck, p.last);
+    let fault = run_judge::plant_fault(bytes, n, struck, last);
+    if fault != 0 {
+        return fault;
+    }
+    let from = fields::byte_at(bytes, 4);
+    let to = fields::byte_at(bytes, 5);
+    frame_slots::plant(planted, lengths, from, to, fields::bytes_from(bytes, 6));
+    0
+}
+
+// The player after a planted record with this fault, or with none.
+fn after_plant(p: Player, fault: u8, bytes: &[u8]) -> Player
+    ensures { λ r. ⌜ r ≡ afterPlant p fault (now (bytes .entry)) ⌝ }
+{
     if fault != 0 {
         return run_state::stop(p, fault);
     }
     let from = fields::byte_at(bytes, 4);
     let to = fields::byte_at(bytes, 5);
-    frame_slots::plant(planted, lengths, from, to, fields::bytes_from(bytes, 6));
     run_state::planted_pair(p, from, to)
 }
 
@@ -131,8 +148,9 @@ fn take_plant(
         → Next F (judged plant F (now (bytes .entry))) p (withSlots M (now (planted .entry)) (now (lengths .entry))) r (withSlots M (now (planted .exit)) (now (lengths .exit)))) ⌝ }
     ensures { λ r. ⌜ r .text .len ≤ 64 ⌝ }
 {
+    let fault = plant_record(bytes, p.n, p.struck, p.last, planted, lengths);
     RecordResult {
-        player: pass_plant(p, bytes, planted, lengths),
+        player: after_plant(p, fault, bytes),
         text: run_listing::empty(),
     }
 }

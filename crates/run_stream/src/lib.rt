@@ -1,4 +1,5 @@
 // A run file as a stream: bytes in any pieces, and its end.
+ghost use mathlib.Core.Bool.{true};
 ghost use mathlib.Core.List.{List, [], _++_};
 ghost use mathlib.Core.Path.{_≡_};
 ghost use Prim.Native.Nat.{ℕ, _+_, _≤_, _<_};
@@ -6,7 +7,7 @@ ghost use lib.ListN.{length, take};
 ghost use Rattle.run_listing.specs.Texts.{bytesOf};
 ghost use Rattle.run_state.specs.Memory.{before, after, Memory};
 ghost use Rattle.run_piece.specs.Advances.{StateAt, AdvancesOnce, Advances};
-ghost use Rattle.run_piece.specs.Inner.{Used, Reads, Passes};
+ghost use Rattle.run_piece.specs.Inner.{Used, Reads, Waits, withLast, Passes};
 ghost use Rattle.run_stream.specs.Ends.{Ends, EndsWith};
 ghost use Rattle.run_spec.specs.Listing.{title};
 ghost use Rattle.run_stream.specs.Inner.{endingOf};
@@ -15,6 +16,7 @@ use frame_slots::PlantedLengths;
 use run_listing::Text;
 use run_piece::FeedResult;
 use run_piece::PassResult;
+use run_spec::Pair;
 use run_state::Carry;
 use run_state::Player;
 use terms::Lists;
@@ -34,6 +36,28 @@ pub struct FinishResult {
     pub verdict: Text,
 }
 
+// The player with another last planted pair, after so many bytes.
+fn passed(p: Player, last: Pair, used: usize) -> PassResult
+    ensures { λ r. ⌜ r ≡ record { player = withLast p last; used = used } ⌝ }
+{
+    let mut player = p;
+    player.last = last;
+    PassResult { player, used }
+}
+
+// Whether a planted record may come next.
+fn awaits_plants(p: Player) -> bool
+    ensures { λ r. ⌜ (r ≡ true → Waits p (p .n) (p .struck) (p .last)) ⌝ }
+{
+    if p.fault != 0 {
+        return false;
+    }
+    if p.have != 0 {
+        return false;
+    }
+    p.pending
+}
+
 // Takes the planted records at the front of a piece, as many as stand there one after the other. They show nothing.
 fn pass_plants(
     p: Player,
@@ -44,17 +68,22 @@ fn pass_plants(
     ensures { λ r. ⌜ r .used ≤ length (now (bytes .entry)) ⌝ }
     ensures { λ r. ⌜ Passes p (now (bytes .entry)) r (now (planted .entry)) (now (lengths .entry)) (now (planted .exit)) (now (lengths .exit)) ⌝ }
 {
-    let mut player = p;
+    let mut last = p.last;
     let mut used: usize = 0;
+    if !awaits_plants(p) {
+        return passed(p, last, used);
+    }
+    let n = p.n;
+    let struck = p.struck;
     while used < bytes.len() {
-        let one = run_piece::pass_plant(player, &bytes[used..], planted, lengths);
-        player = one.player;
+        let one = run_piece::pass_plant(n, struck, last, &bytes[used..], planted, lengths);
+        last = one.last;
         if one.used == 0 {
-            return PassResult { player, used };
+            return passed(p, last, used);
         }
         used += one.used;
     }
-    PassResult { player, used }
+    passed(p, last, used)
 }
 
 // One step: planted records, or else what `run_piece::advance` takes.

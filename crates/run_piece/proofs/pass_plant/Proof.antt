@@ -1,26 +1,35 @@
--- `run_piece::pass_plant` meets its contract: a planted record is taken where it is, and anything else is left.
+-- `run_piece::pass_plant` meets its contract: a planted record without a fault is taken where it is, and anything else is left.
 use native.Mathlib.Omega.{arith}
 use borrow.Author.Needs.{needs}
-use borrow.Author.Tests.{not-false}
-use Rattle.run_piece.proofs.Feeding.{none-there, plant-there}
+use Rattle.run_piece.proofs.Feeding.{none-passed, plant-left, plant-there}
 use Rattle.run_piece.proofs.pass_plant.Statement.{statement}
 use Rattle.run_piece.proofs.pass_plant.Tie as tie
 
 returns : tie.Need-returns
-returns c = (omega arith, λ a carry M L. none-there L)
+returns c = (omega arith, λ p W a carry M L. none-passed L W)
 
 front-requires : tie.Need-front-requires
-front-requires c κs =
-    let P = c .before .before .is-plant .ensures (not-false _ (c .before .if1 .left)) in
-    omega (arith, c .half-at .ensures, P .whole .within)
+front-requires c κs = c .before .plant-size .ensures (omega arith) .within
 
 returns-2 : tie.Need-returns-2
 returns-2 c =
-    let f = c .before .before .before in
-    let h = f .before in
-    let P = h .before .before .is-plant .ensures (not-false _ (h .before .if1 .left)) in (
-      omega (arith, h .half-at .ensures, P .whole .within),
-      λ a carry M L. plant-there L _ P (h .half-at .ensures) (f .front .ensures) (λ F. c .pass-plant .ensures F M),
+    let v = c .before in
+    let f = v .before .before .before in
+    let z = f .before .before in (
+      omega arith,
+      λ p W a carry M L. plant-left L W _ (z .plant-size .ensures (omega (arith, f .before .if1 .left))) (f .front .ensures) _ (c .if2 .taken)
+          (λ F. v .plant-record .ensures F M p (W .n) (W .struck) (W .last)),
+    )
+
+returns-3 : tie.Need-returns-3
+returns-3 c =
+    let k = c .before in
+    let v = k .before .before in
+    let f = v .before .before .before in
+    let P = f .before .before .plant-size .ensures (omega (arith, f .before .if1 .left)) in (
+      P .within,
+      λ p W a carry M L. plant-there L W _ P (f .front .ensures) (k .before .if2 .left)
+          (λ F. v .plant-record .ensures F M p (W .n) (W .struck) (W .last)) (k .byte-at .ensures) (c .byte-at2 .ensures),
     )
 
 pub pass-plant-spec : {M : Type 1} → statement M
@@ -29,8 +38,9 @@ pass-plant-spec =
     (tie.spec
     (λ c κs. search needs)
     returns
-    (λ c κs. search needs)
-    (λ c. search needs)
     front-requires
     (λ c κs. search needs)
-    returns-2)
+    returns-2
+    (λ c κs. search needs)
+    (λ c κs. search needs)
+    returns-3)

@@ -45,7 +45,7 @@ returns-3 c =
     let s = now (m .before .before .before .args .bytes) in
     let kind : kindOf s ≡ plant = ap recordKind (sym (m .before .half-at .ensures) ∙ m .match .keys3) in
     let (next, room) = c .take-plant .ensures in
-    (λ a T H may whole. rw kind (next (readFile a) (lent (m .before)) (omega (arith, plant-place (readFile a) (lengthOf s) (rw kind at may))) T H), room)
+    (λ a T H may whole. rw kind (next (readFile a) (lent (m .before)) (omega (arith, plant-place (readFile a .setup .begun) (readFile a .rounds .pending) (lengthOf s) (rw kind at may))) T H), room)
 
 returns-4 : tie.Need-returns-4
 returns-4 c =

@@ -6,60 +6,80 @@ use native.Mathlib.Omega.{arith}
 use lib.ListN.{length}
 use denote.Ref.{now}
 use borrow.Author.Needs.{needs}
+use borrow.Author.Tests.{not-false}
+use Rattle.run_spec.specs.declared.Pair.{Pair}
+use Rattle.run_state.specs.declared.Player.{Player}
 use Rattle.run_state.specs.Memory.{Memory, withSlots}
-use Rattle.run_piece.proofs.Feeding.{used-as}
+use Rattle.run_piece.specs.Inner.{Waits, withLast}
+use Rattle.run_piece.proofs.Feeding.{none-there, used-as}
 use Rattle.run_stream.proofs.Pieces.{Still, moved-within, still-first, last-step, still-more, steps-here}
 use Rattle.run_stream.proofs.pass_plants.Statement.{statement}
 use Rattle.run_stream.proofs.pass_plants.Tie as tie
 
 abbrev Inv-loop : tie.InvT-loop
-Inv-loop bytes planted₀ lengths₀ player₀ used₀ planted lengths player used =
+Inv-loop p bytes planted₀ lengths₀ last₀ used₀ n struck planted lengths last used =
     (used ≤ length bytes)
-    × ((carry : List ℕ) (M : Memory) → Still bytes player₀ carry (withSlots M planted₀ lengths₀) player carry (withSlots M planted lengths) used)
+    × ((carry : List ℕ) (M : Memory) → Still bytes p carry (withSlots M planted₀ lengths₀) (withLast p last) carry (withSlots M planted lengths) used)
 
 abbrev μ-loop : tie.MeasureT-loop
-μ-loop bytes planted₀ lengths₀ player₀ used₀ planted lengths player used = length bytes - used
+μ-loop p bytes planted₀ lengths₀ last₀ used₀ n struck planted lengths last used = length bytes - used
+
+returns : tie.Need-returns Inv-loop μ-loop
+returns c = rw (c .passed .ensures) (omega arith, λ a carry M L. none-there L)
 
 loop-holds : tie.Need-loop-holds Inv-loop μ-loop
 loop-holds c = (search needs, λ carry M. still-first)
 
--- the step from `used`
-moves : (c : tie.After-pass-plant Inv-loop μ-loop) →
-    let l = c .before .before .before .before .before in
-    l .loop .used + c .pass-plant .result .used ≤ length (now (l .before .before .args .bytes))
-moves c =
-    let l = c .before .before .before .before .before in
-    moved-within (l .loop .used) (c .pass-plant .result .used) (now (l .before .before .args .bytes)) (l .loop .inv .0) (c .pass-plant .ensures .0)
+-- with another last pair it waits too
+waits : {p : Player} {n struck : ℕ} {last : Pair} → Waits p n struck last → (last′ : Pair) → Waits (withLast p last′) n struck last′
+waits W last′ =
+    record { sound = W .sound; fresh = W .fresh; pending = W .pending; n = W .n; struck = W .struck; last = refl }
 
-returns : tie.Need-returns Inv-loop μ-loop
-returns c =
-    let v = c .before .before .before in
-    let l = v .before .before .before .before .before in
-    let u = v .pass-plant .result .used in (
+module _ (v : tie.After-pass-plant Inv-loop μ-loop) where
+  abbrev here : tie.At-loop Inv-loop μ-loop
+  here = v .before .before .before .before .before
+
+  abbrev start : tie.Start Inv-loop μ-loop
+  start = here .before .before .before .before .before
+
+  abbrev used : ℕ
+  used = v .pass-plant .result .used
+
+  -- the step from `used`
+  moves : here .loop .used + used ≤ length (now (start .args .bytes))
+  moves = moved-within (here .loop .used) used (now (start .args .bytes)) (here .loop .inv .0) (v .pass-plant .ensures .0)
+
+  waiting : Waits (withLast (start .args .p) (here .loop .last)) (start .args .p .n) (start .args .p .struck) (here .loop .last)
+  waiting = waits (here .before .before .awaits-plants .ensures (not-false _ (here .before .if1 .left))) (here .loop .last)
+
+returns-2 : tie.Need-returns-2 Inv-loop μ-loop
+returns-2 c =
+    let i = c .before in
+    let v = i .before .before .before in
+    let l = here v in
+    let z : l .loop .used ≡ l .loop .used + used v = omega (arith, i .if2 .taken) in
+    rw (c .passed2 .ensures) (
       l .loop .inv .0,
       λ a carry M L.
-          let z : l .loop .used ≡ l .loop .used + u = omega (arith, c .if1 .taken) in
-          used-as (now (l .before .before .args .bytes)) z (last-step (l .loop .inv .1 carry M) u (moves v) (λ b K. v .pass-plant .ensures .1 b carry M K) a L),
+          used-as (now (start v .args .bytes)) z
+          (last-step (l .loop .inv .1 carry M) (used v) (moves v) (λ b K. v .pass-plant .ensures .1 _ (waiting v) b carry M K) a L),
     )
 
 add-used : tie.Need-add-used Inv-loop μ-loop
 add-used c =
     let v = c .before .before .before .before in
-    omega (arith, moves v, v .before .before .before .before .before .before .before .good .1 .0 .0)
+    omega (arith, moves v, start v .good .1 .0 .0)
 
 loop-less : tie.Need-loop-less Inv-loop μ-loop
-loop-less c =
-    let v = c .before .before .before .before in
-    omega (arith, moves v, c .before .if1 .left)
+loop-less c = let v = c .before .before .before .before in omega (arith, moves v, c .before .if2 .left)
 
 loop-again : tie.Need-loop-again Inv-loop μ-loop
 loop-again c =
     let v = c .before .before .before .before in
-    let l = v .before .before .before .before .before .loop in
-    (moves v, λ carry M. still-more (l .inv .1 carry M) (v .pass-plant .result .used) (moves v) refl (λ b K. v .pass-plant .ensures .1 b carry M K))
+    (moves v, λ carry M. still-more (here v .loop .inv .1 carry M) (used v) (moves v) refl (λ b K. v .pass-plant .ensures .1 _ (waiting v) b carry M K))
 
-returns-2 : tie.Need-returns-2 Inv-loop μ-loop
-returns-2 c = let l = c .before .loop in (l .inv .0, λ a carry M L. steps-here (l .inv .1 carry M) a L)
+returns-3 : tie.Need-returns-3 Inv-loop μ-loop
+returns-3 c = let l = c .before .before .loop in rw (c .passed3 .ensures) (l .inv .0, λ a carry M L. steps-here (l .inv .1 carry M) a L)
 
 pub pass-plants-spec : {M : Type 1} → statement M
 pass-plants-spec =
@@ -67,13 +87,18 @@ pass-plants-spec =
     (tie.spec
     Inv-loop
     μ-loop
+    (λ c κs. search needs)
+    (λ c κs. search needs)
+    returns
     loop-holds
     (λ c. search needs)
     (λ c. search needs)
     (λ c. search needs)
     (λ c κs. search needs)
-    returns
+    (λ c κs. search needs)
+    returns-2
     add-used
     loop-less
     loop-again
-    returns-2)
+    (λ c κs. search needs)
+    returns-3)
