@@ -1,17 +1,25 @@
--- The list that a head fills: what head i hears of head k is what is planted, or what head k sent; and two tables of n entries are the same if their
--- entries below n are.
-use mathlib.Core.Path.{_≡_, refl, ap, ap₂, _∙_}
+-- The list that a head fills: what head i hears of head k is what is planted, or what head k sent. Two tables of n entries are the same if their entries below n
+-- are, and an entry is put into a table where there was none by its mark and its number.
+use mathlib.Core.Path.{_≡_, refl, ap, ap₂, sym, _∙_}
+use mathlib.Core.Logic.{_≢_, by-cases}
 use mathlib.Core.Bool.{Bool, true, false, cond}
 use mathlib.Core.List.{List, []}
-use Prim.Native.Nat.{ℕ, zero, suc, _+_, _<_}
-use lib.ListN.{length, getD, set}
-use lib.Seq.{getD-set-same, getD-set-other}
+use Prim.Native.Nat.{ℕ, zero, suc, _+_, _*_, _%_, _^_, _≤_, _<_}
+use native.Mathlib.Omega.{arith}
+use native.Mathlib.Numerals.{add-one}
+use native.Mathlib.Nat.{mod-eq-of-lt}
+use native.Mathlib.Decide.{ℕ-discrete}
+use lib.Dec.{eqb}
+use lib.ListN.{length, set}
+use lib.Seq.{getD-set-same, getD-set-other, set-set, set-comm}
 use lib.IntN.{ℤ}
-use borrow.Author.Tests.{lt-ltb}
+use borrow.Author.Tests.{lt-ltb, eq-eqb, ne-eqb}
 use Rattle.terms.specs.declared.Entry.{Entry}
+use Rattle.terms.specs.declared.Entry.the-variants.{Null}
 use Rattle.terms.specs.declared.Table.{Table}
 use Rattle.marks.specs.Marks.{bitOf}
-use Rattle.entries.specs.Tables.{marksOf, numbersOf, tableOf}
+use Rattle.entries.specs.Tables.{mark, number, marksOf, numbersOf, tableOf}
+use Rattle.settle_trust.proofs.Tables.{marks-next, marks-fit}
 use Rattle.convergence.specs.Counting.{Each}
 use Rattle.convergence.proofs.Sums.{each-last, each-less}
 use Rattle.frame_spec.specs.Said.{Meaning, collected, said}
@@ -20,8 +28,8 @@ use Rattle.frame_spec.proofs.Senders.{said-alike}
 use Rattle.head_spec.specs.Record.{heardEntry}
 use Rattle.ring_round.specs.declared.Stage.{Stage}
 use Rattle.ring_round.specs.Memory.{heads, hears, ToldAlike, sends, listEntry, rowIn}
-use Rattle.ring_collection.specs.Inner.{ownEntry, sent, heard, heardFrom}
-use Rattle.ring_round.proofs.Filling.{Filled, filled-stored}
+use Rattle.ring_collection.specs.Inner.{ownEntry, sent, sentBy, heardOf, heardWith, Shared}
+use Rattle.ring_round.proofs.Filling.{filledTo, Filled, filled-none, filled-passed, filled-stored, filled-yet}
 
 -- ---- tables
 
@@ -43,6 +51,49 @@ pub table-filled : (E : ℕ → Entry) {n k m : ℕ} {l : List ℤ} → k ≡ n 
     → _≡_ {A = Table} (record { marks = m; entries = l }) (tableOf n E)
 table-filled E e p q = rw (p, q, e)
 
+-- ---- an entry put where there was none
+
+module _ (E : ℕ → Entry) (k : ℕ) (e : Entry) where
+  abbrev pub put : ℕ → Entry
+  put j = cond (eqb j k) e (E j)
+
+  pub put-same : put k ≡ e
+  put-same = rw (eq-eqb k k refl)
+
+  pub put-other : (j : ℕ) → j ≢ k → put j ≡ E j
+  put-other j d = rw (ne-eqb j k d)
+
+  pub marks-put : E k ≡ Null → (n : ℕ) → k < n → marksOf n put ≡ marksOf n E + mark e * 2 ^ k
+  unfolding marksOf
+  marks-put none zero l = absurd (omega arith)
+  marks-put none (suc n) l = by-cases (ℕ-discrete n k)
+      (λ q. rw (q, put-same, marks-same k put E (λ j h. put-other j (omega arith)), none) (omega arith))
+      (λ d. rw (put-other n d, marks-put none n (omega arith)) (omega arith))
+
+  pub numbers-put : (n : ℕ) → k < n → numbersOf n put ≡ set (numbersOf n E) k (number e)
+  unfolding numbersOf
+  numbers-put zero l = absurd (omega arith)
+  numbers-put (suc n) l = by-cases (ℕ-discrete n k)
+      (λ q. rw (q, put-same, numbers-same k put E (λ j h. put-other j (omega arith))) (sym (set-set (numbersOf k E) k (number (E k)) (number e))))
+      (λ d. rw (put-other n d, numbers-put n (omega arith)) (set-comm (numbersOf n E) k n (number e) (number (E n)) (omega arith)))
+
+-- the marks of 32 entries are a word
+marks-word : (E : ℕ → Entry) (n : ℕ) → n ≤ 32 → marksOf n E < 4294967296
+unfolding marksOf
+marks-word E zero l = omega arith
+marks-word E (suc n) l = omega (arith, marks-fit E n l refl refl, rw (add-one n) at (marks-next E n l refl refl))
+
+-- the mark r of entry e
+module _ (E : ℕ → Entry) (k n : ℕ) (e : Entry) {m r : ℕ} (none : E k ≡ Null) (l : k < n) (size : n ≤ 32) (p : m ≡ marksOf n E) (q : r ≡ mark e) where
+  marks-sum : m + r * 2 ^ k % 4294967296 ≡ marksOf n (put E k e)
+  marks-sum =
+      let s = marks-put E k e none n l in
+      let w : mark e * 2 ^ k < 4294967296 = omega (arith, marks-word (put E k e) n size) in
+      rw (p, q, mod-eq-of-lt w) (sym s)
+
+  marks-room : m + r * 2 ^ k % 4294967296 < 4294967296
+  marks-room = rw marks-sum (marks-word (put E k e) n size)
+
 -- ---- what is heard
 
 -- e: what head k sends; bytes: its frame; r: the entry that was read of it
@@ -51,31 +102,81 @@ pub sent-is : (s : Stage) (positions : List ℤ) (k : ℕ) {n : ℕ} {e r : Entr
 unfolding sent
 sent-is s positions k p q f e = e ∙ rw (f, q, p)
 
-module _ (s : Stage) (positions : List ℤ) (plant : ℕ → ℕ → List ℕ) (i : ℕ) (entries : List Entry)
-    (told : (k : ℕ) → hears s k ≡ true → getD entries k Entry.Null ≡ sent s positions k) where
-  heard-entry : (k : ℕ) → k < heads s → heardFrom s entries plant i k ≡ listEntry s positions plant i k
-  unfolding heard listEntry sent
-  heard-entry k l = go (bitOf (s .struck) k) (λ e. told k (rw (lt-ltb k (heads s) l, e)))
-    where
-      go : (b : Bool) → (b ≡ false → getD entries k Entry.Null ≡ sent s positions k)
-          → cond b (heardEntry (said (heads s) (s .phase) 0 k (plant k i))) (getD entries k Entry.Null)
-          ≡ heardEntry (said (heads s) (s .phase) 0 k (cond b (plant k i) (frameOf (heads s) k (s .phase) (collected (ownEntry s positions k)))))
-      go true h = refl
-      go false h = h refl
+pub sent-none : (s : Stage) (positions : List ℤ) (k : ℕ) → bitOf (s .struck) k ≡ true → sentBy s positions k ≡ Null
+unfolding sentBy
+sent-none s positions k b = rw b
 
-  pub heard-list : tableOf (heads s) (heardFrom s entries plant i) ≡ tableOf (heads s) (listEntry s positions plant i)
-  heard-list = table-same (heads s) _ _ heard-entry
+abbrev pub sent-shared : (s : Stage) (positions : List ℤ) {t : Table} → t ≡ tableOf (heads s) (sentBy s positions) → Shared s t
+sent-shared s positions e = record { entry = sentBy s positions; is = e; none = sent-none s positions }
+
+pub heard-list : (s : Stage) (positions : List ℤ) (plant : ℕ → ℕ → List ℕ) (i : ℕ)
+    → tableOf (heads s) (heardWith s (sentBy s positions) plant i) ≡ tableOf (heads s) (listEntry s positions plant i)
+unfolding heardWith heardOf sentBy sent listEntry
+heard-list s positions plant i = table-same (heads s) _ _ (λ k l. go k (bitOf (s .struck) k))
+  where
+    go : (k : ℕ) (b : Bool)
+        → cond b (heardEntry (said (heads s) (s .phase) 0 k (plant k i)))
+        (cond b Null (heardEntry (said (heads s) (s .phase) 0 k (frameOf (heads s) k (s .phase) (sends s positions k)))))
+        ≡ heardEntry (said (heads s) (s .phase) 0 k (cond b (plant k i) (frameOf (heads s) k (s .phase) (sends s positions k))))
+    go k true = refl
+    go k false = refl
 
 -- heads told alike fill the same list
-pub told-list : (s : Stage) (entries : List Entry) (plant : ℕ → ℕ → List ℕ) (i m : ℕ) → ToldAlike s plant i m
-    → tableOf (heads s) (heardFrom s entries plant m) ≡ tableOf (heads s) (heardFrom s entries plant i)
-unfolding heard
-told-list s entries plant i m h = table-same (heads s) _ _ (λ k l. go k (bitOf (s .struck) k) (h k l))
+pub told-list : (s : Stage) (E : ℕ → Entry) (plant : ℕ → ℕ → List ℕ) (i m : ℕ) → ToldAlike s plant i m
+    → tableOf (heads s) (heardWith s E plant m) ≡ tableOf (heads s) (heardWith s E plant i)
+unfolding heardWith
+told-list s E plant i m h = table-same (heads s) _ _ (λ k l. go k (bitOf (s .struck) k) (h k l))
   where
-    go : (k : ℕ) (b : Bool) → (b ≡ true → plant k i ≡ plant k m)
-        → cond b (heardEntry (said (heads s) (s .phase) 0 k (plant k m))) (getD entries k Entry.Null) ≡ cond b (heardEntry (said (heads s) (s .phase) 0 k (plant k i))) (getD entries k Entry.Null)
+    go : (k : ℕ) (b : Bool) → (b ≡ true → plant k i ≡ plant k m) → cond b (heardOf s (plant k m) k) (E k) ≡ cond b (heardOf s (plant k i) k) (E k)
     go k true e = rw (e refl)
     go k false e = refl
+
+-- ---- the list of head i: before head k, what is planted by the struck heads below k is in it
+
+module _ (s : Stage) {t : Table} (S : Shared s t) (plant : ℕ → ℕ → List ℕ) (i : ℕ) where
+  abbrev pub heardTo : ℕ → ℕ → Entry
+  heardTo = filledTo (bitOf (s .struck)) (λ j. heardOf s (plant j i) j) (S .entry)
+
+  abbrev pub Heard : ℕ → ℕ → List ℤ → Type 0
+  Heard k m l = (m ≡ marksOf (heads s) (heardTo k)) × (l ≡ numbersOf (heads s) (heardTo k))
+
+  pub heard-none : Heard 0 (t .marks) (t .entries)
+  heard-none = (
+    ap (λ (x : Table). x .marks) (S .is) ∙ marks-same (heads s) _ _ (λ j l. filled-none (bitOf (s .struck)) (λ j. heardOf s (plant j i) j) (S .entry) j),
+    ap (λ (x : Table). x .entries) (S .is) ∙ numbers-same (heads s) _ _ (λ j l. filled-none (bitOf (s .struck)) (λ j. heardOf s (plant j i) j) (S .entry) j),
+  )
+
+  module _ (k : ℕ) {m : ℕ} {l : List ℤ} (h : Heard k m l) where
+    pub heard-passed : bitOf (s .struck) k ≡ false → Heard (k + 1) m l
+    heard-passed b =
+        let same : (j : ℕ) → heardTo k j ≡ heardTo (k + 1) j =
+        filled-passed (bitOf (s .struck)) (λ j. heardOf s (plant j i) j) (S .entry) k (λ j. refl) b in
+        (h .0 ∙ marks-same (heads s) _ _ (λ j l. same j), h .1 ∙ numbers-same (heads s) _ _ (λ j l. same j))
+
+    -- the entry e of head k, with its mark r and its number v
+    module _ {e : Entry} {r : ℕ} (below : k < heads s) (b : bitOf (s .struck) k ≡ true) (is : e ≡ heardOf s (plant k i) k) (q : r ≡ mark e) where
+      yet : heardTo k k ≡ Null
+      yet = filled-yet (bitOf (s .struck)) (λ j. heardOf s (plant j i) j) (S .entry) k (λ j. refl) ∙ S .none k b
+
+      next : (j : ℕ) → put (heardTo k) k e j ≡ heardTo (k + 1) j
+      next =
+          filled-stored (bitOf (s .struck)) (λ j. heardOf s (plant j i) j) (S .entry) k (λ j. refl) b (put-same (heardTo k) k e ∙ is)
+          (λ j d. put-other (heardTo k) k e j d)
+
+      pub heard-room : m + r * 2 ^ k % 4294967296 < 4294967296
+      heard-room = marks-room (heardTo k) k (heads s) e yet below (omega arith) (h .0) q
+
+      pub heard-next : {v : ℤ} → v ≡ number e → Heard (k + 1) (m + r * 2 ^ k % 4294967296) (set l k v)
+      heard-next w = (
+        marks-sum (heardTo k) k (heads s) e yet below (omega arith) (h .0) q ∙ marks-same (heads s) _ _ (λ j x. next j),
+        rw (h .1, w) (sym (numbers-put (heardTo k) k e (heads s) below)) ∙ numbers-same (heads s) _ _ (λ j x. next j),
+      )
+
+  pub heard-last : {k m : ℕ} {l : List ℤ} → k ≡ heads s → Heard k m l → _≡_ {A = Table} (record { marks = m; entries = l }) (tableOf (heads s) (heardWith s (S .entry) plant i))
+  unfolding heardWith
+  heard-last e h =
+      let (p, q) = rw e at h in
+      ap₂ (λ (a : ℕ) (b : List ℤ). record { marks = a; entries = b }) p q ∙ table-same (heads s) _ _ (λ j l. rw (lt-ltb j (heads s) l))
 
 -- heads that send the same are heard the same
 pub sent-alike : (s : Stage) (positions : List ℤ) (k m : ℕ) → sends s positions k ≡ sends s positions m → sent s positions k ≡ sent s positions m

@@ -1,11 +1,14 @@
 -- What the private functions promise each other. Readers of the public promises do not need this file.
-use mathlib.Core.Bool.{cond}
+use mathlib.Core.Path.{_≡_}
+use mathlib.Core.Bool.{true, cond}
 use mathlib.Core.List.{List}
 use Prim.Native.Nat.{ℕ}
 use lib.ListN.{getD}
 use lib.IntN.{ℤ, pos}
 use Rattle.terms.specs.declared.Entry.{Entry}
+use Rattle.terms.specs.declared.Table.{Table}
 use Rattle.marks.specs.Marks.{bitOf}
+use Rattle.entries.specs.Tables.{tableOf}
 use Rattle.frame_spec.specs.Said.{said}
 use Rattle.frame_spec.specs.Written.{frameOf}
 use Rattle.head_spec.specs.Record.{heardEntry}
@@ -20,10 +23,20 @@ ownEntry s positions k = cond (bitOf (s .before) k) Entry.Null (Entry.Position (
 unfoldable pub sent : Stage → List ℤ → ℕ → Entry
 sent s positions k = heardEntry (said (heads s) (s .phase) 0 k (frameOf (heads s) k (s .phase) (sends s positions k)))
 
--- what is heard of head k: what the bytes say that are planted, or the entry that it sent
-unfoldable pub heard : Stage → Entry → List ℕ → ℕ → Entry
-heard s e bytes k = cond (bitOf (s .struck) k) (heardEntry (said (heads s) (s .phase) 0 k bytes)) e
+-- what is heard of head k, if these bytes are planted
+unfoldable pub heardOf : Stage → List ℕ → ℕ → Entry
+heardOf s bytes k = heardEntry (said (heads s) (s .phase) 0 k bytes)
 
--- what head i hears of head k
-abbrev pub heardFrom : Stage → List Entry → (ℕ → ℕ → List ℕ) → ℕ → ℕ → Entry
-heardFrom s sent plant i k = heard s (getD sent k Entry.Null) (plant k i) k
+-- what all hear alike: of the unstruck heads what they sent, of the struck ones nothing
+unfoldable pub sentBy : Stage → List ℤ → ℕ → Entry
+sentBy s positions k = cond (bitOf (s .struck) k) Entry.Null (sent s positions k)
+
+-- what head i hears of head k, with E for the unstruck heads
+unfoldable pub heardWith : Stage → (ℕ → Entry) → (ℕ → ℕ → List ℕ) → ℕ → ℕ → Entry
+heardWith s E plant i k = cond (bitOf (s .struck) k) (heardOf s (plant k i) k) (E k)
+
+-- a table of entries, of which those of the struck heads are null
+pub record Shared (s : Stage) (t : Table) : Type 0 where
+  pub entry : ℕ → Entry
+  pub is : t ≡ tableOf (heads s) entry
+  pub none : (k : ℕ) → bitOf (s .struck) k ≡ true → entry k ≡ Entry.Null

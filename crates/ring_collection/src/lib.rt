@@ -2,13 +2,13 @@
 ghost use mathlib.Core.Bool.{true, cond};
 ghost use mathlib.Core.Path.{_≡_};
 ghost use Prim.Native.Nat.{ℕ, _<_};
-ghost use lib.ListN.{length, getD};
+ghost use lib.ListN.{length};
 ghost use Rattle.entries.specs.Tables.{tableOf, mark, number};
 ghost use Rattle.frame_spec.specs.Said.{said};
 ghost use Rattle.head_spec.specs.Record.{heardEntry};
 ghost use Rattle.ring_round.specs.Memory.{heads, hears, sends, listEntry, rowIn};
 ghost use Rattle.frame_slots.specs.Slots.{plantedIn};
-ghost use Rattle.ring_collection.specs.Inner.{ownEntry, sent, heard, heardFrom};
+ghost use Rattle.ring_collection.specs.Inner.{ownEntry, sent, sentBy, heardOf, heardWith, Shared};
 use frame_spec::Said;
 use ring_round::Stage;
 use terms::Entry;
@@ -81,38 +81,6 @@ fn entry_after(s: Stage, positions: &Numbers, k: usize, last: usize, told: Entry
     entry_sent(s, positions, k)
 }
 
-// What each unstruck head hears of the unstruck heads.
-fn entries_sent(s: Stage, positions: &Numbers) -> [Entry; 32]
-    ensures { λ r. ⌜ ((k : ℕ) → hears s k ≡ true → getD r k Entry.Null ≡ sent s (now (positions .entry)) k) ⌝ }
-{
-    let n = ring_round::head_count(s) as usize;
-    let mut entries = [Entry::Null; 32];
-    let mut told = Entry::Null;
-    let mut last: usize = 32;
-    let mut k: usize = 0;
-    while k < n {
-        if !marks::marked(s.struck, k) {
-            told = entry_after(s, positions, k, last, told);
-            last = k;
-            entries[k] = told;
-        }
-        k += 1;
-    }
-    entries
-}
-
-// What head i hears of head k: what is planted, or what head k sent.
-fn entry_heard(s: Stage, sent: Entry, planted: &[u8], lengths: &[u8], k: usize, i: usize) -> Entry
-    requires { ⌜ (k < 32) × (i < 32) ⌝ }
-    ensures { λ r. ⌜ r ≡ heard s sent (plantedIn (now (planted .entry)) (now (lengths .entry)) k i) k ⌝ }
-{
-    if !marks::marked(s.struck, k) {
-        return sent;
-    }
-    let frame = frame_slots::planted(planted, lengths, k as u8, i as u8);
-    entry_in(frame, ring_round::head_count(s), s.phase, k as u8)
-}
-
 // The mark of an entry.
 fn mark_of(e: Entry) -> u32
     ensures { λ r. ⌜ r ≡ mark e ⌝ }
@@ -133,17 +101,23 @@ fn number_of(e: Entry) -> i32
     }
 }
 
-// The list of head i.
-fn list_for(s: Stage, sent: [Entry; 32], planted: &[u8], lengths: &[u8], i: usize) -> Table
-    requires { ⌜ i < 32 ⌝ }
-    ensures { λ r. ⌜ r ≡ tableOf (heads s) (heardFrom s sent (plantedIn (now (planted .entry)) (now (lengths .entry))) i) ⌝ }
+// What each unstruck head hears of the unstruck heads, with null for the struck ones.
+fn entries_sent(s: Stage, positions: &Numbers) -> Table
+    ensures { λ r. ⌜ r ≡ tableOf (heads s) (sentBy s (now (positions .entry))) ⌝ }
 {
     let n = ring_round::head_count(s) as usize;
     let mut marks: u32 = 0;
     let mut entries = [0i32; 32];
+    let mut told = Entry::Null;
+    let mut last: usize = 32;
     let mut k: usize = 0;
     while k < n {
-        let e = entry_heard(s, sent[k], planted, lengths, k, i);
+        let mut e = Entry::Null;
+        if !marks::marked(s.struck, k) {
+            told = entry_after(s, positions, k, last, told);
+            last = k;
+            e = told;
+        }
         marks += mark_of(e) << k;
         entries[k] = number_of(e);
         k += 1;
@@ -151,22 +125,58 @@ fn list_for(s: Stage, sent: [Entry; 32], planted: &[u8], lengths: &[u8], i: usiz
     Table { marks, entries }
 }
 
-// The list of head i, after head `last` filled the list `told`, or first if that is 32: heads that are told alike fill the same.
+// What head i hears of head k, which is struck: what is planted.
+fn entry_planted(s: Stage, planted: &[u8], lengths: &[u8], k: usize, i: usize) -> Entry
+    requires { ⌜ (k < 32) × (i < 32) ⌝ }
+    ensures { λ r. ⌜ r ≡ heardOf s (plantedIn (now (planted .entry)) (now (lengths .entry)) k i) k ⌝ }
+{
+    let frame = frame_slots::planted(planted, lengths, k as u8, i as u8);
+    entry_in(frame, ring_round::head_count(s), s.phase, k as u8)
+}
+
+// The list of head i: what all hear alike, with what is planted to it.
+fn list_for(s: Stage, sent: Table, planted: &[u8], lengths: &[u8], i: usize) -> Table
+    requires { ⌜ (i < 32) × Shared s sent ⌝ }
+    ensures { λ r. ⌜ ((S : Shared s sent) → r ≡ tableOf (heads s) (heardWith s (S .entry) (plantedIn (now (planted .entry)) (now (lengths .entry))) i)) ⌝ }
+{
+    let n = ring_round::head_count(s) as usize;
+    let mut marks = sent.marks;
+    let mut entries = sent.entries;
+    let mut k: usize = 0;
+    while k < n {
+        if marks::marked(s.struck, k) {
+            let e = entry_planted(s, planted, lengths, k, i);
+            marks += mark_of(e) << k;
+            entries[k] = number_of(e);
+        }
+        k += 1;
+    }
+    Table { marks, entries }
+}
+
+// The list of head i, after the list of head `last` was stored, or first if that is 32: heads that are told alike fill the same.
 fn list_after(
     s: Stage,
-    sent: [Entry; 32],
+    sent: Table,
     planted: &[u8],
     lengths: &[u8],
     i: usize,
     last: usize,
-    told: Table,
+    marks: &[u32],
+    lists: &[[i32; 32]],
 ) -> Table
-    requires { ⌜ (i < 32) × (last < 32 → told ≡ tableOf (heads s) (heardFrom s sent (plantedIn (now planted) (now lengths)) last)) ⌝ }
-    ensures { λ r. ⌜ r ≡ tableOf (heads s) (heardFrom s sent (plantedIn (now (planted .entry)) (now (lengths .entry))) i) ⌝ }
+    requires { ⌜ (i < 32) × (length (now marks) ≡ 32) × (length (now lists) ≡ 32) × Shared s sent ⌝ }
+    ensures { λ r. ⌜ ((S : Shared s sent)
+        → (last < 32 → rowIn (now (marks .entry)) (now (lists .entry)) last ≡ tableOf (heads s) (heardWith s (S .entry) (plantedIn (now (planted .entry)) (now (lengths .entry))) last))
+        → r ≡ tableOf (heads s) (heardWith s (S .entry) (plantedIn (now (planted .entry)) (now (lengths .entry))) i)) ⌝ }
 {
     if last < 32 {
         if ring_round::is_told_alike(s, planted, lengths, i, last) {
-            return told;
+            let entries = lists[last];
+            return Table {
+                marks: marks[last],
+                entries,
+            };
         }
     }
     list_for(s, sent, planted, lengths, i)
@@ -175,29 +185,24 @@ fn list_after(
 // Stores the list of each unstruck head.
 fn fill_lists(
     s: Stage,
-    sent: [Entry; 32],
+    sent: Table,
     planted: &[u8],
     lengths: &[u8],
     marks: &mut [u32],
     lists: &mut [[i32; 32]],
 )
-    requires { ⌜ (length (now marks) ≡ 32) × (length (now lists) ≡ 32) ⌝ }
-    ensures { λ _. ⌜ ((i : ℕ) → rowIn (now (marks .exit)) (now (lists .exit)) i
+    requires { ⌜ (length (now marks) ≡ 32) × (length (now lists) ≡ 32) × Shared s sent ⌝ }
+    ensures { λ _. ⌜ ((S : Shared s sent) (i : ℕ) → rowIn (now (marks .exit)) (now (lists .exit)) i
         ≡ cond (hears s i)
-        (tableOf (heads s) (heardFrom s sent (plantedIn (now (planted .entry)) (now (lengths .entry))) i))
+        (tableOf (heads s) (heardWith s (S .entry) (plantedIn (now (planted .entry)) (now (lengths .entry))) i))
         (rowIn (now (marks .entry)) (now (lists .entry)) i)) ⌝ }
 {
     let n = ring_round::head_count(s) as usize;
-    let none = [0i32; 32];
-    let mut list = Table {
-        marks: 0,
-        entries: none,
-    };
     let mut last: usize = 32;
     let mut i: usize = 0;
     while i < n {
         if !marks::marked(s.struck, i) {
-            list = list_after(s, sent, planted, lengths, i, last, list);
+            let list = list_after(s, sent, planted, lengths, i, last, marks, lists);
             last = i;
             let entries = list.entries;
             marks[i] = list.marks;

@@ -1,55 +1,72 @@
--- `ring_collection::entries_sent` meets its contract: before head k, the unstruck heads below k have the entry that is heard of them, and `told` is that of `last`.
+-- `ring_collection::entries_sent` meets its contract: before head k the marks and the numbers are those of the heads below k, and `told` is the entry of `last`.
 use mathlib.Core.Path.{_≡_, refl, ap, sym, _∙_}
 use mathlib.Core.Logic.{⊎-elim}
-use mathlib.Core.Bool.{not}
 use Prim.Native.Nat.{_-_, _≤_, _<_}
 use native.Mathlib.Omega.{arith}
+use mir.Facts.{toZ-ofZ}
+use denote.Ref.{now}
 use borrow.Author.Needs.{needs}
-use lib.ListN.{length, getD, length-set}
-use Rattle.terms.specs.declared.Entry.{Entry}
-use Rattle.marks.specs.Marks.{bitOf}
-use Rattle.ring_round.specs.Memory.{heads}
-use Rattle.ring_collection.specs.Inner.{sent}
-use Rattle.ring_round.proofs.Filling.{Filled, filled-none, filled-passed, filled-set}
+use borrow.Author.Tests.{not-true, not-false}
+use Rattle.entries.specs.Entries.{zeros}
+use Rattle.entries.specs.Tables.{mark, number, marksOf, numbersOf}
+use Rattle.settle_trust.proofs.Tables.{marks-next, marks-fit, numbers-next}
+use Rattle.ring_collection.specs.Inner.{sent, sentBy}
+use Rattle.ring_collection.proofs.Lists.{table-filled}
 use Rattle.ring_collection.proofs.entries_sent.Statement.{statement}
 use Rattle.ring_collection.proofs.entries_sent.Tie as tie
 
 abbrev Inv-loop : tie.InvT-loop
-Inv-loop s positions n entries₀ told₀ last₀ k₀ entries told last k =
-    (k ≤ n) × (length entries ≡ 32)
-    × Filled (λ j. not (bitOf (s .struck) j)) (sent s positions) (λ j. getD entries₀ j Entry.Null) k (λ j. getD entries j Entry.Null)
+Inv-loop s positions n marks₀ entries₀ told₀ last₀ k₀ marks entries told last k =
+    (k ≤ n) × (marks ≡ marksOf k (sentBy s positions)) × (entries ≡ numbersOf k (sentBy s positions))
     × (last < 32 → told ≡ sent s positions last)
 
 abbrev μ-loop : tie.MeasureT-loop
-μ-loop s positions n entries₀ told₀ last₀ k₀ entries told last k = n - k
+μ-loop s positions n marks₀ entries₀ told₀ last₀ k₀ marks entries told last k = n - k
 
 loop-holds : tie.Need-loop-holds Inv-loop μ-loop
-loop-holds c = (search needs, refl, filled-none _ _ _, λ l. absurd (omega arith))
+unfolding marksOf numbersOf zeros
+loop-holds c = (search needs, refl, refl, λ l. absurd (omega arith))
 
 entry-after-requires : tie.Need-entry-after-requires Inv-loop μ-loop
 entry-after-requires c κs = (search needs, c .before .before .before .loop .inv .3)
 
+module _ (c : tie.Joined1 Inv-loop μ-loop) where
+  abbrev here : tie.At-loop Inv-loop μ-loop
+  here = c .before .before .before
+
+  abbrev start : tie.Start Inv-loop μ-loop
+  start = here .before .before
+
+  below : here .loop .k < 32
+  below = omega (arith, here .before .head-count .ensures)
+
+  entry-is : c .if1 .e ≡ sentBy (start .args .s) (now (start .args .positions)) (here .loop .k)
+  unfolding sentBy
+  entry-is =
+      let m = sym (c .before .marked .ensures) in
+      ⊎-elim (λ w. rw (m ∙ not-true _ (w .0 .taken)) (w .4 ∙ w .1 .ensures)) (λ w. rw (m ∙ not-false _ (w .0 .left)) (w .3)) (c .if1 .came)
+
+add-marks : tie.Need-add-marks Inv-loop μ-loop
+add-marks c =
+    let j = c .before in
+    let l = here j .loop in
+    record { fits = marks-fit _ (l .k) (below j) (l .inv .1) (c .mark-of .ensures ∙ ap mark (entry-is j)) }
+
 loop-again : tie.Need-loop-again Inv-loop μ-loop
 loop-again c =
     let m = c .before in
-    let l = m .before .before .loop in
-    let a = m .before .before .before .before .args in
-    let b = ap not (sym (m .marked .ensures)) in
-    ⊎-elim
-    (λ w. (
+    let j = m .before in
+    let l = here j .loop in (
       search needs,
-      rw (w .2) (simp length-set (l .inv .1)),
-      rw (w .2) (filled-set _ _ _ (l .entries) Entry.Null (l .k) (l .inv .2) (omega (arith, m .before .before .before .head-count .ensures)) (b ∙ w .0 .taken) (w .1 .ensures)),
-      rw (w .3, w .4) (λ small. w .1 .ensures),
-    ))
-    (λ w. (search needs, rw (w .1) (l .inv .1), rw (w .1) (filled-passed _ _ _ (l .k) (l .inv .2) (b ∙ w .0 .left)), rw (w .2, w .3) (l .inv .3)))
-    (c .if1 .came)
+      marks-next _ (l .k) (below j) (l .inv .1) (m .mark-of .ensures ∙ ap mark (entry-is j)),
+      numbers-next _ (l .k) (l .inv .2) (toZ-ofZ (record { sfits = c .number-of .ok }) ∙ c .number-of .ensures ∙ ap number (entry-is j)),
+      ⊎-elim (λ w. rw (w .2, w .3) (λ small. w .1 .ensures)) (λ w. rw (w .1, w .2) (l .inv .3)) (j .if1 .came),
+    )
 
 returns : tie.Need-returns Inv-loop μ-loop
 returns c =
     let l = c .before .loop in
-    let e : l .k ≡ heads (c .before .before .before .args .s) = omega (arith, c .before .before .head-count .ensures) in
-    λ k h. rw h at ((rw e at (l .inv .2)) k)
+    table-filled _ (omega (arith, c .before .before .head-count .ensures)) (l .inv .1) (l .inv .2)
 
 pub entries-sent-spec : {M : Type 1} → statement M
 entries-sent-spec =
@@ -62,6 +79,11 @@ entries-sent-spec =
     loop-holds
     (λ c κs. search needs)
     entry-after-requires
+    (λ c κs. search needs)
+    (λ c. search needs)
+    (λ c. search needs)
+    add-marks
+    (λ c κs. search needs)
     (λ c. search needs)
     (λ c. search needs)
     (λ c. search needs)

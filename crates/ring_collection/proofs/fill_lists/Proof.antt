@@ -1,9 +1,9 @@
--- `ring_collection::fill_lists` meets its contract: before head i, the unstruck heads below i have their list, and all others have what they had; and `list` is
--- that of `last`.
+-- `ring_collection::fill_lists` meets its contract: before head i, the unstruck heads below i have their list, and all others have what they had; and `last` is one
+-- that has it.
 use mathlib.Core.Path.{_≡_, ap, sym, _∙_}
 use mathlib.Core.Logic.{⊎-elim}
 use mathlib.Core.Bool.{not}
-use Prim.Native.Nat.{_-_, _≤_, _<_}
+use Prim.Native.Nat.{_+_, _-_, _≤_, _<_}
 use native.Mathlib.Omega.{arith}
 use borrow.Author.Needs.{needs}
 use lib.ListN.{length, length-set}
@@ -11,26 +11,29 @@ use Rattle.marks.specs.Marks.{bitOf}
 use Rattle.entries.specs.Tables.{tableOf}
 use Rattle.ring_round.specs.Memory.{heads, rowIn}
 use Rattle.frame_slots.specs.Slots.{plantedIn}
-use Rattle.ring_collection.specs.Inner.{heardFrom}
-use Rattle.ring_round.proofs.Filling.{Filled, filled-none, filled-passed}
+use Rattle.ring_collection.specs.Inner.{heardWith, Shared}
+use Rattle.ring_round.proofs.Filling.{Filled, filled-none, filled-passed, filled-had}
 use Rattle.ring_collection.proofs.Lists.{filled-row}
 use Rattle.ring_collection.proofs.fill_lists.Statement.{statement}
 use Rattle.ring_collection.proofs.fill_lists.Tie as tie
 
 abbrev Inv-loop : tie.InvT-loop
-Inv-loop s sent planted lengths marks₀ lists₀ n list₀ last₀ i₀ marks lists list last i =
+Inv-loop s sent planted lengths marks₀ lists₀ n last₀ i₀ marks lists last i =
     (i ≤ n) × (length marks ≡ 32) × (length lists ≡ 32)
-    × Filled (λ j. not (bitOf (s .struck) j)) (λ j. tableOf (heads s) (heardFrom s sent (plantedIn planted lengths) j)) (rowIn marks₀ lists₀) i (rowIn marks lists)
-    × (last < 32 → list ≡ tableOf (heads s) (heardFrom s sent (plantedIn planted lengths) last))
+    × ((S : Shared s sent)
+    → Filled (λ j. not (bitOf (s .struck) j)) (λ j. tableOf (heads s) (heardWith s (S .entry) (plantedIn planted lengths) j)) (rowIn marks₀ lists₀) i (rowIn marks lists)
+    × (last < 32 → rowIn marks lists last ≡ tableOf (heads s) (heardWith s (S .entry) (plantedIn planted lengths) last)))
 
 abbrev μ-loop : tie.MeasureT-loop
-μ-loop s sent planted lengths marks₀ lists₀ n list₀ last₀ i₀ marks lists list last i = n - i
+μ-loop s sent planted lengths marks₀ lists₀ n last₀ i₀ marks lists last i = n - i
 
 loop-holds : tie.Need-loop-holds Inv-loop μ-loop
-loop-holds c = (search needs, search needs, search needs, filled-none _ _ _, λ l. absurd (omega arith))
+loop-holds c = (search needs, search needs, search needs, λ S. (filled-none _ _ _, λ l. absurd (omega arith)))
 
 list-after-requires : tie.Need-list-after-requires Inv-loop μ-loop
-list-after-requires c κs = (search needs, c .before .before .before .loop .inv .4)
+list-after-requires c κs =
+    let l = c .before .before .before .before .before in
+    (search needs, l .loop .inv .1, l .loop .inv .2, l .before .before .before .before .before .pre .2)
 
 loop-again : tie.Need-loop-again Inv-loop μ-loop
 loop-again c =
@@ -41,25 +44,26 @@ loop-again c =
     ⊎-elim
     (λ w. (
       search needs,
-      rw (w .3) (simp length-set (l .inv .1)),
-      rw (w .4) (simp length-set (l .inv .2)),
-      rw (w .3, w .4) (filled-row _ _ _ (l .marks) (l .lists) (l .i) (l .inv .3) (omega arith) (omega arith) (b ∙ w .0 .taken) (w .1 .ensures)),
-      rw (w .5, w .6) (λ small. w .1 .ensures),
+      rw (w .5) (simp length-set (l .inv .1)),
+      rw (w .6) (simp length-set (l .inv .2)),
+      λ S.
+          let f =
+          filled-row _ _ _ (l .marks) (l .lists) (l .i) (l .inv .3 S .0) (omega arith) (omega arith) (b ∙ w .0 .taken) (w .3 .ensures S (l .inv .3 S .1)) in
+          (rw (w .5, w .6) f, rw (w .5, w .6, w .7) (λ small. filled-had _ _ _ (l .i + 1) f (l .i) (omega arith) (b ∙ w .0 .taken))),
     ))
     (λ w. (
       search needs,
       rw (w .1) (l .inv .1),
       rw (w .2) (l .inv .2),
-      rw (w .1, w .2) (filled-passed _ _ _ (l .i) (l .inv .3) (b ∙ w .0 .left)),
-      rw (w .3, w .4) (l .inv .4),
+      λ S. (rw (w .1, w .2) (filled-passed _ _ _ (l .i) (l .inv .3 S .0) (b ∙ w .0 .left)), rw (w .1, w .2, w .3) (l .inv .3 S .1)),
     ))
     (c .if1 .came)
 
 returns : tie.Need-returns Inv-loop μ-loop
-returns c =
+returns c S =
     let l = c .before .loop in
     let e : l .i ≡ heads (c .before .before .before .before .before .before .args .s) = omega (arith, c .before .before .head-count .ensures) in
-    rw e at (l .inv .3)
+    rw e at (l .inv .3 S .0)
 
 pub fill-lists-spec : {M : Type 1} → statement M
 fill-lists-spec =

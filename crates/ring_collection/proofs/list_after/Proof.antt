@@ -8,17 +8,27 @@ use Rattle.ring_collection.proofs.list_after.Statement.{statement}
 use Rattle.ring_collection.proofs.list_after.Tie as tie
 
 returns : tie.Need-returns
-returns c =
-    let r = c .before in
-    let s = r .before .before .before .before in
-    let a = s .args in
-    s .pre .1 (search needs) ∙ told-list (a .s) (a .sent) (plantedIn (now (a .planted)) (now (a .lengths))) (a .i) (a .last) (r .is-told-alike .ensures (c .if2 .taken))
+returns c S row =
+    let t = c .before .before in
+    let k = t .before in
+    let a = k .before .before .before .before .before .args in
+    row (search needs) ∙ told-list (a .s) (S .entry) (plantedIn (now (a .planted)) (now (a .lengths))) (a .i) (a .last) (k .is-told-alike .ensures (t .if2 .taken))
+
+list-for-requires : tie.Need-list-for-requires
+list-for-requires c κs = let p = c .before .before .before .before .pre in (p .0, p .3)
+
+returns-2 : tie.Need-returns-2
+returns-2 c S row = c .list-for .ensures S
 
 pub list-after-spec : {M : Type 1} → statement M
 list-after-spec =
     tie.close
     (tie.spec
     (λ c κs. search needs)
+    (λ c. search needs)
+    (λ c. search needs)
+    (λ c. search needs)
+    (λ c. search needs)
     returns
-    (λ c κs. search needs)
-    (λ c. search needs))
+    list-for-requires
+    returns-2)

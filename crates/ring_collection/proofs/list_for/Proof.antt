@@ -1,69 +1,76 @@
--- `ring_collection::list_for` meets its contract: before head k the marks and the numbers are those of the entries that are heard of the heads below k. A turn adds
--- the mark and stores the number of one entry.
-use mathlib.Core.Path.{_≡_, refl, ap, _∙_}
-use Prim.Native.Nat.{ℕ, _-_, _≤_, _<_}
+-- `ring_collection::list_for` meets its contract: before head k, what is planted by the struck heads below k is in the list. A turn adds the mark and stores the
+-- number of one entry.
+use mathlib.Core.Path.{_≡_, sym, _∙_}
+use mathlib.Core.Logic.{⊎-elim}
+use mathlib.Core.List.{List}
+use Prim.Native.Nat.{ℕ, _-_, _≤_}
 use native.Mathlib.Omega.{arith}
 use mir.Facts.{toZ-ofZ}
 use denote.Ref.{now}
 use borrow.Author.Needs.{needs}
-use Rattle.terms.specs.declared.Entry.{Entry}
-use Rattle.entries.specs.Entries.{zeros}
-use Rattle.entries.specs.Tables.{mark, number, marksOf, numbersOf}
-use Rattle.settle_trust.proofs.Tables.{marks-next, marks-fit, numbers-next}
 use Rattle.frame_slots.specs.Slots.{plantedIn}
-use Rattle.ring_collection.specs.Inner.{heardFrom}
-use Rattle.ring_collection.proofs.Lists.{table-filled}
+use Rattle.ring_round.specs.Memory.{heads}
+use Rattle.ring_collection.specs.Inner.{Shared}
+use Rattle.ring_collection.proofs.Lists.{Heard, heard-none, heard-passed, heard-room, heard-next, heard-last}
 use Rattle.ring_collection.proofs.list_for.Statement.{statement}
 use Rattle.ring_collection.proofs.list_for.Tie as tie
 
 abbrev Inv-loop : tie.InvT-loop
-Inv-loop s planted lengths i sent n marks₀ entries₀ k₀ marks entries k =
-    (k ≤ n)
-    × (marks ≡ marksOf k (heardFrom s sent (plantedIn planted lengths) i))
-    × (entries ≡ numbersOf k (heardFrom s sent (plantedIn planted lengths) i))
+Inv-loop s planted lengths i n marks₀ entries₀ k₀ marks entries k =
+    (k ≤ n) × ((S : Shared s (record { marks = marks₀; entries = entries₀ })) → Heard s S (plantedIn planted lengths) i k marks entries)
 
 abbrev μ-loop : tie.MeasureT-loop
-μ-loop s planted lengths i sent n marks₀ entries₀ k₀ marks entries k = n - k
+μ-loop s planted lengths i n marks₀ entries₀ k₀ marks entries k = n - k
 
 loop-holds : tie.Need-loop-holds Inv-loop μ-loop
-unfolding marksOf numbersOf zeros
-loop-holds c = (search needs, refl, refl)
+loop-holds c =
+    let a = c .before .before .before .before .args in
+    (search needs, λ S. heard-none (a .s) S (plantedIn (now (a .planted)) (now (a .lengths))) (a .i))
 
-module _ (c : tie.After-entry-heard Inv-loop μ-loop) where
-  abbrev here : tie.At-loop Inv-loop μ-loop
-  here = c .before .before .before
-
+module _ (l : tie.At-loop Inv-loop μ-loop) where
   abbrev start : tie.Start Inv-loop μ-loop
-  start = here .before .before .before .before
+  start = l .before .before .before .before .before
 
-  abbrev entries : ℕ → Entry
-  entries = let a = start .args in heardFrom (a .s) (a .t2) (plantedIn (now (a .planted)) (now (a .lengths))) (a .i)
+  abbrev plant : ℕ → ℕ → List ℕ
+  plant = plantedIn (now (start .args .planted)) (now (start .args .lengths))
 
-  below : here .loop .k < 32
-  below = omega (arith, here .before .head-count .ensures)
+  count : l .before .before .head-count .result ≡ heads (start .args .s)
+  count = l .before .before .head-count .ensures
 
 add-marks : tie.Need-add-marks Inv-loop μ-loop
 add-marks c =
     let e = c .before in
-    let l = here e .loop in
-    record { fits = marks-fit (entries e) (l .k) (below e) (l .inv .1) (c .mark-of .ensures ∙ ap mark (e .entry-heard .ensures)) }
+    let m = e .before .before in
+    let l = m .before .before in
+    let a = start l .args in
+    let S = start l .pre .1 in
+    record {
+      fits =
+          heard-room (a .s) S (plant l) (a .i) (l .loop .k) (l .loop .inv .1 S) (omega (arith, count l)) (sym (m .marked .ensures) ∙ e .before .if1 .taken)
+          (e .entry-planted .ensures) (c .mark-of .ensures);
+    }
 
 loop-again : tie.Need-loop-again Inv-loop μ-loop
 loop-again c =
     let m = c .before in
-    let e = m .before in
-    let l = here e .loop in (
+    let l = m .before .before in
+    let a = start l .args in
+    let b = sym (m .marked .ensures) in
+    ⊎-elim
+    (λ w. (
       search needs,
-      marks-next (entries e) (l .k) (below e) (l .inv .1) (m .mark-of .ensures ∙ ap mark (e .entry-heard .ensures)),
-      numbers-next (entries e) (l .k) (l .inv .2) (toZ-ofZ (record { sfits = c .number-of .ok }) ∙ c .number-of .ensures ∙ ap number (e .entry-heard .ensures)),
-    )
+      λ S. rw (w .4, w .5)
+          (heard-next (a .s) S (plant l) (a .i) (l .loop .k) (l .loop .inv .1 S) (omega (arith, count l)) (b ∙ w .0 .taken)
+          (w .1 .ensures) (w .2 .ensures) (toZ-ofZ (record { sfits = w .3 .ok }) ∙ w .3 .ensures)),
+    ))
+    (λ w. (search needs, λ S. rw (w .1, w .2) (heard-passed (a .s) S (plant l) (a .i) (l .loop .k) (l .loop .inv .1 S) (b ∙ w .0 .left))))
+    (c .if1 .came)
 
 returns : tie.Need-returns Inv-loop μ-loop
-returns c =
-    let l = c .before .loop in
-    let a = c .before .before .before .before .before .args in
-    table-filled (heardFrom (a .s) (a .t2) (plantedIn (now (a .planted)) (now (a .lengths))) (a .i))
-    (omega (arith, c .before .before .head-count .ensures)) (l .inv .1) (l .inv .2)
+returns c S =
+    let l = c .before in
+    let a = start l .args in
+    heard-last (a .s) S (plant l) (a .i) (omega (arith, count l)) (l .loop .inv .1 S)
 
 pub list-for-spec : {M : Type 1} → statement M
 list-for-spec =
@@ -74,8 +81,7 @@ list-for-spec =
     (λ c κs. search needs)
     (λ c. search needs)
     loop-holds
-    (λ c. search needs)
-    (λ c. search needs)
+    (λ c κs. search needs)
     (λ c κs. search needs)
     (λ c κs. search needs)
     (λ c. search needs)
