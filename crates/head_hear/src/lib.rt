@@ -260,8 +260,5 @@ pub fn hear_batch(h: Head, batch: &[u8], answers: &mut [u8], count: &mut usize) 
     }
     let head = hear_entries(h, batch, answers);
     *count = c.entries;
-    Answer {
-        refusal: 0,
-        head,
-    }
+    Answer { refusal: 0, head }
 }

@@ -6,4 +6,5 @@ pub mod Range
 pub mod RoundEnd
 pub mod Speaking
 pub mod Stops
+pub mod Batches
 pub mod Demand2

@@ -1,9 +1,9 @@
 -- A round's frames in one call (document 02, A1): the input is cut into entries, each a link byte and then a frame as long as its own length field says; the
 -- frames are heard in order. The call checks 15, then 24; nothing of it is heard if it is refused.
-use mathlib.Core.Bool.{Bool, true, cond, _&&_}
+use mathlib.Core.Bool.{Bool, true, false, cond, _&&_}
 use mathlib.Core.List.{List, [], _∷_, _++_}
 use Prim.Native.Nat.{ℕ, zero, suc, _+_}
-use lib.Dec.{eqb, leb}
+use lib.Dec.{leb}
 use lib.ListN.{length, getD, take, drop}
 use Rattle.terms.specs.Refusals as refusal
 use Rattle.terms.specs.Refusals.{check, leaves}
@@ -30,7 +30,8 @@ abbrev pub behindFirst : List ℕ → List ℕ
 behindFirst s = drop (1 + frameLength s) s
 
 abbrev pub isEmpty : List ℕ → Bool
-isEmpty s = eqb (length s) 0
+isEmpty [] = true
+isEmpty (b ∷ s) = false
 
 -- the whole entries at the front, m of them at most, and whether m at most are all that there is
 unfoldable pub cutInto : ℕ → List ℕ → List Delivery
