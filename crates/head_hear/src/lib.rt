@@ -1,16 +1,13 @@
 // Hearing, on a head's record by value: one frame, and a round's frames in one call. Each promise is an equation with a definition of head_spec's
 // specs/Calls.antt or specs/Batch.antt; a refusal gives its number and leaves the record, and what else is lent, as it was.
-ghost use mathlib.Core.Bool.{true, cond};
+ghost use mathlib.Core.Bool.{true};
 ghost use mathlib.Core.List.{_++_};
 ghost use mathlib.Core.Path.{_≡_};
-ghost use Prim.Native.Nat.{_+_, _≤_};
-ghost use lib.Dec.{leb};
+ghost use Prim.Native.Nat.{_≤_};
 ghost use lib.ListN.{length, drop};
-ghost use Rattle.terms.specs.Refusals as refusal;
-ghost use Rattle.terms.specs.Refusals.{check};
 ghost use Rattle.frame_spec.specs.Said.{saidOf};
 ghost use Rattle.head_spec.specs.Calls.{withEntry, withConfession, withList, hear, hearEach, answersTo};
-ghost use Rattle.head_spec.specs.Batch.{isWhole, frameLength, entriesOf, isBatch, batchRefusal, hearBatch, batchAnswers, batchCount};
+ghost use Rattle.head_spec.specs.Batch.{entrySize, entriesOf, isBatch, batchRefusal, hearBatch, batchAnswers, batchCount};
 ghost use Rattle.head_hear.specs.Steps.{linkRefusal, saidOn};
 use frame_spec::Said;
 use head_spec::Answer;
@@ -139,7 +136,7 @@ pub fn hear(h: Head, link: u32, frame: &[u8]) -> Answer
 
 // The bytes of the first entry of a batch, its link byte among them; 0 if it is not whole.
 pub fn entry_size(s: &[u8]) -> usize
-    ensures { λ r. ⌜ r ≡ cond (isWhole (now (s .entry))) (1 + frameLength (now (s .entry))) 0 ⌝ }
+    ensures { λ r. ⌜ r ≡ entrySize (now (s .entry)) ⌝ }
 {
     let len = fields::half_at(s, 1) as usize;
     if len < 4 {
@@ -152,34 +149,21 @@ pub fn entry_size(s: &[u8]) -> usize
 }
 
 // How a batch is cut: 0, or 15 or 24 with room for so many answers; and how many whole entries there are at its front.
-pub struct Cut {
+pub struct Cuts {
     pub refusal: u8,
     pub entries: usize,
 }
 
-// The number of a batch that is whole or not, with so many entries.
-fn cut_refusal(whole: bool, entries: usize, room: usize) -> u8
-    ensures { λ r. ⌜ r ≡ check whole refusal.batch-entry (check (leb entries room) refusal.buffer 0) ⌝ }
-{
-    if !whole {
-        return refusal::BATCH_ENTRY;
-    }
-    if room < entries {
-        return refusal::BUFFER;
-    }
-    0
-}
-
 // Cuts a batch into entries.
-pub fn cut(batch: &[u8], room: usize) -> Cut
+pub fn cut(batch: &[u8], room: usize) -> Cuts
     ensures { λ r. ⌜ r ≡ record { refusal = batchRefusal (now (batch .entry)) room; entries = length (entriesOf (now (batch .entry))) } ⌝ }
 {
     let mut at: usize = 0;
     let mut entries: usize = 0;
     while at < batch.len() {
-        let size = entry_size(&batch[at..]);
+        let size = entry_size(fields::bytes_from(batch, at));
         if size == 0 {
-            return Cut {
+            return Cuts {
                 refusal: refusal::BATCH_ENTRY,
                 entries,
             };
@@ -187,8 +171,14 @@ pub fn cut(batch: &[u8], room: usize) -> Cut
         at += size;
         entries += 1;
     }
-    Cut {
-        refusal: cut_refusal(true, entries, room),
+    if room < entries {
+        return Cuts {
+            refusal: refusal::BUFFER,
+            entries,
+        };
+    }
+    Cuts {
+        refusal: 0,
         entries,
     }
 }
@@ -204,22 +194,22 @@ fn hear_entries(h: Head, batch: &[u8], answers: &mut [u8]) -> Head
     let mut at: usize = 0;
     let mut i: usize = 0;
     while at < batch.len() {
-        let size = entry_size(&batch[at..]);
-        let link = batch[at];
+        let rest = fields::bytes_from(batch, at);
+        let size = entry_size(rest);
+        let frame = &rest[1..size];
+        let link = rest[0] as u32;
         let k = link as usize;
-        let frame = &batch[at + 1..at + size];
         let heard = next.heard;
-        match said_on(seat, heard, link as u32, frame) {
-            Said::Refused(number) => answers[i] = number,
+        let mut number: u8 = 0;
+        match said_on(seat, heard, link, frame) {
+            Said::Refused(refused) => number = refused,
             Said::Collection(entry) => {
-                answers[i] = 0;
                 next.heard = marks::with_mark(heard, k);
                 let list = next.list;
                 let filled = with_entry(list, k, entry);
                 next.list = filled;
             }
             Said::List => {
-                answers[i] = 0;
                 next.heard = marks::with_mark(heard, k);
                 let table = frame_codec::table_in(frame, seat.n);
                 let links = next.links;
@@ -231,13 +221,13 @@ fn hear_entries(h: Head, batch: &[u8], answers: &mut [u8]) -> Head
                 }
             }
             Said::Confession => {
-                answers[i] = 0;
                 next.heard = marks::with_mark(heard, k);
                 let links = next.links;
                 let confessed = with_confession(links, k);
                 next.links = confessed;
             }
         }
+        answers[i] = number;
         at += size;
         i += 1;
     }

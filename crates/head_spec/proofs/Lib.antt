@@ -7,4 +7,5 @@ pub mod RoundEnd
 pub mod Speaking
 pub mod Stops
 pub mod Batches
+pub mod BatchLoop
 pub mod Demand2

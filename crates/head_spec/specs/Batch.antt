@@ -29,6 +29,10 @@ firstEntry s = record { link = getD s 0 0; bytes = take (frameLength s) (drop 1 
 abbrev pub behindFirst : List ℕ → List ℕ
 behindFirst s = drop (1 + frameLength s) s
 
+-- its bytes, the link byte among them, or 0 if it is not whole
+abbrev pub entrySize : List ℕ → ℕ
+entrySize s = cond (isWhole s) (1 + frameLength s) 0
+
 abbrev pub isEmpty : List ℕ → Bool
 isEmpty [] = true
 isEmpty (b ∷ s) = false
