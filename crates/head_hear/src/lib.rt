@@ -205,16 +205,12 @@ fn hear_entries(h: Head, batch: &[u8], answers: &mut [u8]) -> Head
             Said::Refused(refused) => number = refused,
             Said::Collection(entry) => {
                 next.heard = marks::with_mark(heard, k);
-                let list = next.list;
-                let filled = with_entry(list, k, entry);
-                next.list = filled;
+                next.list = with_entry(next.list, k, entry);
             }
             Said::List => {
                 next.heard = marks::with_mark(heard, k);
                 let table = frame_codec::table_in(frame, seat.n);
-                let links = next.links;
-                let listed = with_list(links, k, table);
-                next.links = listed;
+                next.links = with_list(next.links, k, table);
                 if k < 32 {
                     let entries = table.entries;
                     next.lists[k] = Row { entries };
@@ -222,9 +218,7 @@ fn hear_entries(h: Head, batch: &[u8], answers: &mut [u8]) -> Head
             }
             Said::Confession => {
                 next.heard = marks::with_mark(heard, k);
-                let links = next.links;
-                let confessed = with_confession(links, k);
-                next.links = confessed;
+                next.links = with_confession(next.links, k);
             }
         }
         answers[i] = number;
