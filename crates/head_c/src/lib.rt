@@ -371,8 +371,9 @@ fn hear_entries(h: &mut [u32], batch: &[u8], answers: &mut [u8])
     let mut at: usize = 0;
     let mut i: usize = 0;
     while at < batch.len() {
-        let size = head_hear::entry_size(&batch[at..]);
-        answers[i] = hear(h, batch[at] as u32, &batch[at + 1..at + size]);
+        let rest = fields::bytes_from(batch, at);
+        let size = head_hear::entry_size(rest);
+        answers[i] = hear(h, rest[0] as u32, &rest[1..size]);
         at += size;
         i += 1;
     }

@@ -10,7 +10,7 @@ use lib.Seq.{drop-drop, drop-set-lt, take-suc-set}
 use Rattle.head_spec.specs.declared.Head.{Head}
 use Rattle.head_spec.specs.declared.Answer.{Answer}
 use Rattle.head_spec.specs.Calls.{Delivery, hear, hearEach, answersTo}
-use Rattle.head_spec.specs.Batch.{frameLength, isWhole, firstEntry, entrySize, cutInto, entriesOf, isBatch}
+use Rattle.head_spec.specs.Batch.{frameLength, isWhole, entrySize, cutInto, entriesOf, isBatch}
 use Rattle.head_spec.proofs.Batches.{batch-whole, size-here, fits-here, cut-here, told-here, answers-count}
 
 -- the record h hears the batch s, with room a for the answers: the first `at` bytes, i frames, have made of it T, and of the buffer b
@@ -44,25 +44,28 @@ module _ {h T : Head} {s a b : List ℕ} {at i : ℕ} (G : Hearing h s a T b at 
   whole : isWhole rest ≡ true
   whole = batch-whole rest (G .told) (omega (arith, length-drop at s))
 
+  -- as code cuts it
+  pub cut : entriesOf rest ≡ record { link = getD rest 0 0; bytes = take (n - 1) (drop 1 rest) } ∷ entriesOf (drop (at + n) s)
+  cut =
+      let less : frameLength rest ≡ n - 1 = omega (arith, size-here s at whole e) in
+      cut-here s at whole e ∙ ap (λ (m : ℕ). record { link = getD rest 0 0; bytes = take m (drop 1 rest) } ∷ entriesOf (drop (at + n) s)) less
+
   -- it is inside the batch, and there is room for its answer
   pub fits : (5 ≤ n) × (at + n ≤ length s) × (i < length b)
-  fits = let (long, short) = fits-here s at whole e in (long, short, omega (arith, ap length (cut-here s at whole e), G .room, G .long))
+  fits = let (long, short) = fits-here s at whole e in (long, short, omega (arith, ap length cut, G .room, G .long))
 
   -- x is what hearing it answers
   pub goes-on : {x : Answer} → x ≡ hear T (getD rest 0 0) (take (n - 1) (drop 1 rest)) → Hearing h s a (x .head) (set b i (x .refusal)) (at + n) (i + 1)
   unfolding hearEach answersTo
   goes-on {x} q =
       let (long, short, place) = fits in
-      let cut = cut-here s at whole e in
-      let less : n - 1 ≡ frameLength rest = omega (arith, size-here s at whole e) in
-      let heard : x ≡ hear T (firstEntry rest .link) (firstEntry rest .bytes) = q ∙ rw less in
       record {
         inside = short;
         told = sym (told-here s at whole e) ∙ G .told;
         room = omega (arith, ap length cut, G .room);
         long = length-set b i (x .refusal) ∙ G .long;
-        head = rw heard (sym (ap (hearEach T) cut) ∙ G .head);
+        head = rw q (sym (ap (hearEach T) cut) ∙ G .head);
         answers =
-            rw (add-one i, take-suc-set b i (x .refusal) place, append-assoc, heard) (ap (λ (D : List Delivery). take i b ++ answersTo T D) (sym cut) ∙ G .answers);
+            rw (add-one i, take-suc-set b i (x .refusal) place, append-assoc, q) (ap (λ (D : List Delivery). take i b ++ answersTo T D) (sym cut) ∙ G .answers);
         behind = drop-set-lt (i + 1) b i (x .refusal) (omega arith) ∙ sym (drop-drop 1 i b) ∙ ap (drop 1) (G .behind) ∙ drop-drop 1 i a;
       }
