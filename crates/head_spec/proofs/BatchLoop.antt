@@ -36,32 +36,36 @@ ends {h} {T} {s} {a} {b} {at} {i} G l =
     let count : i ≡ length (entriesOf s) = omega (arith, ap length front, length-take i b, answers-count (entriesOf s) h, G .room, G .long) in
     (rw none at (G .head), sym (take-append-drop i b) ∙ rw (front, G .behind, ← count))
 
--- one frame more, of n bytes with its link
-module _ {h T : Head} {s a b : List ℕ} {at i : ℕ} (G : Hearing h s a T b at i) (l : at < length s) {n : ℕ} (e : n ≡ entrySize (drop at s)) where
-  abbrev rest : List ℕ
-  rest = drop at s
+-- one frame more, of n bytes with its link; t is what remains, as code has it
+module _ {h T : Head} {s a b t : List ℕ} {at i n : ℕ} (G : Hearing h s a T b at i) (l : at < length s) (r : t ≡ drop at s) (e : n ≡ entrySize t) where
+  whole : isWhole (drop at s) ≡ true
+  whole = batch-whole (drop at s) (G .told) (omega (arith, length-drop at s))
 
-  whole : isWhole rest ≡ true
-  whole = batch-whole rest (G .told) (omega (arith, length-drop at s))
+  size : n ≡ entrySize (drop at s)
+  size = e ∙ ap entrySize r
 
-  -- as code cuts it
-  pub cut : entriesOf rest ≡ record { link = getD rest 0 0; bytes = take (n - 1) (drop 1 rest) } ∷ entriesOf (drop (at + n) s)
+  pub cut : entriesOf (drop at s) ≡ record { link = getD t 0 0; bytes = take (n - 1) (drop 1 t) } ∷ entriesOf (drop (at + n) s)
   cut =
-      let less : frameLength rest ≡ n - 1 = omega (arith, size-here s at whole e) in
-      cut-here s at whole e ∙ ap (λ (m : ℕ). record { link = getD rest 0 0; bytes = take m (drop 1 rest) } ∷ entriesOf (drop (at + n) s)) less
+      let D = entriesOf (drop (at + n) s) in
+      let less : frameLength (drop at s) ≡ n - 1 = omega (arith, size-here s at whole size) in
+      cut-here s at whole size
+      ∙ ap (λ (m : ℕ). record { link = getD (drop at s) 0 0; bytes = take m (drop 1 (drop at s)) } ∷ D) less
+      ∙ ap (λ (u : List ℕ). record { link = getD u 0 0; bytes = take (n - 1) (drop 1 u) } ∷ D) (sym r)
 
   -- it is inside the batch, and there is room for its answer
-  pub fits : (5 ≤ n) × (at + n ≤ length s) × (i < length b)
-  fits = let (long, short) = fits-here s at whole e in (long, short, omega (arith, ap length cut, G .room, G .long))
+  pub fits : (5 ≤ n) × (n ≤ length t) × (at + n ≤ length s) × (i < length b)
+  fits =
+      let (long, short) = fits-here s at whole size in
+      (long, omega (arith, short, ap length r, length-drop at s), short, omega (arith, ap length cut, G .room, G .long))
 
   -- x is what hearing it answers
-  pub goes-on : {x : Answer} → x ≡ hear T (getD rest 0 0) (take (n - 1) (drop 1 rest)) → Hearing h s a (x .head) (set b i (x .refusal)) (at + n) (i + 1)
+  pub goes-on : {x : Answer} → x ≡ hear T (getD t 0 0) (take (n - 1) (drop 1 t)) → Hearing h s a (x .head) (set b i (x .refusal)) (at + n) (i + 1)
   unfolding hearEach answersTo
   goes-on {x} q =
-      let (long, short, place) = fits in
+      let (long, within, short, place) = fits in
       record {
         inside = short;
-        told = sym (told-here s at whole e) ∙ G .told;
+        told = sym (told-here s at whole size) ∙ G .told;
         room = omega (arith, ap length cut, G .room);
         long = length-set b i (x .refusal) ∙ G .long;
         head = rw q (sym (ap (hearEach T) cut) ∙ G .head);

@@ -3,13 +3,12 @@ use mathlib.Core.Path.{_≡_, refl, ap, sym, _∙_}
 use mathlib.Core.List.{List, [], _∷_}
 use Prim.Native.Nat.{ℕ, _+_, _-_, _≤_, _<_}
 use native.Mathlib.Omega.{arith}
-use lib.ListN.{length, getD, take, drop, length-drop, drop-of-length-le}
+use lib.ListN.{length, getD, take, drop, drop-of-length-le}
 use denote.Ref.{now}
 use borrow.Author.Needs.{needs}
 use Rattle.terms.specs.Refusals.{leaves}
-use Rattle.head_spec.specs.declared.Answer.{Answer}
 use Rattle.head_spec.specs.Calls.{saidTo, hear, Delivery}
-use Rattle.head_spec.specs.Batch.{entrySize, entriesOf, cutInto}
+use Rattle.head_spec.specs.Batch.{entriesOf, cutInto}
 use Rattle.head_spec.proofs.BatchLoop.{Hearing, begins, ends, cut, fits, goes-on}
 use Rattle.head_c.specs.Blocks.{IsBlock, headOf, heardIn, Hears, heardEach}
 use Rattle.head_c.proofs.hear_entries.Statement.{statement}
@@ -40,17 +39,9 @@ module _ (c : tie.After-entry-size Inv-loop μ-loop) where
   abbrev rest : List ℕ
   rest = now (c .before .bytes-from .result)
 
-  rest-is : rest ≡ drop (here .loop .at) batch
-  rest-is = c .before .bytes-from .ensures
-
-  size : c .entry-size .result ≡ entrySize (drop (here .loop .at) batch)
-  size = c .entry-size .ensures ∙ ap entrySize rest-is
-
-  in-batch : let n = c .entry-size .result in (5 ≤ n) × (here .loop .at + n ≤ length batch) × (here .loop .i < length (here .loop .answers))
-  in-batch = fits (here .loop .inv .0) (c .before .before .loop-test .taken) size
-
-  in-rest : c .entry-size .result ≤ length rest
-  in-rest = omega (arith, in-batch, ap length rest-is, length-drop (here .loop .at) batch)
+  in-batch : let n = c .entry-size .result in
+      (5 ≤ n) × (n ≤ length rest) × (here .loop .at + n ≤ length batch) × (here .loop .i < length (here .loop .answers))
+  in-batch = fits (here .loop .inv .0) (c .before .before .loop-test .taken) (c .before .bytes-from .ensures) (c .entry-size .ensures)
 
 -- one frame more
 each-next : {w w′ s : List ℕ} {k r : ℕ} (D : List Delivery) → Hears w k s r w′ → heardEach w (record { link = k; bytes = s } ∷ D) ≡ heardEach w′ D
@@ -65,17 +56,15 @@ loop-again c =
     let l = here e .loop in
     let n = e .entry-size .result in
     let H = d .hear .ensures in
-    let heard : record { refusal = d .hear .result; head = headOf (d .hear .last .0) } ≡ hear (headOf (l .h)) (getD (rest e) 0 0) (take (n - 1) (drop 1 (rest e))) = rw (H .refusal, H .head) in
-    let D = entriesOf (drop (l .at + n) (batch e)) in
-    let in-loop = e .before .before .loop-test .taken in (
-      goes-on (l .inv .0) in-loop (size e) (heard ∙ ap (λ (s : List ℕ). hear (headOf (l .h)) (getD s 0 0) (take (n - 1) (drop 1 s))) (rest-is e)),
+    let heard : record { refusal = d .hear .result; head = headOf (d .hear .last .0) } ≡ hear (headOf (l .h)) (getD (rest e) 0 0) (take (n - 1) (drop 1 (rest e)))
+    = rw (H .refusal, H .head) in
+    let taken = e .before .before .loop-test .taken in
+    let rest-is = e .before .bytes-from .ensures in
+    let size = e .entry-size .ensures in (
+      goes-on (l .inv .0) taken rest-is size heard,
       record {
         block = d .hear .kept .0 ∙ l .inv .1 .block;
-        each =
-            sym (each-next D H)
-            ∙ ap (λ (s : List ℕ). heardEach (l .h) (record { link = getD s 0 0; bytes = take (n - 1) (drop 1 s) } ∷ D)) (rest-is e)
-            ∙ sym (ap (heardEach (l .h)) (cut (l .inv .0) in-loop (size e)))
-            ∙ l .inv .1 .each;
+        each = sym (each-next (entriesOf (drop (l .at + n) (batch e))) H) ∙ sym (ap (heardEach (l .h)) (cut (l .inv .0) taken rest-is size)) ∙ l .inv .1 .each;
       },
     )
 
@@ -96,11 +85,11 @@ hear-entries-spec =
     loop-holds
     (λ c κs. search needs)
     (λ c κs. search needs)
-    (λ c. omega (arith, in-batch (c .before .before), in-rest (c .before .before)))
+    (λ c. omega (arith, in-batch (c .before .before)))
     (λ c. omega (arith, c .shared-slice-known2 .given 0))
     (λ c. omega (arith, in-batch (c .before .before)))
     (λ c. omega (arith, in-batch (c .before .before)))
-    (λ c. omega (arith, in-rest (c .before .before)))
+    (λ c. omega (arith, in-batch (c .before .before)))
     (λ c κs. c .before .before .before .before .before .before .loop .inv .1 .block)
     (λ c. omega (arith, in-batch (c .before .before .before .before .before .before)))
     (λ c. omega (arith, in-batch (c .before .before .before .before .before .before)))

@@ -5,7 +5,7 @@ use mathlib.Core.List.{List}
 use mathlib.Core.Logic.{⊎-elim}
 use Prim.Native.Nat.{ℕ, _+_, _-_, _≤_, _<_}
 use native.Mathlib.Omega.{arith}
-use lib.ListN.{length, getD, take, drop, length-drop}
+use lib.ListN.{length, getD, take, drop}
 use lib.Seq.{set-out}
 use denote.Ref.{now}
 use borrow.Author.Needs.{needs}
@@ -15,7 +15,6 @@ use Rattle.head_spec.specs.declared.Seat.{Seat}
 use Rattle.head_spec.specs.declared.Head.{Head}
 use Rattle.head_spec.specs.declared.Answer.{Answer}
 use Rattle.head_spec.specs.Calls.{hear}
-use Rattle.head_spec.specs.Batch.{entrySize}
 use Rattle.head_spec.proofs.Taking.{hear-keeps}
 use Rattle.head_spec.proofs.BatchLoop.{Hearing, begins, ends, fits, goes-on}
 use Rattle.head_hear.specs.Steps.{saidOn}
@@ -50,18 +49,9 @@ module _ (c : tie.After-entry-size Inv-loop μ-loop) where
   abbrev rest : List ℕ
   rest = now (c .before .bytes-from .result)
 
-  rest-is : rest ≡ drop (here .loop .at) (now (first .args .batch))
-  rest-is = c .before .bytes-from .ensures
-
-  size : c .entry-size .result ≡ entrySize (drop (here .loop .at) (now (first .args .batch)))
-  size = c .entry-size .ensures ∙ ap entrySize rest-is
-
   in-batch : let n = c .entry-size .result in
-      (5 ≤ n) × (here .loop .at + n ≤ length (now (first .args .batch))) × (here .loop .i < length (here .loop .answers))
-  in-batch = fits (here .loop .inv .0) (c .before .before .loop-test .taken) size
-
-  in-rest : c .entry-size .result ≤ length rest
-  in-rest = omega (arith, in-batch, ap length rest-is, length-drop (here .loop .at) (now (first .args .batch)))
+      (5 ≤ n) × (n ≤ length rest) × (here .loop .at + n ≤ length (now (first .args .batch))) × (here .loop .i < length (here .loop .answers))
+  in-batch = fits (here .loop .inv .0) (c .before .before .loop-test .taken) (c .before .bytes-from .ensures) (c .entry-size .ensures)
 
 -- what was said
 module _ (c : tie.After-said-on Inv-loop μ-loop) where
@@ -115,10 +105,8 @@ loop-again : tie.Need-loop-again Inv-loop μ-loop
 loop-again c =
     let d = c .before in
     let e = entry d in
-    let a = answered c in
-    let n = e .entry-size .result in
-    let heard = ap (λ (l : List ℕ). hear (T d) (getD l 0 0) (take (n - 1) (drop 1 l))) (rest-is e) in (
-      goes-on (here e .loop .inv .0) (e .before .before .loop-test .taken) (size e) (a ∙ heard),
+    let a = answered c in (
+      goes-on (here e .loop .inv .0) (e .before .before .loop-test .taken) (e .before .bytes-from .ensures) (e .entry-size .ensures) a,
       record {
         seat = ap (λ (x : Answer). x .head .seat) a ∙ hear-keeps (T d) (k d) (s d) ∙ here e .loop .inv .1 .seat;
         full = rw (← a) at (full-hear (T d) (k d) (s d) (here e .loop .inv .1 .full));
@@ -139,8 +127,8 @@ hear-entries-spec =
     (λ c κs. search needs)
     (λ c. omega (arith, in-batch c))
     (λ c. omega (arith, in-batch c))
-    (λ c. omega (arith, in-rest c))
-    (λ c. omega (arith, in-batch (c .before .before), in-rest (c .before .before)))
+    (λ c. omega (arith, in-batch c))
+    (λ c. omega (arith, in-batch (c .before .before)))
     (λ c. omega (arith, c .shared-slice-known2 .given 0))
     (λ c. omega (arith, c .shared-slice-known2 .given 0))
     (λ c κs. search needs)
