@@ -6,7 +6,7 @@ pub const MARGIN: f64 = 1.5;
 pub const MEMORY: u64 = 16_000_000;
 
 /// The name of a row, and its bar. A row that is not here has none.
-pub const BARS: [(&str, f64); 9] = [
+pub const BARS: [(&str, f64); 11] = [
     ("(5,1) struck, other heads in each round", 1.0 / 6.0),
     ("(5,1) struck, the same heads in all rounds", 1.0 / 6.0),
     ("(32,8) quiet", 1.0 / 120.0),
@@ -16,6 +16,8 @@ pub const BARS: [(&str, f64); 9] = [
     ("hearing a list, (5,1)", 1.0),
     ("hearing a position, (32,8)", 2.0),
     ("hearing a list, (32,8)", 1.0),
+    ("hearing a batch of positions, (32,8)", 2.0),
+    ("hearing a batch of lists, (32,8)", 2.0),
 ];
 
 pub fn of(name: &str) -> Option<f64> {
