@@ -23,7 +23,8 @@ pub record Lending : Type 2 where
   pub D : Type 0
   pub number : D → ℕ
   pub next : D → T .D
-  pub one : (x y : D) → _≡_ {A = ℕ × (Denots (fields T) × Unit {0})} (number x, (T .to (next x), tt)) (number y, (T .to (next y), tt)) → x ≡ y
+  pub one : (x y : D) → _≡_ {A = ℕ × (Denots (fields T) × Unit {0})} (number x, (T .to (next x), tt)) (number y, (T .to (next y), tt))
+      → x ≡ y
 
 module _ (L : Lending) where
   -- the record's and the answer's rows, and their machine values
@@ -31,7 +32,15 @@ module _ (L : Lending) where
   R = row (L .T)
 
   abbrev pub Answer : Declared
-  Answer = record { name = L .answer; args = []; parts = u8-field ∷ field (L .T) ∷ []; D = L .D; to = λ d. (L .number d, (L .T .to (L .next d), tt)); to-one = L .one }
+  Answer = record {
+    name = L .answer;
+    args = [];
+    parts = u8-field ∷ field (L .T) ∷ [];
+    D = L .D;
+    to =
+        λ d. (L .number d, (L .T .to (L .next d), tt));
+    to-one = L .one;
+  }
 
   abbrev pub S : RattleType
   S = row Answer

@@ -1,4 +1,5 @@
--- The proofs by hand of the thin functions over a lent record: a walk of the MIR for each form, written once for every record of plain data.
+-- The proofs by hand of the thin functions over a lent record: a walk of the MIR for each form, written once for every record of plain
+-- data.
 pub mod Lending
 pub mod Locals
 pub mod Routines

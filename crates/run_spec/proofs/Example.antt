@@ -1,5 +1,6 @@
--- Document 01's example, played from its bytes by computation: n = 5, f = 1, positions 10 20 30 40 50, a round with head 4 struck and none planted, a
--- round with none struck. Every definition between the bytes and the listing is unfolded, so the two lists of bytes are the same by computing.
+-- Document 01's example, played from its bytes by computation: n = 5, f = 1, positions 10 20 30 40 50, a round with head 4 struck and
+-- none planted, a round with none struck. Every definition between the bytes and the listing is unfolded, so the two lists of bytes
+-- are the same by computing.
 use mathlib.Core.Path.{_≡_, refl}
 use mathlib.Core.List.{List, [], _∷_}
 use Prim.Native.Nat.{ℕ}
@@ -44,5 +45,10 @@ printed =
     ∷ []
 
 pub example : listing file ≡ printed
-unfolding file printed unread feed step readOn judged isCount isLimit positionsFit isPosition signedOf wordOf fewMarks marksBelow bitOf withMark sum ending roundsPlayed endsPlayed listingOf title lines line digits size decimal hex lowest highest spread gap endsAfter ringAfter firstHeads afterRound closedAt carried openedAt lost started restarted hearAll hearEach hear hearRefusal refusalOf checkFrame said tableIn entriesFit numbers zeros entryAt entryBytes eqZ spoken close closedCollection closedPhase settling enough nulls trim ordered insert lowKept highKept middle midpoint half floorDiv rounding trusted support confessions seen givenBy noEntries noLinks noLists
+unfolding file printed unread feed step readOn judged isCount isLimit positionsFit isPosition signedOf wordOf fewMarks marksBelow bitOf
+    withMark sum ending roundsPlayed endsPlayed listingOf title lines line digits size decimal hex lowest highest spread gap endsAfter
+    ringAfter firstHeads afterRound closedAt carried openedAt lost started restarted hearAll hearEach hear hearRefusal refusalOf
+    checkFrame said tableIn entriesFit numbers zeros entryAt entryBytes eqZ spoken close closedCollection closedPhase settling enough
+    nulls trim ordered insert lowKept highKept middle midpoint half floorDiv rounding trusted support confessions seen givenBy
+    noEntries noLinks noLists
 example = refl
