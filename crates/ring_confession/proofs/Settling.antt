@@ -26,7 +26,7 @@ use Rattle.settle_trust.specs.Received.{givenBy}
 use Rattle.head_spec.specs.Record.{givenOf}
 use Rattle.ring_round.specs.declared.Stage.{Stage}
 use Rattle.ring_round.specs.Memory.{heads, hears, rowIn, replies, givenEntry, positionOf, newPosition}
-use Rattle.ring_shared.specs.Planted.{givenTo, settledFrom, Alike}
+use Rattle.ring_shared.specs.Planted.{isStruck, givenTo, settledFrom, Alike}
 use Rattle.ring_shared.proofs.Settling.{settled-same}
 use Rattle.ring_shared.proofs.Told.{given-positions}
 use Rattle.ring_confession.specs.Inner.{ownReply, replied, Received, RowsKept, givenAlike, Untold}
@@ -72,10 +72,10 @@ module _ (s : Stage) (g : Links) (rows rows′ : List (List ℤ)) (h : RowsKept 
   planted-kept plant i = ap (λ (G : ℕ → Given). givenTo s G plant i) (h .gives)
 
 -- the links and the rows hold what the unstruck heads give alike
-module _ (s : Stage) (marks : List ℕ) (lists : List (List ℤ)) (g : Links) (rows : List (List ℤ)) (h : Received g rows (givenAlike s marks lists)) where
-  pub alike-untold : Untold s g rows
+module _ (s : Stage) (marks : List ℕ) (lists : List (List ℤ)) (g : Links) (rows : List (List ℤ)) (gives : (k : ℕ) → givenBy g rows k ≡ givenAlike s marks lists k) where
+  untold-given : (k : ℕ) → isStruck s k ≡ true → givenBy g rows k ≡ nothing
   unfolding givenAlike
-  alike-untold = record { marks-long = h .marks-long; rows-long = h .rows-long; untold = λ k e. h .gives k ∙ go (ltb k (heads s)) (bitOf (s .struck) k) _ e }
+  untold-given k e = gives k ∙ go (ltb k (heads s)) (bitOf (s .struck) k) _ e
     where
       go : (l b : Bool) (x : Given) → (l && b) ≡ true → cond (l && not b) x nothing ≡ nothing
       go true true x e = refl
@@ -84,7 +84,7 @@ module _ (s : Stage) (marks : List ℕ) (lists : List (List ℤ)) (g : Links) (r
 
   pub alike-given : Alike s (givenBy g rows)
   unfolding givenAlike replied
-  alike-given = record { untold = alike-untold .untold; ranged = λ k l j m u q. go k j m u (hears s k) (sym (ap (saysOf j) (h .gives k)) ∙ q) }
+  alike-given = record { untold = untold-given; ranged = λ k l j m u q. go k j m u (hears s k) (sym (ap (saysOf j) (gives k)) ∙ q) }
     where
       go : (k j : ℕ) → j < heads s → (u : ℤ) (b : Bool) → saysOf j (cond b (givenOf (replied s marks lists k)) nothing) ≡ Position u → isPosition u ≡ true
       go k j m u true q = given-positions (heads s) (s .phase) 1 k _ (omega arith) j m u q
@@ -93,7 +93,7 @@ module _ (s : Stage) (marks : List ℕ) (lists : List (List ℤ)) (g : Links) (r
   module _ (plant : ℕ → ℕ → List ℕ) (i : ℕ) where
     given-same : (k : ℕ) → k < heads s → givenTo s (givenBy g rows) plant i k ≡ givenEntry s marks lists plant i k
     unfolding givenTo givenAlike givenEntry replied
-    given-same k l = rw (h .gives k, lt-ltb k (heads s) l) (go (bitOf (s .struck) k))
+    given-same k l = rw (gives k, lt-ltb k (heads s) l) (go (bitOf (s .struck) k))
       where
         go : (b : Bool) → cond b (givenOf (said (heads s) (s .phase) 1 k (plant k i)))
             (cond (not b) (givenOf (said (heads s) (s .phase) 1 k (frameOf (heads s) k (s .phase) (replies s marks lists k)))) nothing)
@@ -104,3 +104,7 @@ module _ (s : Stage) (marks : List ℕ) (lists : List (List ℤ)) (g : Links) (r
     pub new-settled : settledFrom s (givenTo s (givenBy g rows) plant i) ≡ newPosition s marks lists plant i
     unfolding settledFrom newPosition
     new-settled = settled-same s _ _ given-same
+
+pub alike-untold : (s : Stage) (marks : List ℕ) (lists : List (List ℤ)) (g : Links) (rows : List (List ℤ)) → Received g rows (givenAlike s marks lists) → Untold s g rows
+alike-untold s marks lists g rows h =
+    record { marks-long = h .marks-long; rows-long = h .rows-long; untold = untold-given s marks lists g rows (h .gives) }

@@ -1,16 +1,19 @@
 // A confession round of a whole ring, played on the heads' memory: each head that is not struck settles by the same functions that the head's calls are made
 // of. What all unstruck heads say is read once.
-ghost use mathlib.Core.Bool.{true, cond};
+ghost use mathlib.Core.Bool.{true, false, cond};
 ghost use mathlib.Core.Path.{_≡_};
-ghost use Prim.Native.Nat.{ℕ, _<_};
+ghost use Prim.Native.Nat.{ℕ, _≤_, _<_};
 ghost use lib.ListN.{length, getD};
 ghost use lib.IntN.{pos};
+ghost use Rattle.terms.specs.Positions.{isPosition};
+ghost use Rattle.marks.specs.Marks.{bitOf};
+ghost use Rattle.convergence.specs.Counting.{Each};
 ghost use Rattle.frame_spec.specs.Said.{said};
 ghost use Rattle.settle_trust.specs.Received.{givenBy};
 ghost use Rattle.head_spec.specs.Record.{givenOf};
 ghost use Rattle.ring_round.specs.Memory.{hears, replies, newPosition};
 ghost use Rattle.frame_slots.specs.Slots.{plantedIn};
-ghost use Rattle.ring_confession.specs.Inner.{ownReply, replied, linksWith, rowsWith, heardOn, Heard, Received, RowsKept, givenAlike, Untold};
+ghost use Rattle.ring_confession.specs.Inner.{ownReply, replied, linksWith, rowsWith, heardOn, Heard, Received, RowsKept, givenAlike, Untold, ListFits, ListsFit, OwnLinks, ConfessedAll, ConfessesAll};
 ghost use Rattle.ring_shared.specs.Planted.{givenTo, settledFrom};
 use frame_spec::Said;
 use ring_round::Stage;
@@ -20,6 +23,135 @@ use terms::Lists;
 use terms::Numbers;
 use terms::Table;
 use terms::Words;
+
+// ---- Lists that a frame can say. They are heard as they are, so no frame is written.
+
+// Whether the first n numbers of a list are positions. All are looked at, without a branch, so that many are tested at once.
+fn all_positions(list: &Numbers, n: usize) -> bool
+    requires { ⌜ n ≤ 32 ⌝ }
+    ensures { λ r. ⌜ (r ≡ true → Each n (λ j. isPosition (getD (now (list .entry)) j (pos 0)) ≡ true)) ⌝ }
+{
+    let mut fit = true;
+    let mut j: usize = 0;
+    while j < n {
+        if !steps::is_position(list[j]) {
+            fit = false;
+        }
+        j += 1;
+    }
+    fit
+}
+
+// Whether the number v may stand at entry j: if that is not marked, 0 alone.
+fn is_spared(m: u32, j: usize, v: i32) -> bool
+    ensures { λ r. ⌜ (r ≡ true → bitOf m j ≡ false → v ≡ pos 0) ⌝ }
+{
+    if marks::marked(m, j) { true } else { v == 0 }
+}
+
+// Whether those of the first n numbers of a list that are not marked are 0.
+fn nulls_zero(m: u32, list: &Numbers, n: usize) -> bool
+    requires { ⌜ n ≤ 32 ⌝ }
+    ensures { λ r. ⌜ (r ≡ true → Each n (λ j. bitOf m j ≡ false → getD (now (list .entry)) j (pos 0) ≡ pos 0)) ⌝ }
+{
+    let mut fit = true;
+    let mut j: usize = 0;
+    while j < n {
+        if !is_spared(m, j, list[j]) {
+            fit = false;
+        }
+        j += 1;
+    }
+    fit
+}
+
+// Whether a list of n entries is one that a frame can say.
+fn list_fits(m: u32, list: &Numbers, n: usize) -> bool
+    requires { ⌜ n ≤ 32 ⌝ }
+    ensures { λ r. ⌜ (r ≡ true → ListFits n m (now (list .entry))) ⌝ }
+{
+    if !marks::marks_below(m, n) {
+        return false;
+    }
+    if !all_positions(list, n) {
+        return false;
+    }
+    if marks::all_marked(m, n) {
+        return true;
+    }
+    nulls_zero(m, list, n)
+}
+
+// Whether each list that is to be said is one that a frame can say.
+fn all_fit(marks: &Words, lists: &Lists, listed: u32, n: usize) -> bool
+    requires { ⌜ n ≤ 32 ⌝ }
+    ensures { λ r. ⌜ (r ≡ true → ListsFit n listed (now (marks .entry)) (now (lists .entry))) ⌝ }
+{
+    let mut k: usize = 0;
+    while k < n {
+        if marks::marked(listed, k) {
+            if !list_fits(marks[k], &lists[k], n) {
+                return false;
+            }
+        }
+        k += 1;
+    }
+    true
+}
+
+// What the unstruck heads say, beside their lists: a healed head a confession, any other its list.
+fn links_of(s: Stage, marks: &Words) -> Links
+    ensures { λ r. ⌜ OwnLinks s (now (marks .entry)) r ⌝ }
+{
+    let n = ring_round::head_count(s) as usize;
+    let mut confessed: u32 = 0;
+    let mut listed: u32 = 0;
+    let mut k: usize = 0;
+    while k < n {
+        if !marks::marked(s.struck, k) {
+            if marks::marked(s.before, k) {
+                confessed = marks::with_mark(confessed, k);
+            } else {
+                listed = marks::with_mark(listed, k);
+            }
+        }
+        k += 1;
+    }
+    Links {
+        confessed,
+        listed,
+        marks: *marks,
+    }
+}
+
+// Settles all heads from the lists as they are. Answers no, and leaves the positions as they were, if no head is struck, if a list is none that a frame can say, or
+// if what all heads hear does not decide.
+fn confess_own(
+    s: Stage,
+    marks: &Words,
+    lists: &Lists,
+    planted: &[u8],
+    lengths: &[u8],
+    positions: &mut Numbers,
+) -> bool
+    ensures { λ r. ⌜ ConfessesAll r s (now (marks .entry)) (now (lists .entry)) (plantedIn (now (planted .entry)) (now (lengths .entry))) (now (positions .entry)) (now (positions .exit)) ⌝ }
+{
+    if s.struck == 0 {
+        return false;
+    }
+    let links = links_of(s, marks);
+    if !all_fit(
+        marks,
+        lists,
+        links.listed,
+        ring_round::head_count(s) as usize,
+    ) {
+        return false;
+    }
+    ring_shared::settle_all(s, lists, links, planted, lengths, positions)
+}
+
+// ---- Lists that are said in frames.
 
 // Hears a confession frame on link k: a list goes to its row.
 fn hear(links: Links, rows: &mut Lists, k: usize, frame: &[u8], n: u8, phase: u16) -> Links
@@ -302,6 +434,26 @@ fn fill_positions(
     }
 }
 
+// Settles all heads from what they hear in frames.
+fn confess_heard(
+    s: Stage,
+    marks: &Words,
+    lists: &Lists,
+    planted: &[u8],
+    lengths: &[u8],
+    positions: &mut Numbers,
+)
+    ensures { λ _. ⌜ ConfessedAll s (now (marks .entry)) (now (lists .entry)) (plantedIn (now (planted .entry)) (now (lengths .entry))) (now (positions .entry)) (now (positions .exit)) ⌝ }
+{
+    let none = [0i32; 32];
+    let mut rows = [none; 32];
+    let links = hear_replies(s, marks, lists, &mut rows);
+    if ring_shared::settle_all(s, &rows, links, planted, lengths, positions) {
+        return;
+    }
+    fill_positions(s, planted, lengths, links, &mut rows, positions);
+}
+
 // A confession round: the new position of each head that is not struck, from the lists and what is planted. The other positions stay as they were.
 pub fn confess(
     s: Stage,
@@ -316,11 +468,8 @@ pub fn confess(
         (newPosition s (now (marks .entry)) (now (lists .entry)) (plantedIn (now (planted .entry)) (now (lengths .entry))) i)
         (getD (now (positions .entry)) i (pos 0))) ⌝ }
 {
-    let none = [0i32; 32];
-    let mut rows = [none; 32];
-    let links = hear_replies(s, marks, lists, &mut rows);
-    if ring_shared::settle_all(s, &rows, links, planted, lengths, positions) {
+    if confess_own(s, marks, lists, planted, lengths, positions) {
         return;
     }
-    fill_positions(s, planted, lengths, links, &mut rows, positions);
+    confess_heard(s, marks, lists, planted, lengths, positions);
 }
