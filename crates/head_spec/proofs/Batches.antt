@@ -14,8 +14,7 @@ use Rattle.terms.specs.Refusals as refusal
 use Rattle.terms.specs.Refusals.{leaves}
 use Rattle.frame_spec.proofs.Listing.{and-both}
 use Rattle.head_spec.specs.declared.Head.{Head}
-use Rattle.head_spec.specs.declared.Answer.{Answer}
-use Rattle.head_spec.specs.Calls.{answer, Delivery, hear, hearEach, answersTo}
+use Rattle.head_spec.specs.Calls.{answer, Delivery, hearEach, answersTo}
 use Rattle.head_spec.specs.Batch.{frameLength, isWhole, firstEntry, behindFirst, entrySize, isEmpty, cutInto, isCutInto, entriesOf, isBatch, batchRefusal, hearBatch, batchAnswers, batchCount}
 use Rattle.head_spec.proofs.Proper.{both-passed}
 use Rattle.head_spec.proofs.Stops.{ended-hears}
@@ -59,7 +58,7 @@ enough-told (suc m) (suc m′) s a b =
     (enough-told m m′ (behindFirst s) (behind-shorter m s a) (behind-shorter m′ s b))
 
 -- a first entry that is whole, and the rest
-first-cut : (s : List ℕ) → isWhole s ≡ true → entriesOf s ≡ firstEntry s ∷ entriesOf (behindFirst s)
+pub first-cut : (s : List ℕ) → isWhole s ≡ true → entriesOf s ≡ firstEntry s ∷ entriesOf (behindFirst s)
 unfolding cutInto
 first-cut [] w = absurd (true≢false (sym w))
 first-cut (x ∷ t) w =
@@ -68,7 +67,7 @@ first-cut (x ∷ t) w =
     ∙ ap (λ (D : List Delivery). firstEntry s ∷ D)
     (enough-cut (length t) (length (behindFirst s)) (behindFirst s) (behind-shorter (length t) s (omega arith)) (omega arith))
 
-first-told : (s : List ℕ) → isWhole s ≡ true → isBatch s ≡ isBatch (behindFirst s)
+pub first-told : (s : List ℕ) → isWhole s ≡ true → isBatch s ≡ isBatch (behindFirst s)
 unfolding isCutInto
 first-told [] w = absurd (true≢false (sym w))
 first-told (x ∷ t) w =
@@ -82,7 +81,7 @@ unfolding cutInto
 none-cut [] w = refl
 none-cut (x ∷ t) w = ap (λ (b : Bool). cond b (firstEntry (x ∷ t) ∷ cutInto (length t) (behindFirst (x ∷ t))) []) w
 
-none-told : (s : List ℕ) → isWhole s ≡ false → isBatch s ≡ isEmpty s
+pub none-told : (s : List ℕ) → isWhole s ≡ false → isBatch s ≡ isEmpty s
 unfolding isCutInto
 none-told [] w = refl
 none-told (x ∷ t) w = ap (λ (b : Bool). b && isCutInto (length t) (behindFirst (x ∷ t))) w

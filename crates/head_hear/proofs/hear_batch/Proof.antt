@@ -1,7 +1,5 @@
 -- If the batch is cut with no refusal, its frames are heard and answered, and their number is left. If not, nothing is touched.
 use mathlib.Core.Path.{_≡_, ap, sym, _∙_}
-use mathlib.Core.Logic.{_≢_}
-use Prim.Native.Nat.{ℕ}
 use lib.ListN.{length}
 use denote.Ref.{now}
 use borrow.Author.Needs.{needs}
