@@ -1,18 +1,20 @@
 -- Every call leaves words 9 to 23 of a block as they were, whatever it answers.
 use mathlib.Core.Path.{_≡_, refl, ap, sym, _∙_}
-use mathlib.Core.List.{List, _∷_}
+use mathlib.Core.List.{List, [], _∷_}
 use mathlib.Core.Logic.{by-cases}
 use Prim.Native.Nat.{ℕ, zero, suc, _+_, _*_, _-_, _≤_, _<_}
 use native.Mathlib.Omega.{arith}
 use native.Mathlib.Decide.{decLt}
 use lib.ListN.{length, getD, set, take, length-append, length-set, List·getD-append}
-use lib.Seq.{getD-append-add, getD-drop, getD-take, getD-set-other, slice}
+use lib.Seq.{getD-append-add, getD-drop, getD-take, getD-set-other, slice, length-paste}
+use Rattle.terms.specs.Refusals.{leaves}
 use Rattle.terms.specs.declared.Entry.{Entry}
 use Rattle.fields.specs.Bytes.{wordOf}
 use Rattle.frame_spec.specs.Said.{Meaning, refused, collected, listed, confessed}
 use Rattle.head_spec.specs.declared.Head.{Head}
 use Rattle.head_spec.specs.declared.Answer.{Answer}
-use Rattle.head_c.specs.Blocks.{IsBlock, wordsOf, seatWords, withHead, left, after, marked, changed, heardIn}
+use Rattle.head_spec.specs.Calls.{saidTo, hear, Delivery}
+use Rattle.head_c.specs.Blocks.{IsBlock, headOf, wordsOf, seatWords, withHead, after, marked, changed, heardIn, heardEach}
 use Rattle.head_c.proofs.Copying.{copied-before}
 use Rattle.head_c.proofs.Putting.{words-long, first, second, third, first-long, second-long}
 use Rattle.head_c.proofs.Hearing.{heard-below, heard-past}
@@ -38,7 +40,7 @@ module _ (w : List ℕ) (block : IsBlock w) (i : ℕ) (from : 9 ≤ i) (to : i <
   unfolding after
   after-beside a = go (a .refusal)
     where
-      go : (c : ℕ) → getD (left c (withHead (a .head) w) w) i 0 ≡ getD w i 0
+      go : (c : ℕ) → getD (leaves c (withHead (a .head) w) w) i 0 ≡ getD w i 0
       go zero = put-beside (a .head)
       go (suc c) = refl
 
@@ -67,3 +69,33 @@ module _ (w : List ℕ) (block : IsBlock w) (i : ℕ) (from : 9 ≤ i) (to : i <
   heard-beside k m = by-cases (decLt k 32)
       (λ l. rw (heard-below w k m l) (changed-beside k l m))
       (λ d. rw (heard-past w k m (omega arith)) refl)
+
+-- ---- hearing a batch
+
+heard-block : (w : List ℕ) → IsBlock w → (k : ℕ) (m : Meaning) → IsBlock (heardIn w k m)
+heard-block w block k m = by-cases (decLt k 32)
+    (λ l. rw (heard-below w k m l) (go l m))
+    (λ d. rw (heard-past w k m (omega arith)) block)
+  where
+    go : k < 32 → (x : Meaning) → IsBlock (changed w k x)
+    go l (refused c) = block
+    go l (collected Entry.Null) = simp length-set block
+    go l (collected (Entry.Position v)) = simp length-set block
+    go l confessed = simp length-set block
+    go l (listed t) =
+        let s = set (marked 59 k (marked 24 k w)) (60 + k) (t .marks) in
+        let long : length s ≡ 1116 = simp length-set block in
+        length-paste s (92 + 32 * k) (wordsOf (t .entries)) 32 (omega arith) (omega (arith, words-long (t .entries))) ∙ long
+
+pub each-beside : (D : List Delivery) (w : List ℕ) → IsBlock w → (i : ℕ) → 9 ≤ i → i < 24 → getD (heardEach w D) i 0 ≡ getD w i 0
+unfolding heardEach
+each-beside [] w block i from to = refl
+each-beside (d ∷ D) w block i from to =
+    let m = saidTo (headOf w .seat) (d .link) (d .bytes) in
+    go (hear (headOf w) (d .link) (d .bytes) .refusal) (each-beside D w block i from to)
+    (each-beside D (heardIn w (d .link) m) (heard-block w block (d .link) m) i from to ∙ heard-beside w block i from to (d .link) m)
+  where
+    go : (c : ℕ) {w′ : List ℕ} → getD (heardEach w D) i 0 ≡ getD w i 0 → getD (heardEach w′ D) i 0 ≡ getD w i 0
+        → getD (heardEach (leaves c w′ w) D) i 0 ≡ getD w i 0
+    go zero old new = new
+    go (suc c) old new = old

@@ -11,6 +11,7 @@ use lib.ListN.{getD, set, getD-replicate}
 use lib.Seq.{set-out, getD-set-same, getD-set-other}
 use lib.IntN.{pos}
 use borrow.Author.Tests.{lt-ltb, le-ltb}
+use Rattle.terms.specs.Refusals.{leaves}
 use Rattle.terms.specs.Refusals as refusal
 use Rattle.terms.specs.Refusals.{check}
 use Rattle.terms.specs.declared.Entry.{Entry}
@@ -29,7 +30,7 @@ use Rattle.head_spec.specs.declared.Answer.{Answer}
 use Rattle.head_spec.specs.Calls.{answer, saidTo, refusalTo, hearRefusal, taken, hear}
 use Rattle.head_hear.specs.Steps.{linkRefusal}
 use Rattle.head_hear.proofs.OneLink.{linkSays, refused-heard, entry-heard, list-heard, confession-heard}
-use Rattle.head_c.specs.Blocks.{IsBlock, numbersAt, listAt, headOf, left, changed, heardIn, Hears}
+use Rattle.head_c.specs.Blocks.{IsBlock, numbersAt, listAt, headOf, changed, heardIn, Hears}
 use Rattle.head_c.specs.Steps.{numberOf}
 use Rattle.head_c.proofs.Changes.{null-is, position-is, list-is, confession-is}
 use Rattle.head_c.proofs.Copying.{upTo-long}
@@ -107,18 +108,18 @@ said-fits n p r k s = go (refusalOf n p r k s) (kindField s)
 -- ---- the promise of hearing
 
 module _ (w : List ℕ) (block : IsBlock w) (k : ℕ) (s : List ℕ) where
-  head-heard : headOf (left (hear (headOf w) k s .refusal) (heardIn w k (saidTo (headOf w .seat) k s)) w) ≡ hear (headOf w) k s .head
+  head-heard : headOf (leaves (hear (headOf w) k s .refusal) (heardIn w k (saidTo (headOf w .seat) k s)) w) ≡ hear (headOf w) k s .head
   unfolding hear
   head-heard = go (hearRefusal (headOf w) k s)
     where
       m : Meaning
       m = saidTo (headOf w .seat) k s
 
-      go : (c : ℕ) → let a = answer c (taken (headOf w) k m) (headOf w) in headOf (left (a .refusal) (heardIn w k m) w) ≡ a .head
+      go : (c : ℕ) → let a = answer c (taken (headOf w) k m) (headOf w) in headOf (leaves (a .refusal) (heardIn w k m) w) ≡ a .head
       go zero = let x = headOf w .seat in heard-is w block k m (said-fits (x .n) (x .phase) (x .round) k s)
       go (suc c) = refl
 
-  hears : {r : ℕ} {w′ : List ℕ} → r ≡ hear (headOf w) k s .refusal → w′ ≡ left r (heardIn w k (saidTo (headOf w .seat) k s)) w → Hears w k s r w′
+  hears : {r : ℕ} {w′ : List ℕ} → r ≡ hear (headOf w) k s .refusal → w′ ≡ leaves r (heardIn w k (saidTo (headOf w .seat) k s)) w → Hears w k s r w′
   hears e q = record { refusal = e; block = q; head = rw (q, e) head-heard }
 
 -- ---- what the code makes of a block
@@ -160,7 +161,7 @@ module _ (w : List ℕ) (block : IsBlock w) (k : ℕ) (s : List ℕ) where
       go (suc c) = refl
 
   -- it changes what the frame alone does, unless hearing is refused
-  link-block : heardIn w k (linkSays h k s) ≡ left (hear h k s .refusal) (heardIn w k (saidTo (h .seat) k s)) w
+  link-block : heardIn w k (linkSays h k s) ≡ leaves (hear h k s .refusal) (heardIn w k (saidTo (h .seat) k s)) w
   unfolding hear hearRefusal said
   link-block = go (not (h .seat .ended)) (ltb k (h .seat .n)) (not (bitOf (h .heard) k))
     where
@@ -168,12 +169,12 @@ module _ (w : List ℕ) (block : IsBlock w) (k : ℕ) (s : List ℕ) where
       row a b c rest = check a refusal.ended (check b refusal.head-number (check c refusal.heard rest))
 
       frame : (c : ℕ) (m : Meaning) (new : Head)
-          → heardIn w k (unlessRefused c m) ≡ left (answer c new h .refusal) (heardIn w k (unlessRefused c m)) w
+          → heardIn w k (unlessRefused c m) ≡ leaves (answer c new h .refusal) (heardIn w k (unlessRefused c m)) w
       frame zero m new = refl
       frame (suc c) m new = heard-refused w k (suc c)
 
       go : (a b c : Bool) → let m = saidTo (h .seat) k s in
-          heardIn w k (unlessRefused (row a b c 0) m) ≡ left (answer (row a b c (refusalTo (h .seat) k s)) (taken h k m) h .refusal) (heardIn w k m) w
+          heardIn w k (unlessRefused (row a b c 0) m) ≡ leaves (answer (row a b c (refusalTo (h .seat) k s)) (taken h k m) h .refusal) (heardIn w k m) w
       go true true true = frame (refusalTo (h .seat) k s) (meaning (kindField s) (h .seat .n) (restField s)) _
       go true true false = heard-refused w k _
       go true false c = heard-refused w k _

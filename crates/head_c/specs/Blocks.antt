@@ -8,6 +8,7 @@ use lib.Dec.{eqb, ltb}
 use lib.ListN.{length, getD, set}
 use lib.Seq.{paste, slice}
 use lib.IntN.{ℤ, pos}
+use Rattle.terms.specs.Refusals.{leaves}
 use Rattle.terms.specs.declared.Entry.{Entry}
 use Rattle.fields.specs.Bytes.{signedOf, wordOf}
 use Rattle.marks.specs.Marks.{withMark}
@@ -17,7 +18,8 @@ use Rattle.head_spec.specs.declared.Row.{Row}
 use Rattle.head_spec.specs.declared.Seat.{Seat}
 use Rattle.head_spec.specs.declared.Head.{Head}
 use Rattle.head_spec.specs.declared.Answer.{Answer}
-use Rattle.head_spec.specs.Calls.{saidTo, hear}
+use Rattle.head_spec.specs.Calls.{saidTo, hear, Delivery}
+use Rattle.head_spec.specs.Batch.{entriesOf, batchRefusal, hearBatch, batchAnswers, batchCount}
 use Rattle.head_lent.specs.Answers.{heldNumber, heldOr}
 use Rattle.head_c.specs.Places as place
 
@@ -101,14 +103,9 @@ withHead h w =
     ++ (h .links .confessed ∷ h .links .listed ∷ h .links .marks)
     ++ listWords (h .lists) 32
 
--- a block after a call: changed, or as it was if the call is refused
-abbrev pub left : ℕ → List ℕ → List ℕ → List ℕ
-left zero new old = new
-left (suc c) new old = old
-
 -- after a call that answers a, its record is put into the block
 unfoldable pub after : List ℕ → Answer → List ℕ
-after w a = left (a .refusal) (withHead (a .head) w) w
+after w a = leaves (a .refusal) (withHead (a .head) w) w
 
 -- ---- hearing
 
@@ -133,5 +130,22 @@ heardIn w k m = cond (ltb k 32) (changed w k m) w
 -- block is hears the bytes.
 pub record Hears (w : List ℕ) (k : ℕ) (s : List ℕ) (r : ℕ) (w′ : List ℕ) : Type 0 where
   pub refusal : r ≡ hear (headOf w) k s .refusal
-  pub block : w′ ≡ left r (heardIn w k (saidTo (headOf w .seat) k s)) w
+  pub block : w′ ≡ leaves r (heardIn w k (saidTo (headOf w .seat) k s)) w
   pub head : headOf w′ ≡ hear (headOf w) k s .head
+
+-- ---- hearing a batch
+
+-- what hearing deliveries changes, one after the other
+unfoldable pub heardEach : List ℕ → List Delivery → List ℕ
+heardEach w [] = w
+heardEach w (d ∷ D) =
+    heardEach (leaves (hear (headOf w) (d .link) (d .bytes) .refusal) (heardIn w (d .link) (saidTo (headOf w .seat) (d .link) (d .bytes))) w) D
+
+-- What hearing the batch s answers and leaves: in the block, in the buffer of answers a, which becomes a′, and in the count c, which becomes c′. If it is
+-- refused, nothing is changed.
+pub record HearsBatch (w s a : List ℕ) (c r : ℕ) (w′ a′ : List ℕ) (c′ : ℕ) : Type 0 where
+  pub refusal : r ≡ batchRefusal s (length a)
+  pub block : w′ ≡ leaves r (heardEach w (entriesOf s)) w
+  pub head : headOf w′ ≡ hearBatch (headOf w) s (length a) .head
+  pub answers : a′ ≡ batchAnswers (headOf w) s a
+  pub count : c′ ≡ batchCount s (length a) c

@@ -1,20 +1,22 @@
 // A head as C keeps it: a block of words, which each call changes in place. Each call changes the record that the block is as the call by value
 // changes it; specs/Blocks.antt says which record a block is. A refusal gives its number and leaves the block, and what else is lent, as it was.
 ghost use mathlib.Core.Path.{_≡_};
-ghost use mathlib.Core.List.{_∷_};
+ghost use mathlib.Core.Bool.{true};
+ghost use mathlib.Core.List.{_∷_, _++_};
 ghost use Prim.Native.Nat.{_+_, _≤_, _<_};
-ghost use lib.ListN.{length, getD};
+ghost use lib.ListN.{length, getD, drop};
 ghost use lib.Seq.{paste};
 ghost use lib.IntN.{pos};
 ghost use Rattle.fields.specs.Bytes.{signedOf, wordOf};
 ghost use Rattle.frame_spec.specs.Said.{collected, listed, confessed, restField, tableIn, saidOf, meant};
 ghost use Rattle.head_spec.specs.Record.{opened};
-ghost use Rattle.head_spec.specs.Calls.{start, restart, writeAnswer, writeBuffer, close};
+ghost use Rattle.head_spec.specs.Calls.{start, restart, hearEach, answersTo, writeAnswer, writeBuffer, close};
+ghost use Rattle.head_spec.specs.Batch.{isBatch, entriesOf};
 ghost use Rattle.head_hear.specs.Steps.{linkRefusal, saidOn};
 ghost use Rattle.head_lent.specs.Answers.{closedAnswer, writtenNumber, writtenOr, heldNumber, heldOr};
 ghost use Rattle.head_c.specs.Places as place;
 ghost use Rattle.head_c.specs.Blocks.{IsBlock, upTo, entryIn, numbersAt, listAt, seatOf, headOf};
-ghost use Rattle.head_c.specs.Blocks.{wordsOf, seatWords, withHead, after, marked, changed, Hears};
+ghost use Rattle.head_c.specs.Blocks.{wordsOf, seatWords, withHead, after, marked, changed, Hears, heardEach, HearsBatch};
 ghost use Rattle.head_c.specs.Steps.{numberOf};
 use frame_spec::Said;
 use head_spec::Answer;
@@ -358,6 +360,25 @@ fn hear(h: &mut [u32], link: u32, frame: &[u8]) -> u8
     number
 }
 
+// Hears the frames of a batch that is whole, and answers each where there is room for its answer.
+fn hear_entries(h: &mut [u32], batch: &[u8], answers: &mut [u8])
+    requires { ⌜ IsBlock (now h) × (isBatch (now batch) ≡ true) × (length (entriesOf (now batch)) ≤ length (now answers)) ⌝ }
+    ensures { λ _. ⌜ (now (h .exit) ≡ heardEach (now (h .entry)) (entriesOf (now (batch .entry))))
+        × (headOf (now (h .exit)) ≡ hearEach (headOf (now (h .entry))) (entriesOf (now (batch .entry))))
+        × (now (answers .exit) ≡ answersTo (headOf (now (h .entry))) (entriesOf (now (batch .entry)))
+        ++ drop (length (entriesOf (now (batch .entry)))) (now (answers .entry))) ⌝ }
+{
+    let mut at: usize = 0;
+    let mut i: usize = 0;
+    while at < batch.len() {
+        let rest = fields::bytes_from(batch, at);
+        let size = head_hear::entry_size(rest);
+        answers[i] = hear(h, rest[0] as u32, &rest[1..size]);
+        at += size;
+        i += 1;
+    }
+}
+
 // ---- The calls.
 
 // Starts the head with a position, in phase 1: 0, or 1, 2, 3, 4.
@@ -393,6 +414,27 @@ pub extern "C" fn focus_head_hear(h: &mut Block, link: u32, frame: &[u8]) -> u8
     ensures { λ r. ⌜ Hears (now (h .entry)) link (now (frame .entry)) r (now (h .exit)) ⌝ }
 {
     hear(h, link, frame)
+}
+
+// Hears a round's frames, each behind its link byte, in order, going on past a refused one: 0, or 15, 24. The front of `answers` gets a number for each
+// frame, and `count` how many there are.
+#[no_mangle]
+pub extern "C" fn focus_head_hear_batch(
+    h: &mut Block,
+    batch: &[u8],
+    answers: &mut [u8],
+    count: &mut usize,
+) -> u8
+    ensures { λ r. ⌜ HearsBatch (now (h .entry)) (now (batch .entry)) (now (answers .entry)) (now (count .entry))
+        r (now (h .exit)) (now (answers .exit)) (now (count .exit)) ⌝ }
+{
+    let c = head_hear::cut(batch, answers.len());
+    if c.refusal != 0 {
+        return c.refusal;
+    }
+    hear_entries(h, batch, answers);
+    *count = c.entries;
+    0
 }
 
 // Closes the round: 0, or 26, 25.

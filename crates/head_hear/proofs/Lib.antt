@@ -1,4 +1,3 @@
 -- What other crates may cite: what hearing makes of a record, link by link.
 pub mod Held
 pub mod OneLink
-pub mod AllLinks

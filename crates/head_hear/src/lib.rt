@@ -1,10 +1,13 @@
-// Hearing, on a head's record by value: one link, and all links of a round in one pass. Each promise is one equation with a definition of record's
-// specs/Calls.antt; a refusal gives its number and leaves the record as it was.
+// Hearing, on a head's record by value: one frame, and a round's frames in one call. Each promise is an equation with a definition of head_spec's
+// specs/Calls.antt or specs/Batch.antt; a refusal gives its number and leaves the record, and what else is lent, as it was.
+ghost use mathlib.Core.Bool.{true};
+ghost use mathlib.Core.List.{_++_};
 ghost use mathlib.Core.Path.{_≡_};
-ghost use Prim.Native.Nat.{_<_, min};
+ghost use Prim.Native.Nat.{_≤_};
+ghost use lib.ListN.{length, drop};
 ghost use Rattle.frame_spec.specs.Said.{saidOf};
-ghost use Rattle.head_spec.specs.Calls.{withEntry, withConfession, withList, hear, hearAll};
-ghost use Rattle.frame_slots.specs.Slots.{slot};
+ghost use Rattle.head_spec.specs.Calls.{withEntry, withConfession, withList, hear, hearEach, answersTo};
+ghost use Rattle.head_spec.specs.Batch.{entrySize, entriesOf, isBatch, batchRefusal, hearBatch, batchAnswers, batchCount};
 ghost use Rattle.head_hear.specs.Steps.{linkRefusal, saidOn};
 use frame_spec::Said;
 use head_spec::Answer;
@@ -129,42 +132,117 @@ pub fn hear(h: Head, link: u32, frame: &[u8]) -> Answer
     }
 }
 
-// Hears all links of a round: link k's frame is the first lengths[k] bytes of its slot, the 140 bytes of `frames` from 140 k on. Refused frames give nothing.
-pub fn hear_all(h: Head, frames: &[u8], lengths: &[u8; 32]) -> Head
-    ensures { λ r. ⌜ r ≡ hearAll h (slot (now (frames .entry)) (now (lengths .entry))) (h .seat .n) ⌝ }
+// ---- A round's frames in one call.
+
+// The bytes of the first entry of a batch, its link byte among them; 0 if it is not whole.
+pub fn entry_size(s: &[u8]) -> usize
+    ensures { λ r. ⌜ r ≡ entrySize (now (s .entry)) ⌝ }
+{
+    let len = fields::half_at(s, 1) as usize;
+    if len < 4 {
+        return 0;
+    }
+    if s.len() <= len {
+        return 0;
+    }
+    len + 1
+}
+
+// How a batch is cut: 0, or 15 or 24 with room for so many answers; and how many whole entries there are at its front.
+pub struct Cuts {
+    pub refusal: u8,
+    pub entries: usize,
+}
+
+// Cuts a batch into entries.
+pub fn cut(batch: &[u8], room: usize) -> Cuts
+    ensures { λ r. ⌜ r ≡ record { refusal = batchRefusal (now (batch .entry)) room; entries = length (entriesOf (now (batch .entry))) } ⌝ }
+{
+    let mut at: usize = 0;
+    let mut entries: usize = 0;
+    while at < batch.len() {
+        let size = entry_size(fields::bytes_from(batch, at));
+        if size == 0 {
+            return Cuts {
+                refusal: refusal::BATCH_ENTRY,
+                entries,
+            };
+        }
+        at += size;
+        entries += 1;
+    }
+    if room < entries {
+        return Cuts {
+            refusal: refusal::BUFFER,
+            entries,
+        };
+    }
+    Cuts {
+        refusal: 0,
+        entries,
+    }
+}
+
+// Hears the frames of a batch that is whole, and answers each where there is room for its answer.
+fn hear_entries(h: Head, batch: &[u8], answers: &mut [u8]) -> Head
+    requires { ⌜ (isBatch (now batch) ≡ true) × (length (entriesOf (now batch)) ≤ length (now answers)) ⌝ }
+    ensures head { λ r. ⌜ r ≡ hearEach h (entriesOf (now (batch .entry))) ⌝ }
+    ensures answers { λ r. ⌜ now (answers .exit) ≡ answersTo h (entriesOf (now (batch .entry))) ++ drop (length (entriesOf (now (batch .entry)))) (now (answers .entry)) ⌝ }
 {
     let seat = h.seat;
-    let count = settle_trust::link_count(seat.n);
     let mut next = h;
-    let mut k: usize = 0;
-    while k < count {
-        let frame = frame_slots::slot(frames, lengths, k as u16);
+    let mut at: usize = 0;
+    let mut i: usize = 0;
+    while at < batch.len() {
+        let rest = fields::bytes_from(batch, at);
+        let size = entry_size(rest);
+        let frame = &rest[1..size];
+        let link = rest[0] as u32;
+        let k = link as usize;
         let heard = next.heard;
-        match said_on(seat, heard, k as u32, frame) {
-            Said::Refused(_) => {}
+        let mut number: u8 = 0;
+        match said_on(seat, heard, link, frame) {
+            Said::Refused(refused) => number = refused,
             Said::Collection(entry) => {
                 next.heard = marks::with_mark(heard, k);
-                let list = next.list;
-                let filled = with_entry(list, k, entry);
-                next.list = filled;
+                next.list = with_entry(next.list, k, entry);
             }
             Said::List => {
                 next.heard = marks::with_mark(heard, k);
                 let table = frame_codec::table_in(frame, seat.n);
-                let links = next.links;
-                let listed = with_list(links, k, table);
-                next.links = listed;
-                let entries = table.entries;
-                next.lists[k] = Row { entries };
+                next.links = with_list(next.links, k, table);
+                if k < 32 {
+                    let entries = table.entries;
+                    next.lists[k] = Row { entries };
+                }
             }
             Said::Confession => {
                 next.heard = marks::with_mark(heard, k);
-                let links = next.links;
-                let confessed = with_confession(links, k);
-                next.links = confessed;
+                next.links = with_confession(next.links, k);
             }
         }
-        k += 1;
+        answers[i] = number;
+        at += size;
+        i += 1;
     }
     next
+}
+
+// Hears a round's frames, each behind its link byte, in order, going on past a refused one: 0, or 15, 24. The front of `answers` gets a number for each
+// frame, and `count` how many there are.
+pub fn hear_batch(h: Head, batch: &[u8], answers: &mut [u8], count: &mut usize) -> Answer
+    ensures { λ r. ⌜ (r ≡ hearBatch h (now (batch .entry)) (length (now (answers .entry))))
+        × (now (answers .exit) ≡ batchAnswers h (now (batch .entry)) (now (answers .entry)))
+        × (now (count .exit) ≡ batchCount (now (batch .entry)) (length (now (answers .entry))) (now (count .entry))) ⌝ }
+{
+    let c = cut(batch, answers.len());
+    if c.refusal != 0 {
+        return Answer {
+            refusal: c.refusal,
+            head: h,
+        };
+    }
+    let head = hear_entries(h, batch, answers);
+    *count = c.entries;
+    Answer { refusal: 0, head }
 }

@@ -1,6 +1,8 @@
 // The calls on a head's record that its owner keeps and lends: each changes that record itself, or reads it. Each is a thin form of a call by value, and
 // its promise is that call's definition (record's specs/Calls.antt). A refusal gives its number and leaves the record, and what else is lent, as it was.
 ghost use mathlib.Core.Path.{_≡_};
+ghost use lib.ListN.{length};
+ghost use Rattle.head_spec.specs.Batch.{hearBatch, batchAnswers, batchCount};
 ghost use Rattle.head_spec.specs.Calls.{start, restart, hear, writeAnswer, writeBuffer, close};
 ghost use Rattle.head_lent.specs.Answers.{closedNumber, closedAnswer, writtenNumber, writtenOr, heldNumber, heldOr};
 use frame_spec::Written;
@@ -32,6 +34,19 @@ pub fn hear(h: &mut Head, link: u32, frame: &[u8]) -> u8
     ensures { λ r. ⌜ (r ≡ hear (now (h .entry)) link (now (frame .entry)) .refusal) × (now (h .exit) ≡ hear (now (h .entry)) link (now (frame .entry)) .head) ⌝ }
 {
     let out = head_hear::hear(*h, link, frame);
+    *h = out.head;
+    out.refusal
+}
+
+// Hears a round's frames, each behind its link byte, in order, going on past a refused one: 0, or 15, 24. The front of `answers` gets a number for each
+// frame, and `count` how many there are.
+pub fn hear_batch(h: &mut Head, batch: &[u8], answers: &mut [u8], count: &mut usize) -> u8
+    ensures { λ r. ⌜ (r ≡ hearBatch (now (h .entry)) (now (batch .entry)) (length (now (answers .entry))) .refusal)
+        × (now (h .exit) ≡ hearBatch (now (h .entry)) (now (batch .entry)) (length (now (answers .entry))) .head)
+        × (now (answers .exit) ≡ batchAnswers (now (h .entry)) (now (batch .entry)) (now (answers .entry)))
+        × (now (count .exit) ≡ batchCount (now (batch .entry)) (length (now (answers .entry))) (now (count .entry))) ⌝ }
+{
+    let out = head_hear::hear_batch(*h, batch, answers, count);
     *h = out.head;
     out.refusal
 }

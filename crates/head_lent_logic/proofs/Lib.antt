@@ -7,3 +7,5 @@ pub mod ChangeMeets
 pub mod Params
 pub mod Read
 pub mod ReadMeets
+pub mod ChangeWith
+pub mod ChangeWithMeets

@@ -21,7 +21,7 @@ use Rattle.head_spec.specs.declared.Seat.{Seat}
 use Rattle.head_spec.specs.declared.Head.{Head}
 use Rattle.head_spec.specs.Record.{given, heardEntry, givenOf}
 use Rattle.head_spec.specs.Calls.{answer, startRefusal, started, restartRefusal, restarted}
-use Rattle.head_spec.specs.Calls.{saidTo, refusalTo, hearRefusal, taken, hear, hearAll, Delivery, hearEach}
+use Rattle.head_spec.specs.Calls.{saidTo, refusalTo, hearRefusal, taken, hear, hearAll, Delivery, hearEach, onLinks}
 use Rattle.head_spec.specs.Demand2.{orElse, firstSaid}
 use Rattle.head_spec.proofs.Proper.{ProperHead, proper-started, proper-restarted}
 use Rattle.head_spec.proofs.Taking.{entry-same, entry-other, given-same, given-other, heard-other, hear-cases, hear-keeps, proper-hear}
@@ -146,10 +146,6 @@ module _ (h : Head) (F : Fresh h) where
 
 -- ---- each link once, from 0 up
 
-abbrev linksFrom : (ℕ → List ℕ) → ℕ → ℕ → List Delivery
-linksFrom g i zero = []
-linksFrom g i (suc m) = record { link = i; bytes = g i } ∷ linksFrom g (suc i) m
-
 -- a frame that is refused counts for nothing
 alone : {X : Type 0} (W : Meaning → X) → ((c : ℕ) → W (refused 0) ≡ W (refused c)) → (m : Meaning) → W (orElse m (refused 0)) ≡ W m
 alone W none (refused c) = none c
@@ -158,24 +154,15 @@ alone W none (listed t) = refl
 alone W none confessed = refl
 
 module _ (g : ℕ → List ℕ) where
-  one-by-one : (h : Head) (m i : ℕ) → hearEach (hearAll h g i) (linksFrom g i m) ≡ hearAll h g (m + i)
-  unfolding hearEach hearAll
-  one-by-one h zero i = rw zero-add
-  one-by-one h (suc m) i = one-by-one h m (suc i) ∙ rw (add-suc, suc-add)
-
-  all-each : (h : Head) (k : ℕ) → hearAll h g k ≡ hearEach h (linksFrom g 0 k)
-  unfolding hearAll
-  all-each h k = sym (one-by-one h k 0 ∙ rw add-zero)
-
   module _ (x : Seat) (j : ℕ) where
-    first-none : (m i : ℕ) → j < i → firstSaid x j (linksFrom g i m) ≡ refused 0
+    first-none : (m i : ℕ) → j < i → firstSaid x j (onLinks g i m) ≡ refused 0
     unfolding firstSaid
     first-none zero i l = refl
     first-none (suc m) i l = rw (ne-eqb i j (omega arith)) (first-none m (suc i) (omega arith))
 
     -- a link's only frame is its first
     first-one : {X : Type 0} (W : Meaning → X) → ((c : ℕ) → W (refused 0) ≡ W (refused c)) → (m i : ℕ) → i ≤ j → j < m + i
-        → W (firstSaid x j (linksFrom g i m)) ≡ W (saidTo x j (g j))
+        → W (firstSaid x j (onLinks g i m)) ≡ W (saidTo x j (g j))
     unfolding firstSaid
     first-one W none zero i l b = absurd (omega arith)
     first-one W none (suc m) i l b =
@@ -183,18 +170,22 @@ module _ (g : ℕ → List ℕ) where
         (λ d. rw (ne-eqb i j d) (first-one W none m (suc i) (omega arith) (omega arith)))
 
 pub all-keep : (h : Head) (g : ℕ → List ℕ) (k : ℕ) → hearAll h g k .seat ≡ h .seat
-all-keep h g k = rw (all-each g h k) (each-keep (linksFrom g 0 k) h)
+unfolding hearAll
+all-keep h g k = each-keep (onLinks g 0 k) h
 
 pub proper-all : (h : Head) (g : ℕ → List ℕ) (k : ℕ) → ProperHead h → ProperHead (hearAll h g k)
-proper-all h g k P = rw (all-each g h k) (proper-each (linksFrom g 0 k) h P)
+unfolding hearAll
+proper-all h g k P = proper-each (onLinks g 0 k) h P
 
 module _ (h : Head) (F : Fresh h) (g : ℕ → List ℕ) where
   pub gave-as-said : Each (h .seat .n) (λ k. given (hearAll h g (h .seat .n)) k ≡ givenOf (saidTo (h .seat) k (g k)))
+  unfolding hearAll
   gave-as-said k l =
       let m = h .seat .n in
-      rw (all-each g h m) (gave-first h F (linksFrom g 0 m) k l ∙ first-one g (h .seat) k givenOf (λ c. refl) m 0 (omega arith) (omega arith))
+      gave-first h F (onLinks g 0 m) k l ∙ first-one g (h .seat) k givenOf (λ c. refl) m 0 (omega arith) (omega arith)
 
   pub listed-as-said : h .seat .round ≡ 0 → Each (h .seat .n) (λ k. tableAt (hearAll h g (h .seat .n) .list) k ≡ heardEntry (saidTo (h .seat) k (g k)))
+  unfolding hearAll
   listed-as-said r k l =
       let m = h .seat .n in
-      rw (all-each g h m) (listed-first h F (linksFrom g 0 m) r k l ∙ first-one g (h .seat) k heardEntry (λ c. refl) m 0 (omega arith) (omega arith))
+      listed-first h F (onLinks g 0 m) r k l ∙ first-one g (h .seat) k heardEntry (λ c. refl) m 0 (omega arith) (omega arith)

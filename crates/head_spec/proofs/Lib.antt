@@ -6,4 +6,6 @@ pub mod Range
 pub mod RoundEnd
 pub mod Speaking
 pub mod Stops
+pub mod Batches
+pub mod BatchLoop
 pub mod Demand2

@@ -98,20 +98,28 @@ taken h k confessed = hold h k (h .list) (withConfession (h .links) k) (h .lists
 unfoldable pub hear : Head → ℕ → List ℕ → Answer
 hear h k s = answer (hearRefusal h k s) (taken h k (saidTo (h .seat) k s)) h
 
--- links 0 .. k - 1, each with its frame, one after the other, going on past a refused one
-unfoldable pub hearAll : Head → (ℕ → List ℕ) → ℕ → Head
-hearAll h g zero = h
-hearAll h g (suc k) = hear (hearAll h g k) k (g k) .head
-
 -- bytes delivered on a link
 pub record Delivery : Type 0 where
   pub link : ℕ
   pub bytes : List ℕ
 
--- deliveries on any links, one after the other, going on past a refused one
+-- deliveries on any links, one after the other, going on past a refused one: the record after them, and what hearing each answers at that point
 unfoldable pub hearEach : Head → List Delivery → Head
 hearEach h [] = h
 hearEach h (d ∷ D) = hearEach (hear h (d .link) (d .bytes) .head) D
+
+unfoldable pub answersTo : Head → List Delivery → List ℕ
+answersTo h [] = []
+answersTo h (d ∷ D) = hear h (d .link) (d .bytes) .refusal ∷ answersTo (hear h (d .link) (d .bytes) .head) D
+
+-- a delivery on each of m links, from link i on
+abbrev pub onLinks : (ℕ → List ℕ) → ℕ → ℕ → List Delivery
+onLinks g i zero = []
+onLinks g i (suc m) = record { link = i; bytes = g i } ∷ onLinks g (suc i) m
+
+-- links 0 .. n - 1, each with its frame
+unfoldable pub hearAll : Head → (ℕ → List ℕ) → ℕ → Head
+hearAll h g n = hearEach h (onLinks g 0 n)
 
 -- ---- writing; checks 26, 24
 

@@ -3,5 +3,6 @@
 pub mod Record
 pub mod Seats
 pub mod Calls
+pub mod Batch
 pub mod Proper
 pub mod Demand2

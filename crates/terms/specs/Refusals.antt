@@ -1,11 +1,16 @@
 -- Document 01, "Stops": the numbers of the refusals, and checks in a fixed order. src/refusal.rt has the same table for the code.
 use mathlib.Core.Bool.{Bool, true, false}
-use Prim.Native.Nat.{ℕ}
+use Prim.Native.Nat.{ℕ, zero, suc}
 
 -- The first check that fails gives its number; 0 stands for none.
 abbrev pub check : Bool → ℕ → ℕ → ℕ
 check true number rest = rest
 check false number rest = number
+
+-- what a call leaves of memory that it may change: as it was if its number is a refusal's
+abbrev pub leaves : {A : Type 0} → ℕ → A → A → A
+leaves zero new old = new
+leaves (suc number) new old = old
 
 -- head count
 abbrev pub head-count : ℕ
@@ -63,6 +68,10 @@ run-record = 13
 -- more than f struck, or a mark at n or above
 abbrev pub struck : ℕ
 struck = 14
+
+-- an entry's length field is missing, below 4 or runs past the end (document 02, A1)
+abbrev pub batch-entry : ℕ
+batch-entry = 15
 
 -- link already heard this round
 abbrev pub heard : ℕ

@@ -29,6 +29,8 @@ pub const RUN_RECORD: u8 = 13; // run record cut short, of wrong length, of unkn
 
 pub const STRUCK: u8 = 14; // more than f struck, or a mark at n or above
 
+pub const BATCH_ENTRY: u8 = 15; // an entry's length field is missing, below 4 or runs past the end
+
 // From the state.
 pub const HEARD: u8 = 21; // link already heard this round
 

@@ -3,13 +3,14 @@ use mathlib.Core.Path.{_≡_, refl, ap, sym, _∙_}
 use mathlib.Core.List.{List}
 use Prim.Native.Nat.{ℕ, zero, suc}
 use denote.Ref.{now}
+use Rattle.terms.specs.Refusals.{leaves}
 use Rattle.head_spec.specs.declared.Head.{Head}
-use Rattle.head_c.specs.Blocks.{left, withHead, after}
+use Rattle.head_c.specs.Blocks.{withHead, after}
 use borrow.Author.Needs.{needs}
 use Rattle.head_c.proofs.put_answer.Statement.{statement}
 use Rattle.head_c.proofs.put_answer.Tie as tie
 
-unchanged : (c : ℕ) (new old : List ℕ) → (c ≡ 0 → ⊥) → old ≡ left c new old
+unchanged : (c : ℕ) (new old : List ℕ) → (c ≡ 0 → ⊥) → old ≡ leaves c new old
 unchanged zero new old n = absurd (n refl)
 unchanged (suc c) new old n = refl
 
@@ -22,7 +23,7 @@ returns c =
     let a = b .args .a in
     let w = now (b .args .h) in
     let z = i .if1 .taken in
-    (refl, p .put-opened .ensures ∙ ap (λ (h : Head). withHead h w) (sym (b .pre .1 z)) ∙ ap (λ (n : ℕ). left n (withHead (a .head) w) w) (sym z))
+    (refl, p .put-opened .ensures ∙ ap (λ (h : Head). withHead h w) (sym (b .pre .1 z)) ∙ ap (λ (n : ℕ). leaves n (withHead (a .head) w) w) (sym z))
 
 returns-2 : tie.Need-returns-2
 unfolding after
