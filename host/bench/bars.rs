@@ -12,7 +12,7 @@ pub const MEMORY: u64 = 16_000_000;
 const NONE: f64 = f64::INFINITY;
 
 /// The name of a row, the bar before, and the raised bar. A row that is not here has no bar.
-const BARS: [(&str, f64, f64); 9] = [
+const BARS: [(&str, f64, f64); 11] = [
     ("(5,1) struck, other heads in each round", 1.0 / 3.0, 1.0 / 6.0),
     ("(5,1) struck, the same heads in all rounds", 1.0 / 3.0, 1.0 / 6.0),
     ("(32,8) quiet", 1.0 / 80.0, 1.0 / 120.0),
@@ -22,6 +22,8 @@ const BARS: [(&str, f64, f64); 9] = [
     ("hearing a list, (5,1)", 1.0, 1.0),
     ("hearing a position, (32,8)", 2.0, 2.0),
     ("hearing a list, (32,8)", 1.0, 1.0),
+    ("hearing a batch of positions, (32,8)", 2.0, 2.0),
+    ("hearing a batch of lists, (32,8)", 2.0, 2.0),
 ];
 
 /// The rows that have a bar, with it.

@@ -61,6 +61,10 @@ fn number<T>(result: Result<T, u8>) -> u64 {
     black_box(result).err().unwrap_or(0) as u64
 }
 
+fn sum(answers: &[u8]) -> u64 {
+    answers.iter().map(|&answer| answer as u64).sum()
+}
+
 fn list(random: &mut Random, n: usize) -> Vec<Entry> {
     (0..n).map(|_| Some(random.between(-LIMIT, LIMIT))).collect()
 }
@@ -147,6 +151,22 @@ impl Heard {
         row(wanted, name, MANY * self.n, (&blocks, &|ready| self.tell_blocks(ready)), (&|| self.heads(), &|heads| self.tell_heads(heads)))
     }
 
+    /// The frames of a round in one call, by both sides.
+    fn hearing_batch(&self, wanted: Wanted, what: &str) -> Option<Row> {
+        let name = format!("hearing a batch of {what}, ({},{})", self.n, self.f);
+        let batch: Vec<u8> = (0..self.n).flat_map(|k| [&[k as u8], &self.frames[k][..]].concat()).collect();
+        let ready = |made: Vec<Block>| (made, batch.clone());
+        let tell_blocks = |(blocks, batch): &mut (Vec<Block>, Vec<u8>)| {
+            let (mut answers, mut count) = ([0; 32], 0);
+            blocks.iter_mut().map(|block| block.hear_batch(batch, &mut answers, &mut count) as u64 + count as u64 + sum(&answers)).sum()
+        };
+        let tell_heads = |heads: &mut Vec<Head>| {
+            let mut answers = [0; 32];
+            heads.iter_mut().map(|head| head.hear_batch(&batch, &mut answers).expect("a batch that is taken") as u64 + sum(&answers)).sum()
+        };
+        row(wanted, name, MANY * self.n, (&|| ready(self.blocks()), &tell_blocks), (&|| self.heads(), &tell_heads))
+    }
+
     fn closing(&self, wanted: Wanted, what: &str) -> Option<Row> {
         let name = format!("closing {what}, ({},{})", self.n, self.f);
         let blocks = || {
@@ -172,6 +192,7 @@ pub fn rows(wanted: Wanted) -> Vec<Row> {
     for (n, f) in [(5, 1), (32, 8)] {
         let (collection, confession, lies) = (Heard::new(n, f, 0, 0, 0), Heard::new(n, f, 1, 0, 0), Heard::new(n, f, 1, f, f));
         rows.extend([collection.hearing(wanted, "a position"), confession.hearing(wanted, "a list")]);
+        rows.extend([collection.hearing_batch(wanted, "positions"), confession.hearing_batch(wanted, "lists")]);
         rows.push(collection.closing(wanted, "a collection round"));
         rows.push(confession.closing(wanted, "a confession round, lists that agree"));
         rows.push(lies.closing(wanted, "a confession round, f confessions and f liars"));

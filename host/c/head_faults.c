@@ -111,6 +111,62 @@ static void hears(void) {
     }
 }
 
+/* An entry of a batch: the link byte and the frame behind it. */
+static size_t put_entry(uint8_t *at, unsigned link, unsigned phase) {
+    at[0] = (uint8_t)link;
+    return 1 + sevens(at + 1, link, phase);
+}
+
+enum { ROOM = 8, BATCH = 5 * (1 + FOCUS_FRAME_MAX) };
+
+/* A batch is refused 15, then 24, and leaves block, buffer and count; else it is heard as its frames one by one. Link 5 is refused 3, the second frame of
+ * link 1 is refused 21. */
+static void batches(void) {
+    static const uint8_t order[] = {FOCUS_BATCH_ENTRY, FOCUS_BUFFER};
+    static const unsigned links[] = {1, 5, 1, 0};
+    for (int faults = 0; faults < 8; faults++) {
+        int last = faults >> 2; /* the head has ended: no refusal of the batch, and each frame is refused 26 */
+        unsigned phase = last ? 65535 : 9;
+        focus_head head = last ? ended() : in_confession(phase, 0), before = head, one = head;
+        uint8_t batch[BATCH], answers[ROOM], copy[ROOM], want = first(faults & 3, order, 2);
+        size_t length = 0, count = 99, room = faults & 2 ? 3 : 4;
+        memset(answers, 0xee, sizeof answers);
+        memcpy(copy, answers, sizeof answers);
+        for (size_t i = 0; i < 4; i++) {
+            length += put_entry(batch + length, links[i], phase);
+            if (want == 0)
+                copy[i] = focus_head_hear(&one, links[i], batch + length - 32, 32);
+        }
+        if (faults & 1)
+            batch[length++] = 1; /* a link without a frame */
+        tried = faults;
+        answered("batch", focus_head_hear_batch(&head, batch, length, answers, room, &count), want, &head, &before);
+        same("the block after a batch", same_block(&head, &one), 1);
+        same("the answers", memcmp(answers, copy, sizeof answers), 0);
+        same("the number of frames", (long long)count, want ? 99 : 4);
+        same("the second answer", answers[1], want ? 0xee : last ? FOCUS_ENDED : FOCUS_HEAD_NUMBER);
+    }
+}
+
+/* Where a batch is cut, one entry at a time: no bytes; a lone link byte; half a length field; a field of 3; a field of 4, heard as 8; a frame with a byte too few. */
+static void batch_cuts(void) {
+    static const struct { uint8_t bytes[8]; size_t length; uint8_t want, answer; } cuts[] = {
+        {{0}, 0, 0, 0xee}, {{0}, 1, 15, 0xee}, {{0, 7}, 2, 15, 0xee}, {{0, 3, 0, 2}, 4, 15, 0xee}, {{0, 4, 0, 1, 0}, 5, 0, FOCUS_KIND_LENGTH},
+        {{0, 7, 0, 2, 0, 0, 1, 0}, 7, 15, 0xee}, {{0, 7, 0, 2, 0, 0, 1, 0}, 8, 0, 0},
+    };
+    for (size_t i = 0; i < sizeof cuts / sizeof *cuts; i++) {
+        focus_head head = {{0}};
+        uint8_t answer = 0xee;
+        size_t count = 99, room = cuts[i].answer == 0xee && cuts[i].want == 0 ? 0 : 1;
+        tried = (int)i;
+        same("start", focus_head_start(&head, 5, 1, 0, 7), 0);
+        focus_head before = head;
+        answered("a batch of one", focus_head_hear_batch(&head, cuts[i].bytes, cuts[i].length, &answer, room, &count), cuts[i].want, &head, &before);
+        same("its answer", answer, cuts[i].answer);
+        same("its number of frames", (long long)count, cuts[i].want ? 99 : cuts[i].answer != 0xee);
+    }
+}
+
 static void writes(void) {
     static const uint8_t order[] = {FOCUS_ENDED, FOCUS_BUFFER};
     for (int faults = 0; faults < 4; faults++) {
@@ -153,6 +209,8 @@ int main(void) {
     starts();
     restarts();
     hears();
+    batches();
+    batch_cuts();
     writes();
     closes();
     positions();

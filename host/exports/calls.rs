@@ -27,12 +27,14 @@ pub enum Call {
     Start { n: u32, f: u32, number: u32, position: i32 },
     Restart { n: u32, f: u32, number: u32, phase: u32, round: u32 },
     Hear { link: u32, frame: Bytes },
+    HearBatch { batch: Bytes, answers: Bytes, room: usize, out: usize },
     Write { buffer: Bytes, room: usize, out: usize },
     Close,
     Position { out: i32 },
 }
 
-/// What a call gave back and left in lent memory. The block of a head is disturbed if a refused or reading call changed it.
+/// What a call gave back and left in lent memory. Memory is disturbed if a refused or reading call changed the block of a head, or a call the batch that
+/// it reads.
 #[derive(Debug, PartialEq)]
 pub struct Answer {
     pub number: u8,
@@ -51,9 +53,10 @@ impl Call {
             Call::Start { .. } => 3,
             Call::Restart { .. } => 4,
             Call::Hear { .. } => 5,
-            Call::Write { .. } => 6,
-            Call::Close => 7,
-            Call::Position { .. } => 8,
+            Call::HearBatch { .. } => 6,
+            Call::Write { .. } => 7,
+            Call::Close => 8,
+            Call::Position { .. } => 9,
         }
     }
 
@@ -61,6 +64,7 @@ impl Call {
         match self {
             Call::FrameCheck { frame } | Call::Hear { frame, .. } => frame.0.clone(),
             Call::Midpoint { entries, .. } => entries.0.clone(),
+            Call::HearBatch { answers, .. } => answers.0.clone(),
             Call::Write { buffer, .. } => buffer.0.clone(),
             _ => Vec::new(),
         }
@@ -69,6 +73,7 @@ impl Call {
     /// By the proved export, on a block.
     pub fn exported(&self, block: &mut Block) -> Answer {
         let (before, mut lent) = (*block, self.lent());
+        let mut batch = if let Call::HearBatch { batch, .. } = self { batch.0.clone() } else { Vec::new() };
         let (number, out) = match *self {
             Call::FrameCheck { .. } => (exported::frame_check(&mut lent), 0),
             Call::Midpoint { n, f, marks, mut out, .. } => (exported::midpoint(n, f, marks, &mut lent, &mut out), out as i64),
@@ -76,12 +81,14 @@ impl Call {
             Call::Start { n, f, number, position } => (block.start(n, f, number, position), 0),
             Call::Restart { n, f, number, phase, round } => (block.restart(n, f, number, phase, round), 0),
             Call::Hear { link, .. } => (block.hear(link, &mut lent), 0),
+            Call::HearBatch { room, mut out, .. } => (block.hear_batch(&mut batch, &mut lent[..room], &mut out), out as i64),
             Call::Write { room, mut out, .. } => (block.write(&mut lent[..room], &mut out), out as i64),
             Call::Close => (block.close(), 0),
             Call::Position { mut out } => (block.position(&mut out), out as i64),
         };
         let reads = matches!(self, Call::Write { .. } | Call::Position { .. });
-        let disturbed = (number != 0 || reads) && *block != before;
+        let read = matches!(self, Call::HearBatch { batch: given, .. } if given.0 != batch);
+        let disturbed = read || (number != 0 || reads) && *block != before;
         Answer { number, out, lent: Bytes(lent), disturbed }
     }
 
@@ -97,6 +104,9 @@ impl Call {
                 (opened(head, Head::restart(n as usize, f as usize, number as usize, phase as usize, round as usize)), 0)
             }
             Call::Hear { link, .. } => (head.hear(link as usize, &lent), 0),
+            Call::HearBatch { ref batch, room, out, .. } => {
+                valued(head.hear_batch(&batch.0, &mut lent[..room]).map(|count| count as i64), out as i64)
+            }
             Call::Write { room, out, .. } => valued(head.write(&mut lent[..room]).map(|length| length as i64), out as i64),
             Call::Close => (head.close(), 0),
             Call::Position { out } => (head.position.map_or(Ok(()), |_| Err(1)), head.position.unwrap_or(out) as i64),

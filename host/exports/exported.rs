@@ -13,6 +13,7 @@ mod c {
         pub fn focus_head_start(head: *mut Block, n: u32, f: u32, number: u32, position: i32) -> u8;
         pub fn focus_head_restart(head: *mut Block, n: u32, f: u32, number: u32, phase: u32, round: u32) -> u8;
         pub fn focus_head_hear(head: *mut Block, link: u32, frame: *const u8, length: usize) -> u8;
+        pub fn focus_head_hear_batch(head: *mut Block, batch: *const u8, length: usize, answers: *mut u8, room: usize, count: *mut usize) -> u8;
         pub fn focus_head_write(head: *const Block, buffer: *mut u8, room: usize, length: *mut usize) -> u8;
         pub fn focus_head_close(head: *mut Block) -> u8;
         pub fn focus_head_position(head: *const Block, position: *mut i32) -> u8;
@@ -59,6 +60,10 @@ impl Block {
 
     pub fn hear(&mut self, link: u32, frame: &mut [u8]) -> u8 {
         unsafe { c::focus_head_hear(self, link, frame.as_mut_ptr(), frame.len()) }
+    }
+
+    pub fn hear_batch(&mut self, batch: &mut [u8], answers: &mut [u8], count: &mut usize) -> u8 {
+        unsafe { c::focus_head_hear_batch(self, batch.as_mut_ptr(), batch.len(), answers.as_mut_ptr(), answers.len(), count) }
     }
 
     pub fn write(&mut self, buffer: &mut [u8], length: &mut usize) -> u8 {

@@ -85,12 +85,14 @@ impl Writer<'_> {
         Ok(())
     }
 
-    /// All links in any order, other calls in between, the closing, and what it made.
+    /// All links in any order, some of them in one call, other calls in between, the closing, and what it made.
     fn round(&mut self) -> Result<(), String> {
         let given = if self.round == 0 { self.collection() } else { self.confession() };
         let links = self.random.some(&(0..self.n).collect::<Vec<_>>(), self.n);
         let turns = self.turns;
-        for link in links {
+        let alone = if self.random.chance(1, 2) { 0 } else { self.random.below(self.n + 1) };
+        self.batch(&links[alone..], &given)?;
+        for &link in &links[..alone] {
             if self.random.chance(1, 6) {
                 self.other_call()?;
             }
@@ -117,6 +119,36 @@ impl Writer<'_> {
         (self.ask)(Call::Hear { link, frame: Bytes(frame) }).map(drop)
     }
 
+    /// The frames of these links in one call, among them frames with faults, links twice and links that no ring has; sometimes cut anywhere; with room for
+    /// about as many answers as there are frames.
+    fn batch(&mut self, links: &[usize], given: &[Option<Said>]) -> Result<(), String> {
+        let mut frames = Vec::new();
+        for &link in links {
+            if self.random.chance(1, 12) {
+                frames.push((link, self.wrong_bytes(link)));
+            }
+            for _ in 0..1 + self.random.chance(1, 12) as usize {
+                frames.extend(given[link].iter().map(|said| (link, frames::write(said, link, self.phase))));
+            }
+        }
+        let mut batch = Vec::new();
+        for (link, frame) in &frames {
+            batch.push(near(self.random, *link as u32, 40) as u8);
+            batch.extend(frame);
+        }
+        let more = self.random.below(6);
+        match self.random.below(16) {
+            0 => batch.truncate(self.random.below(batch.len() + 1)),
+            1 => batch.extend(self.random.bytes(1 + more)),
+            _ => {}
+        }
+        let count = frames.len();
+        let room = self.random.pick(&[count, count, count, count + 1, count + more, count.saturating_sub(1), more]);
+        let (after, out) = (self.random.below(9), self.random.next() as usize >> 1);
+        let answers = Bytes(self.random.bytes(room + after));
+        (self.ask)(Call::HearBatch { batch: Bytes(batch), answers, room, out }).map(drop)
+    }
+
     fn close(&mut self) -> Result<(), String> {
         if (self.ask)(Call::Close)? == 0 {
             self.turns += 1;
@@ -126,8 +158,13 @@ impl Writer<'_> {
         Ok(())
     }
 
-    /// A frame with faults, or one of the other round.
     fn wrong_frame(&mut self, link: usize) -> Result<(), String> {
+        let frame = self.wrong_bytes(link);
+        self.hear(link, frame)
+    }
+
+    /// A frame with faults, or one of the other round.
+    fn wrong_bytes(&mut self, link: usize) -> Vec<u8> {
         let round = if self.random.chance(1, 4) { 1 - self.round } else { self.round };
         let said = match (round, self.random.chance(1, 4)) {
             (0, true) => Said::Silence,
@@ -136,8 +173,7 @@ impl Writer<'_> {
             (_, false) => Said::List(self.list()),
         };
         let frame = frames::write(&said, link, self.phase);
-        let frame = if round == self.round || self.random.chance(1, 2) { damaged(self.random, frame) } else { frame };
-        self.hear(link, frame)
+        if round == self.round || self.random.chance(1, 2) { damaged(self.random, frame) } else { frame }
     }
 
     fn other_call(&mut self) -> Result<(), String> {

@@ -36,6 +36,7 @@ enum focus_refusal {
     FOCUS_SCALE = 12,       /* scale */
     FOCUS_RUN_RECORD = 13,  /* run record cut short, of wrong length, of unknown kind or out of order, or file ended before a start or inside a phase */
     FOCUS_STRUCK = 14,      /* more than f struck, or a mark at n or above */
+    FOCUS_BATCH_ENTRY = 15, /* an entry's length field is missing, below 4 or runs past the end (document 02, A1) */
     FOCUS_HEARD = 21,       /* link already heard this round */
     FOCUS_OTHER_ROUND = 22,/* frame of the other round */
     FOCUS_OTHER_PHASE = 23, /* frame of another phase */
@@ -100,6 +101,13 @@ uint8_t focus_head_restart(focus_head *head, uint32_t n, uint32_t f, uint32_t nu
 
 /* Hears the bytes of one frame on a link. Refusals 26, 3, 21, 6, 7, 8, 22, 9, 23, 10, 11. */
 uint8_t focus_head_hear(focus_head *head, uint32_t link, const uint8_t *frame, size_t length);
+
+/* Hears a round's frames in one call, each as a link byte and then the frame, in order, going on past a refused one: as focus_head_hear would, one by one.
+ * The front of answers gets a byte for each frame, 0 or the number of its refusal (26 for each once phase 65,535 has ended), and *count how many frames there
+ * were; the bytes of answers behind them stay as they were. Refusals 15, for the whole batch before any of it is heard, then 24 if answers has fewer bytes than
+ * there are frames; nothing is heard then, and nothing written.
+ * Promised: `HearsBatch` (crates/head_c/specs/Blocks.antt); crates/head_spec/specs/Batch.antt says how a batch is cut. */
+uint8_t focus_head_hear_batch(focus_head *head, const uint8_t *batch, size_t length, uint8_t *answers, size_t room, size_t *count);
 
 /* Writes the frame that says what the head has to say to the front of the buffer, and its length to *length; the bytes after it stay as they were.
  * Refusals 26, 24. */

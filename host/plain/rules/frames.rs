@@ -85,3 +85,18 @@ fn put_list(frame: &mut Vec<u8>, list: &[Entry]) {
         frame.extend(entry.unwrap_or(0).to_le_bytes());
     }
 }
+
+/// The entries of a batch, each a link byte and then a frame as long as its own length field. 15.
+pub fn cut(mut batch: &[u8]) -> Result<Vec<(usize, &[u8])>, u8> {
+    let mut entries = Vec::new();
+    while !batch.is_empty() {
+        let field = batch.get(1..3).ok_or(15)?;
+        let length = field[0] as usize + 256 * field[1] as usize;
+        if length < 4 || batch.len() - 1 < length {
+            return Err(15);
+        }
+        entries.push((batch[0] as usize, &batch[1..1 + length]));
+        batch = &batch[1 + length..];
+    }
+    Ok(entries)
+}

@@ -69,6 +69,17 @@ impl Head {
         Ok(())
     }
 
+    /// Document 02, A1: the frames of a batch, in order, going on past a refused one; the front of `answers` gets 0 or the number of each. 15, 24; how
+    /// many frames there are.
+    pub fn hear_batch(&mut self, batch: &[u8], answers: &mut [u8]) -> Result<usize, u8> {
+        let entries = frames::cut(batch)?;
+        let room = answers.get_mut(..entries.len()).ok_or(24)?;
+        for (answer, (link, frame)) in room.iter_mut().zip(&entries) {
+            *answer = self.hear(*link, frame).err().unwrap_or(0);
+        }
+        Ok(entries.len())
+    }
+
     /// 26; the frame.
     pub fn says(&self) -> Result<Vec<u8>, u8> {
         if self.ended {
