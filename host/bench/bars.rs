@@ -1,38 +1,27 @@
 //! The bars: how long a proved call or the proved player may take, in times of plain. `host/bench/run` holds each row to its bar; `--quick` takes
 //! the best of up to three tries and allows MARGIN times as much.
 
-/// The switch: whether the raised bars count, or those before them.
-const RAISED: bool = false;
-
 pub const MARGIN: f64 = 1.5;
 /// The proved player's memory, in bytes.
 pub const MEMORY: u64 = 16_000_000;
 
-/// No bar.
-const NONE: f64 = f64::INFINITY;
-
-/// The name of a row, the bar before, and the raised bar. A row that is not here has no bar.
-const BARS: [(&str, f64, f64); 11] = [
-    ("(5,1) struck, other heads in each round", 1.0 / 3.0, 1.0 / 6.0),
-    ("(5,1) struck, the same heads in all rounds", 1.0 / 3.0, 1.0 / 6.0),
-    ("(32,8) quiet", 1.0 / 80.0, 1.0 / 120.0),
-    ("(32,8) struck, other heads in each round", 1.0 / 10.0, 1.0 / 20.0),
-    ("(32,8) struck, the same heads in all rounds", 1.0 / 12.0, 1.0 / 20.0),
-    ("hearing a position, (5,1)", 2.0, 2.0),
-    ("hearing a list, (5,1)", 1.0, 1.0),
-    ("hearing a position, (32,8)", 2.0, 2.0),
-    ("hearing a list, (32,8)", 1.0, 1.0),
-    ("hearing a batch of positions, (32,8)", 2.0, 2.0),
-    ("hearing a batch of lists, (32,8)", 2.0, 2.0),
+/// The name of a row, and its bar. A row that is not here has none.
+pub const BARS: [(&str, f64); 11] = [
+    ("(5,1) struck, other heads in each round", 1.0 / 6.0),
+    ("(5,1) struck, the same heads in all rounds", 1.0 / 6.0),
+    ("(32,8) quiet", 1.0 / 120.0),
+    ("(32,8) struck, other heads in each round", 1.0 / 20.0),
+    ("(32,8) struck, the same heads in all rounds", 1.0 / 20.0),
+    ("hearing a position, (5,1)", 2.0),
+    ("hearing a list, (5,1)", 1.0),
+    ("hearing a position, (32,8)", 2.0),
+    ("hearing a list, (32,8)", 1.0),
+    ("hearing a batch of positions, (32,8)", 2.0),
+    ("hearing a batch of lists, (32,8)", 2.0),
 ];
 
-/// The rows that have a bar, with it.
-pub fn all() -> impl Iterator<Item = (&'static str, f64)> {
-    BARS.iter().map(|&(name, before, raised)| (name, if RAISED { raised } else { before })).filter(|(_, bar)| *bar < NONE)
-}
-
 pub fn of(name: &str) -> Option<f64> {
-    all().find(|(row, _)| *row == name).map(|(_, bar)| bar)
+    BARS.iter().find(|(row, _)| *row == name).map(|&(_, bar)| bar)
 }
 
 /// A ratio as it is said: 2.1, or 1/13.5.

@@ -117,7 +117,7 @@ fn ratio(players: &Players, name: &str) -> io::Result<f64> {
 /// One line; a ratio beyond its bar is taken three times before it counts.
 fn quick(players: &Players) -> io::Result<bool> {
     let (mut line, mut missed) = (Vec::new(), false);
-    for (name, bar) in bars::all() {
+    for &(name, bar) in &bars::BARS {
         let mut least = f64::MAX;
         for _ in 0..3 {
             if least > bar {

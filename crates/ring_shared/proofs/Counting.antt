@@ -1,6 +1,6 @@
 -- What a link adds when it is heard: a list counts for each entry at which it has the code, a confession is marked, and anything else adds nothing. Link by link, a count is the sum
 -- of what the struck links add.
-use mathlib.Core.Path.{_≡_, refl, ap, sym, _∙_}
+use mathlib.Core.Path.{_≡_, refl, ap, _∙_}
 use mathlib.Core.Logic.{_≢_}
 use mathlib.Core.Bool.{Bool, true, false, cond}
 use mathlib.Core.List.{List, [], _∷_}
@@ -10,16 +10,15 @@ use lib.ListN.{getD}
 use lib.IntN.{ℤ, pos}
 use Rattle.terms.specs.Positions.{eqZ}
 use Rattle.terms.specs.declared.Table.{Table}
-use Rattle.entries.specs.Entries.{entryAt}
 use Rattle.entries.specs.Tables.{tableAt}
 use Rattle.marks.specs.Marks.{bitOf, withMark}
 use Rattle.marks.proofs.Marks.{bit-none, with-same, with-other}
 use Rattle.marks.proofs.Counts.{sum-next}
 use Rattle.convergence.specs.Counting.{Each, sum, bit}
-use Rattle.convergence.specs.Trust.{Given, nothing, confessed, gave, hasConfessed}
+use Rattle.convergence.specs.Trust.{nothing, confessed, gave, hasConfessed}
 use Rattle.convergence.proofs.Sums.{sums-le, sum-one, bit-le}
 use Rattle.frame_spec.specs.Said.{said}
-use Rattle.settle_shared.specs.Codes.{codeOf, codeAt, holds, Tallied}
+use Rattle.settle_shared.specs.Codes.{codeAt, holds, Tallied}
 use Rattle.settle_shared.proofs.Codes.{code-entry, holds-le}
 use Rattle.head_spec.specs.Record.{givenOf}
 use Rattle.ring_round.specs.declared.Stage.{Stage}

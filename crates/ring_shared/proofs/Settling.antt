@@ -1,7 +1,7 @@
 -- What a head settles in a confession round depends on what links 0 .. n - 1 give alone, and on that by its trusted entries. So heads to which the same is planted
 -- settle the same, and so do heads with the same codes.
 use mathlib.Core.Path.{_≡_, refl, ap, sym, _∙_}
-use mathlib.Core.Bool.{Bool, true, false, cond, _&&_}
+use mathlib.Core.Bool.{Bool, true, false, cond}
 use mathlib.Core.List.{List}
 use Prim.Native.Nat.{ℕ, _<_}
 use lib.ListN.{getD}
@@ -11,7 +11,7 @@ use Rattle.terms.specs.declared.Entry.{Entry}
 use Rattle.marks.specs.Marks.{bitOf}
 use Rattle.convergence.specs.Counting.{Each}
 use Rattle.convergence.specs.Settling.{Rule, twoRounds}
-use Rattle.convergence.specs.Trust.{Given, trusted}
+use Rattle.convergence.specs.Trust.{Given}
 use Rattle.convergence.specs.Phases.{rounding}
 use Rattle.convergence.proofs.Same.{ordered-same, trusted-same}
 use Rattle.frame_spec.specs.Said.{said}

@@ -9,8 +9,8 @@ use native.Mathlib.Omega.{arith}
 use mir.Syntax.{w32}
 use mir.Val.{SFits, boolByte, toZ, ofZ}
 use mir.Facts.{toZ-ofZ}
-use lib.Dec.{T, eqb}
-use lib.IntN.{ℤ, pos, ℤ-discrete}
+use lib.Dec.{eqb}
+use lib.IntN.{ℤ, pos}
 use lib.ListN.{getD}
 use Rattle.terms.specs.Positions.{isPosition, eqZ}
 use Rattle.terms.specs.declared.Entry.{Entry}

@@ -2,14 +2,11 @@
 use mathlib.Core.Path.{_≡_}
 use mathlib.Core.Logic.{_≢_}
 use mathlib.Core.Bool.{Bool, cond, not, _&&_}
-use mathlib.Core.List.{List}
 use Prim.Native.Nat.{ℕ, _+_, _-_, _*_, _≤_}
 use lib.Dec.{eqb}
 use lib.IntN.{ℤ}
 use Rattle.terms.specs.Positions.{eqZ}
 use Rattle.marks.specs.Marks.{bitOf}
-use Rattle.convergence.specs.Trust.{Given}
-use Rattle.settle_trust.specs.Received.{givenBy}
 
 -- link k gives a list
 abbrev pub gives : ℕ → ℕ → ℕ → Bool
@@ -25,7 +22,3 @@ pub record Leads (count : ℤ → ℕ) (L : ℕ) (c : ℤ) (l : ℕ) : Type 0 wh
   pub others : (w : ℤ) → w ≢ c → 2 * count w + l ≤ L
   pub leader : 2 * count c ≤ L + l
   pub within : l ≤ L
-
--- what the links give: which have confessed, which have given a list, and the lists
-abbrev pub givenAll : ℕ → ℕ → List ℕ → List (List ℤ) → ℕ → Given
-givenAll confessed listed marks lists = givenBy (record { confessed = confessed; listed = listed; marks = marks }) lists

@@ -1,9 +1,9 @@
 // What all receivers of a confession round share: the lists that every head hears are compared once, and each receiver adds what it alone was told.
 ghost use mathlib.Core.Path.{_≡_};
 ghost use mathlib.Core.Bool.{true, false, cond};
-ghost use Prim.Native.Nat.{ℕ, _+_, _-_, _*_, _%_, _≤_, _<_};
+ghost use Prim.Native.Nat.{_+_, _-_, _*_, _≤_, _<_};
 ghost use lib.Dec.{eqb, leb};
-ghost use lib.IntN.{ℤ, pos};
+ghost use lib.IntN.{pos};
 ghost use lib.ListN.{length, getD};
 ghost use Rattle.terms.specs.Positions.{eqZ};
 ghost use Rattle.marks.specs.Marks.{bitOf};
@@ -13,7 +13,7 @@ ghost use Rattle.settle_trust.specs.Received.{givenBy};
 ghost use Rattle.settle_midpoint.specs.Answers.{settling};
 ghost use Rattle.settle_shared.specs.Codes.{noCode, entryOf, codeAt, holds, Tallied};
 ghost use Rattle.settle_shared.specs.Shared.{Shares};
-ghost use Rattle.settle_shared.specs.Inner.{Voted, Leads, gives, givenAll};
+ghost use Rattle.settle_shared.specs.Inner.{Voted, Leads, gives};
 use settle_midpoint::Order;
 use settle_trust::Links;
 use terms::Lists;
@@ -164,25 +164,17 @@ fn gives_list(confessed: u32, listed: u32, k: usize) -> bool
 }
 
 // Each list votes; answers how many there are.
-fn vote_all(
-    lists: &Lists,
-    marks: &Words,
-    confessed: u32,
-    listed: u32,
-    n: usize,
-    codes: &mut [i32],
-    leads: &mut [u32],
-) -> usize
+fn vote_all(lists: &Lists, links: Links, n: usize, codes: &mut [i32], leads: &mut [u32]) -> usize
     requires { ⌜ (n ≤ 32) × (length (now codes) ≡ 32) × (length (now leads) ≡ 32) × Each n (λ j. getD (now leads) j 0 ≡ 0) ⌝ }
     ensures { λ r. ⌜ (length (now (codes .exit)) ≡ 32) × (length (now (leads .exit)) ≡ 32) × (r ≤ n)
-        × Each n (λ j. Leads (λ w. sum n (λ k. holds j w (givenAll confessed listed (now (marks .entry)) (now (lists .entry)) k))) r
+        × Each n (λ j. Leads (λ w. sum n (λ k. holds j w (givenBy links (now (lists .entry)) k))) r
         (getD (now (codes .exit)) j (pos 0)) (getD (now (leads .exit)) j 0)) ⌝ }
 {
     let mut count: usize = 0;
     let mut k: usize = 0;
     while k < n {
-        if gives_list(confessed, listed, k) {
-            vote_for(marks[k], &lists[k], codes, leads, n);
+        if gives_list(links.confessed, links.listed, k) {
+            vote_for(links.marks[k], &lists[k], codes, leads, n);
             count += 1;
         }
         k += 1;
@@ -191,24 +183,16 @@ fn vote_all(
 }
 
 // For each entry, how many lists have the code.
-fn tally_all(
-    lists: &Lists,
-    marks: &Words,
-    confessed: u32,
-    listed: u32,
-    n: usize,
-    codes: &Numbers,
-    same: &mut [u32],
-)
+fn tally_all(lists: &Lists, links: Links, n: usize, codes: &Numbers, same: &mut [u32])
     requires { ⌜ (n ≤ 32) × (length (now same) ≡ 32) × Each n (λ j. getD (now same) j 0 ≡ 0) ⌝ }
     ensures { λ _. ⌜ (length (now (same .exit)) ≡ 32)
         × Each n (λ j. getD (now (same .exit)) j 0
-        ≡ sum n (λ k. holds j (getD (now (codes .entry)) j (pos 0)) (givenAll confessed listed (now (marks .entry)) (now (lists .entry)) k))) ⌝ }
+        ≡ sum n (λ k. holds j (getD (now (codes .entry)) j (pos 0)) (givenBy links (now (lists .entry)) k))) ⌝ }
 {
     let mut k: usize = 0;
     while k < n {
-        if gives_list(confessed, listed, k) {
-            tally_to(marks[k], &lists[k], codes, same, n);
+        if gives_list(links.confessed, links.listed, k) {
+            tally_to(links.marks[k], &lists[k], codes, same, n);
         }
         k += 1;
     }
@@ -273,30 +257,13 @@ pub fn share(
     if need <= struck {
         return false;
     }
-    let marks = links.marks;
     let mut leads = [0u32; 32];
-    let count = vote_all(
-        lists,
-        &marks,
-        links.confessed,
-        links.listed,
-        heads,
-        codes,
-        &mut leads,
-    );
+    let count = vote_all(lists, links, heads, codes, &mut leads);
     if !are_alone(&leads, links.confessed, heads, count, need - struck) {
         return false;
     }
     *same = [0u32; 32];
-    tally_all(
-        lists,
-        &marks,
-        links.confessed,
-        links.listed,
-        heads,
-        codes,
-        same,
-    );
+    tally_all(lists, links, heads, codes, same);
     drop_confessed(codes, links.confessed, heads);
     true
 }

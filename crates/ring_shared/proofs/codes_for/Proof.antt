@@ -1,12 +1,11 @@
 -- `ring_shared::codes_for` meets its contract: the counts with what is planted, and the lists that are needed with its confessions, decide the trusted entries.
-use mathlib.Core.Path.{_≡_, ap, sym, _∙_}
+use mathlib.Core.Path.{ap, _∙_}
 use Prim.Native.Nat.{ℕ, _-_}
 use native.Mathlib.Omega.{arith}
 use denote.Ref.{now}
 use borrow.Author.Needs.{needs}
 use Rattle.marks.specs.Marks.{markedTo}
 use Rattle.frame_slots.specs.Slots.{plantedIn}
-use Rattle.ring_round.specs.Memory.{heads}
 use Rattle.ring_shared.proofs.Told.{codes-told}
 use Rattle.ring_shared.proofs.codes_for.Statement.{statement}
 use Rattle.ring_shared.proofs.codes_for.Tie as tie

@@ -1,12 +1,9 @@
 -- `ring_shared::count_frame` meets its contract: each arm counts what the frame said, which is what was read with the table beside it.
-use mathlib.Core.Path.{_≡_, refl, ap, sym, _∙_}
-use Prim.Native.Nat.{ℕ}
+use mathlib.Core.Path.{_≡_, sym, _∙_}
 use denote.Ref.{now}
 use borrow.Author.Needs.{needs}
-use Rattle.convergence.specs.Trust.{Given}
 use Rattle.frame_spec.specs.declared.Said.{Said}
 use Rattle.frame_spec.specs.Said.{tableIn, said, meant, restField}
-use Rattle.head_spec.specs.Record.{givenOf}
 use Rattle.ring_round.proofs.Frames.{said-read}
 use Rattle.ring_shared.proofs.Counting.{counted-nothing, counted-confession, counted-list}
 use Rattle.ring_shared.proofs.count_frame.Statement.{statement}

@@ -1,16 +1,12 @@
 -- `ring_shared::count_planted` meets its contract: before head k, the struck heads below k gave what is planted.
-use mathlib.Core.Path.{_≡_, ap, ap₂, sym, _∙_}
+use mathlib.Core.Path.{_≡_, sym, _∙_}
 use mathlib.Core.Logic.{⊎-elim}
-use mathlib.Core.List.{List}
-use Prim.Native.Nat.{ℕ, _-_, _≤_}
+use Prim.Native.Nat.{_-_, _≤_}
 use native.Mathlib.Omega.{arith}
 use denote.Ref.{now}
 use borrow.Author.Needs.{needs}
-use Rattle.frame_spec.specs.Said.{said}
 use Rattle.frame_slots.specs.Slots.{plantedIn}
-use Rattle.head_spec.specs.Record.{givenOf}
 use Rattle.ring_round.specs.Memory.{heads}
-use Rattle.ring_shared.specs.Inner.{Counted}
 use Rattle.ring_shared.proofs.Counting.{counted-planted, ToldTo, told-none, told-passed, told-heard}
 use Rattle.ring_shared.proofs.count_planted.Statement.{statement}
 use Rattle.ring_shared.proofs.count_planted.Tie as tie

@@ -1,5 +1,5 @@
 -- `ring_shared::is_same_front` meets its contract: if nothing differs before entry j, the codes below j are the same.
-use mathlib.Core.Path.{_≡_, ap, sym, _∙_}
+use mathlib.Core.Path.{_≡_, sym, _∙_}
 use mathlib.Core.Logic.{⊎-elim}
 use mathlib.Core.Bool.{true, true≢false}
 use Prim.Native.Nat.{_-_, _≤_}

@@ -1,5 +1,5 @@
 -- `ring_shared::position_after` meets its contract: a head that is told what the last one was told, or has the codes that it settled from, settles what that one did.
-use mathlib.Core.Path.{_≡_, ap, sym, _∙_}
+use mathlib.Core.Path.{sym, _∙_}
 use native.Mathlib.Omega.{arith}
 use mir.Facts.{toZ-ofZ}
 use denote.Ref.{now}

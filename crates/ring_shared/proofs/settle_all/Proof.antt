@@ -1,5 +1,5 @@
 -- `ring_shared::settle_all` meets its contract: what is given all alike shows the codes and counts, and from these all heads settle.
-use mathlib.Core.Path.{_≡_, refl, ap, sym, _∙_}
+use mathlib.Core.Path.{refl, sym}
 use mathlib.Core.Bool.{true≢false}
 use native.Mathlib.Omega.{arith}
 use denote.Ref.{now}

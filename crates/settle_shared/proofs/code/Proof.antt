@@ -1,5 +1,4 @@
 -- `settle_shared::code` meets its contract, by the mark.
-use mathlib.Core.Path.{_≡_, refl, sym, _∙_}
 use mir.Facts.{toZ-ofZ}
 use borrow.Author.Needs.{needs}
 use Rattle.settle_shared.proofs.code.Statement.{statement}

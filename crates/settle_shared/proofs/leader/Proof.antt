@@ -1,6 +1,5 @@
 -- `settle_shared::leader` meets its contract: by whether any code led.
 use mir.Facts.{toZ-ofZ}
-use borrow.Author.Needs.{needs}
 use borrow.Author.Tests.{eq-eqb, ne-eqb}
 use Rattle.settle_shared.proofs.leader.Statement.{statement}
 use Rattle.settle_shared.proofs.leader.Tie as tie

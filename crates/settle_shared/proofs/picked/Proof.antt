@@ -1,6 +1,5 @@
 -- `settle_shared::picked` meets its contract: by whether enough lists have the code.
 use mir.Facts.{toZ-ofZ}
-use borrow.Author.Needs.{needs}
 use borrow.Author.Tests.{le-leb, lt-leb}
 use Rattle.settle_shared.proofs.picked.Statement.{statement}
 use Rattle.settle_shared.proofs.picked.Tie as tie

@@ -34,16 +34,15 @@ drop-confessed-requires c κs = search needs
 returns-4 : tie.Need-returns-4
 returns-4 c e =
     let t = c .before .before in
-    let q = t .before .before .before .before .before in
+    let q = t .before .before .before .before in
     let a = q .before in
     let v = a .before .before .before in
-    let i = v .before .before .before .before .before in
+    let i = v .before .before .before in
     let n = i .before in
     let s = n .before .before in
     let r = s .args in
-    let l = r .links in
-    let o = v .vote-all .last .1 .1 .1 .1 .1 in
-    shares-all (r .n) (r .f) (r .struck) (l .confessed) (l .listed) (l .marks) (now (r .lists)) (o .0) _ (o .1 .0) _ (n .before .if1 .left) (n .lists-needed .ensures) (i .if2 .left)
+    let o = v .vote-all .last .1 .1 .1 in
+    shares-all (r .n) (r .f) (r .struck) (r .links) (now (r .lists)) (o .0) _ (o .1 .0) _ (n .before .if1 .left) (n .lists-needed .ensures) (i .if2 .left)
     (v .vote-all .ensures .3) (a .are-alone .ensures (not-false _ (q .if3 .left))) (t .tally-all .ensures .1) (c .drop-confessed .ensures .1)
 
 pub share-spec : {M : Type 1} → statement M

@@ -1,7 +1,7 @@
 -- `settle_shared::tally_all` meets its contract: before link k, the counts are those of the lists of the links below k.
 use mathlib.Core.Path.{_≡_, sym, _∙_}
 use mathlib.Core.Logic.{⊎-elim}
-use Prim.Native.Nat.{ℕ, _-_, _≤_}
+use Prim.Native.Nat.{_-_, _≤_}
 use native.Mathlib.Omega.{arith}
 use denote.Ref.{now}
 use lib.IntN.{pos}
@@ -13,11 +13,11 @@ use Rattle.settle_shared.proofs.tally_all.Statement.{statement}
 use Rattle.settle_shared.proofs.tally_all.Tie as tie
 
 abbrev Inv-loop : tie.InvT-loop
-Inv-loop lists marks confessed listed n codes same₀ k₀ same k =
-    (k ≤ n) × (length same ≡ 32) × Each n (λ j. getD same j 0 ≡ counted confessed listed marks lists j k (getD codes j (pos 0)))
+Inv-loop lists n codes same₀ links k₀ same k =
+    (k ≤ n) × (length same ≡ 32) × Each n (λ j. getD same j 0 ≡ counted links lists j k (getD codes j (pos 0)))
 
 abbrev μ-loop : tie.MeasureT-loop
-μ-loop lists marks confessed listed n codes same₀ k₀ same k = n - k
+μ-loop lists n codes same₀ links k₀ same k = n - k
 
 loop-holds : tie.Need-loop-holds Inv-loop μ-loop
 unfolding sum
@@ -37,12 +37,12 @@ loop-again c =
     (λ w. (
       search needs,
       rw (w .7) (w .4 .ensures .long ∙ l .inv .1),
-      rw (w .7) (λ j q. tally-given (a .confessed) (a .listed) (now (a .marks)) (now (a .lists)) j (l .k) (getD (now (a .codes)) j (pos 0)) (l .inv .2 j q) (e ∙ w .0 .taken) (omega arith) (w .4 .ensures .counts j q)),
+      rw (w .7) (λ j q. tally-given (a .t2) (now (a .lists)) j (l .k) (getD (now (a .codes)) j (pos 0)) (l .inv .2 j q) (e ∙ w .0 .taken) (omega arith) (w .4 .ensures .counts j q)),
     ))
     (λ w. (
       search needs,
       rw (w .1) (l .inv .1),
-      rw (w .1) (λ j q. tally-skipped (a .confessed) (a .listed) (now (a .marks)) (now (a .lists)) j (l .k) (getD (now (a .codes)) j (pos 0)) (l .inv .2 j q) (e ∙ w .0 .left)),
+      rw (w .1) (λ j q. tally-skipped (a .t2) (now (a .lists)) j (l .k) (getD (now (a .codes)) j (pos 0)) (l .inv .2 j q) (e ∙ w .0 .left)),
     ))
     (c .if1 .came)
 

@@ -1,7 +1,7 @@
 -- `settle_shared::vote_all` meets its contract: before link k, the lists of the links below k have voted.
 use mathlib.Core.Path.{_≡_, refl, sym, _∙_}
 use mathlib.Core.Logic.{⊎-elim}
-use Prim.Native.Nat.{ℕ, _+_, _-_, _≤_}
+use Prim.Native.Nat.{_-_, _≤_}
 use native.Mathlib.Omega.{arith}
 use denote.Ref.{now}
 use lib.IntN.{pos}
@@ -15,12 +15,12 @@ use Rattle.settle_shared.proofs.vote_all.Statement.{statement}
 use Rattle.settle_shared.proofs.vote_all.Tie as tie
 
 abbrev Inv-loop : tie.InvT-loop
-Inv-loop lists marks confessed listed n codes₀ leads₀ count₀ k₀ codes leads count k =
+Inv-loop lists n codes₀ leads₀ links count₀ k₀ codes leads count k =
     (k ≤ n) × (length codes ≡ 32) × (length leads ≡ 32) × (count ≤ k)
-    × Each n (λ j. Leads (counted confessed listed marks lists j k) count (getD codes j (pos 0)) (getD leads j 0))
+    × Each n (λ j. Leads (counted links lists j k) count (getD codes j (pos 0)) (getD leads j 0))
 
 abbrev μ-loop : tie.MeasureT-loop
-μ-loop lists marks confessed listed n codes₀ leads₀ count₀ k₀ codes leads count k = n - k
+μ-loop lists n codes₀ leads₀ links count₀ k₀ codes leads count k = n - k
 
 loop-holds : tie.Need-loop-holds Inv-loop μ-loop
 unfolding sum
@@ -49,14 +49,14 @@ loop-again c =
       rw (w .9) (w .5 .ensures .0),
       rw (w .10) (w .5 .ensures .1),
       rw (w .11) (omega arith),
-      rw (w .9, w .10, w .11) (λ j q. vote-given (a .confessed) (a .listed) (now (a .marks)) (now (a .lists)) j (l .k) (l .inv .4 j q) (e ∙ w .0 .taken) (w .5 .ensures .2 j q)),
+      rw (w .9, w .10, w .11) (λ j q. vote-given (a .t2) (now (a .lists)) j (l .k) (l .inv .4 j q) (e ∙ w .0 .taken) (w .5 .ensures .2 j q)),
     ))
     (λ w. (
       search needs,
       rw (w .1) (l .inv .1),
       rw (w .2) (l .inv .2),
       rw (w .3) (omega arith),
-      rw (w .1, w .2, w .3) (λ j q. vote-skipped (a .confessed) (a .listed) (now (a .marks)) (now (a .lists)) j (l .k) (l .inv .4 j q) (e ∙ w .0 .left)),
+      rw (w .1, w .2, w .3) (λ j q. vote-skipped (a .t2) (now (a .lists)) j (l .k) (l .inv .4 j q) (e ∙ w .0 .left)),
     ))
     (c .if1 .came)
 
