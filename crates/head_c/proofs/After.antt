@@ -7,6 +7,7 @@ use Prim.Native.Nat.{ℕ, zero, suc}
 use native.Mathlib.Omega.{arith}
 use lib.IntN.{ℤ}
 use Rattle.terms.specs.Refusals as refusal
+use Rattle.terms.specs.Refusals.{leaves}
 use Rattle.convergence.specs.Settling.{twoRounds, enough}
 use Rattle.settle_midpoint.specs.Answers.{settling}
 use Rattle.settle_midpoint.specs.declared.Kept.{Kept}
@@ -19,6 +20,11 @@ use Rattle.head_spec.specs.Calls.{answer, startRefusal, started, start, restart
 use Rattle.head_spec.specs.Calls.{closedCollection, closedPhase, closing, closeSettled, closeIn, close}
 use Rattle.head_lent.specs.Answers.{closedAnswer}
 use Rattle.head_c.specs.Blocks.{after}
+
+-- a refusal leaves what was
+pub unchanged : (c : ℕ) (new old : List ℕ) → (c ≡ 0 → ⊥) → old ≡ leaves c new old
+unchanged zero new old n = absurd (n refl)
+unchanged (suc c) new old n = refl
 
 pub answered : (w : List ℕ) {r : ℕ} {w′ : List ℕ} {a b : Answer} → (r ≡ a .refusal) × (w′ ≡ after w a) → a ≡ b → (r ≡ b .refusal) × (w′ ≡ after w b)
 answered w p e = (p .0 ∙ ap (λ (x : Answer). x .refusal) e, p .1 ∙ ap (after w) e)

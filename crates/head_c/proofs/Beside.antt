@@ -92,10 +92,10 @@ unfolding heardEach
 each-beside [] w block i from to = refl
 each-beside (d ∷ D) w block i from to =
     let m = saidTo (headOf w .seat) (d .link) (d .bytes) in
-    go (hear (headOf w) (d .link) (d .bytes) .refusal) (each-beside D w block i from to)
+    go (hear (headOf w) (d .link) (d .bytes) .refusal) (heardIn w (d .link) m) (each-beside D w block i from to)
     (each-beside D (heardIn w (d .link) m) (heard-block w block (d .link) m) i from to ∙ heard-beside w block i from to (d .link) m)
   where
-    go : (c : ℕ) {w′ : List ℕ} → getD (heardEach w D) i 0 ≡ getD w i 0 → getD (heardEach w′ D) i 0 ≡ getD w i 0
+    go : (c : ℕ) (w′ : List ℕ) → getD (heardEach w D) i 0 ≡ getD w i 0 → getD (heardEach w′ D) i 0 ≡ getD w i 0
         → getD (heardEach (leaves c w′ w) D) i 0 ≡ getD w i 0
-    go zero old new = new
-    go (suc c) old new = old
+    go zero w′ old new = new
+    go (suc c) w′ old new = old

@@ -1,18 +1,14 @@
 -- The record is put into the block if nothing is refused.
 use mathlib.Core.Path.{_≡_, refl, ap, sym, _∙_}
-use mathlib.Core.List.{List}
-use Prim.Native.Nat.{ℕ, zero, suc}
+use Prim.Native.Nat.{ℕ}
 use denote.Ref.{now}
 use Rattle.terms.specs.Refusals.{leaves}
 use Rattle.head_spec.specs.declared.Head.{Head}
 use Rattle.head_c.specs.Blocks.{withHead, after}
+use Rattle.head_c.proofs.After.{unchanged}
 use borrow.Author.Needs.{needs}
 use Rattle.head_c.proofs.put_answer.Statement.{statement}
 use Rattle.head_c.proofs.put_answer.Tie as tie
-
-unchanged : (c : ℕ) (new old : List ℕ) → (c ≡ 0 → ⊥) → old ≡ leaves c new old
-unchanged zero new old n = absurd (n refl)
-unchanged (suc c) new old n = refl
 
 returns : tie.Need-returns
 unfolding after
