@@ -3,7 +3,8 @@ use mathlib.Core.Path.{_≡_}
 use mathlib.Core.Bool.{Bool, true, false}
 use mathlib.Core.List.{List}
 use Prim.Native.Nat.{ℕ}
-use lib.IntN.{ℤ, _≤ℤ_}
+use lib.IntN.{ℤ}
+use lib.Signed.{_≤ℤ_}
 use Rattle.settle_midpoint.specs.declared.Kept.{Kept}
 use Rattle.frame_spec.specs.Proper.{AllBytes}
 use Rattle.head_spec.specs.declared.LastKept.{LastKept}
