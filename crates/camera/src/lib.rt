@@ -51,9 +51,9 @@ pub extern "C" fn focus_midpoint_kept(
     ensures number { λ r. ⌜ r ≡ settledNumber (midpointCall n f marks (now (entries .entry))) ⌝ }
     ensures result { λ r. ⌜ now (kept .exit) ≡ keptOr (midpointCall n f marks (now (entries .entry))) (now (kept .entry)) ⌝ }
 {
-    let answer = settle_midpoint::midpoint(n, f, marks, entries);
-    match answer {
-        Settled::Refused(number) => number,
+    let settled = settle_midpoint::midpoint(n, f, marks, entries);
+    match settled {
+        Settled::Refused(refused) => refused,
         Settled::New(k) => {
             *kept = [k.low, k.high, k.trim as i32, k.position];
             0
