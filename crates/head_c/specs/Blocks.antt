@@ -14,6 +14,7 @@ use Rattle.fields.specs.Bytes.{signedOf, wordOf}
 use Rattle.marks.specs.Marks.{withMark}
 use Rattle.convergence.specs.Counting.{bit}
 use Rattle.frame_spec.specs.Said.{Meaning, refused, collected, listed, confessed}
+use Rattle.settle_midpoint.specs.declared.Kept.{Kept}
 use Rattle.head_spec.specs.declared.Row.{Row}
 use Rattle.head_spec.specs.declared.LastKept.{LastKept}
 use Rattle.head_spec.specs.declared.Seat.{Seat}
@@ -21,7 +22,7 @@ use Rattle.head_spec.specs.declared.Head.{Head}
 use Rattle.head_spec.specs.declared.Answer.{Answer}
 use Rattle.head_spec.specs.Calls.{saidTo, hear, Delivery}
 use Rattle.head_spec.specs.Batch.{entriesOf, batchRefusal, hearBatch, batchAnswers, batchCount}
-use Rattle.head_lent.specs.Answers.{heldNumber, heldOr}
+use Rattle.head_lent.specs.Answers.{heldNumber, heldOr, rangeNumber}
 use Rattle.head_c.specs.Places as place
 
 -- as many words as the code's type says
@@ -100,15 +101,16 @@ unfoldable pub listWords : List Row → ℕ → List ℕ
 listWords l zero = []
 listWords l (suc k) = listWords l k ++ wordsOf (getD l k (record { entries = [] }) .entries)
 
--- the words of a kept range
-abbrev pub rangeWords : LastKept → List ℕ
-rangeWords LastKept.Nothing = 0 ∷ 0 ∷ 0 ∷ 0 ∷ 0 ∷ []
-rangeWords (LastKept.Range k) = 1 ∷ wordOf (k .low) ∷ wordOf (k .high) ∷ k .trim ∷ wordOf (k .position) ∷ []
+-- a kept range, with zeros if none is held
+abbrev pub keptOf : LastKept → Kept
+keptOf LastKept.Nothing = record { low = pos 0; high = pos 0; trim = 0; position = pos 0 }
+keptOf (LastKept.Range k) = k
 
 abbrev pub seatWords : Seat → List ℕ
 seatWords s =
     s .n ∷ s .f ∷ s .number ∷ s .phase ∷ s .round ∷ bit (s .healed) ∷ bit (s .ended) ∷ heldNumber (s .position)
-    ∷ wordOf (heldOr (s .position) (pos 0)) ∷ rangeWords (s .last)
+    ∷ wordOf (heldOr (s .position) (pos 0)) ∷ rangeNumber (s .last) ∷ wordOf (keptOf (s .last) .low) ∷ wordOf (keptOf (s .last) .high)
+    ∷ keptOf (s .last) .trim ∷ wordOf (keptOf (s .last) .position) ∷ []
 
 unfoldable pub withHead : Head → List ℕ → List ℕ
 withHead h w =
