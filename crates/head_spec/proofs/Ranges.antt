@@ -1,5 +1,5 @@
--- A head holds a kept range exactly if it passed a phase end since its start or restart, and the position that was settled with it lies in it: only a
--- closing that settles puts one there, with the lowest and the highest kept, and half their sum lies between them.
+-- A head holds the kept range that was passed on last: only a closing that settles puts one there, and it puts the one that it answers. The position lies in
+-- it, since half the sum of the lowest and the highest kept lies between them.
 use mathlib.Core.Path.{_≡_, refl, ap, _∙_}
 use mathlib.Core.Bool.{Bool, true, false, cond}
 use Prim.Native.Nat.{ℕ, zero, suc, _*_, _≤_}
@@ -18,31 +18,31 @@ use Rattle.head_spec.specs.Record.{trustedBy}
 use Rattle.head_spec.specs.Calls.{started, restarted, closedCollection, closedPhase, closing, closeSettled, closeIn, close}
 use Rattle.head_spec.specs.Demand2.{Reachable}
 use Rattle.head_spec.specs.Demand2 as reachable
-use Rattle.head_spec.specs.Ranges.{passing, Passed, isHeld, HeldIfPassed, InRange, HeldInRange}
+use Rattle.head_spec.specs.Ranges.{passing, Passed, HoldsPassed, InRange, PassedInRange}
 use Rattle.head_spec.specs.Ranges as passed
 use Rattle.head_spec.proofs.Proper.{ProperHead}
 use Rattle.head_spec.proofs.Taking.{hear-keeps}
 use Rattle.head_spec.proofs.RoundEnd.{settledBy, enoughTrusted, Answers, answers}
 use Rattle.head_spec.proofs.Demand2.{demand-2}
 
--- ---- when a range is held
+-- ---- which range is held
 
-held-closing : (c : Closed) (h h′ : Head) (b : Bool) → Answers c h h′ → isHeld (h .seat .last) ≡ b → isHeld (h′ .seat .last) ≡ passing c b
+held-closing : (c : Closed) (h h′ : Head) (x : LastKept) → Answers c h h′ → h .seat .last ≡ x → h′ .seat .last ≡ passing c x
 unfolding closedCollection closedPhase
-held-closing (Closed.Refused c) h h′ b a e = ap (λ (x : Head). isHeld (x .seat .last)) a ∙ e
-held-closing Closed.Listed h h′ b a e = ap (λ (x : Head). isHeld (x .seat .last)) a ∙ e
-held-closing (Closed.Settled k) h h′ b a e = ap (λ (x : Head). isHeld (x .seat .last)) a
+held-closing (Closed.Refused c) h h′ x a e = ap (λ (y : Head). y .seat .last) a ∙ e
+held-closing Closed.Listed h h′ x a e = ap (λ (y : Head). y .seat .last) a ∙ e
+held-closing (Closed.Settled k) h h′ x a e = ap (λ (y : Head). y .seat .last) a
 
-pub held-if-passed : HeldIfPassed
+pub holds-passed : HoldsPassed
 unfolding started restarted
-held-if-passed h b (passed.starts n f i v e) = refl
-held-if-passed h b (passed.restarts n f i p r e) = refl
-held-if-passed h b (passed.hears {h = x} k s bytes P) = rw (hear-keeps x k s) (held-if-passed x b P)
-held-if-passed h b (passed.closes {h = x} {b = a} P) = held-closing (close x .closed) x (close x .head) a (answers x) (held-if-passed x a P)
+holds-passed h x (passed.starts n f i v e) = refl
+holds-passed h x (passed.restarts n f i p r e) = refl
+holds-passed h x (passed.hears {h = y} k s bytes P) = rw (hear-keeps y k s) (holds-passed y x P)
+holds-passed h x (passed.closes {h = y} {x = z} P) = held-closing (close y .closed) y (close y .head) z (answers y) (holds-passed y z P)
 
 -- ---- the position lies in it
 
-reached : {h : Head} {b : Bool} → Passed h b → Reachable h
+reached : {h : Head} {x : LastKept} → Passed h x → Reachable h
 reached (passed.starts n f i v e) = reachable.starts n f i v e
 reached (passed.restarts n f i p r e) = reachable.restarts n f i p r e
 reached (passed.hears k s bytes P) = reachable.hears k s bytes (reached P)
@@ -73,12 +73,12 @@ module _ (h : Head) (P : ProperHead h) where
       go false zero = s
       go false (suc r) = settles (enoughTrusted h) refl
 
-sound : {h : Head} {b : Bool} → Passed h b → Sound (h .seat .last)
+sound : {h : Head} {x : LastKept} → Passed h x → Sound (h .seat .last)
 unfolding started restarted
 sound (passed.starts n f i v e) = tt
 sound (passed.restarts n f i p r e) = tt
 sound (passed.hears {h = x} k s bytes P) = rw (hear-keeps x k s) (sound P)
 sound (passed.closes {h = x} P) = closed-sound x (demand-2 .proper x (reached P)) (sound P)
 
-pub held-in-range : HeldInRange
-held-in-range h b P k e = rw e at (sound P)
+pub passed-in-range : PassedInRange
+passed-in-range h k P = rw (holds-passed h (LastKept.Range k) P) at (sound P)
