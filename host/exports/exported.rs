@@ -29,8 +29,8 @@ pub fn as_in_header() -> bool {
     include_str!("../include/focus.h").contains(&format!("opaque[{WORDS}]"))
 }
 
-/// The bytes of a block, words 9 to 23, that no call changes.
-pub const BESIDE: Range<usize> = 36..96;
+/// The bytes of a block, words 14 to 23, that no call changes.
+pub const BESIDE: Range<usize> = 56..96;
 
 /// A head's block, as C keeps it.
 #[repr(C, align(4))]

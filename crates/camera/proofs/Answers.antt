@@ -2,8 +2,7 @@
 -- are those that belong to m.
 use mathlib.Core.Path.{_≡_, refl, sym, _∙_}
 use Prim.Native.Nat.{ℕ}
-use lib.IntN.{ℤ}
 
-pub given-out : {A : Type 0} (number : A → ℕ) (result : A → ℤ → ℤ) {s m x : A} {c : ℕ} {v old : ℤ}
+pub given-out : {A X : Type 0} (number : A → ℕ) (result : A → X → X) {s m x : A} {c : ℕ} {v old : X}
     → c ≡ number x → v ≡ result x old → s ≡ m → s ≡ x → (c ≡ number m) × (v ≡ result m old)
 given-out number result p q e t = rw (sym e ∙ t) (p, q)

@@ -4,7 +4,7 @@ ghost use mathlib.Core.Path.{_≡_};
 ghost use Rattle.frame_check.specs.Check.{frameRefusal};
 ghost use Rattle.settle_midpoint.specs.Call.{midpointCall};
 ghost use Rattle.steps.specs.Scale.{scaled};
-ghost use Rattle.camera.specs.Out.{settledNumber, settledOr, scaledNumber, scaledOr};
+ghost use Rattle.camera.specs.Out.{settledNumber, settledOr, keptOr, scaledNumber, scaledOr};
 use settle_midpoint::Settled;
 use steps::scale::Scaled;
 
@@ -34,6 +34,28 @@ pub extern "C" fn focus_midpoint(
         Settled::New(kept) => {
             let v = kept.position;
             *position = v;
+            0
+        }
+    }
+}
+
+// The midpoint with what it kept: 0, and the lowest kept entry, the highest, the trim and the new position; or 1, 2, 8, 10, 11, 25.
+#[no_mangle]
+pub extern "C" fn focus_midpoint_kept(
+    n: u32,
+    f: u32,
+    marks: u32,
+    entries: &[u8],
+    kept: &mut [i32; 4],
+) -> u8
+    ensures number { λ r. ⌜ r ≡ settledNumber (midpointCall n f marks (now (entries .entry))) ⌝ }
+    ensures result { λ r. ⌜ now (kept .exit) ≡ keptOr (midpointCall n f marks (now (entries .entry))) (now (kept .entry)) ⌝ }
+{
+    let settled = settle_midpoint::midpoint(n, f, marks, entries);
+    match settled {
+        Settled::Refused(refused) => refused,
+        Settled::New(k) => {
+            *kept = [k.low, k.high, k.trim as i32, k.position];
             0
         }
     }

@@ -12,13 +12,13 @@ use Rattle.terms.specs.declared.Entry.the-variants.{Position}
 use Rattle.convergence.specs.Counting.{AtMost}
 use Rattle.convergence.specs.Settling.{nulls, trim, twoRounds, midpoint, enough, settled}
 use Rattle.convergence.specs.Trust.{trusted}
-use Rattle.convergence.specs.Phases.{End, start, Faults, soundAt, givenTo, after, rounding, endAfter}
-use Rattle.convergence.specs.Demand3.{AcceptedSize, Halves, FewStruck, Converges}
+use Rattle.convergence.specs.Phases.{End, start, Faults, soundAt, lowest, highest, givenTo, after, rounding, endAfter}
+use Rattle.convergence.specs.Demand3.{KeptBetween, AcceptedSize, Halves, FewStruck, Converges}
 use Rattle.convergence.proofs.Sums.{sum-none}
 use Rattle.convergence.proofs.Support.{same-position}
-use Rattle.convergence.proofs.OnePhase.{Facts, Between, Limits, few-nulls, some-kept, range, closer}
+use Rattle.convergence.proofs.OnePhase.{Facts, Between, Limits, low, high, few-nulls, some-kept, kept-in, range, closer}
 use Rattle.convergence.proofs.Links.{facts, two-faced}
-use Rattle.convergence.proofs.Ends.{number, AllHold, Inside, held-position, held-between, sound-holds, Nearer, Run, holds-at, any-two}
+use Rattle.convergence.proofs.Ends.{number, AllHold, Inside, held-position, held-between, sound-holds, Nearer, Run, bounds-inside, holds-at, any-two}
 
 -- ---- one phase of a ring
 
@@ -54,6 +54,11 @@ module _ (n f : ℕ) (e : End) (F : Faults) (L : Limits n f (F .collect) (F .con
 
     before-inside : Between n (e .struck) before m M
     before-inside j l s = held-between m M (e .at j) (I j l s)
+
+    -- what receiver i keeps lies between them too
+    kept-inside : (i : ℕ) → let E = table i in KeptBetween (Position m) (Position M) (low n f E) (high n f E)
+    kept-inside i =
+        kept-in n f (F .collect) (F .confess) (e .struck) before L (table i) (known holds-inside i) m M before-inside
 
   -- at the heads and any receivers after them
   nearer : (N r : ℕ) → r ≤ 1 → Nearer n N (Halves n f) e (after r n f e F)
@@ -109,6 +114,10 @@ module _ (n f : ℕ) (size : AcceptedSize n f) (v : ℕ → ℤ) (F : ℕ → Fa
 
     pub something-kept : let z = nulls n (trusted n f (givenTo (end p) (F (suc p)) i)) in 2 * trim f z + z < n
     something-kept = some-kept-in-phase n f (end p) (F (suc p)) (limits p) (holds-at run p) i
+
+    -- and what is kept lies between the lowest and the highest of the sound positions at the phase's start
+    pub kept-between-in-ring : let E = trusted n f (givenTo (end p) (F (suc p)) i) in KeptBetween (lowest n (end p)) (highest n (end p)) (low n f E) (high n f E)
+    kept-between-in-ring = let (m, M, a, b, I) = bounds-inside run p in rw (a, b) (kept-inside n f (end p) (F (suc p)) (limits p) m M I i)
 
 pub converges : Converges
 converges n f size v F within = any-two (run n f size v F within)

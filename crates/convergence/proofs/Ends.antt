@@ -192,6 +192,10 @@ module _ {n N f : ℕ} {Q : Type 0} {E : ℕ → End} (R : Run n N f Q E) where
   bounds-at : (p : ℕ) → Bounds N (E p)
   bounds-at p = bounds n N f (E p) (R .few p) (R .large) (R .more) (holds-at p)
 
+  -- the lowest and the highest of an end
+  pub bounds-inside : (p : ℕ) → (m : ℤ) × (M : ℤ) × (lowest N (E p) ≡ Position m) × (highest N (E p) ≡ Position M) × Inside N (E p) m M
+  bounds-inside p = let B = bounds-at p in (B .low, B .high, B .is-low, B .is-high, B .inside)
+
   spread-halves : Q → (p : ℕ) → spread N (E (suc p)) ≤ (spread N (E p) + 1) / 2
   unfolding spread
   spread-halves q p =

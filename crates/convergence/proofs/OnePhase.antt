@@ -10,7 +10,7 @@ use native.Mathlib.Omega.{arith}
 use native.Mathlib.Decide.{decLe}
 use borrow.Author.Tests.{le-leb, lt-leb}
 use lib.IntN.{ℤ, pos, _+ℤ_, ℤ-discrete}
-use lib.Signed.{leZ, _≤ℤ_, _<ℤ_}
+use lib.Signed.{leZ, _≤ℤ_, _<ℤ_, ≤ℤ-refl}
 use Rattle.terms.specs.Positions.{gap}
 use Rattle.terms.specs.declared.Entry.{Entry}
 use Rattle.terms.specs.declared.Entry.the-variants.{Null, Position}
@@ -155,11 +155,22 @@ abbrev pub Between : ℕ → (ℕ → Bool) → (ℕ → ℤ) → ℤ → ℤ �
 Between n p v m M = Each n (λ j. p j ≡ false → (m ≤ℤ v j) × (v j ≤ℤ M))
 
 -- the lowest and the highest kept
-abbrev low : ℕ → ℕ → (ℕ → Entry) → ℤ
+abbrev pub low : ℕ → ℕ → (ℕ → Entry) → ℤ
 low n f E = lowKept (trim f (nulls n E)) (ordered n E)
 
-abbrev high : ℕ → ℕ → (ℕ → Entry) → ℤ
+abbrev pub high : ℕ → ℕ → (ℕ → Entry) → ℤ
 high n f E = highKept (trim f (nulls n E)) (ordered n E)
+
+-- whatever the entries are, if they are not refused: one is kept, and the new position lies between the lowest and the highest
+module _ (n f : ℕ) (size : AcceptedSize n f) (E : ℕ → Entry) (few : nulls n E ≤ 3 * f) where
+  keeps-one : 2 * trim f (nulls n E) + nulls n E < n
+  keeps-one = let T = trimmed f (nulls n E) few in omega (arith, T .small, T .fourfold)
+
+  pub in-kept : (r : ℕ) → r ≤ 1 → (low n f E ≤ℤ midpoint r n (twoRounds f) E) × (midpoint r n (twoRounds f) E ≤ℤ high n f E)
+  unfolding midpoint middle
+  in-kept r h =
+      half-between r (low n f E) (high n f E) _ _ h (≤ℤ-refl (low n f E)) (kept-counts n (trim f (nulls n E)) E keeps-one .low-high)
+      (≤ℤ-refl (high n f E))
 
 module _ (n f : ℕ) (c d p : ℕ → Bool) (v : ℕ → ℤ) (L : Limits n f c d p) where
   module _ (E : ℕ → Entry) (A : Facts n c d p v E) where
@@ -181,7 +192,7 @@ module _ (n f : ℕ) (c d p : ℕ → Bool) (v : ℕ → ℤ) (L : Limits n f c 
     the-trim = trimmed f (nulls n E) few-nulls
 
     pub some-kept : 2 * trim f (nulls n E) + nulls n E < n
-    some-kept = omega (arith, the-trim .small, the-trim .fourfold)
+    some-kept = keeps-one n f (L .size) E few-nulls
 
     the-kept : KeptRange n (trim f (nulls n E)) E (low n f E) (high n f E)
     the-kept = kept-counts n (trim f (nulls n E)) E some-kept
@@ -215,6 +226,9 @@ module _ (n f : ℕ) (c d p : ℕ → Bool) (v : ℕ → ℤ) (L : Limits n f c 
       high-in =
           unless-above
           (λ k. omega (arith, the-kept .from-high, few-outside (λ u. leZ (high n f E) u) (λ u a b. gt-fails {a = high n f E} {b = u} (omega arithZ))))
+
+      pub kept-in : (m ≤ℤ low n f E) × (low n f E ≤ℤ high n f E) × (high n f E ≤ℤ M)
+      kept-in = (low-in, the-kept .low-high, high-in)
 
       pub range : (r : ℕ) → r ≤ 1 → (m ≤ℤ midpoint r n (twoRounds f) E) × (midpoint r n (twoRounds f) E ≤ℤ M)
       unfolding midpoint middle

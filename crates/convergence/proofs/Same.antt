@@ -87,11 +87,14 @@ bounds-same (suc N) e e′ h =
     let (a, b) = bounds-same N e e′ (each-less h) in
     (ap₂ (join lesser) (each-last h) a, ap₂ (join greater) (each-last h) b)
 
+pub same-bounds : {N : ℕ} {e e′ : End} → SameEnd N e e′ → (lowest N e ≡ lowest N e′) × (highest N e ≡ highest N e′)
+same-bounds {N} {e} {e′} s = bounds-same N e e′ (sound-same s)
+
 pub demand3-same : {N k : ℕ} {halves : Type 0} {e e′ d d′ : End} → SameEnd N e d → SameEnd N e′ d′ → Demand3 N halves k d d′ → Demand3 N halves k e e′
 unfolding spread
-demand3-same {N} {e} {e′} {d} {d′} s s′ D =
-    let (a, b) = bounds-same N e d (sound-same s) in
-    let (a′, b′) = bounds-same N e′ d′ (sound-same s′) in
+demand3-same s s′ D =
+    let (a, b) = same-bounds s in
+    let (a′, b′) = same-bounds s′ in
     record {
       range = λ i l q. rw (a, b, s′ .at i l q) (D .range i l (sym (s′ .struck i l) ∙ q));
       halving = λ q. rw (a, b, a′, b′) (D .halving q);

@@ -21,6 +21,12 @@ HeldBetween low high Null = ⊥
 HeldBetween Null high (Position u) = ⊥
 HeldBetween (Position low) Null (Position u) = ⊥
 
+-- a kept range, from its lowest entry to its highest, lies between the lowest and the highest (document 02, A2)
+abbrev pub KeptBetween : Entry → Entry → ℤ → ℤ → Type 0
+KeptBetween (Position low) (Position high) a b = (low ≤ℤ a) × (a ≤ℤ b) × (b ≤ℤ high)
+KeptBetween Null high a b = ⊥
+KeptBetween (Position low) Null a b = ⊥
+
 -- the sizes that are accepted: 2n at least 7f + 2
 abbrev pub AcceptedSize : ℕ → ℕ → Type 0
 AcceptedSize n f = 7 * f + 2 ≤ 2 * n

@@ -2,7 +2,7 @@
 use mathlib.Core.Path.{_≡_, refl, ap, sym, _∙_}
 use mathlib.Core.Bool.{Bool, true, false}
 use mathlib.Core.List.{List, [], _∷_, _++_, append-assoc}
-use Prim.Native.Nat.{ℕ, zero, suc, _+_, _-_, _*_, _<_}
+use Prim.Native.Nat.{ℕ, zero, suc, _+_, _-_, _*_, _%_, _<_}
 use native.Mathlib.Omega.{arith}
 use native.Mathlib.Nat.{mod-eq-of-lt}
 use native.Mathlib.Decide.{decLt}
@@ -14,10 +14,11 @@ use Rattle.fields.specs.Bytes.{signedOf, wordOf}
 use Rattle.fields.proofs.Bytes.{signed-low, signed-high}
 use Rattle.convergence.specs.Counting.{bit}
 use Rattle.head_spec.specs.declared.Row.{Row}
+use Rattle.head_spec.specs.declared.LastKept.{LastKept}
 use Rattle.head_spec.specs.declared.Seat.{Seat}
 use Rattle.head_spec.specs.declared.Head.{Head}
-use Rattle.head_lent.specs.Answers.{heldNumber, heldOr}
-use Rattle.head_c.specs.Blocks.{IsBlock, flag, entryIn, upTo, numbersAt, listAt, seatOf, headOf, wordsOf, listWords, withHead}
+use Rattle.head_lent.specs.Answers.{heldNumber, heldOr, rangeNumber}
+use Rattle.head_c.specs.Blocks.{IsBlock, flag, entryIn, rangeIn, upTo, numbersAt, listAt, seatOf, headOf, wordsOf, listWords, keptOf, withHead}
 use Rattle.head_c.proofs.Copying.{upTo-list}
 use Rattle.head_c.proofs.Putting.{words-long, word-at, lists-long, first, second, third, first-long, second-long, third-long}
 
@@ -52,6 +53,10 @@ abbrev pub FitEntry : Entry → Type 0
 FitEntry Entry.Null = Unit {0}
 FitEntry (Entry.Position v) = Fits32 v
 
+abbrev pub FitLast : LastKept → Type 0
+FitLast LastKept.Nothing = Unit {0}
+FitLast (LastKept.Range k) = Fits32 (k .low) × Fits32 (k .high) × (k .trim < 256) × Fits32 (k .position)
+
 pub record FitSeat (s : Seat) : Type 0 where
   pub n : s .n < 256
   pub f : s .f < 256
@@ -59,6 +64,7 @@ pub record FitSeat (s : Seat) : Type 0 where
   pub phase : s .phase < 65536
   pub round : s .round < 256
   pub position : FitEntry (s .position)
+  pub last : FitLast (s .last)
 
 abbrev none : Row
 none = record { entries = [] }
@@ -79,6 +85,18 @@ flag-back false = refl
 entry-back : (e : Entry) → FitEntry e → entryIn (heldNumber e) (signedOf (wordOf (heldOr e (pos 0)))) ≡ e
 entry-back Entry.Null f = refl
 entry-back (Entry.Position v) f = ap Entry.Position (signed-back v f)
+
+range-back : (x : LastKept) → FitLast x → let k = keptOf x in
+    rangeIn (rangeNumber x) (signedOf (wordOf (k .low))) (signedOf (wordOf (k .high))) (k .trim % 256) (signedOf (wordOf (k .position))) ≡ x
+range-back LastKept.Nothing f = refl
+range-back (LastKept.Range k) f = λ i.
+    LastKept.Range
+    (record {
+      low = signed-back (k .low) (f .0) i;
+      high = signed-back (k .high) (f .1) i;
+      trim = mod-eq-of-lt (f .2) i;
+      position = signed-back (k .position) (f .3) i;
+    })
 
 -- number j of list k
 list-word : (l : List Row) (n k j : ℕ) → k < n → j < 32 → getD (listWords l n) (32 * k + j) 0 ≡ wordOf (getD (getD l k none .entries) j (pos 0))
@@ -188,6 +206,7 @@ module _ (h : Head) (w : List ℕ) (block : IsBlock w) (F : Fit h) where
         healed = flag-back (s .healed) i;
         ended = flag-back (s .ended) i;
         position = entry-back (s .position) (S .position) i;
+        last = range-back (s .last) (S .last) i;
       }
 
   pub head-back : headOf w′ ≡ h

@@ -1,5 +1,5 @@
 -- After start, restart and closing a block is the record that the call makes of the one before, as `Hears` says it of hearing. So C may keep a head
--- all shift. Of closing this is shown for a proper record, as all calls make them: its new position fits its word.
+-- all shift. Of closing this is shown for a proper record, as all calls make them: its new position and its kept range fit their words.
 use mathlib.Core.Path.{_≡_, refl, sym, _∙_}
 use mathlib.Core.Bool.{Bool, true, false, cond, and-true, true≢false}
 use mathlib.Core.List.{List, []}
@@ -22,6 +22,7 @@ use Rattle.settle_midpoint.specs.Answers.{settling}
 use Rattle.settle_midpoint.specs.declared.Kept.{Kept}
 use Rattle.settle_midpoint.specs.declared.Settled.the-variants as settled
 use Rattle.head_spec.specs.declared.Row.{Row}
+use Rattle.head_spec.specs.declared.LastKept.{LastKept}
 use Rattle.head_spec.specs.declared.Seat.{Seat}
 use Rattle.head_spec.specs.declared.Head.{Head}
 use Rattle.head_spec.specs.declared.Closed.{Closed}
@@ -30,11 +31,11 @@ use Rattle.head_spec.specs.Record.{noEntries, noLinks, noLists, opened, trusted
 use Rattle.head_spec.specs.Seats.{firstSeat, healedSeat, confessionSeat, nextSeat}
 use Rattle.head_spec.specs.Calls.{answer, startRefusal, started, start, restartRefusal, restarted, restart}
 use Rattle.head_spec.specs.Calls.{closedCollection, closedPhase, closing, closeSettled, closeIn, close}
-use Rattle.head_spec.proofs.Proper.{ProperSeat, ProperHead, proper-started, proper-restarted}
+use Rattle.head_spec.proofs.Proper.{ProperLast, ProperSeat, ProperHead, proper-started, proper-restarted}
 use Rattle.head_spec.proofs.RoundEnd.{proper-close}
 use Rattle.head_lent.specs.Answers.{closedAnswer}
 use Rattle.head_c.specs.Blocks.{IsBlock, headOf, withHead, after}
-use Rattle.head_c.proofs.Blocks.{Fits32, FitNumbers, FitEntry, FitSeat, Fit, head-back}
+use Rattle.head_c.proofs.Blocks.{Fits32, FitNumbers, FitEntry, FitLast, FitSeat, Fit, head-back}
 
 -- ---- a proper record with nothing heard fits its words
 
@@ -60,6 +61,11 @@ entry-fits : (n : ℕ) (e : Entry) → Proper n (collected e) → FitEntry e
 entry-fits n Entry.Null P = tt
 entry-fits n (Entry.Position v) P = position-fits v P
 
+last-fits : (f : ℕ) (x : LastKept) → f < 256 → ProperLast f x → FitLast x
+last-fits f LastKept.Nothing l P = tt
+last-fits f (LastKept.Range k) l P =
+    (position-fits (k .low) (P .low), position-fits (k .high) (P .high), omega (arith, P .trim), position-fits (k .position) (P .position))
+
 seat-fits : (s : Seat) → ProperSeat s → FitSeat s
 seat-fits s P =
     let most = P .size .most in
@@ -71,6 +77,7 @@ seat-fits s P =
       phase = omega (arith, P .to-last);
       round = omega (arith, P .round);
       position = entry-fits (s .n) (s .position) (P .position);
+      last = last-fits (s .f) (s .last) (omega arith) (P .last);
     }
 
 opened-fits : (s : Seat) (t : Table) → ProperHead (opened s t) → Fit (opened s t)
@@ -120,7 +127,7 @@ module _ (w : List ℕ) (block : IsBlock w) where
       Back c = ProperHead (c .head) → headOf (after w (closedAnswer c)) ≡ c .head
 
       settles : (b : Bool) (k : Kept) → Back (closeSettled (cond b (settled.New k) (settled.Refused refusal.trusted)) h)
-      settles true k Q = put-back (nextSeat (h .seat) (k .position)) noEntries Q
+      settles true k Q = put-back (nextSeat (h .seat) k) noEntries Q
       settles false k Q = refl
 
       go : (b : Bool) (r : ℕ) → Back (cond b (closing (Closed.Refused refusal.ended) h) (closeIn r h))

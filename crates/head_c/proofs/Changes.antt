@@ -14,7 +14,7 @@ use Rattle.fields.specs.Bytes.{signedOf, wordOf}
 use Rattle.marks.specs.Marks.{withMark}
 use Rattle.frame_spec.specs.Said.{collected, listed, confessed}
 use Rattle.head_spec.specs.Calls.{taken}
-use Rattle.head_c.specs.Blocks.{IsBlock, flag, entryIn, upTo, numbersAt, listAt, seatOf, headOf, wordsOf, marked, changed}
+use Rattle.head_c.specs.Blocks.{IsBlock, flag, entryIn, rangeIn, upTo, numbersAt, listAt, seatOf, headOf, wordsOf, marked, changed}
 use Rattle.head_c.proofs.Copying.{upTo-same, upTo-set, copied-before, copied-there, copied-behind}
 use Rattle.head_c.proofs.Putting.{words-long, word-at}
 use Rattle.head_c.proofs.Blocks.{Fits32, signed-back, FitNumbers, numbers-back}
@@ -25,7 +25,7 @@ module _ (w w′ : List ℕ) where
   abbrev Same : ℕ → Type 0
   Same i = getD w′ i 0 ≡ getD w i 0
 
-  seat-same : ((i : ℕ) → i < 9 → Same i) → seatOf w′ ≡ seatOf w
+  seat-same : ((i : ℕ) → i < 14 → Same i) → seatOf w′ ≡ seatOf w
   unfolding seatOf
   seat-same h = λ i.
       record {
@@ -37,6 +37,9 @@ module _ (w w′ : List ℕ) where
         healed = flag (h 5 (omega arith) i);
         ended = flag (h 6 (omega arith) i);
         position = entryIn (h 7 (omega arith) i) (signedOf (h 8 (omega arith) i));
+        last =
+            rangeIn (h 9 (omega arith) i) (signedOf (h 10 (omega arith) i)) (signedOf (h 11 (omega arith) i)) (h 12 (omega arith) i % 256)
+            (signedOf (h 13 (omega arith) i));
       }
 
   numbers-same : (i : ℕ) → ((j : ℕ) → j < 32 → Same (i + j)) → numbersAt w′ i ≡ numbersAt w i

@@ -1,5 +1,5 @@
 -- A head as C keeps it: a block of 1,116 words, one for each number. Every block is a record, whatever it holds (`headOf`), and a record is put into
--- a block (`withHead`). Hearing changes a few words alone (`heardIn`). Words 9 to 23 are no part of a record: each call leaves them as they were.
+-- a block (`withHead`). Hearing changes a few words alone (`heardIn`). Words 14 to 23 are no part of a record: each call leaves them as they were.
 use mathlib.Core.Path.{_≡_}
 use mathlib.Core.Bool.{Bool, not, cond}
 use mathlib.Core.List.{List, [], _∷_, _++_}
@@ -14,13 +14,15 @@ use Rattle.fields.specs.Bytes.{signedOf, wordOf}
 use Rattle.marks.specs.Marks.{withMark}
 use Rattle.convergence.specs.Counting.{bit}
 use Rattle.frame_spec.specs.Said.{Meaning, refused, collected, listed, confessed}
+use Rattle.settle_midpoint.specs.declared.Kept.{Kept}
 use Rattle.head_spec.specs.declared.Row.{Row}
+use Rattle.head_spec.specs.declared.LastKept.{LastKept}
 use Rattle.head_spec.specs.declared.Seat.{Seat}
 use Rattle.head_spec.specs.declared.Head.{Head}
 use Rattle.head_spec.specs.declared.Answer.{Answer}
 use Rattle.head_spec.specs.Calls.{saidTo, hear, Delivery}
 use Rattle.head_spec.specs.Batch.{entriesOf, batchRefusal, hearBatch, batchAnswers, batchCount}
-use Rattle.head_lent.specs.Answers.{heldNumber, heldOr}
+use Rattle.head_lent.specs.Answers.{heldNumber, heldOr, rangeNumber}
 use Rattle.head_c.specs.Places as place
 
 -- as many words as the code's type says
@@ -43,6 +45,11 @@ abbrev pub entryIn : ℕ → ℤ → Entry
 entryIn zero v = Entry.Null
 entryIn (suc b) v = Entry.Position v
 
+-- a kept range, if one is held
+abbrev pub rangeIn : ℕ → ℤ → ℤ → ℕ → ℤ → LastKept
+rangeIn zero low high trim position = LastKept.Nothing
+rangeIn (suc b) low high trim position = LastKept.Range (record { low = low; high = high; trim = trim; position = position })
+
 -- the 32 numbers from word i on
 unfoldable pub numbersAt : List ℕ → ℕ → List ℤ
 numbersAt w i = upTo 32 (λ j. signedOf (getD w (i + j) 0))
@@ -63,6 +70,9 @@ seatOf w =
       healed = flag (getD w place.healed 0);
       ended = flag (getD w place.ended 0);
       position = entryIn (getD w place.held 0) (signedOf (getD w place.position 0));
+      last =
+          rangeIn (getD w place.ranged 0) (signedOf (getD w place.low 0)) (signedOf (getD w place.high 0)) (getD w place.trim 0 % 256)
+          (signedOf (getD w place.middle 0));
     }
 
 unfoldable pub headOf : List ℕ → Head
@@ -91,14 +101,20 @@ unfoldable pub listWords : List Row → ℕ → List ℕ
 listWords l zero = []
 listWords l (suc k) = listWords l k ++ wordsOf (getD l k (record { entries = [] }) .entries)
 
+-- a kept range, with zeros if none is held
+abbrev pub keptOf : LastKept → Kept
+keptOf LastKept.Nothing = record { low = pos 0; high = pos 0; trim = 0; position = pos 0 }
+keptOf (LastKept.Range k) = k
+
 abbrev pub seatWords : Seat → List ℕ
 seatWords s =
     s .n ∷ s .f ∷ s .number ∷ s .phase ∷ s .round ∷ bit (s .healed) ∷ bit (s .ended) ∷ heldNumber (s .position)
-    ∷ wordOf (heldOr (s .position) (pos 0)) ∷ []
+    ∷ wordOf (heldOr (s .position) (pos 0)) ∷ rangeNumber (s .last) ∷ wordOf (keptOf (s .last) .low) ∷ wordOf (keptOf (s .last) .high)
+    ∷ keptOf (s .last) .trim ∷ wordOf (keptOf (s .last) .position) ∷ []
 
 unfoldable pub withHead : Head → List ℕ → List ℕ
 withHead h w =
-    seatWords (h .seat) ++ slice 9 24 w
+    seatWords (h .seat) ++ slice 14 24 w
     ++ (h .heard ∷ h .list .marks ∷ wordsOf (h .list .entries))
     ++ (h .links .confessed ∷ h .links .listed ∷ h .links .marks)
     ++ listWords (h .lists) 32

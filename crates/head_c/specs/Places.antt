@@ -1,7 +1,7 @@
 -- Where each number of a head stands in its block of 1,116 words. src/place.rt has the same table for the code.
 use Prim.Native.Nat.{ℕ}
 
--- ---- the seat; 9 to 15 are room for what it gets later
+-- ---- the seat; 14 and 15 are room for what it gets later
 
 abbrev pub n : ℕ
 n = 0
@@ -30,6 +30,22 @@ held = 7
 
 abbrev pub position : ℕ
 position = 8
+
+-- whether a kept range is held; its lowest and highest entry, its trim and its position (document 02, A2)
+abbrev pub ranged : ℕ
+ranged = 9
+
+abbrev pub low : ℕ
+low = 10
+
+abbrev pub high : ℕ
+high = 11
+
+abbrev pub trim : ℕ
+trim = 12
+
+abbrev pub middle : ℕ
+middle = 13
 
 -- ---- 16 to 23 are room for what C keeps beside a head
 

@@ -3,7 +3,7 @@
 ghost use mathlib.Core.Path.{_≡_};
 ghost use mathlib.Core.Bool.{true};
 ghost use mathlib.Core.List.{_∷_, _++_};
-ghost use Prim.Native.Nat.{_+_, _≤_, _<_};
+ghost use Prim.Native.Nat.{_+_, _%_, _≤_, _<_};
 ghost use lib.ListN.{length, getD, drop};
 ghost use lib.Seq.{paste};
 ghost use lib.IntN.{pos};
@@ -13,16 +13,18 @@ ghost use Rattle.head_spec.specs.Record.{opened};
 ghost use Rattle.head_spec.specs.Calls.{start, restart, hearEach, answersTo, writeAnswer, writeBuffer, close};
 ghost use Rattle.head_spec.specs.Batch.{isBatch, entriesOf};
 ghost use Rattle.head_hear.specs.Steps.{linkRefusal, saidOn};
-ghost use Rattle.head_lent.specs.Answers.{closedAnswer, writtenNumber, writtenOr, heldNumber, heldOr};
+ghost use Rattle.head_lent.specs.Answers.{closedAnswer, writtenNumber, writtenOr, heldNumber, heldOr, rangeNumber, rangeOr};
 ghost use Rattle.head_c.specs.Places as place;
-ghost use Rattle.head_c.specs.Blocks.{IsBlock, upTo, entryIn, numbersAt, listAt, seatOf, headOf};
-ghost use Rattle.head_c.specs.Blocks.{wordsOf, seatWords, withHead, after, marked, changed, Hears, heardEach, HearsBatch};
+ghost use Rattle.head_c.specs.Blocks.{IsBlock, upTo, entryIn, rangeIn, numbersAt, listAt, seatOf, headOf};
+ghost use Rattle.head_c.specs.Blocks.{wordsOf, keptOf, seatWords, withHead, after, marked, changed, Hears, heardEach, HearsBatch};
 ghost use Rattle.head_c.specs.Steps.{numberOf};
 use frame_spec::Said;
 use head_spec::Answer;
 use head_spec::Head;
+use head_spec::LastKept;
 use head_spec::Row;
 use head_spec::Seat;
+use settle_midpoint::Kept;
 use settle_trust::Links;
 use terms::Entry;
 use terms::Table;
@@ -47,12 +49,35 @@ fn entry_in(held: u32, position: u32) -> Entry
     Entry::Position(fields::signed(position))
 }
 
+// A kept range, if one is held.
+fn range_in(ranged: u32, low: u32, high: u32, trim: u32, position: u32) -> LastKept
+    ensures { λ r. ⌜ r ≡ rangeIn ranged (signedOf low) (signedOf high) (trim % 256) (signedOf position) ⌝ }
+{
+    if ranged == 0 {
+        return LastKept::Nothing;
+    }
+    let kept = Kept {
+        low: fields::signed(low),
+        high: fields::signed(high),
+        trim: (trim % 256) as u8,
+        position: fields::signed(position),
+    };
+    LastKept::Range(kept)
+}
+
 // The seat.
 fn seat_in(h: &[u32]) -> Seat
     requires { ⌜ IsBlock (now h) ⌝ }
     ensures { λ r. ⌜ r ≡ seatOf (now (h .entry)) ⌝ }
 {
     let position = entry_in(h[place::HELD], h[place::POSITION]);
+    let last = range_in(
+        h[place::RANGED],
+        h[place::LOW],
+        h[place::HIGH],
+        h[place::TRIM],
+        h[place::MIDDLE],
+    );
     Seat {
         n: (h[place::N] % 256) as u8,
         f: (h[place::F] % 256) as u8,
@@ -62,6 +87,7 @@ fn seat_in(h: &[u32]) -> Seat
         healed: h[place::HEALED] != 0,
         ended: h[place::ENDED] != 0,
         position,
+        last,
     }
 }
 
@@ -189,12 +215,39 @@ fn word_of(e: Entry) -> u32
     }
 }
 
+// Whether a kept range is held.
+fn is_ranged(last: LastKept) -> u32
+    ensures { λ r. ⌜ r ≡ rangeNumber last ⌝ }
+{
+    match last {
+        LastKept::Nothing => 0,
+        LastKept::Range(_) => 1,
+    }
+}
+
+// It, with zeros if none is held.
+fn kept_of(last: LastKept) -> Kept
+    ensures { λ r. ⌜ r ≡ keptOf last ⌝ }
+{
+    match last {
+        LastKept::Nothing => Kept {
+            low: 0,
+            high: 0,
+            trim: 0,
+            position: 0,
+        },
+        LastKept::Range(kept) => kept,
+    }
+}
+
 // Puts the seat.
 fn put_seat(h: &mut [u32], s: Seat)
     requires { ⌜ IsBlock (now h) ⌝ }
-    ensures { λ _. ⌜ now (h .exit) ≡ paste (now (h .entry)) 0 (seatWords s) 9 ⌝ }
+    ensures { λ _. ⌜ now (h .exit) ≡ paste (now (h .entry)) 0 (seatWords s) 14 ⌝ }
 {
     let e = s.position;
+    let last = s.last;
+    let kept = kept_of(last);
     h[place::N] = s.n as u32;
     h[place::F] = s.f as u32;
     h[place::NUMBER] = s.number as u32;
@@ -204,6 +257,11 @@ fn put_seat(h: &mut [u32], s: Seat)
     h[place::ENDED] = s.ended as u32;
     h[place::HELD] = is_held(e);
     h[place::POSITION] = word_of(e);
+    h[place::RANGED] = is_ranged(last);
+    h[place::LOW] = fields::unsigned(kept.low);
+    h[place::HIGH] = fields::unsigned(kept.high);
+    h[place::TRIM] = kept.trim as u32;
+    h[place::MIDDLE] = fields::unsigned(kept.position);
 }
 
 // Clears what the links gave.
@@ -471,6 +529,23 @@ pub extern "C" fn focus_head_position(h: &Block, position: &mut i32) -> u8
         Entry::Null => 0,
         Entry::Position(v) => {
             *position = v;
+            1
+        }
+    }
+}
+
+// The kept range that the head holds: 1, and its lowest entry, its highest, its trim and its position; or 0 if it holds none.
+#[no_mangle]
+pub extern "C" fn focus_head_kept(h: &Block, kept: &mut [i32; 4]) -> u8
+    ensures { λ r. ⌜ (r ≡ rangeNumber (headOf (now (h .entry)) .seat .last))
+        × (now (kept .exit) ≡ rangeOr (headOf (now (h .entry)) .seat .last) (now (kept .entry))) ⌝ }
+{
+    let seat = seat_in(h);
+    let last = seat.last;
+    match last {
+        LastKept::Nothing => 0,
+        LastKept::Range(k) => {
+            *kept = [k.low, k.high, k.trim as i32, k.position];
             1
         }
     }

@@ -1,6 +1,6 @@
 // Where each number of a head stands in its block. specs/Places.antt has the same table.
 
-// Of the seat; 9 to 15 are room for what it gets later.
+// Of the seat; 14 and 15 are room for what it gets later.
 pub const N: usize = 0;
 
 pub const F: usize = 1;
@@ -18,6 +18,16 @@ pub const ENDED: usize = 6;
 pub const HELD: usize = 7; // a position is held
 
 pub const POSITION: usize = 8; // two's complement, as all numbers with a sign
+
+pub const RANGED: usize = 9; // a kept range is held: its lowest and highest entry, its trim and its position
+
+pub const LOW: usize = 10;
+
+pub const HIGH: usize = 11;
+
+pub const TRIM: usize = 12;
+
+pub const MIDDLE: usize = 13;
 
 // 16 to 23 are room for what C keeps beside a head.
 

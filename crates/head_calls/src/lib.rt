@@ -12,8 +12,10 @@ use head_spec::Answer;
 use head_spec::Closed;
 use head_spec::Closing;
 use head_spec::Head;
+use head_spec::LastKept;
 use head_spec::Row;
 use head_spec::Seat;
+use settle_midpoint::Kept;
 use settle_midpoint::Settled;
 use settle_trust::Links;
 use terms::Entry;
@@ -67,10 +69,11 @@ fn first_seat(n: u8, f: u8, number: u8, position: i32) -> Seat
         healed: false,
         ended: false,
         position: held,
+        last: LastKept::Nothing,
     }
 }
 
-// A restart: the head is healed, with no position.
+// A restart: the head is healed, with no position and no kept range.
 fn healed_seat(n: u8, f: u8, number: u8, phase: u16, round: u8) -> Seat
     ensures { λ r. ⌜ r ≡ healedSeat n f number phase round ⌝ }
 {
@@ -84,6 +87,7 @@ fn healed_seat(n: u8, f: u8, number: u8, phase: u16, round: u8) -> Seat
         healed: true,
         ended: false,
         position: none,
+        last: LastKept::Nothing,
     }
 }
 
@@ -98,11 +102,12 @@ fn confession_seat(seat: Seat) -> Seat
     next
 }
 
-// The phase has ended with a position; after phase 65,535 phase and round stay, and the head has ended.
-fn next_seat(seat: Seat, position: i32) -> Seat
-    ensures { λ r. ⌜ r ≡ nextSeat seat position ⌝ }
+// The phase has ended and settled a position with its kept range; after phase 65,535 phase and round stay, and the head has ended.
+fn next_seat(seat: Seat, kept: Kept) -> Seat
+    ensures { λ r. ⌜ r ≡ nextSeat seat kept ⌝ }
 {
-    let held = Entry::Position(position);
+    let held = Entry::Position(kept.position);
+    let last = LastKept::Range(kept);
     let mut next = Seat {
         n: seat.n,
         f: seat.f,
@@ -112,6 +117,7 @@ fn next_seat(seat: Seat, position: i32) -> Seat
         healed: false,
         ended: true,
         position: held,
+        last,
     };
     if seat.phase < 65535 {
         next.phase = seat.phase + 1;
@@ -247,12 +253,12 @@ fn closed_collection(h: Head) -> Head
     opened(confession_seat(seat), list)
 }
 
-// The phase has ended with a position.
-fn closed_phase(h: Head, position: i32) -> Head
-    ensures { λ r. ⌜ r ≡ closedPhase h position ⌝ }
+// The phase has ended and settled a position with its kept range.
+fn closed_phase(h: Head, kept: Kept) -> Head
+    ensures { λ r. ⌜ r ≡ closedPhase h kept ⌝ }
 {
     let seat = h.seat;
-    opened(next_seat(seat, position), no_entries())
+    opened(next_seat(seat, kept), no_entries())
 }
 
 // Closes a confession round.
@@ -269,7 +275,7 @@ fn close_confession(h: Head) -> Closing
             head: h,
         },
         Settled::New(kept) => {
-            let head = closed_phase(h, kept.position);
+            let head = closed_phase(h, kept);
             Closing {
                 closed: Closed::Settled(kept),
                 head,

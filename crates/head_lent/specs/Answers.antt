@@ -1,8 +1,10 @@
 -- What a call on a lent record gives back: a number, and a result in lent memory, which is as it was if there is none.
+use mathlib.Core.List.{List, [], _∷_}
 use Prim.Native.Nat.{ℕ}
-use lib.IntN.{ℤ}
+use lib.IntN.{ℤ, pos}
 use Rattle.terms.specs.declared.Entry.{Entry}
 use Rattle.frame_spec.specs.declared.Written.{Written}
+use Rattle.head_spec.specs.declared.LastKept.{LastKept}
 use Rattle.head_spec.specs.declared.Answer.{Answer}
 use Rattle.head_spec.specs.declared.Closed.{Closed}
 use Rattle.head_spec.specs.declared.Closing.{Closing}
@@ -34,3 +36,13 @@ heldNumber (Entry.Position v) = 1
 abbrev pub heldOr : Entry → ℤ → ℤ
 heldOr Entry.Null old = old
 heldOr (Entry.Position v) old = v
+
+-- 1 if a kept range is held
+abbrev pub rangeNumber : LastKept → ℕ
+rangeNumber LastKept.Nothing = 0
+rangeNumber (LastKept.Range k) = 1
+
+-- its lowest entry, its highest, its trim and its position
+abbrev pub rangeOr : LastKept → List ℤ → List ℤ
+rangeOr LastKept.Nothing old = old
+rangeOr (LastKept.Range k) old = k .low ∷ k .high ∷ pos (k .trim) ∷ k .position ∷ []

@@ -9,3 +9,4 @@ pub mod Stops
 pub mod Batches
 pub mod BatchLoop
 pub mod Demand2
+pub mod Ranges

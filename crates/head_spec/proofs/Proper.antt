@@ -25,7 +25,7 @@ use Rattle.head_spec.specs.declared.Seat.{Seat}
 use Rattle.head_spec.specs.Record.{noEntries, noLinks, noLists, opened}
 use Rattle.head_spec.specs.Seats.{firstSeat, healedSeat}
 use Rattle.head_spec.specs.Calls.{startRefusal, started, restartRefusal, restarted}
-pub use Rattle.head_spec.specs.Proper.{Sized, ProperSeat, listFrom, ProperLinks, ProperHead}
+pub use Rattle.head_spec.specs.Proper.{Sized, ProperKept, ProperLast, ProperSeat, listFrom, ProperLinks, ProperHead}
 
 -- ---- nothing heard
 
@@ -96,6 +96,7 @@ module _ (n f i : ℕ) where
         round = omega arith;
         position = range;
         holds = λ r h q. not-null q refl;
+        last = tt;
       }
 
   pub proper-started : (v : ℤ) → startRefusal n f i v ≡ 0 → ProperHead (started n f i v)
@@ -117,6 +118,7 @@ module _ (n f i : ℕ) where
         round = ltb-true r 2 round;
         position = tt;
         holds = λ z h q. true≢false h;
+        last = tt;
       }
 
   pub proper-restarted : (p r : ℕ) → restartRefusal n f i p r ≡ 0 → ProperHead (restarted n f i p r)

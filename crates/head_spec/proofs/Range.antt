@@ -1,9 +1,13 @@
 -- Positions stay in range. A trusted position stands in a list, and what stands in a list that was accepted is in range; so are the lowest and the
--- highest kept, and so is half the sum of two positions.
+-- highest kept, and so is half the sum of two positions. The trim is at most f.
 use mathlib.Core.Path.{_≡_, refl}
+use mathlib.Core.Logic.{by-cases}
 use mathlib.Core.Bool.{Bool, true, false, cond}
 use mathlib.Core.List.{List, [], _∷_}
 use Prim.Native.Nat.{ℕ, zero, suc, _≤_, _<_}
+use native.Mathlib.Omega.{arith}
+use native.Mathlib.Decide.{decLe}
+use borrow.Author.Tests.{le-leb, lt-leb}
 use lib.ListN.{getD}
 use lib.IntN.{ℤ, pos, negsuc, _+ℤ_}
 use lib.Signed.{leZ, _≤ℤ_}
@@ -17,16 +21,17 @@ use Rattle.marks.specs.Marks.{bitOf}
 use Rattle.entries.specs.Entries.{entryAt, fits}
 use Rattle.entries.specs.Tables.{tableAt}
 use Rattle.convergence.specs.Counting.{Each}
-use Rattle.convergence.specs.Settling.{Rule, place, insert, put, ordered, lowKept, highKept, middle, midpoint}
+use Rattle.convergence.specs.Settling.{place, insert, put, trim, ordered, lowKept, highKept, middle}
 use Rattle.convergence.specs.Trust.{nothing, confessed, gave, saysOf}
 use Rattle.convergence.proofs.Sums.{each-last, each-less}
 use Rattle.convergence.proofs.Support.{not-null, trusted-in-range}
 use Rattle.frame_spec.specs.Proper.{ProperTable}
 use Rattle.frame_spec.proofs.Listing.{and-both}
+use Rattle.settle_midpoint.specs.Answers.{kept}
 use Rattle.settle_trust.specs.Received.{givenBy}
 use Rattle.head_spec.specs.declared.Head.{Head}
 use Rattle.head_spec.specs.Record.{given, trustedBy}
-use Rattle.head_spec.proofs.Proper.{listFrom, ProperHead}
+use Rattle.head_spec.proofs.Proper.{ProperKept, listFrom, ProperHead}
 
 -- ---- positions in range
 
@@ -78,11 +83,19 @@ position-at [] k a = refl
 position-at (x ∷ xs) zero a = a .0
 position-at (x ∷ xs) (suc k) a = position-at xs k (a .1)
 
-pub midpoint-position : (r n : ℕ) (R : Rule) (E : ℕ → Entry) → r ≤ 1 → InRange n E → isPosition (midpoint r n R E) ≡ true
-unfolding midpoint middle lowKept highKept
-midpoint-position r n R E small h =
+-- no more is dropped from each end than f
+trim-small : (f z : ℕ) → trim f z ≤ f
+unfolding trim
+trim-small f z = by-cases (decLe z f) (λ k. rw le-leb (omega arith)) (λ k. let l : f < z = omega arith in rw lt-leb (omega arith))
+
+-- what is kept of entries in range
+pub kept-proper : (r n f z : ℕ) (E : ℕ → Entry) → r ≤ 1 → InRange n E → ProperKept f (kept r (trim f z) (ordered n E))
+unfolding middle lowKept highKept
+kept-proper r n f z E small h =
     let a = ordered-positions n E h in
-    half-position r _ _ small (position-at (ordered n E) _ a) (position-at (ordered n E) _ a)
+    let low = position-at (ordered n E) _ a in
+    let high = position-at (ordered n E) _ a in
+    record { low = low; high = high; trim = trim-small f z; position = half-position r _ _ small low high }
 
 -- ---- trusted entries
 

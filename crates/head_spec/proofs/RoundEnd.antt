@@ -4,10 +4,8 @@ use mathlib.Core.Path.{_≡_, refl, ap}
 use mathlib.Core.Bool.{Bool, true, false, cond}
 use Prim.Native.Nat.{ℕ, zero, suc, _+_, _≤_, _<_}
 use native.Mathlib.Omega.{arith}
-use lib.IntN.{ℤ}
 use borrow.Author.Tests.{leb-false, le-leb, lt-leb}
 use Rattle.terms.specs.Refusals as refusal
-use Rattle.terms.specs.Positions.{isPosition}
 use Rattle.terms.specs.declared.Entry.{Entry}
 use Rattle.convergence.specs.Settling.{nulls, trim, twoRounds, ordered, midpoint, enough}
 use Rattle.convergence.specs.Phases.{rounding}
@@ -16,15 +14,16 @@ use Rattle.convergence.proofs.Support.{not-null}
 use Rattle.settle_midpoint.specs.Answers.{kept, settling}
 use Rattle.settle_midpoint.specs.declared.Kept.{Kept}
 use Rattle.settle_midpoint.specs.declared.Settled.{Settled}
+use Rattle.head_spec.specs.declared.LastKept.{LastKept}
 use Rattle.head_spec.specs.declared.Seat.{Seat}
 use Rattle.head_spec.specs.declared.Head.{Head}
 use Rattle.head_spec.specs.declared.Closed.{Closed}
 use Rattle.head_spec.specs.Record.{trustedBy}
 use Rattle.head_spec.specs.Seats.{confessionSeat, isLast, nextSeat}
 use Rattle.head_spec.specs.Calls.{closedCollection, closedPhase, closing, closeSettled, closeIn, close}
-use Rattle.head_spec.proofs.Proper.{ProperSeat, ProperHead, no-entries, no-entry, proper-opened}
+use Rattle.head_spec.proofs.Proper.{ProperKept, ProperSeat, ProperHead, no-entries, no-entry, proper-opened}
 use Rattle.head_spec.proofs.Hearing.{Fresh}
-use Rattle.head_spec.proofs.Range.{midpoint-position, trusted-positions}
+use Rattle.head_spec.proofs.Range.{kept-proper, trusted-positions}
 
 -- what is settled from what was heard
 abbrev pub settledBy : Head → Kept
@@ -44,7 +43,7 @@ module _ (h : Head) (runs : h .seat .ended ≡ false) where
     unfolding close
     closes-confession = rw (runs, confession)
 
-    pub closes-phase : enoughTrusted h ≡ true → close h ≡ closing (Closed.Settled (settledBy h)) (closedPhase h (settledBy h .position))
+    pub closes-phase : enoughTrusted h ≡ true → close h ≡ closing (Closed.Settled (settledBy h)) (closedPhase h (settledBy h))
     unfolding close settling
     closes-phase e = rw (runs, confession, e)
 
@@ -58,18 +57,18 @@ unfolding midpoint
 settled-midpoint h = refl
 
 -- phase 65,535 is the last
-pub last-ended : (h : Head) (v : ℤ) → 65535 ≤ h .seat .phase → closedPhase h v .seat .ended ≡ true
+pub last-ended : (h : Head) (k : Kept) → 65535 ≤ h .seat .phase → closedPhase h k .seat .ended ≡ true
 unfolding closedPhase
-last-ended h v l = le-leb 65535 (h .seat .phase) l
+last-ended h k l = le-leb 65535 (h .seat .phase) l
 
 -- ---- what is answered, and what is held
 
-abbrev Answers : Closed → Head → Head → Type 0
+abbrev pub Answers : Closed → Head → Head → Type 0
 Answers (Closed.Refused c) h h′ = h′ ≡ h
 Answers Closed.Listed h h′ = h′ ≡ closedCollection h
-Answers (Closed.Settled k) h h′ = h′ ≡ closedPhase h (k .position)
+Answers (Closed.Settled k) h h′ = h′ ≡ closedPhase h k
 
-answers : (h : Head) → Answers (close h .closed) h (close h .head)
+pub answers : (h : Head) → Answers (close h .closed) h (close h .head)
 unfolding close
 answers h = go (h .seat .ended) (h .seat .round)
   where
@@ -82,10 +81,14 @@ answers h = go (h .seat .ended) (h .seat .round)
     go false zero = refl
     go false (suc r) = settles (settling (rounding (h .seat .phase)) (h .seat .n) (twoRounds (h .seat .f)) (trustedBy h))
 
--- a closing that settles: the record holds the position answered
+-- a closing that settles: the record holds the position answered, with its kept range
 pub settled-held : (h : Head) {k : Kept} → close h .closed ≡ Closed.Settled k → close h .head .seat .position ≡ Entry.Position (k .position)
 unfolding closedPhase
 settled-held h e = ap (λ (x : Head). x .seat .position) (rw e at (answers h))
+
+pub settled-range : (h : Head) {k : Kept} → close h .closed ≡ Closed.Settled k → close h .head .seat .last ≡ LastKept.Range k
+unfolding closedPhase
+settled-range h e = ap (λ (x : Head). x .seat .last) (rw e at (answers h))
 
 pub refused-kept : (h : Head) {c : ℕ} → close h .closed ≡ Closed.Refused c → close h .head ≡ h
 refused-kept h e = rw e at (answers h)
@@ -102,10 +105,11 @@ proper-confession P =
       round = omega arith;
       position = P .position;
       holds = λ r. absurd (omega arith);
+      last = P .last;
     }
 
-proper-next : {s : Seat} (v : ℤ) → ProperSeat s → isPosition v ≡ true → ProperSeat (nextSeat s v)
-proper-next {s} v P k =
+proper-next : {s : Seat} (k : Kept) → ProperSeat s → ProperKept (s .f) k → ProperSeat (nextSeat s k)
+proper-next {s} k P K =
     let (first, last, round) = times (isLast s) refl in
     record {
       size = P .size;
@@ -113,8 +117,9 @@ proper-next {s} v P k =
       from-first = first;
       to-last = last;
       round = round;
-      position = k;
+      position = K .position;
       holds = λ r t q. not-null q refl;
+      last = K;
     }
   where
     times : (b : Bool) → isLast s ≡ b → let p = cond b (s .phase) (s .phase + 1) in (1 ≤ p) × (p ≤ 65535) × (cond b 1 0 < 2)
@@ -126,20 +131,19 @@ module _ (h : Head) (P : ProperHead h) where
   unfolding closedCollection
   proper-collection = proper-opened (proper-confession (P .seat)) (P .list) (λ r. absurd (omega arith))
 
-  proper-phase : (v : ℤ) → isPosition v ≡ true → ProperHead (closedPhase h v)
+  proper-phase : (k : Kept) → ProperKept (h .seat .f) k → ProperHead (closedPhase h k)
   unfolding closedPhase
-  proper-phase v k = proper-opened (proper-next v (P .seat) k) (no-entries (h .seat .n)) (λ r. no-entry)
+  proper-phase k K = proper-opened (proper-next k (P .seat) K) (no-entries (h .seat .n)) (λ r. no-entry)
 
-  settled-position : isPosition (settledBy h .position) ≡ true
-  settled-position =
-      rw (settled-midpoint h) (midpoint-position (rounding (h .seat .phase)) (h .seat .n) (twoRounds (h .seat .f)) (trustedBy h) (rounding-le (h .seat .phase)) (trusted-positions h P))
+  settled-proper : ProperKept (h .seat .f) (settledBy h)
+  settled-proper = kept-proper (rounding (h .seat .phase)) (h .seat .n) (h .seat .f) _ (trustedBy h) (rounding-le (h .seat .phase)) (trusted-positions h P)
 
   pub proper-close : ProperHead (close h .head)
   unfolding close settling
   proper-close = go (h .seat .ended) (h .seat .round)
     where
       settles : (c : Bool) → ProperHead (closeSettled (cond c (Settled.New (settledBy h)) (Settled.Refused refusal.trusted)) h .head)
-      settles true = proper-phase (settledBy h .position) settled-position
+      settles true = proper-phase (settledBy h) settled-proper
       settles false = P
 
       go : (b : Bool) (r : ℕ) → ProperHead (cond b (closing (Closed.Refused refusal.ended) h) (closeIn r h) .head)
@@ -151,8 +155,8 @@ module _ (h : Head) (P : ProperHead h) where
   unfolding closedCollection
   fresh-collection = record { proper = proper-collection; runs = refl; unheard = refl }
 
-  pub fresh-phase : h .seat .phase < 65535 → Fresh (closedPhase h (settledBy h .position))
+  pub fresh-phase : h .seat .phase < 65535 → Fresh (closedPhase h (settledBy h))
   unfolding closedPhase
   fresh-phase l =
-      let proper = proper-phase (settledBy h .position) settled-position in
+      let proper = proper-phase (settledBy h) settled-proper in
       record { proper = proper; runs = lt-leb 65535 (h .seat .phase) l; unheard = refl }

@@ -15,6 +15,7 @@ use Rattle.marks.specs.Marks.{bitOf, withMark}
 use Rattle.convergence.specs.Settling.{twoRounds}
 use Rattle.convergence.specs.Phases.{rounding}
 use Rattle.settle_midpoint.specs.Answers.{settling}
+use Rattle.settle_midpoint.specs.declared.Kept.{Kept}
 use Rattle.settle_midpoint.specs.declared.Settled.{Settled}
 use Rattle.settle_midpoint.specs.declared.Settled.the-variants as settled
 use Rattle.frame_spec.specs.Said.{Meaning, refused, collected, listed, confessed, refusalOf, said}
@@ -146,16 +147,16 @@ writeBuffer h buffer = cond (h .seat .ended) buffer (buffered (frameFor h) buffe
 unfoldable pub closedCollection : Head → Head
 closedCollection h = opened (confessionSeat (h .seat)) (h .list)
 
--- the phase has ended with the position v
-unfoldable pub closedPhase : Head → ℤ → Head
-closedPhase h v = opened (nextSeat (h .seat) v) noEntries
+-- the phase has ended and settled k: the position, with the kept range and the trim
+unfoldable pub closedPhase : Head → Kept → Head
+closedPhase h k = opened (nextSeat (h .seat) k) noEntries
 
 abbrev pub closing : Closed → Head → Closing
 closing c h = record { closed = c; head = h }
 
 abbrev pub closeSettled : Settled → Head → Closing
 closeSettled (settled.Refused c) h = closing (Closed.Refused c) h
-closeSettled (settled.New k) h = closing (Closed.Settled k) (closedPhase h (k .position))
+closeSettled (settled.New k) h = closing (Closed.Settled k) (closedPhase h k)
 
 abbrev pub closeIn : ℕ → Head → Closing
 closeIn zero h = closing Closed.Listed (closedCollection h)

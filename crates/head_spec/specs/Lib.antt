@@ -6,3 +6,4 @@ pub mod Calls
 pub mod Batch
 pub mod Proper
 pub mod Demand2
+pub mod Ranges

@@ -1,10 +1,11 @@
 -- A proper record: what holds of every record that calls can reach (`EveryProper`, in Demand2.antt).
 use mathlib.Core.Path.{_≡_}
 use mathlib.Core.Logic.{_≢_}
-use mathlib.Core.Bool.{false}
+use mathlib.Core.Bool.{false, true}
 use mathlib.Core.List.{List, []}
 use Prim.Native.Nat.{ℕ, _^_, _≤_, _<_}
 use lib.ListN.{length, getD}
+use Rattle.terms.specs.Positions.{isPosition}
 use Rattle.terms.specs.declared.Entry.{Entry}
 use Rattle.terms.specs.declared.Table.{Table}
 use Rattle.marks.specs.Marks.{bitOf}
@@ -13,8 +14,10 @@ use Rattle.convergence.specs.Counting.{Each}
 use Rattle.convergence.specs.Demand3.{AcceptedSize}
 use Rattle.frame_spec.specs.Said.{collected}
 use Rattle.frame_spec.specs.Proper.{ProperTable, Proper}
+use Rattle.settle_midpoint.specs.declared.Kept.{Kept}
 use Rattle.settle_trust.specs.declared.Links.{Links}
 use Rattle.head_spec.specs.declared.Row.{Row}
+use Rattle.head_spec.specs.declared.LastKept.{LastKept}
 use Rattle.head_spec.specs.declared.Seat.{Seat}
 use Rattle.head_spec.specs.declared.Head.{Head}
 use Rattle.head_spec.specs.Record.{rows}
@@ -25,6 +28,17 @@ pub record Sized (n f : ℕ) : Type 0 where
   pub most : n ≤ 32
   pub limit : AcceptedSize n f
 
+-- a kept range: its entries and its position are in range, and its trim is at most f
+pub record ProperKept (f : ℕ) (k : Kept) : Type 0 where
+  pub low : isPosition (k .low) ≡ true
+  pub high : isPosition (k .high) ≡ true
+  pub trim : k .trim ≤ f
+  pub position : isPosition (k .position) ≡ true
+
+abbrev pub ProperLast : ℕ → LastKept → Type 0
+ProperLast f LastKept.Nothing = Unit {0}
+ProperLast f (LastKept.Range k) = ProperKept f k
+
 -- The position is null or in range. A head in a collection round that is not healed holds one; in a confession round it may have none.
 pub record ProperSeat (s : Seat) : Type 0 where
   pub size : Sized (s .n) (s .f)
@@ -34,6 +48,7 @@ pub record ProperSeat (s : Seat) : Type 0 where
   pub round : s .round < 2
   pub position : Proper (s .n) (collected (s .position))
   pub holds : s .round ≡ 0 → s .healed ≡ false → s .position ≢ Entry.Null
+  pub last : ProperLast (s .f) (s .last)
 
 -- the list held of link k
 abbrev pub listFrom : Links → List Row → ℕ → Table

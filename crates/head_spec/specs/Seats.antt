@@ -4,17 +4,39 @@ use Prim.Native.Nat.{ℕ, _+_}
 use lib.Dec.{leb}
 use lib.IntN.{ℤ}
 use Rattle.terms.specs.declared.Entry.{Entry}
+use Rattle.settle_midpoint.specs.declared.Kept.{Kept}
+use Rattle.head_spec.specs.declared.LastKept.{LastKept}
 use Rattle.head_spec.specs.declared.Seat.{Seat}
 
 -- a start, at position v: phase 1 opens
 abbrev pub firstSeat : ℕ → ℕ → ℕ → ℤ → Seat
 firstSeat n f i v =
-    record { n = n; f = f; number = i; phase = 1; round = 0; healed = false; ended = false; position = Entry.Position v }
+    record {
+      n = n;
+      f = f;
+      number = i;
+      phase = 1;
+      round = 0;
+      healed = false;
+      ended = false;
+      position = Entry.Position v;
+      last = LastKept.Nothing;
+    }
 
--- a restart, in round r of phase p: the head is healed, with no position
+-- a restart, in round r of phase p: the head is healed, with no position and no kept range (document 02, A2)
 abbrev pub healedSeat : ℕ → ℕ → ℕ → ℕ → ℕ → Seat
 healedSeat n f i p r =
-    record { n = n; f = f; number = i; phase = p; round = r; healed = true; ended = false; position = Entry.Null }
+    record {
+      n = n;
+      f = f;
+      number = i;
+      phase = p;
+      round = r;
+      healed = true;
+      ended = false;
+      position = Entry.Null;
+      last = LastKept.Nothing;
+    }
 
 -- the collection round is closed
 abbrev pub confessionSeat : Seat → Seat
@@ -28,14 +50,15 @@ confessionSeat s =
       healed = false;
       ended = false;
       position = s .position;
+      last = s .last;
     }
 
 abbrev pub isLast : Seat → Bool
 isLast s = leb 65535 (s .phase)
 
--- the phase has ended with position v; after phase 65,535 phase and round stay, and the head has ended
-abbrev pub nextSeat : Seat → ℤ → Seat
-nextSeat s v =
+-- the phase has ended and settled k; after phase 65,535 phase and round stay, and the head has ended
+abbrev pub nextSeat : Seat → Kept → Seat
+nextSeat s k =
     record {
       n = s .n;
       f = s .f;
@@ -44,5 +67,6 @@ nextSeat s v =
       round = cond (isLast s) 1 0;
       healed = false;
       ended = isLast s;
-      position = Entry.Position v;
+      position = Entry.Position (k .position);
+      last = LastKept.Range k;
     }

@@ -10,6 +10,12 @@ pub struct Row {
     pub entries: [i32; 32],
 }
 
+// What the last phase end since the start or restart settled: the kept range, the trim and the position; nothing before the first.
+pub enum LastKept {
+    Nothing,
+    Range(Kept),
+}
+
 // Where a head stands: its ring, its number, the phase and round, and the position that it holds.
 pub struct Seat {
     pub n: u8,
@@ -20,6 +26,7 @@ pub struct Seat {
     pub healed: bool, // in this round
     pub ended: bool, // phase 65,535 has ended
     pub position: Entry,
+    pub last: LastKept,
 }
 
 // All that a head remembers: its seat, and what it has heard in this phase.

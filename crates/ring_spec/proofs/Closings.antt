@@ -1,5 +1,5 @@
 -- What an unstruck head's record is when the round is closed: after collection its list stands, and after confession, if enough entries are
--- trusted, it holds the midpoint of what it trusts. Either way the next round can open, up to the last phase.
+-- trusted, it holds the midpoint of what it trusts, with the range that was kept. Either way the next round can open, up to the last phase.
 use mathlib.Core.Path.{_≡_, refl, ap, sym, subst, _∙_}
 use mathlib.Core.Bool.{true, false}
 use Prim.Native.Nat.{ℕ, _+_, _<_}
@@ -8,9 +8,11 @@ use borrow.Author.Tests.{lt-leb}
 use Rattle.terms.specs.declared.Entry.{Entry}
 use Rattle.marks.specs.Marks.{bitOf}
 use Rattle.convergence.specs.Counting.{Each}
-use Rattle.convergence.specs.Settling.{twoRounds, midpoint, enough}
+use Rattle.convergence.specs.Settling.{nulls, trim, twoRounds, ordered, midpoint, enough}
 use Rattle.convergence.specs.Trust.{trusted}
 use Rattle.convergence.specs.Phases.{rounding}
+use Rattle.settle_midpoint.specs.Answers.{kept}
+use Rattle.head_spec.specs.declared.LastKept.{LastKept}
 use Rattle.head_spec.specs.declared.Head.{Head}
 use Rattle.head_spec.specs.declared.Closed.{Closed}
 use Rattle.head_spec.specs.declared.Closing.{Closing}
@@ -51,16 +53,22 @@ module _ (n f : ℕ) (R : Ring) (w : Round) (S : RingReady n f R) where
 
     -- a confession round in which enough entries are trusted
     module _ (confession : R .round ≡ 1) (calm : enough n (twoRounds f) (trusted n f (given T)) ≡ true) where
-      pub confession-closes : close T ≡ closing (Closed.Settled (settledBy T)) (closedPhase T (settledBy T .position))
+      pub confession-closes : close T ≡ closing (Closed.Settled (settledBy T)) (closedPhase T (settledBy T))
       confession-closes = closes-phase T (A .runs) (A .round ∙ confession) (rw (A .count, A .limit) calm)
 
-      confession-closed : closedAt n f R w i ≡ closedPhase T (settledBy T .position)
-      confession-closed = closed-is (Closed.Settled (settledBy T)) (closedPhase T (settledBy T .position)) confession-closes
+      confession-closed : closedAt n f R w i ≡ closedPhase T (settledBy T)
+      confession-closed = closed-is (Closed.Settled (settledBy T)) (closedPhase T (settledBy T)) confession-closes
 
       pub confession-settles : closedAt n f R w i .seat .position ≡ Entry.Position (midpoint (rounding (R .phase)) n (twoRounds f) (trusted n f (given T)))
       unfolding closedPhase
       confession-settles =
           ap (λ (x : Head). x .seat .position) confession-closed ∙ ap Entry.Position (settled-midpoint T) ∙ rw (A .count, A .limit, A .phase)
+
+      -- with the kept range and the trim
+      pub confession-keeps : let E = trusted n f (given T) in
+          closedAt n f R w i .seat .last ≡ LastKept.Range (kept (rounding (R .phase)) (trim f (nulls n E)) (ordered n E))
+      unfolding closedPhase
+      confession-keeps = ap (λ (x : Head). x .seat .last) confession-closed ∙ rw (A .count, A .limit, A .phase)
 
       pub confession-ready : R .phase < 65535 → Ready n f i (R .phase + 1) 0 false (closedAt n f R w i)
       unfolding closedPhase

@@ -16,20 +16,21 @@ use Rattle.marks.proofs.Marks.{bit-none}
 use Rattle.convergence.specs.Counting.{Each, AtMost}
 use Rattle.convergence.specs.Settling.{twoRounds, enough}
 use Rattle.convergence.specs.Trust.{trusted}
-use Rattle.convergence.specs.Phases.{Faults, start, endAfter}
+use Rattle.convergence.specs.Phases.{End, Faults, lowest, highest, start, endAfter}
 use Rattle.convergence.specs.Demand3.{AcceptedSize, FewStruck}
 use Rattle.convergence.proofs.Sums.{sum-none}
-use Rattle.convergence.proofs.Same.{SameEnd, demand3-same}
-use Rattle.convergence.proofs.Demand3.{few-struck, converges}
+use Rattle.convergence.proofs.Same.{SameEnd, same-bounds, demand3-same}
+use Rattle.convergence.proofs.Demand3.{few-struck, kept-between-in-ring, converges}
+use Rattle.head_spec.specs.declared.LastKept.{LastKept}
 use Rattle.head_spec.specs.Record.{given}
 use Rattle.head_spec.specs.Calls.{started}
 use Rattle.head_spec.proofs.Proper.{Sized, start-accepted}
 use Rattle.head_spec.proofs.Hearing.{fresh-started}
 use Rattle.ring_spec.specs.Rounds.{Round, Ring, mostRounds, roundThen, afterRound, PhaseEnd, phaseEnd, asEnd, withEnd, firstHeads, ringAfter, endsAfter}
-use Rattle.ring_spec.specs.Converges.{FewStruckIn, noEnd, RingConverges}
+use Rattle.ring_spec.specs.Converges.{FewStruckIn, noEnd, RingConverges, HoldsBetween, RingKeepsBetween}
 use Rattle.ring_spec.proofs.OneRound.{RingReady, heardAt}
 use Rattle.ring_spec.proofs.Closings.{after-confession, collection-next, confession-next}
-use Rattle.ring_spec.proofs.OnePhase.{faultsIn, endAt, calm, phase-same}
+use Rattle.ring_spec.proofs.OnePhase.{faultsIn, endAt, calm, keeps-as, phase-same}
 use Rattle.ring_spec.proofs.Counts.{counted}
 
 -- ---- the faults of a run
@@ -89,6 +90,11 @@ playable-next n f R w P few-before few more = go (R .round) refl
         let next = after-confession n f R w S now .1 in
         record { ready = confession-next n f R w S now (P .settles now w few) (more now); settles = λ d. absurd (omega arith) }
 
+-- a phase end shows a ring: who was struck in the round before, and the records
+record IsEnd (e : PhaseEnd) (R : Ring) : Type 0 where
+  struck : e .struck ≡ R .before
+  heads : e .heads ≡ R .heads
+
 module _ (n f : ℕ) (v : ℕ → ℤ) (S : Sized n f) (range : Each n (λ i. isPosition (v i) ≡ true)) where
   abbrev R : List Round → Ring
   R = ringAfter n f v
@@ -125,19 +131,19 @@ module _ (n f : ℕ) (v : ℕ → ℤ) (S : Sized n f) (range : Each n (λ i. is
   -- ---- the ends
 
   -- end i, with the latest first: the ring without the rounds after it
-  ends-are : (ws : List Round) (i : ℕ) → i < length (E ws) → asEnd (getD (E ws) i noEnd) ≡ endAt (R (drop (2 * i + R ws .round) ws))
+  ends-are : (ws : List Round) (i : ℕ) → i < length (E ws) → IsEnd (getD (E ws) i noEnd) (R (drop (2 * i + R ws .round) ws))
   unfolding ringAfter endsAfter afterRound
-  ends-are [] zero m = refl
+  ends-are [] zero m = record { struck = refl; heads = refl }
   ends-are [] (suc i) m = absurd (omega arith)
   ends-are (w ∷ ws) i m = go (R ws .round) (counted n f v ws .small) (ends-are ws) i m
     where
       end : PhaseEnd
       end = phaseEnd (R ws .before) (w .struck) (R (w ∷ ws) .heads)
 
-      go : (r : ℕ) → r < 2 → ((j : ℕ) → j < length (E ws) → asEnd (getD (E ws) j noEnd) ≡ endAt (R (drop (2 * j + r) ws)))
-          → (i : ℕ) → i < length (withEnd r end (E ws)) → asEnd (getD (withEnd r end (E ws)) i noEnd) ≡ endAt (R (drop (2 * i + roundThen r) (w ∷ ws)))
+      go : (r : ℕ) → r < 2 → ((j : ℕ) → j < length (E ws) → IsEnd (getD (E ws) j noEnd) (R (drop (2 * j + r) ws)))
+          → (i : ℕ) → i < length (withEnd r end (E ws)) → IsEnd (getD (withEnd r end (E ws)) i noEnd) (R (drop (2 * i + roundThen r) (w ∷ ws)))
       go zero s ih i m = let z : 2 * i + 1 ≡ suc (2 * i + 0) = omega arith in rw z (ih i m)
-      go (suc r) s ih zero m = refl
+      go (suc r) s ih zero m = record { struck = refl; heads = refl }
       go (suc r) s ih (suc i) m = let z : 2 * suc i + 0 ≡ suc (2 * i + suc r) = omega arith in rw z (ih i (le-of-suc-le-suc m))
 
   -- the ring after p phases, without the last j rounds
@@ -158,6 +164,26 @@ module _ (n f : ℕ) (v : ℕ → ℤ) (S : Sized n f) (range : Each n (λ i. is
       (phase-same n f (R us) _ _ (playable us few (omega arith) .ready) c _ (stands ws W l p (suc (suc j)) (omega arith))
       (few-struck n f (S .limit) v (faultsOf n ws) (few-faults n f ws W) p) (few-in n f (suc j) ws W) (few-in n f j ws W))
 
+  -- what the records hold after p + 1 phases, without the last j rounds
+  keeps : (ws : List Round) → FewStruckIn n f ws → length ws ≤ mostRounds → (p j : ℕ) → length ws ≡ 2 * suc p + j → let e = endAfter n f v (faultsOf n ws) p in
+      Each n (λ i. bitOf (R (drop j ws) .before) i ≡ false → HoldsBetween (lowest n e) (highest n e) (R (drop j ws) .heads i .seat .last))
+  unfolding ringAfter afterRound faultsOf
+  keeps ws W l p j e =
+      let us = drop (suc (suc j)) ws in
+      let few = few-earlier n f (suc (suc j)) ws W in
+      let C = counted n f v us in
+      let d = length-drop (suc (suc j)) ws in
+      let c : R us .round ≡ 0 = omega arith in
+      let q : R us .phase ≡ suc p = omega arith in
+      let x : length ws - (2 * suc p - 1) ≡ suc j = omega arith in
+      let y : length ws - 2 * suc p ≡ j = omega arith in
+      let R₀ = R us in
+      let few-e = few-struck n f (S .limit) v (faultsOf n ws) (few-faults n f ws W) p in
+      rw (drop-cons ws j noRound (omega arith), drop-cons ws (suc j) noRound (omega arith))
+      (λ i m t. rw (keeps-as n f R₀ (getD ws (suc j) noRound) (getD ws j noRound) (playable us few (omega arith) .ready) c
+      (endAfter n f v (faultsOf n ws) p) (stands ws W l p (suc (suc j)) (omega arith)) few-e (few-in n f (suc j) ws W) (few-in n f j ws W) i m t)
+      (rw (x, y, ← q) at (kept-between-in-ring n f (S .limit) v (faultsOf n ws) (few-faults n f ws W) p i)))
+
 -- On sound heads the phase ends of the records are those of the messages, for the faults that the rounds amount to: end i of a list that has the latest
 -- first.
 pub refines : (n f : ℕ) (v : ℕ → ℤ) (ws : List Round) → n ≤ 32 → AcceptedSize n f → Each n (λ i. isPosition (v i) ≡ true) → FewStruckIn n f ws
@@ -167,7 +193,8 @@ refines n f v ws most limit range W l i m =
     let S : Sized n f = record { some = omega arith; most = most; limit = limit } in
     let p = length (endsAfter n f v ws) - 1 - i in
     let j = 2 * i + ringAfter n f v ws .round in
-    rw (ends-are n f v S range ws i m) (stands n f v S range ws W l p j (omega (arith, counted n f v ws)))
+    let A = ends-are n f v S range ws i m in
+    rw (A .struck, A .heads) (stands n f v S range ws W l p j (omega (arith, counted n f v ws)))
 
 pub ring-converges : RingConverges
 ring-converges n f v ws most limit range W l i k h =
@@ -175,3 +202,17 @@ ring-converges n f v ws most limit range W l i k h =
     let K = length (endsAfter n f v ws) - 1 in
     let z : K - i ≡ K - (i + k) + k = omega arith in
     demand3-same (same (i + k) h) (same i (omega arith)) (rw z (converges n f limit v (faultsOf n ws) (few-faults n f ws W) (K - (i + k)) k))
+
+pub ring-keeps-between : RingKeepsBetween
+ring-keeps-between n f v ws most limit range W l i h k m q =
+    let S : Sized n f = record { some = omega arith; most = most; limit = limit } in
+    let es = endsAfter n f v ws in
+    let p = length es - 1 - (i + 1) in
+    let j = 2 * i + ringAfter n f v ws .round in
+    let A = ends-are n f v S range ws i (omega arith) in
+    between (refines n f v ws most limit range W l (i + 1) h) (getD es i noEnd .heads k .seat .last)
+    (rw (A .heads) (keeps n f v S range ws W l p j (omega (arith, counted n f v ws)) k m (rw (A .struck) at q)))
+  where
+    between : {e d : End} → SameEnd n e d → (x : LastKept) → HoldsBetween (lowest n d) (highest n d) x → HoldsBetween (lowest n e) (highest n e) x
+    between s LastKept.Nothing a = a
+    between s (LastKept.Range y) a = let (p, q) = same-bounds s in rw (p, q) a

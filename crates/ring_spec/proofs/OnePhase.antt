@@ -4,29 +4,33 @@
 use mathlib.Core.Path.{_≡_, refl, ap, ap₂, sym, _∙_}
 use mathlib.Core.Logic.{_≢_}
 use mathlib.Core.Bool.{Bool, true, false, cond}
+use mathlib.Core.List.{List}
 use Prim.Native.Nat.{ℕ, _*_, _≤_, _<_}
 use native.Mathlib.Omega.{arith}
+use lib.IntN.{ℤ}
 use borrow.Author.Tests.{le-leb}
 use Rattle.terms.specs.declared.Entry.{Entry}
 use Rattle.terms.specs.declared.Entry.the-variants.{Null, Position}
 use Rattle.marks.specs.Marks.{bitOf}
 use Rattle.entries.specs.Tables.{tableAt}
 use Rattle.convergence.specs.Counting.{Each, AtMost}
-use Rattle.convergence.specs.Settling.{nulls, twoRounds, midpoint, enough}
+use Rattle.convergence.specs.Settling.{nulls, trim, twoRounds, ordered, midpoint, enough}
 use Rattle.convergence.specs.Trust.{Given, gave, hasConfessed, saysOf, trusted}
 use Rattle.convergence.specs.Trust as Trust
 use Rattle.convergence.specs.Phases.{End, Faults, gives, listOf, givenTo, after, rounding}
 use Rattle.convergence.proofs.OnePhase.{Limits}
 use Rattle.convergence.proofs.Ends.{number, AllHold}
-use Rattle.convergence.proofs.Same.{SameOf, nulls-same, midpoint-same, trusted-same-of, SameEnd}
+use Rattle.convergence.proofs.Same.{SameOf, nulls-same, ordered-same, midpoint-same, trusted-same-of, SameEnd}
 use Rattle.convergence.proofs.Demand3.{settled-is, few-nulls-in-phase}
 use Rattle.frame_spec.specs.Said.{collected, listed, confessed, said}
+use Rattle.settle_midpoint.specs.Answers.{kept}
+use Rattle.head_spec.specs.declared.LastKept.{LastKept}
 use Rattle.head_spec.specs.declared.Head.{Head}
 use Rattle.head_spec.specs.Record.{given, heardEntry, givenOf}
 use Rattle.head_spec.specs.Calls.{closedCollection}
 use Rattle.ring_spec.specs.Rounds.{Round, planted, Ring, openedAt, afterRound}
 use Rattle.ring_spec.proofs.OneRound.{RingReady, says-entry, says-list, saidIn, heardAt, said-planted, opened-same, opened-in, said-spoken, heard-given, heard-list}
-use Rattle.ring_spec.proofs.Closings.{collection-closed, confession-settles, after-collection, collection-next}
+use Rattle.ring_spec.proofs.Closings.{collection-closed, confession-settles, confession-keeps, after-collection, collection-next}
 
 -- the faults that the planted bytes of phase p amount to, whatever they are: a in its collection round, b in its confession round
 unfoldable pub faultsIn : ℕ → ℕ → Round → Round → Faults
@@ -153,6 +157,14 @@ module _ (n f : ℕ) (R : Ring) (a b : Round) (S : RingReady n f R) (collection 
           ∙ ap (λ (p : ℕ). Position (midpoint (rounding p) n (twoRounds f) (trusted n f (given (heardAt n f R₁ b i))))) (after-collection n f R a S collection .0)
           ∙ ap Position (midpoint-same (rounding (R .phase)) n (twoRounds f) _ _ trusted-same)
           ∙ sym (settled-is (rounding (R .phase)) n f (trusted n f (givenTo e F i)) few)
+
+      -- with what `convergence` keeps
+      pub keeps-as : let E = trusted n f (givenTo e F i) in
+          afterRound n f R₁ b .heads i .seat .last ≡ LastKept.Range (kept (rounding (R₁ .phase)) (trim f (nulls n E)) (ordered n E))
+      unfolding afterRound
+      keeps-as =
+          confession-keeps n f R₁ b S₁ i l q confession calm
+          ∙ ap₂ (λ (z : ℕ) (o : List ℤ). LastKept.Range (kept (rounding (R₁ .phase)) (trim f z) o)) (nulls-same n _ _ trusted-same) (ordered-same n _ _ trusted-same)
 
     pub phase-same : SameEnd n (endAt (afterRound n f R₁ b)) (after (rounding (R .phase)) n f e F)
     unfolding afterRound after faultsIn

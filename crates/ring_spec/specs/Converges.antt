@@ -6,9 +6,12 @@ use Prim.Native.Nat.{ℕ, _+_, _≤_, _<_}
 use lib.ListN.{length, getD}
 use lib.IntN.{ℤ}
 use Rattle.terms.specs.Positions.{isPosition}
+use Rattle.terms.specs.declared.Entry.{Entry}
 use Rattle.marks.specs.Marks.{bitOf}
 use Rattle.convergence.specs.Counting.{Each, AtMost}
-use Rattle.convergence.specs.Demand3.{Demand3, AcceptedSize, Halves}
+use Rattle.convergence.specs.Phases.{lowest, highest}
+use Rattle.convergence.specs.Demand3.{KeptBetween, Demand3, AcceptedSize, Halves}
+use Rattle.head_spec.specs.declared.LastKept.{LastKept}
 use Rattle.ring_spec.specs.Rounds.{Round, lost, mostRounds, PhaseEnd, phaseEnd, asEnd, endsAfter}
 
 -- at most f heads are struck in each round
@@ -30,3 +33,18 @@ abbrev pub RingConverges : Type 0
 RingConverges =
     (n f : ℕ) (v : ℕ → ℤ) (ws : List Round) → n ≤ 32 → AcceptedSize n f → Each n (λ i. isPosition (v i) ≡ true) → FewStruckIn n f ws → length ws ≤ mostRounds
     → AnyTwo n f (endsAfter n f v ws)
+
+-- ---- the kept range (document 02, A2)
+
+-- a record holds a kept range, and it lies between the lowest and the highest
+abbrev pub HoldsBetween : Entry → Entry → LastKept → Type 0
+HoldsBetween low high LastKept.Nothing = ⊥
+HoldsBetween low high (LastKept.Range k) = KeptBetween low high (k .low) (k .high)
+
+-- at each phase end, for each head that is sound there: between the sound positions that the phase started from
+abbrev pub RingKeepsBetween : Type 0
+RingKeepsBetween =
+    (n f : ℕ) (v : ℕ → ℤ) (ws : List Round) → n ≤ 32 → AcceptedSize n f → Each n (λ i. isPosition (v i) ≡ true) → FewStruckIn n f ws → length ws ≤ mostRounds
+    → let es = endsAfter n f v ws in
+    (i : ℕ) → i + 1 < length es → let e = asEnd (getD es (i + 1) noEnd) in let e′ = getD es i noEnd in
+    Each n (λ j. bitOf (e′ .struck) j ≡ false → HoldsBetween (lowest n e) (highest n e) (e′ .heads j .seat .last))

@@ -9,6 +9,7 @@ use Rattle.marks.specs.Marks.{bitOf}
 use Rattle.convergence.specs.Phases.{End}
 use Rattle.head_spec.specs.Record.{noEntries, opened}
 use Rattle.head_spec.specs.Calls.{started, restarted, hearAll, frameFor, close}
+use Rattle.head_spec.specs.declared.LastKept.{LastKept}
 use Rattle.head_spec.specs.declared.Seat.{Seat}
 use Rattle.head_spec.specs.declared.Head.{Head}
 
@@ -30,7 +31,18 @@ planted (x ∷ xs) k i = cond (eqb (x .from) k && eqb (x .to) i) (x .bytes) (pla
 
 -- a record whose memory is lost, and its seat
 abbrev pub noSeat : Seat
-noSeat = record { n = 0; f = 0; number = 0; phase = 0; round = 0; healed = false; ended = false; position = Entry.Null }
+noSeat =
+    record {
+      n = 0;
+      f = 0;
+      number = 0;
+      phase = 0;
+      round = 0;
+      healed = false;
+      ended = false;
+      position = Entry.Null;
+      last = LastKept.Nothing;
+    }
 
 unfoldable pub lost : Head
 lost = opened noSeat noEntries

@@ -6,12 +6,20 @@ use Rattle.head_c.proofs.seat_in.Tie as tie
 
 returns : tie.Need-returns
 unfolding seatOf
-returns c = rw (c .before .before .before .before .before .before .before .entry-in .ensures)
+returns c =
+    let r = c .before .before .before .before .before .before .before in
+    rw (r .range-in .ensures, r .before .before .before .before .before .before .entry-in .ensures)
 
 pub seat-in-spec : {M : Type 1} → statement M
 seat-in-spec =
     tie.close
     (tie.spec
+    (λ c. search needs)
+    (λ c. search needs)
+    (λ c κs. search needs)
+    (λ c. search needs)
+    (λ c. search needs)
+    (λ c. search needs)
     (λ c. search needs)
     (λ c. search needs)
     (λ c κs. search needs)

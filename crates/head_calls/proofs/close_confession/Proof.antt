@@ -3,9 +3,6 @@ use mathlib.Core.Path.{_≡_}
 use mathlib.Core.List.{List}
 use Prim.Native.Nat.{ℕ}
 use lib.IntN.{ℤ}
-use mir.Syntax.{w32}
-use mir.Val.{SFits}
-use mir.Facts.{toZ-ofZ}
 use Rattle.convergence.specs.Phases.{rounding}
 use Rattle.convergence.specs.Settling.{twoRounds}
 use Rattle.convergence.specs.Trust.{trusted}
@@ -37,10 +34,9 @@ returns c =
 
 returns-2 : tie.Need-returns-2
 returns-2 c =
-    let t = c .before .before .before in
+    let t = c .before .before in
     let e = settled (t .before .before) in
-    let f : SFits w32 (t .kept .given .0 .0 .position) = search needs in
-    rw (← e, t .kept .given .1, c .closed-phase .ensures, toZ-ofZ f)
+    rw (← e, t .kept .given .1, c .closed-phase .ensures)
 
 pub close-confession-spec : {M : Type 1} → statement M
 close-confession-spec =

@@ -1,5 +1,4 @@
 -- The record is opened with the seat that the definition gives, and no entries.
-use mir.Facts.{toZ-ofZ}
 use borrow.Author.Needs.{needs}
 use Rattle.head_spec.specs.Calls.{closedPhase}
 use Rattle.head_calls.proofs.closed_phase.Statement.{statement}
@@ -7,9 +6,7 @@ use Rattle.head_calls.proofs.closed_phase.Tie as tie
 
 returns : tie.Need-returns
 unfolding closedPhase
-returns c =
-    let d = c .before .before in
-    rw (c .opened .ensures, c .before .no-entries .ensures, d .next-seat .ensures, toZ-ofZ (d .before .before .fits .position))
+returns c = rw (c .opened .ensures, c .before .no-entries .ensures, c .before .before .next-seat .ensures)
 
 pub closed-phase-spec : {M : Type 1} → statement M
 closed-phase-spec =

@@ -1,0 +1,84 @@
+-- A head holds the kept range that was passed on last: only a closing that settles puts one there, and it puts the one that it answers. The position lies in
+-- it, since half the sum of the lowest and the highest kept lies between them.
+use mathlib.Core.Path.{_≡_, refl, ap, _∙_}
+use mathlib.Core.Bool.{Bool, true, false, cond}
+use Prim.Native.Nat.{ℕ, zero, suc, _*_, _≤_}
+use borrow.Author.Tests.{leb-true}
+use Rattle.terms.specs.Refusals as refusal
+use Rattle.convergence.specs.Settling.{nulls, twoRounds, midpoint, enough}
+use Rattle.convergence.specs.Phases.{rounding}
+use Rattle.convergence.proofs.Demand3.{rounding-le}
+use Rattle.convergence.proofs.OnePhase.{in-kept}
+use Rattle.settle_midpoint.specs.Answers.{settling}
+use Rattle.settle_midpoint.specs.declared.Settled.{Settled}
+use Rattle.head_spec.specs.declared.LastKept.{LastKept}
+use Rattle.head_spec.specs.declared.Head.{Head}
+use Rattle.head_spec.specs.declared.Closed.{Closed}
+use Rattle.head_spec.specs.Record.{trustedBy}
+use Rattle.head_spec.specs.Calls.{started, restarted, closedCollection, closedPhase, closing, closeSettled, closeIn, close}
+use Rattle.head_spec.specs.Demand2.{Reachable}
+use Rattle.head_spec.specs.Demand2 as reachable
+use Rattle.head_spec.specs.Ranges.{passing, Passed, HoldsPassed, InRange, PassedInRange}
+use Rattle.head_spec.specs.Ranges as passed
+use Rattle.head_spec.proofs.Proper.{ProperHead}
+use Rattle.head_spec.proofs.Taking.{hear-keeps}
+use Rattle.head_spec.proofs.RoundEnd.{settledBy, enoughTrusted, Answers, answers}
+use Rattle.head_spec.proofs.Demand2.{demand-2}
+
+-- ---- which range is held
+
+held-closing : (c : Closed) (h h′ : Head) (x : LastKept) → Answers c h h′ → h .seat .last ≡ x → h′ .seat .last ≡ passing c x
+unfolding closedCollection closedPhase
+held-closing (Closed.Refused c) h h′ x a e = ap (λ (y : Head). y .seat .last) a ∙ e
+held-closing Closed.Listed h h′ x a e = ap (λ (y : Head). y .seat .last) a ∙ e
+held-closing (Closed.Settled k) h h′ x a e = ap (λ (y : Head). y .seat .last) a
+
+pub holds-passed : HoldsPassed
+unfolding started restarted
+holds-passed h x (passed.starts n f i v e) = refl
+holds-passed h x (passed.restarts n f i p r e) = refl
+holds-passed h x (passed.hears {h = y} k s bytes P) = rw (hear-keeps y k s) (holds-passed y x P)
+holds-passed h x (passed.closes {h = y} {x = z} P) = held-closing (close y .closed) y (close y .head) z (answers y) (holds-passed y z P)
+
+-- ---- the position lies in it
+
+reached : {h : Head} {x : LastKept} → Passed h x → Reachable h
+reached (passed.starts n f i v e) = reachable.starts n f i v e
+reached (passed.restarts n f i p r e) = reachable.restarts n f i p r e
+reached (passed.hears k s bytes P) = reachable.hears k s bytes (reached P)
+reached (passed.closes P) = reachable.closes (reached P)
+
+abbrev Sound : LastKept → Type 0
+Sound LastKept.Nothing = Unit {0}
+Sound (LastKept.Range k) = InRange k
+
+module _ (h : Head) (P : ProperHead h) where
+  settled-sound : enoughTrusted h ≡ true → InRange (settledBy h)
+  unfolding enough midpoint
+  settled-sound e =
+      let few : nulls (h .seat .n) (trustedBy h) ≤ 3 * h .seat .f = leb-true _ _ e in
+      let (above, below) = in-kept (h .seat .n) (h .seat .f) (P .seat .size .limit) (trustedBy h) few (rounding (h .seat .phase)) (rounding-le (h .seat .phase)) in
+      record { above = above; below = below }
+
+  closed-sound : Sound (h .seat .last) → Sound (close h .head .seat .last)
+  unfolding close settling closedCollection closedPhase
+  closed-sound s = go (h .seat .ended) (h .seat .round)
+    where
+      settles : (c : Bool) → enoughTrusted h ≡ c → Sound (closeSettled (cond c (Settled.New (settledBy h)) (Settled.Refused refusal.trusted)) h .head .seat .last)
+      settles true e = settled-sound e
+      settles false e = s
+
+      go : (b : Bool) (r : ℕ) → Sound (cond b (closing (Closed.Refused refusal.ended) h) (closeIn r h) .head .seat .last)
+      go true r = s
+      go false zero = s
+      go false (suc r) = settles (enoughTrusted h) refl
+
+sound : {h : Head} {x : LastKept} → Passed h x → Sound (h .seat .last)
+unfolding started restarted
+sound (passed.starts n f i v e) = tt
+sound (passed.restarts n f i p r e) = tt
+sound (passed.hears {h = x} k s bytes P) = rw (hear-keeps x k s) (sound P)
+sound (passed.closes {h = x} P) = closed-sound x (demand-2 .proper x (reached P)) (sound P)
+
+pub passed-in-range : PassedInRange
+passed-in-range h k P = rw (holds-passed h (LastKept.Range k) P) at (sound P)

@@ -1,0 +1,37 @@
+-- Which kept range a head holds (document 02, A2): the one that its last phase end since the start or restart passed on, as that closing answered it, or
+-- none. proofs/Ranges.antt proves it.
+use mathlib.Core.Path.{_≡_}
+use mathlib.Core.List.{List}
+use Prim.Native.Nat.{ℕ}
+use lib.IntN.{ℤ}
+use lib.Signed.{_≤ℤ_}
+use Rattle.settle_midpoint.specs.declared.Kept.{Kept}
+use Rattle.frame_spec.specs.Proper.{AllBytes}
+use Rattle.head_spec.specs.declared.LastKept.{LastKept}
+use Rattle.head_spec.specs.declared.Head.{Head}
+use Rattle.head_spec.specs.declared.Closed.{Closed}
+use Rattle.head_spec.specs.Calls.{startRefusal, started, restartRefusal, restarted, hear, close}
+
+-- what was passed on last, after a closing that answered c; before it x was
+abbrev pub passing : Closed → LastKept → LastKept
+passing (Closed.Refused c) x = x
+passing Closed.Listed x = x
+passing (Closed.Settled k) x = LastKept.Range k
+
+-- a record that calls can reach, and what was passed on last since it was started or restarted
+pub data Passed : Head → LastKept → Type 0 where
+  starts : (n f i : ℕ) (v : ℤ) → startRefusal n f i v ≡ 0 → Passed (started n f i v) LastKept.Nothing
+  restarts : (n f i p r : ℕ) → restartRefusal n f i p r ≡ 0 → Passed (restarted n f i p r) LastKept.Nothing
+  hears : {h : Head} {x : LastKept} (k : ℕ) (s : List ℕ) → AllBytes s → Passed h x → Passed (hear h k s .head) x
+  closes : {h : Head} {x : LastKept} → Passed h x → Passed (close h .head) (passing (close h .closed) x)
+
+abbrev pub HoldsPassed : Type 0
+HoldsPassed = (h : Head) (x : LastKept) → Passed h x → h .seat .last ≡ x
+
+-- what a range is worth: the position lies in it
+pub record InRange (k : Kept) : Type 0 where
+  pub above : k .low ≤ℤ k .position
+  pub below : k .position ≤ℤ k .high
+
+abbrev pub PassedInRange : Type 0
+PassedInRange = (h : Head) (k : Kept) → Passed h (LastKept.Range k) → InRange k
