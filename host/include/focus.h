@@ -58,6 +58,15 @@ uint8_t focus_frame_check(const uint8_t *frame, size_t length);
  * Promised: number and *position are those of `midpointCall` (crates/settle_midpoint/specs/Call.antt). */
 uint8_t focus_midpoint(uint32_t n, uint32_t f, uint32_t marks, const uint8_t *entries, size_t length, int32_t *position);
 
+/* What a settling keeps: the lowest and highest entry kept, how many were dropped from each end, and the new position, half the sum of the two. */
+typedef struct focus_kept {
+    int32_t lowest, highest, trim, position;
+} focus_kept;
+
+/* The midpoint with what it kept: the same arguments, answers and order of checks; *kept is written only if nothing is refused.
+ * Promised: number and *kept are those of `midpointCall` (crates/settle_midpoint/specs/Call.antt), by `keptOr` (crates/camera/specs/Out.antt). */
+uint8_t focus_midpoint_kept(uint32_t n, uint32_t f, uint32_t marks, const uint8_t *entries, size_t length, focus_kept *kept);
+
 /* The step scale: nanometres are steps times numerator, divided by denominator, rounded down (towards minus infinity). Numerator and denominator
  * are from 1 to 1,000,000, the numerator at least the denominator.
  * Returns 0 and puts the nanometres, from -10^12 to 10^12, in *nanometres, or 12, 4.
@@ -82,7 +91,7 @@ uint8_t focus_play(const uint8_t *file, size_t bytes, uint8_t *out, size_t out_s
 
 /* ---- a head that C keeps: crates/head_c/src/lib.rt has what its calls promise; crates/head_spec/specs/Calls.antt defines the calls */
 
-/* A head's block: 1,116 words all shift, of which each call changes those that it must, in place. Words 9 to 23 are room for later calls: no call
+/* A head's block: 1,116 words all shift, of which each call changes those that it must, in place. Words 14 to 23 are room for later calls: no call
  * changes them. Every content is some record, so no block makes a call undefined, not even one that was never started; a block of zeros is a head of
  * no ring. Promised of each call: crates/head_c/specs/Blocks.antt says which record a block is, and crates/head_c/src/lib.rt which words change. */
 typedef struct focus_head {
@@ -118,6 +127,9 @@ uint8_t focus_head_close(focus_head *head);
 
 /* No refusal: 1 and the head's position in *position, or 0 if it holds none, with *position as it was. */
 uint8_t focus_head_position(const focus_head *head, int32_t *position);
+
+/* No refusal: 1 and what the head's last phase end kept in *kept, or 0 if it passed none since it was started or restarted, with *kept as it was. */
+uint8_t focus_head_kept(const focus_head *head, focus_kept *kept);
 
 #ifdef __cplusplus
 }
