@@ -94,7 +94,7 @@ fn midpoint(wanted: Wanted, n: usize, f: usize, nulls: usize) -> Option<Row> {
         let mut out = 0;
         all.iter_mut().map(|table| exported::midpoint(n as u32, f as u32, marks, table, &mut out) as u64 + out as u64 % 8).sum()
     };
-    let given = |table: &[u8]| midpoint::midpoint(n, f, marks, table).map_or_else(|number| number as u64, |out| out as u64 % 8);
+    let given = |table: &[u8]| midpoint::midpoint(n, f, marks, table).map_or_else(|number| number as u64, |kept| kept.position as u64 % 8);
     let plain = |all: &mut Vec<Vec<u8>>| all.iter().map(|table| given(table)).sum();
     let ready = || all.clone();
     row(wanted, format!("midpoint, ({n},{f}), {nulls} null"), MANY, (&ready, &export), (&ready, &plain))

@@ -18,6 +18,12 @@ struct lent64 {
     uint64_t after;
 };
 
+struct lent_kept {
+    uint64_t before;
+    focus_kept value;
+    uint64_t after;
+};
+
 #define GUARD UINT64_C(0x5aa55aa5c33cc33c)
 
 /* the midpoint's answer, with the number it must give; `position` counts if that is 0 */
@@ -32,6 +38,14 @@ static void midpoint(const char *what, uint32_t n, uint32_t f, uint32_t marks, c
     same(what, lent.value, want);
     same("memory beside the lent room", lent.before == GUARD && lent.after == GUARD, 1);
     same("the entries read", memcmp(copy, entries, length), 0);
+
+    struct lent_kept range = {GUARD, {-777, -777, -777, -777}, GUARD};
+    same(what, focus_midpoint_kept(n, f, marks, entries, length, &range.value), number);
+    same(what, range.value.position, want);
+    same("half the sum of what is kept", number != 0 || (range.value.lowest + range.value.highest) >> 1 == want, 1);
+    same("what a refusal leaves", number == 0 || (range.value.lowest == -777 && range.value.highest == -777 && range.value.trim == -777), 1);
+    same("memory beside the kept range", range.before == GUARD && range.after == GUARD, 1);
+    same("the entries read with the range", memcmp(copy, entries, length), 0);
 }
 
 static void scale(const char *what, int32_t steps, uint32_t numerator, uint32_t denominator, uint8_t number, int64_t nanometres) {

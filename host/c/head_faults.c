@@ -205,6 +205,36 @@ static void positions(void) {
     same("what is lent for a position", at, -777);
 }
 
+/* A kept range is held from the first phase end since the start or restart on: kept through the next collection round and a closing refused 25, lost by a
+ * restart. */
+static void kept_ranges(void) {
+    static const int32_t entries[5] = {10, 20, 30, 40, 50};
+    uint8_t frame[FOCUS_FRAME_MAX];
+    focus_kept kept = {-777, -777, -777, -777};
+    focus_head head = in_confession(3, 0);
+    tried = 0;
+    same("no range after a restart", focus_head_kept(&head, &kept), 0);
+    same("what is lent for a range", kept.lowest == -777 && kept.highest == -777 && kept.trim == -777 && kept.position == -777, 1);
+    for (unsigned k = 0; k < 5; k++)
+        same("hear", focus_head_hear(&head, k, frame, put_list(frame, k, 3, 5, 0x1f, entries)), 0);
+    same("close", focus_head_close(&head), 0);
+    for (int more = 0; more < 2; more++) { /* at the phase end, and after a closing refused 25 */
+        tried = more;
+        kept = (focus_kept){-777, -777, -777, -777};
+        same("a range is held", focus_head_kept(&head, &kept), 1);
+        same("the lowest kept", kept.lowest, 20);
+        same("the highest kept", kept.highest, 40);
+        same("the trim", kept.trim, 1);
+        same("the position", kept.position, 30);
+        if (more == 0) {
+            same("close the collection round", focus_head_close(&head), 0);
+            same("close with nothing heard", focus_head_close(&head), FOCUS_TRUSTED);
+        }
+    }
+    same("start", focus_head_start(&head, 5, 1, 0, 7), 0);
+    same("no range after a start", focus_head_kept(&head, &kept), 0);
+}
+
 int main(void) {
     starts();
     restarts();
@@ -214,5 +244,6 @@ int main(void) {
     writes();
     closes();
     positions();
+    kept_ranges();
     return all_checked();
 }

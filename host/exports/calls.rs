@@ -3,7 +3,7 @@
 use crate::exported::{self, Block};
 use crate::rules::frames;
 use crate::rules::head::Head;
-use crate::rules::midpoint;
+use crate::rules::midpoint::{self, Kept};
 use crate::rules::scale;
 use std::fmt;
 
@@ -23,6 +23,7 @@ impl fmt::Debug for Bytes {
 pub enum Call {
     FrameCheck { frame: Bytes },
     Midpoint { n: u32, f: u32, marks: u32, entries: Bytes, out: i32 },
+    MidpointKept { n: u32, f: u32, marks: u32, entries: Bytes, out: [i32; 4] },
     Scale { steps: i32, numerator: u32, denominator: u32, out: i64 },
     Start { n: u32, f: u32, number: u32, position: i32 },
     Restart { n: u32, f: u32, number: u32, phase: u32, round: u32 },
@@ -31,6 +32,7 @@ pub enum Call {
     Write { buffer: Bytes, room: usize, out: usize },
     Close,
     Position { out: i32 },
+    Kept { out: [i32; 4] },
 }
 
 /// What a call gave back and left in lent memory. Memory is disturbed if a refused or reading call changed the block of a head, or a call the batch that
@@ -39,6 +41,7 @@ pub enum Call {
 pub struct Answer {
     pub number: u8,
     out: i64,
+    kept: [i32; 4],
     lent: Bytes,
     disturbed: bool,
 }
@@ -49,21 +52,23 @@ impl Call {
         match self {
             Call::FrameCheck { .. } => 0,
             Call::Midpoint { .. } => 1,
-            Call::Scale { .. } => 2,
-            Call::Start { .. } => 3,
-            Call::Restart { .. } => 4,
-            Call::Hear { .. } => 5,
-            Call::HearBatch { .. } => 6,
-            Call::Write { .. } => 7,
-            Call::Close => 8,
-            Call::Position { .. } => 9,
+            Call::MidpointKept { .. } => 2,
+            Call::Scale { .. } => 3,
+            Call::Start { .. } => 4,
+            Call::Restart { .. } => 5,
+            Call::Hear { .. } => 6,
+            Call::HearBatch { .. } => 7,
+            Call::Write { .. } => 8,
+            Call::Close => 9,
+            Call::Position { .. } => 10,
+            Call::Kept { .. } => 11,
         }
     }
 
     fn lent(&self) -> Vec<u8> {
         match self {
             Call::FrameCheck { frame } | Call::Hear { frame, .. } => frame.0.clone(),
-            Call::Midpoint { entries, .. } => entries.0.clone(),
+            Call::Midpoint { entries, .. } | Call::MidpointKept { entries, .. } => entries.0.clone(),
             Call::HearBatch { answers, .. } => answers.0.clone(),
             Call::Write { buffer, .. } => buffer.0.clone(),
             _ => Vec::new(),
@@ -74,9 +79,11 @@ impl Call {
     pub fn exported(&self, block: &mut Block) -> Answer {
         let (before, mut lent) = (*block, self.lent());
         let mut batch = if let Call::HearBatch { batch, .. } = self { batch.0.clone() } else { Vec::new() };
+        let mut kept = self.kept();
         let (number, out) = match *self {
             Call::FrameCheck { .. } => (exported::frame_check(&mut lent), 0),
             Call::Midpoint { n, f, marks, mut out, .. } => (exported::midpoint(n, f, marks, &mut lent, &mut out), out as i64),
+            Call::MidpointKept { n, f, marks, .. } => (exported::midpoint_kept(n, f, marks, &mut lent, &mut kept), 0),
             Call::Scale { steps, numerator, denominator, mut out } => (exported::scale(steps, numerator, denominator, &mut out), out),
             Call::Start { n, f, number, position } => (block.start(n, f, number, position), 0),
             Call::Restart { n, f, number, phase, round } => (block.restart(n, f, number, phase, round), 0),
@@ -85,19 +92,24 @@ impl Call {
             Call::Write { room, mut out, .. } => (block.write(&mut lent[..room], &mut out), out as i64),
             Call::Close => (block.close(), 0),
             Call::Position { mut out } => (block.position(&mut out), out as i64),
+            Call::Kept { .. } => (block.kept(&mut kept), 0),
         };
-        let reads = matches!(self, Call::Write { .. } | Call::Position { .. });
+        let reads = matches!(self, Call::Write { .. } | Call::Position { .. } | Call::Kept { .. });
         let read = matches!(self, Call::HearBatch { batch: given, .. } if given.0 != batch);
         let disturbed = read || (number != 0 || reads) && *block != before;
-        Answer { number, out, lent: Bytes(lent), disturbed }
+        Answer { number, out, kept, lent: Bytes(lent), disturbed }
     }
 
     /// By the second implementation, on its head.
     pub fn plain(&self, head: &mut Head) -> Answer {
         let mut lent = self.lent();
+        let mut kept = self.kept();
         let (done, out) = match *self {
             Call::FrameCheck { .. } => (frames::check(&lent).map(drop), 0),
-            Call::Midpoint { n, f, marks, out, .. } => valued(midpoint::midpoint(n as usize, f as usize, marks, &lent), out),
+            Call::Midpoint { n, f, marks, out, .. } => valued(midpoint::midpoint(n as usize, f as usize, marks, &lent).map(|kept| kept.position), out),
+            Call::MidpointKept { n, f, marks, .. } => {
+                (midpoint::midpoint(n as usize, f as usize, marks, &lent).map(|new| kept = four(new)), 0)
+            }
             Call::Scale { steps, numerator, denominator, out } => valued(scale::scale(steps, numerator, denominator), out),
             Call::Start { n, f, number, position } => (opened(head, Head::start(n as usize, f as usize, number as usize, position)), 0),
             Call::Restart { n, f, number, phase, round } => {
@@ -110,9 +122,25 @@ impl Call {
             Call::Write { room, out, .. } => valued(head.write(&mut lent[..room]).map(|length| length as i64), out as i64),
             Call::Close => (head.close(), 0),
             Call::Position { out } => (head.position.map_or(Ok(()), |_| Err(1)), head.position.unwrap_or(out) as i64),
+            Call::Kept { .. } => {
+                kept = head.kept.map_or(kept, four);
+                (head.kept.map_or(Ok(()), |_| Err(1)), 0)
+            }
         };
-        Answer { number: done.err().unwrap_or(0), out, lent: Bytes(lent), disturbed: false }
+        Answer { number: done.err().unwrap_or(0), out, kept, lent: Bytes(lent), disturbed: false }
     }
+
+    /// The four numbers of a kept range that are lent.
+    fn kept(&self) -> [i32; 4] {
+        match self {
+            Call::MidpointKept { out, .. } | Call::Kept { out } => *out,
+            _ => [0; 4],
+        }
+    }
+}
+
+fn four(kept: Kept) -> [i32; 4] {
+    [kept.low, kept.high, kept.trim as i32, kept.position]
 }
 
 /// The head as it was opened, or as it was before a refusal.

@@ -9,6 +9,7 @@ mod c {
     extern "C" {
         pub fn focus_frame_check(frame: *const u8, length: usize) -> u8;
         pub fn focus_midpoint(n: u32, f: u32, marks: u32, entries: *const u8, length: usize, position: *mut i32) -> u8;
+        pub fn focus_midpoint_kept(n: u32, f: u32, marks: u32, entries: *const u8, length: usize, kept: *mut [i32; 4]) -> u8;
         pub fn focus_scale(steps: i32, numerator: u32, denominator: u32, nanometres: *mut i64) -> u8;
         pub fn focus_head_start(head: *mut Block, n: u32, f: u32, number: u32, position: i32) -> u8;
         pub fn focus_head_restart(head: *mut Block, n: u32, f: u32, number: u32, phase: u32, round: u32) -> u8;
@@ -17,6 +18,7 @@ mod c {
         pub fn focus_head_write(head: *const Block, buffer: *mut u8, room: usize, length: *mut usize) -> u8;
         pub fn focus_head_close(head: *mut Block) -> u8;
         pub fn focus_head_position(head: *const Block, position: *mut i32) -> u8;
+        pub fn focus_head_kept(head: *const Block, kept: *mut [i32; 4]) -> u8;
     }
 }
 
@@ -43,6 +45,10 @@ pub fn frame_check(frame: &mut [u8]) -> u8 {
 
 pub fn midpoint(n: u32, f: u32, marks: u32, entries: &mut [u8], position: &mut i32) -> u8 {
     unsafe { c::focus_midpoint(n, f, marks, entries.as_mut_ptr(), entries.len(), position) }
+}
+
+pub fn midpoint_kept(n: u32, f: u32, marks: u32, entries: &mut [u8], kept: &mut [i32; 4]) -> u8 {
+    unsafe { c::focus_midpoint_kept(n, f, marks, entries.as_mut_ptr(), entries.len(), kept) }
 }
 
 pub fn scale(steps: i32, numerator: u32, denominator: u32, nanometres: &mut i64) -> u8 {
@@ -76,5 +82,9 @@ impl Block {
 
     pub fn position(&mut self, position: &mut i32) -> u8 {
         unsafe { c::focus_head_position(self, position) }
+    }
+
+    pub fn kept(&mut self, kept: &mut [i32; 4]) -> u8 {
+        unsafe { c::focus_head_kept(self, kept) }
     }
 }

@@ -41,6 +41,7 @@ pub fn size(random: &mut Random) -> (usize, usize) {
     (n, if random.chance(1, 2) { most } else { random.below(most + 1) })
 }
 
+/// The midpoint, alone or with what it kept.
 pub fn midpoint(random: &mut Random) -> Call {
     let (n, f) = size(random);
     let mut marks = u32::MAX >> (32 - n);
@@ -61,7 +62,15 @@ pub fn midpoint(random: &mut Random) -> Call {
     }
     let f = if random.chance(1, 30) { highest_limit(n) + 1 } else { f };
     let (n, f) = (near(random, n as u32, 25), near(random, f as u32, 25));
+    if random.chance(1, 2) {
+        return Call::MidpointKept { n, f, marks, entries: Bytes(entries), out: four(random) };
+    }
     Call::Midpoint { n, f, marks, entries: Bytes(entries), out: random.next() as i32 }
+}
+
+/// Four numbers that stand in lent memory.
+pub fn four(random: &mut Random) -> [i32; 4] {
+    [(); 4].map(|()| random.next() as i32)
 }
 
 fn ratio_side(random: &mut Random) -> u32 {

@@ -2,7 +2,7 @@
 
 use crate::calls::{Bytes, Call};
 use crate::damage::damaged;
-use crate::inputs::{near, position, size};
+use crate::inputs::{four, near, position, size};
 use crate::random::Random;
 use crate::rules::frames::{self, Said};
 use crate::rules::head::LAST_PHASE;
@@ -198,6 +198,7 @@ impl Writer<'_> {
         let buffer = Bytes(self.random.bytes(room + after));
         (self.ask)(Call::Write { buffer, room, out })?;
         (self.ask)(Call::Position { out: self.random.next() as i32 })?;
+        (self.ask)(Call::Kept { out: four(self.random) })?;
         if self.n == 0 { self.hear(0, frames::write(&Said::Silence, 0, 0)) } else { Ok(()) }
     }
 

@@ -1,9 +1,10 @@
 //! How often each call gave each number.
 
-/// Each call with the numbers it can give, in the order of its checks. A position is answered 1 if one is held, else 0.
-pub const CALLS: [(&str, &[u8]); 10] = [
+/// Each call with the numbers it can give, in the order of its checks. A position or a kept range is answered 1 if one is held, else 0.
+pub const CALLS: [(&str, &[u8]); 12] = [
     ("frame_check", &[0, 6, 7, 8]),
     ("midpoint", &[0, 1, 2, 8, 10, 11, 25]),
+    ("midpoint_kept", &[0, 1, 2, 8, 10, 11, 25]),
     ("scale", &[0, 12, 4]),
     ("head_start", &[0, 1, 2, 3, 4]),
     ("head_restart", &[0, 1, 2, 3, 5]),
@@ -12,6 +13,7 @@ pub const CALLS: [(&str, &[u8]); 10] = [
     ("head_write", &[0, 26, 24]),
     ("head_close", &[0, 26, 25]),
     ("head_position", &[0, 1]),
+    ("head_kept", &[0, 1]),
 ];
 
 #[derive(Default)]

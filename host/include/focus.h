@@ -58,10 +58,14 @@ uint8_t focus_frame_check(const uint8_t *frame, size_t length);
  * Promised: number and *position are those of `midpointCall` (crates/settle_midpoint/specs/Call.antt). */
 uint8_t focus_midpoint(uint32_t n, uint32_t f, uint32_t marks, const uint8_t *entries, size_t length, int32_t *position);
 
-/* The same with what was kept: kept[0] is the lowest kept entry, kept[1] the highest, kept[2] the trim (how many were dropped from each end) and kept[3] the new
- * position. A refusal leaves the four as they were.
- * Promised: number and kept are those of `midpointCall` (`keptOr`, crates/camera/specs/Out.antt). */
-uint8_t focus_midpoint_kept(uint32_t n, uint32_t f, uint32_t marks, const uint8_t *entries, size_t length, int32_t kept[4]);
+/* What a settling keeps: the lowest and highest entry kept, how many were dropped from each end, and the new position, half the sum of the two. */
+typedef struct focus_kept {
+    int32_t lowest, highest, trim, position;
+} focus_kept;
+
+/* The midpoint with what it kept: the same arguments, answers and order of checks; *kept is written only if nothing is refused.
+ * Promised: number and *kept are those of `midpointCall` (crates/settle_midpoint/specs/Call.antt), by `keptOr` (crates/camera/specs/Out.antt). */
+uint8_t focus_midpoint_kept(uint32_t n, uint32_t f, uint32_t marks, const uint8_t *entries, size_t length, focus_kept *kept);
 
 /* The step scale: nanometres are steps times numerator, divided by denominator, rounded down (towards minus infinity). Numerator and denominator
  * are from 1 to 1,000,000, the numerator at least the denominator.
@@ -124,9 +128,8 @@ uint8_t focus_head_close(focus_head *head);
 /* No refusal: 1 and the head's position in *position, or 0 if it holds none, with *position as it was. */
 uint8_t focus_head_position(const focus_head *head, int32_t *position);
 
-/* No refusal: 1 and the kept range of the head's last phase end since its start or restart, or 0 if there was none, with the four numbers as they were. kept[0] is the
- * lowest kept entry, kept[1] the highest, kept[2] the trim and kept[3] the position that was settled. */
-uint8_t focus_head_kept(const focus_head *head, int32_t kept[4]);
+/* No refusal: 1 and what the head's last phase end kept in *kept, or 0 if it passed none since it was started or restarted, with *kept as it was. */
+uint8_t focus_head_kept(const focus_head *head, focus_kept *kept);
 
 #ifdef __cplusplus
 }

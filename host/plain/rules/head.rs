@@ -1,7 +1,7 @@
 //! A head's record and its calls.
 
 use super::frames::{self, Said};
-use super::midpoint::{is_position, settle, size, Entry};
+use super::midpoint::{is_position, settle, size, Entry, Kept};
 
 pub const LAST_PHASE: usize = 65_535;
 
@@ -14,6 +14,8 @@ pub struct Head {
     healed: bool,
     ended: bool,
     pub position: Entry,
+    /// Of the last phase end since the start or restart.
+    pub kept: Option<Kept>,
     list: Vec<Entry>,
     heard: Vec<Option<Said>>,
 }
@@ -26,7 +28,7 @@ impl Head {
 
     fn healed(n: usize, f: usize, number: usize, phase: usize, round: usize) -> Head {
         let (list, heard) = (vec![None; n], vec![None; n]);
-        Head { n, f, number, phase, round, healed: true, ended: false, position: None, list, heard }
+        Head { n, f, number, phase, round, healed: true, ended: false, position: None, kept: None, list, heard }
     }
 
     /// 1, 2, 3, 4.
@@ -112,7 +114,8 @@ impl Head {
             self.round = 1;
         } else {
             let trusted: Vec<_> = (0..self.n).map(|j| self.trusted(j)).collect();
-            self.position = Some(settle(self.f, &trusted)?);
+            let kept = settle(self.f, &trusted)?;
+            (self.position, self.kept) = (Some(kept.position), Some(kept));
             self.list = vec![None; self.n];
             self.ended = self.phase == LAST_PHASE;
             if !self.ended {

@@ -48,8 +48,17 @@ pub fn table(n: usize, marks: u32, bytes: &[u8]) -> Result<Vec<Entry>, u8> {
     Ok(entries)
 }
 
-/// 25 if more than 3f entries are null; the new position.
-pub fn settle(f: usize, trusted: &[Entry]) -> Result<i32, u8> {
+/// What a settling keeps (document 02, A2): the lowest and highest entry kept, how many were dropped from each end, and the new position.
+#[derive(Clone, Copy)]
+pub struct Kept {
+    pub low: i32,
+    pub high: i32,
+    pub trim: usize,
+    pub position: i32,
+}
+
+/// 25 if more than 3f entries are null; the new position with what it is the middle of.
+pub fn settle(f: usize, trusted: &[Entry]) -> Result<Kept, u8> {
     let mut order: Vec<i32> = trusted.iter().flatten().copied().collect();
     let nulls = trusted.len() - order.len();
     if nulls > 3 * f {
@@ -57,12 +66,12 @@ pub fn settle(f: usize, trusted: &[Entry]) -> Result<i32, u8> {
     }
     let trim = if nulls <= f { f } else { (3 * f - nulls + 1) / 2 };
     order.sort_unstable();
-    let kept = &order[trim..order.len() - trim];
-    Ok((kept[0] + kept[kept.len() - 1]).div_euclid(2))
+    let (low, high) = (order[trim], order[order.len() - trim - 1]);
+    Ok(Kept { low, high, trim, position: (low + high).div_euclid(2) })
 }
 
-/// 1, 2, 8, 10, 11, 25; the new position of a trusted table.
-pub fn midpoint(n: usize, f: usize, marks: u32, entries: &[u8]) -> Result<i32, u8> {
+/// 1, 2, 8, 10, 11, 25; the new position of a trusted table, with what it is the middle of.
+pub fn midpoint(n: usize, f: usize, marks: u32, entries: &[u8]) -> Result<Kept, u8> {
     size(n, f)?;
     if entries.len() != 4 * n {
         return Err(8);
