@@ -7,8 +7,8 @@ pub const MEMORY: u64 = 16_000_000;
 
 /// The name of a row, and its bar. A row that is not here has none.
 pub const BARS: [(&str, f64); 11] = [
-    ("(5,1) struck, other heads in each round", 1.0 / 4.0),
-    ("(5,1) struck, the same heads in all rounds", 1.0 / 4.0),
+    ("(5,1) struck, other heads in each round", 1.0 / 6.0),
+    ("(5,1) struck, the same heads in all rounds", 1.0 / 6.0),
     ("(32,8) quiet", 1.0 / 120.0),
     ("(32,8) struck, other heads in each round", 1.0 / 20.0),
     ("(32,8) struck, the same heads in all rounds", 1.0 / 20.0),
