@@ -1,9 +1,11 @@
-/* The shared-focus firmware, as C calls it: three calls on plain numbers and bytes, a head that C keeps, and a whole run file played in memory.
+/* The shared-focus firmware, as C calls it: calls on plain numbers and bytes, a head that C keeps, and a whole
+ * run file played in memory.
  *
- * Each function returns 0, or the number of the refusal, and puts a result where the caller lends room for it. If a call has several faults, the
- * first check that fails decides, in the order given at each call. A refusal writes nothing. No function keeps a pointer, allocates, or changes the
- * bytes it reads. Pointers are not NULL, and what is lent to one call does not overlap; nothing else is asked of an argument: every value of every
- * argument has its answer.
+ * Each function returns 0, or the number of the refusal, and puts a result where the caller lends room for it. If a
+ * call has several faults, the first check that fails decides, in the order given at each call. A refusal writes
+ * nothing. No function keeps a pointer, allocates, or changes the bytes it reads. Pointers are not NULL, and what is
+ * lent to one call does not overlap; nothing else is asked of an argument: every value of every argument has its
+ * answer.
  *
  * Link with the archives, in one line:
  *
@@ -34,7 +36,7 @@ enum focus_refusal {
     FOCUS_MARKS = 10,       /* list count not n, or a mark at n or above */
     FOCUS_ENTRY = 11,       /* entry out of range, or not 0 where null */
     FOCUS_SCALE = 12,       /* scale */
-    FOCUS_RUN_RECORD = 13,  /* run record cut short, of wrong length, of unknown kind or out of order, or file ended before a start or inside a phase */
+    FOCUS_RUN_RECORD = 13,  /* run record of wrong form or out of order, or file ended before a start or inside a phase */
     FOCUS_STRUCK = 14,      /* more than f struck, or a mark at n or above */
     FOCUS_BATCH_ENTRY = 15, /* an entry's length field is missing, below 4 or runs past the end (document 02, A1) */
     FOCUS_HEARD = 21,       /* link already heard this round */
@@ -47,53 +49,61 @@ enum focus_refusal {
 
 /* ---- the camera's calls: crates/camera/src/lib.rt has what they promise */
 
-/* The frame check: 0, or 6, 7, 8, for any bytes. It looks at the length field, the kind and a list's own count; sender, phase, marks and entries
- * are not looked at. The rest of an accepted frame is frame[7] to frame[length - 1].
+/* The frame check: 0, or 6, 7, 8, for any bytes. It looks at the length field, the kind and a list's own count;
+ * sender, phase, marks and entries are not looked at. The rest of an accepted frame is frame[7] to frame[length - 1].
  * Promised: the result is `frameRefusal` of the bytes (crates/frame_check/specs/Check.antt). */
 uint8_t focus_frame_check(const uint8_t *frame, size_t length);
 
-/* The midpoint of a trusted table: n heads, struck limit f, bit j of marks set if entry j is a position, entries of 4 bytes each, signed, lowest
- * byte first, 0 where null.
+/* The midpoint of a trusted table: n heads, struck limit f, bit j of marks set if entry j is a position, entries of 4
+ * bytes each, signed, lowest byte first, 0 where null.
  * Returns 0 and puts the new position in *position, or 1, 2, 8 (length is not 4n), 10, 11, 25.
  * Promised: number and *position are those of `midpointCall` (crates/settle_midpoint/specs/Call.antt). */
 uint8_t focus_midpoint(uint32_t n, uint32_t f, uint32_t marks, const uint8_t *entries, size_t length, int32_t *position);
 
-/* What a settling keeps: the lowest and highest entry kept, how many were dropped from each end, and the new position, half the sum of the two. */
+/* What a settling keeps: the lowest and highest entry kept, how many were dropped from each end, and the new
+ * position, half the sum of the two. */
 typedef struct focus_kept {
     int32_t lowest, highest, trim, position;
 } focus_kept;
 
-/* The midpoint with what it kept: the same arguments, answers and order of checks; *kept is written only if nothing is refused.
- * Promised: number and *kept are those of `midpointCall` (crates/settle_midpoint/specs/Call.antt), by `keptOr` (crates/camera/specs/Out.antt). */
+/* The midpoint with what it kept: the same arguments, answers and order of checks; *kept is written only if nothing
+ * is refused.
+ * Promised: number and *kept are those of `midpointCall` (crates/settle_midpoint/specs/Call.antt), by `keptOr`
+ * (crates/camera/specs/Out.antt). */
 uint8_t focus_midpoint_kept(uint32_t n, uint32_t f, uint32_t marks, const uint8_t *entries, size_t length, focus_kept *kept);
 
-/* The step scale: nanometres are steps times numerator, divided by denominator, rounded down (towards minus infinity). Numerator and denominator
- * are from 1 to 1,000,000, the numerator at least the denominator.
+/* The step scale: nanometres are steps times numerator, divided by denominator, rounded down (towards minus
+ * infinity). Numerator and denominator are from 1 to 1,000,000, the numerator at least the denominator.
  * Returns 0 and puts the nanometres, from -10^12 to 10^12, in *nanometres, or 12, 4.
  * Promised: number and *nanometres are those of `scaled` (crates/steps/specs/Scale.antt). */
 uint8_t focus_scale(int32_t steps, uint32_t numerator, uint32_t denominator, int64_t *nanometres);
 
 /* ---- a whole run file: crates/run_whole/src/lib.rt */
 
-/* How many phase ends a run file of so many bytes can have, the start among them; and the room that its listing and its rows need. */
+/* How many phase ends a run file of so many bytes can have, the start among them; and the room that its listing and
+ * its rows need. */
 #define FOCUS_PLAY_ENDS(bytes) ((bytes) / 16 + 1)
 #define FOCUS_PLAY_OUT(bytes) (64 * (FOCUS_PLAY_ENDS(bytes) + 2))
 #define FOCUS_PLAY_ROWS(bytes) (32 * FOCUS_PLAY_ENDS(bytes))
 
-/* Plays a run file of any bytes: its listing at the front of out, and for each phase end e, counted from the start, a row of 32 numbers from rows[32 * e] on and a
- * mark word words[e]. A row has the position of each head that is sound at that end, and 0 elsewhere; the word has a bit for each head struck in the confession round.
- * The listing's length is put in *length and the number of phase ends in *ends; what is behind them in the three buffers stays as it was. Returns the number of the file's first
- * fault (1, 2, 4, 13, 14, 26), or 0 if it is played to its end. Returns 24, with nothing written, if a buffer is shorter than the three macros say. Sizes of rows and
- * words are in numbers, not bytes. Takes about 160 KB of stack.
+/* Plays a run file of any bytes: its listing at the front of out, and for each phase end e, counted from the start, a
+ * row of 32 numbers from rows[32 * e] on and a mark word words[e]. A row has the position of each head that is sound
+ * at that end, and 0 elsewhere; the word has a bit for each head struck in the confession round. The listing's length
+ * is put in *length and the number of phase ends in *ends; what is behind them in the three buffers stays as it was.
+ * Returns the number of the file's first fault (1, 2, 4, 13, 14, 26), or 0 if it is played to its end. Returns 24,
+ * with nothing written, if a buffer is shorter than the three macros say. Sizes of rows and words are in numbers, not
+ * bytes. Takes about 160 KB of stack.
  * Promised: `PlaysInto` (crates/run_whole/specs/Whole.antt), with demand 3 for any two of the rows. */
-uint8_t focus_play(const uint8_t *file, size_t bytes, uint8_t *out, size_t out_size, int32_t *rows, size_t rows_size, uint32_t *words, size_t words_size,
-                   size_t *length, size_t *ends);
+uint8_t focus_play(const uint8_t *file, size_t bytes, uint8_t *out, size_t out_size, int32_t *rows, size_t rows_size,
+                   uint32_t *words, size_t words_size, size_t *length, size_t *ends);
 
-/* ---- a head that C keeps: crates/head_c/src/lib.rt has what its calls promise; crates/head_spec/specs/Calls.antt defines the calls */
+/* ---- a head that C keeps: crates/head_c/src/lib.rt has what its calls promise; crates/head_spec/specs/Calls.antt
+ * defines the calls */
 
-/* A head's block: 1,116 words all shift, of which each call changes those that it must, in place. Words 14 to 23 are room for later calls: no call
- * changes them. Every content is some record, so no block makes a call undefined, not even one that was never started; a block of zeros is a head of
- * no ring. Promised of each call: crates/head_c/specs/Blocks.antt says which record a block is, and crates/head_c/src/lib.rt which words change. */
+/* A head's block: 1,116 words all shift, of which each call changes those that it must, in place. Words 14 to 23 are
+ * room for later calls: no call changes them. Every content is some record, so no block makes a call undefined, not
+ * even one that was never started; a block of zeros is a head of no ring. Promised of each call:
+ * crates/head_c/specs/Blocks.antt says which record a block is, and crates/head_c/src/lib.rt which words change. */
 typedef struct focus_head {
     uint32_t opaque[1116];
 } focus_head;
@@ -104,31 +114,37 @@ typedef struct focus_head {
 /* Starts the head in phase 1 with its position: n heads, struck limit f, its number. Refusals 1, 2, 3, 4. */
 uint8_t focus_head_start(focus_head *head, uint32_t n, uint32_t f, uint32_t number, int32_t position);
 
-/* Restarts a head whose strike is over, in the phase and round (0 collection, 1 confession) that are told it, with no position.
+/* Restarts a head whose strike is over, in the phase and round (0 collection, 1 confession) that are told it, with no
+ * position.
  * Refusals 1, 2, 3, 5. */
 uint8_t focus_head_restart(focus_head *head, uint32_t n, uint32_t f, uint32_t number, uint32_t phase, uint32_t round);
 
 /* Hears the bytes of one frame on a link. Refusals 26, 3, 21, 6, 7, 8, 22, 9, 23, 10, 11. */
 uint8_t focus_head_hear(focus_head *head, uint32_t link, const uint8_t *frame, size_t length);
 
-/* Hears a round's frames in one call, each as a link byte and then the frame, in order, going on past a refused one: as focus_head_hear would, one by one.
- * The front of answers gets a byte for each frame, 0 or the number of its refusal (26 for each once phase 65,535 has ended), and *count how many frames there
- * were; the bytes of answers behind them stay as they were. Refusals 15, for the whole batch before any of it is heard, then 24 if answers has fewer bytes than
- * there are frames; nothing is heard then, and nothing written.
- * Promised: `HearsBatch` (crates/head_c/specs/Blocks.antt); crates/head_spec/specs/Batch.antt says how a batch is cut. */
+/* Hears a round's frames in one call, each as a link byte and then the frame, in order, going on past a refused one:
+ * as focus_head_hear would, one by one. The front of answers gets a byte for each frame, 0 or the number of its
+ * refusal (26 for each once phase 65,535 has ended), and *count how many frames there were; the bytes of answers
+ * behind them stay as they were. Refusals 15, for the whole batch before any of it is heard, then 24 if answers has
+ * fewer bytes than there are frames; nothing is heard then, and nothing written.
+ * Promised: `HearsBatch` (crates/head_c/specs/Blocks.antt); crates/head_spec/specs/Batch.antt says how a batch is
+ * cut. */
 uint8_t focus_head_hear_batch(focus_head *head, const uint8_t *batch, size_t length, uint8_t *answers, size_t room, size_t *count);
 
-/* Writes the frame that says what the head has to say to the front of the buffer, and its length to *length; the bytes after it stay as they were.
+/* Writes the frame that says what the head has to say to the front of the buffer, and its length to *length; the
+ * bytes after it stay as they were.
  * Refusals 26, 24. */
 uint8_t focus_head_write(const focus_head *head, uint8_t *buffer, size_t room, size_t *length);
 
-/* Closes the round: after collection its list stands, after confession it holds a new position and the next phase is open. Refusals 26, 25. */
+/* Closes the round: after collection its list stands, after confession it holds a new position and the next phase is
+ * open. Refusals 26, 25. */
 uint8_t focus_head_close(focus_head *head);
 
 /* No refusal: 1 and the head's position in *position, or 0 if it holds none, with *position as it was. */
 uint8_t focus_head_position(const focus_head *head, int32_t *position);
 
-/* No refusal: 1 and what the head's last phase end kept in *kept, or 0 if it passed none since it was started or restarted, with *kept as it was. */
+/* No refusal: 1 and what the head's last phase end kept in *kept, or 0 if it passed none since it was started or
+ * restarted, with *kept as it was. */
 uint8_t focus_head_kept(const focus_head *head, focus_kept *kept);
 
 #ifdef __cplusplus
