@@ -1,15 +1,16 @@
--- Bytes written behind a text. Copied from the front, the array is what `paste` makes of it. Digits are written from the last to the first: before the
--- turn at i the last k - i digits stand in place, and `rest` has the others (`Spelt`), so that at i = 0 all do.
+-- Bytes written behind a text. Digits are written from the last to the first: before the turn at i the last k - i digits stand in place, and `rest` has
+-- the others (`Spelt`), so that at i = 0 all do.
 use mathlib.Core.Path.{_≡_, refl, ap, sym, _∙_}
 use mathlib.Core.List.{List, [], _∷_, _++_, append-assoc}
 use Prim.Native.Nat.{ℕ, zero, suc, _+_, _-_, _/_, _%_, _≤_, _<_}
 use native.Mathlib.Omega.{arith}
 use native.Mathlib.Nat.{add-suc, add-zero}
-use native.Mathlib.Numerals.{add-one}
 use mir.Val.{Val}
 use denote.Laws.{Is}
-use lib.ListN.{length, getD, take, drop, set, length-set, length-append, length-map, take-append-drop}
-use lib.Seq.{set-split, take-set-le, append-snoc, take-at, drop-at, paste, paste-suc, take-paste, take-length, length-take-le}
+use lib.ListN.{length, take, drop, set, length-set, length-append, length-map, take-append-drop}
+use lib.Seq.{set-split, take-set-le, append-snoc, take-at, drop-at, take-paste, take-length, length-take-le}
+use Rattle.fields.specs.Bytes.{copied}
+use Rattle.fields.proofs.Copying.{copied-fits}
 use Rattle.run_spec.specs.Listing.{hexDigit}
 use Rattle.run_listing.specs.declared.Text.{Text}
 use Rattle.run_listing.specs.Texts.{bytesOf}
@@ -20,6 +21,10 @@ use Rattle.run_listing.proofs.Digits.{spelled-length}
 -- an array of 64 holds 64 bytes
 pub full : {vs : List Val} (t : Text) → Is the-row t vs → length (t .bytes) ≡ 64
 full t is = simp length-map at (is .1 .1 .1 .0 .1 .0 .1)
+
+-- a text has as many bytes as it says
+pub text-long : {vs : List Val} (t : Text) → Is the-row t vs → t .len ≤ 64 → length (bytesOf t) ≡ t .len
+text-long t is h = length-take-le (t .len) (t .bytes) (omega (arith, full t is))
 
 -- ---- a text after a text
 
@@ -40,14 +45,10 @@ longer-then {t} {s} {z} l h =
 pub longer-as : {t r : Text} {s z : List ℕ} {k m : ℕ} → s ≡ z → k ≤ m → Longer t s k r → Longer t z m r
 longer-as e h l = record { text = rw (← e) (l .text); room = omega (arith, l .room) }
 
--- ---- a slice, copied from the front
+-- ---- bytes copied behind others
 
-module _ (d s : List ℕ) (at : ℕ) (fits : at + length s ≤ length d) {bytes : List ℕ} {i : ℕ} (e : bytes ≡ paste d at s i) where
-  pub copied-more : i < length s → set bytes (at + i) (getD s i 0) ≡ paste d at s (i + 1)
-  copied-more h = rw (e, add-one i) (paste-suc d at s i 0 (omega arith) h)
-
-  pub copied-all : i ≡ length s → take (at + i) bytes ≡ take at d ++ s
-  copied-all h = rw (e, take-paste d at s i (omega arith) (omega arith), h, take-length s)
+pub copied-behind : (d s : List ℕ) (at : ℕ) → at + length s ≤ length d → take (at + length s) (copied d at s) ≡ take at d ++ s
+copied-behind d s at fits = rw (copied-fits d at s fits, take-paste d at s (length s) (omega arith) (omega arith), take-length s)
 
 -- ---- digits, the last one first
 

@@ -111,12 +111,11 @@ fn put(t: Text, s: &[u8]) -> Text
 {
     let at = t.len;
     let mut bytes = t.bytes;
-    let mut i: usize = 0;
-    while i < s.len() {
-        bytes[at + i] = s[i];
-        i += 1;
+    fields::put_bytes(&mut bytes, at, s);
+    Text {
+        len: at + s.len(),
+        bytes,
     }
-    Text { len: at + i, bytes }
 }
 
 // The byte of a digit.

@@ -52,11 +52,7 @@ fn gather(carry: &mut [u8], have: usize, bytes: &[u8])
     requires { ⌜ have + length (now bytes) ≤ length (now carry) ⌝ }
     ensures { λ _. ⌜ take (have + length (now (bytes .entry))) (now (carry .exit)) ≡ take have (now (carry .entry)) ++ now (bytes .entry) ⌝ }
 {
-    let mut j: usize = 0;
-    while j < bytes.len() {
-        carry[have + j] = bytes[j];
-        j += 1;
-    }
+    fields::put_bytes(carry, have, bytes);
 }
 
 // Whether the record whose header these bytes begin with is allowed.

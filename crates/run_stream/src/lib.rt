@@ -227,11 +227,7 @@ fn put(page: &mut [u8], len: usize, t: Text) -> usize
 {
     let count = t.len;
     let bytes = t.bytes;
-    let mut j: usize = 0;
-    while j < count {
-        page[len + j] = bytes[j];
-        j += 1;
-    }
+    fields::put_bytes(page, len, &bytes[..count]);
     len + count
 }
 

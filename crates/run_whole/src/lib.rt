@@ -64,11 +64,7 @@ fn put(out: &mut [u8], len: usize, t: Text) -> usize
         return len;
     }
     let bytes = t.bytes;
-    let mut j: usize = 0;
-    while j < count {
-        out[len + j] = bytes[j];
-        j += 1;
-    }
+    fields::put_bytes(out, len, &bytes[..count]);
     len + count
 }
 

@@ -1,65 +1,35 @@
--- `run_stream::put` meets its contract: before byte j the page is what it was, with the first j bytes of the text copied in behind those that are there.
-use mathlib.Core.Path.{_≡_, refl, sym, _∙_}
-use Prim.Native.Nat.{_-_, _≤_}
+-- `run_stream::put` meets its contract: the bytes of the text are copied in behind those that are there, where the page has room for them.
+use mathlib.Core.Path.{_≡_, refl, ap, sym, _∙_}
+use Prim.Native.Nat.{_+_}
 use native.Mathlib.Omega.{arith}
 use lib.ListN.{length, take}
-use lib.Seq.{length-take-le, getD-take, paste, paste-zero}
 use denote.Ref.{now}
 use borrow.Author.Needs.{needs}
 use Rattle.run_listing.specs.Texts.{bytesOf}
-use Rattle.run_listing.proofs.Writing.{full, copied-more, copied-all}
+use Rattle.run_listing.proofs.Writing.{full, text-long, copied-behind}
 use Rattle.run_stream.proofs.put.Statement.{statement}
 use Rattle.run_stream.proofs.put.Tie as tie
 
-abbrev Inv-loop : tie.InvT-loop
-Inv-loop page₀ len count bytes j₀ page j = (j ≤ count) × (page ≡ paste page₀ len (take count bytes) j) × (length page ≡ length page₀)
+long : (s : tie.Start) → length (bytesOf (s .args .t)) ≡ s .args .t .len
+long s = text-long (s .args .t) (s .good .1 .1 .0) (s .pre .1)
 
-abbrev μ-loop : tie.MeasureT-loop
-μ-loop page₀ len count bytes j₀ page j = count - j
+array-share-prefix-bytes : tie.Need-array-share-prefix-bytes
+array-share-prefix-bytes c =
+    let s = c .before .before .before in
+    omega (arith, full (s .args .t) (s .good .1 .1 .0), s .pre .1)
 
--- the bytes of the text are as many as it says
-long : (c : tie.At-loop Inv-loop μ-loop) → let t = c .before .before .args .t in length (bytesOf t) ≡ t .len
-long c =
-    let s = c .before .before in
-    length-take-le (s .args .t .len) (s .args .t .bytes) (omega (arith, full (s .args .t) (s .good .1 .1 .0)))
+slice-aggregate-put-bytes : tie.Need-slice-aggregate-put-bytes
+slice-aggregate-put-bytes c = sym (long (c .before .before .before .before))
 
-loop-holds : tie.Need-loop-holds Inv-loop μ-loop
-loop-holds c =
-    let a = c .before .args in
-    (search needs, paste-zero (now (a .page)) (a .len) (take (a .t .len) (a .t .bytes)), refl)
-
-loop-again : tie.Need-loop-again Inv-loop μ-loop
-loop-again c =
-    let a = c .before .before .before .args in
-    let l = c .before .loop in
-    let n = long (c .before) in (
-      search needs,
-      rw (← getD-take (a .t .len) (a .t .bytes) (l .j) 0 (c .loop-test .taken))
-          (copied-more (now (a .page)) (bytesOf (a .t)) (a .len) (omega arith) (l .inv .1) (omega arith)),
-      search needs,
-    )
-
-returns : tie.Need-returns Inv-loop μ-loop
+returns : tie.Need-returns
 returns c =
-    let a = c .before .before .before .args in
-    let l = c .before .loop in
-    let n = long (c .before) in
-    let all : l .j ≡ a .t .len = omega arith in
-    (refl, rw all at (copied-all (now (a .page)) (bytesOf (a .t)) (a .len) (omega arith) (l .inv .1) (all ∙ sym n)))
+    let p = c .before .before in
+    let s = p .before .before .before .before .before in
+    let a = s .args in
+    let n = long s in
+    (refl, ap (take (a .len + a .t .len)) (p .put-bytes .ensures) ∙ rw n at (copied-behind (now (a .page)) (bytesOf (a .t)) (a .len) (omega (arith, s .pre .0))))
 
 pub put-spec : {M : Type 1} → statement M
 put-spec =
     tie.close
-    (tie.spec
-    Inv-loop
-    μ-loop
-    loop-holds
-    (λ c. search needs)
-    (λ c. search needs)
-    (λ c. search needs)
-    (λ c. search needs)
-    (λ c. search needs)
-    loop-again
-    (λ c. search needs)
-    (λ c. search needs)
-    returns)
+    (tie.spec array-share-prefix-bytes slice-aggregate-put-bytes (λ c κs. search needs) (λ c. search needs) (λ c. search needs) returns)
