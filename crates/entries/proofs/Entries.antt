@@ -4,7 +4,7 @@ use mathlib.Core.Path.{_≡_, refl, sym, _∙_}
 use mathlib.Core.Bool.{Bool, true, false, and-true, and-false}
 use mathlib.Core.List.{List}
 use mathlib.Core.Logic.{_≢_}
-use Prim.Native.Nat.{ℕ, zero, suc, _+_, _-_, _*_, _≤_, _<_}
+use Prim.Native.Nat.{ℕ, zero, suc, _+_, _-_, _*_, _≤_, _<_, min}
 use native.Mathlib.Omega.{arith}
 use native.Mathlib.Numerals.{add-one}
 use native.Mathlib.Decide.{decLt, decLe, le-ind}
@@ -16,6 +16,7 @@ use borrow.Author.Tests.{le-leb, lt-leb, ne-eqb}
 use Rattle.terms.specs.Positions.{isPosition, eqZ}
 use Rattle.fields.specs.Bytes.{at4, signedOf, signedAt}
 use Rattle.marks.specs.Marks.{bitOf}
+use Rattle.marks.proofs.Counts.{first-32}
 use Rattle.entries.specs.Entries.{fits, entriesFit, zeros, numbers}
 use Rattle.fields.proofs.Bytes.{signed-low, signed-high}
 
@@ -81,6 +82,6 @@ numbers-length s zero = refl
 numbers-length s (suc n) = length-set (numbers s n) n (signedAt s (4 * n)) ∙ numbers-length s n
 
 -- from entry 32 on nothing is stored
-pub numbers-past : (s : List ℕ) (n : ℕ) → 32 ≤ n → numbers s n ≡ numbers s 32
+pub numbers-first-32 : (s : List ℕ) (n : ℕ) → numbers s (min n 32) ≡ numbers s n
 unfolding numbers
-numbers-past s n l = le-ind (λ k. numbers s k ≡ numbers s 32) refl (λ k i h. set-out (numbers s k) k (signedAt s (4 * k)) (rw numbers-length i) ∙ h) n l
+numbers-first-32 s n = first-32 (numbers s) (λ k l. set-out (numbers s k) k (signedAt s (4 * k)) (rw numbers-length l)) n

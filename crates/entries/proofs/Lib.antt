@@ -1,2 +1,3 @@
 -- What other crates may cite: laws of entries.
 pub mod Entries
+pub mod Tables

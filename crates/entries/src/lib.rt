@@ -91,10 +91,7 @@ pub fn numbers_at(s: &[u8], n: u8) -> Numbers
     ensures { λ r. ⌜ r ≡ numbers (now (s .entry)) n ⌝ }
 {
     let mut out = [0i32; 32];
-    let mut end = n as usize;
-    if 32 < end {
-        end = 32;
-    }
+    let end = terms::at_most_32(n as usize);
     let whole = 4 * end <= s.len();
     let mut k: usize = 0;
     while k < end {

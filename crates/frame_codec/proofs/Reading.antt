@@ -6,16 +6,13 @@ use mathlib.Core.Logic.{_≢_}
 use Prim.Native.Nat.{ℕ, zero, suc}
 use lib.Dec.{eqb}
 use borrow.Author.Tests.{eq-eqb, ne-eqb}
+use Rattle.terms.proofs.Refusals.{refuses}
 use Rattle.frame_check.specs.Check.{kindField, senderField, phaseField, frameRefusal}
 use Rattle.frame_check.proofs.Checks.{followed}
 use Rattle.frame_check.proofs.Laws.{checkFrame-refuses}
 use Rattle.frame_spec.specs.declared.Said.{Said}
-use Rattle.frame_spec.specs.Said.{Meaning, roundOf, restField, meaning, unlessRefused, refusalOf, said, saidOf}
+use Rattle.frame_spec.specs.Said.{Meaning, refused, roundOf, restField, meaning, refusalOf, said, saidOf}
 use Rattle.frame_codec.specs.Steps.{fromMarks, commonRefusal, saidUnless}
-
-refuses : (c : ℕ) (m : Meaning) → c ≢ 0 → Said.Refused c ≡ saidOf (unlessRefused c m)
-refuses zero m h = absurd (h refl)
-refuses (suc c) m h = refl
 
 module _ (n p r k : ℕ) (s : List ℕ) where
   abbrev common : ℕ
@@ -35,11 +32,11 @@ module _ (n p r k : ℕ) (s : List ℕ) where
 
   pub refused-frame : frameRefusal s ≢ 0 → Said.Refused (frameRefusal s) ≡ saidOf (said n p r k s)
   unfolding said
-  refused-frame h = rw (rows, ne-eqb _ 0 h) (refuses (frameRefusal s) _ h)
+  refused-frame h = rw (rows, ne-eqb _ 0 h) (ap saidOf (refuses refused (frameRefusal s) _ h))
 
   pub refused-common : frameRefusal s ≡ 0 → common ≢ 0 → Said.Refused common ≡ saidOf (said n p r k s)
   unfolding said
-  refused-common e h = rw (rows, eq-eqb _ 0 e, ne-eqb common 0 h) (refuses common _ h)
+  refused-common e h = rw (rows, eq-eqb _ 0 e, ne-eqb common 0 h) (ap saidOf (refuses refused common _ h))
 
   pub says-rest : frameRefusal s ≡ 0 → common ≡ 0 → saidUnless last (kindField s) n (restField s) ≡ saidOf (said n p r k s)
   unfolding said

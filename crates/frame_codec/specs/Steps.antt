@@ -3,10 +3,10 @@ use Prim.Native.Nat.{ℕ}
 use mathlib.Core.List.{List}
 use lib.Dec.{eqb}
 use Rattle.terms.specs.Refusals as refusal
-use Rattle.terms.specs.Refusals.{check}
+use Rattle.terms.specs.Refusals.{check, unlessRefused}
 use Rattle.frame_check.specs.Check.{Kind, senderField, phaseField}
 use Rattle.frame_spec.specs.declared.Said.{Said}
-use Rattle.frame_spec.specs.Said.{roundOf, countFits, rangeFits, meaning, unlessRefused, saidOf}
+use Rattle.frame_spec.specs.Said.{roundOf, countFits, rangeFits, refused, meaning, saidOf}
 
 -- 10, 11, of the rest t
 abbrev pub fromMarks : Kind → ℕ → List ℕ → ℕ
@@ -19,4 +19,4 @@ commonRefusal K p r k s =
 
 -- what a frame of a kind says, if checks gave a number
 abbrev pub saidUnless : ℕ → Kind → ℕ → List ℕ → Said
-saidUnless number K n t = saidOf (unlessRefused number (meaning K n t))
+saidUnless number K n t = saidOf (unlessRefused refused number (meaning K n t))

@@ -7,10 +7,11 @@ use Prim.Native.Nat.{ℕ, zero, suc}
 use native.Mathlib.Omega.{arith}
 use lib.Dec.{eqb}
 use borrow.Author.Tests.{eq-eqb, ne-eqb, eqb-true}
+use Rattle.terms.specs.Refusals.{unlessRefused}
 use Rattle.frame_check.specs.Check.{kindField, senderField, phaseField, frameRefusal}
 use Rattle.frame_check.proofs.Checks.{passed}
 use Rattle.frame_check.proofs.Laws.{checkFrame-refuses}
-use Rattle.frame_spec.specs.Said.{roundOf, restField, countFits, rangeFits, refusalOf, Meaning, meaning, unlessRefused, said}
+use Rattle.frame_spec.specs.Said.{roundOf, restField, countFits, rangeFits, refusalOf, Meaning, refused, meaning, said}
 use Rattle.frame_spec.specs.Proper.{AcceptedMeaning}
 
 -- every check of a frame passed
@@ -28,7 +29,7 @@ neither zero more e = (refl, e)
 neither (suc x) more e = let q = rw (ne-eqb (suc x) 0 (omega arith)) at e in absurd (omega arith)
 
 -- an accepted meaning comes of no refusal
-accepted-unless : (c : ℕ) (m m′ : Meaning) → unlessRefused c m ≡ m′ → AcceptedMeaning m′ → (c ≡ 0) × (m ≡ m′)
+accepted-unless : (c : ℕ) (m m′ : Meaning) → unlessRefused refused c m ≡ m′ → AcceptedMeaning m′ → (c ≡ 0) × (m ≡ m′)
 accepted-unless zero m m′ e a = (refl, e)
 accepted-unless (suc c) m m′ e a = absurd (rw (sym e) at a)
 

@@ -10,6 +10,7 @@ use native.Mathlib.Decide.{decLt, ℕ-discrete}
 use lib.ListN.{length, getD, set, length-append, getD-replicate, List·getD-append, List·getD-eq-default}
 use lib.Seq.{getD-append-add, getD-set-same, getD-set-other}
 use lib.IntN.{ℤ, pos}
+use Rattle.terms.proofs.Booleans.{and-both}
 use Rattle.terms.specs.Positions.{isPosition}
 use Rattle.terms.specs.declared.Table.{Table}
 use Rattle.terms.proofs.Whole.{eqZ→eq}
@@ -48,10 +49,6 @@ numbers-none s (suc n) i h =
     getD-set-other (numbers s n) n i (signedAt s (4 * n)) (pos 0) (omega arith) ∙ numbers-none s n i (omega arith)
 
 -- ---- which entries may stand there
-
-pub and-both : (a b : Bool) → (a && b) ≡ true → (a ≡ true) × (b ≡ true)
-and-both true b e = (refl, e)
-and-both false b e = absurd (true≢false (sym e))
 
 -- an unmarked number that may stand in a list is 0
 pub unmarked-zero : (v : ℤ) → fits false v ≡ true → v ≡ pos 0

@@ -10,6 +10,7 @@ use lib.Dec.{eqb}
 use lib.ListN.{length, drop, length-drop, drop-of-length-le}
 use lib.Seq.{drop-cons, getD-drop}
 use borrow.Author.Tests.{eqb-true, ltb-true}
+use Rattle.terms.specs.Refusals.{unlessRefused}
 use Rattle.terms.specs.Refusals as refusal
 use Rattle.fields.specs.Bytes.{at2, at4, put4}
 use Rattle.marks.specs.Marks.{marksBelow}
@@ -17,11 +18,12 @@ use Rattle.fields.proofs.Bytes.{word-back}
 use Rattle.entries.proofs.Entries.{numbers-length}
 use Rattle.frame_check.specs.Check.{Kind, position, silence, list, confession, unknown, kindOf, isKnown, lengthOf, kindField, countField, checkFrame}
 use Rattle.frame_check.proofs.Laws.{accepted-whole, accepted-known, accepted-length, accepted-long}
-use Rattle.frame_spec.specs.Said.{roundOf, restField, countIn, marksIn, entriesIn, countFits, rangeFits, refusalOf, Meaning, refused, tableIn, meaning, unlessRefused, said, saidOf, meant}
+use Rattle.frame_spec.specs.Said.{roundOf, restField, countIn, marksIn, entriesIn, countFits, rangeFits, refusalOf, Meaning, refused, tableIn, meaning, said, saidOf, meant}
 use Rattle.frame_spec.specs.Written.{header, frameOf}
 use Rattle.frame_spec.specs.Proper.{AllBytes, AcceptedMeaning, ProperTable, Proper, roundOfMeaning}
 use Rattle.frame_spec.proofs.Accepting.{Passed, accepted}
-use Rattle.frame_spec.proofs.Listing.{and-both, each-fits, numbers-read, numbers-none}
+use Rattle.terms.proofs.Booleans.{and-both}
+use Rattle.frame_spec.proofs.Listing.{each-fits, numbers-read, numbers-none}
 use Rattle.frame_spec.proofs.FieldByField.{word-small, four, common, entries-whole, drop-bytes}
 
 -- ---- what is said
@@ -66,7 +68,7 @@ pub meant-said : (n p r k : ℕ) (s : List ℕ) → meant (saidOf (said n p r k 
 unfolding said
 meant-said n p r k s = go (refusalOf n p r k s) (kindField s)
   where
-    go : (c : ℕ) (K : Kind) → meant (saidOf (unlessRefused c (meaning K n (restField s)))) (tableIn n (restField s)) ≡ unlessRefused c (meaning K n (restField s))
+    go : (c : ℕ) (K : Kind) → meant (saidOf (unlessRefused refused c (meaning K n (restField s)))) (tableIn n (restField s)) ≡ unlessRefused refused c (meaning K n (restField s))
     go zero position = refl
     go zero silence = refl
     go zero list = refl

@@ -6,7 +6,7 @@ use lib.Dec.{eqb}
 use lib.ListN.{getD, drop}
 use lib.IntN.{ℤ}
 use Rattle.terms.specs.Refusals as refusal
-use Rattle.terms.specs.Refusals.{check}
+use Rattle.terms.specs.Refusals.{check, unlessRefused}
 use Rattle.terms.specs.Positions.{isPosition}
 use Rattle.terms.specs.declared.Entry.{Entry}
 use Rattle.terms.specs.declared.Table.{Table}
@@ -85,12 +85,8 @@ meaning list n t = listed (tableIn n t)
 meaning confession n t = confessed
 meaning unknown n t = refused refusal.kind
 
-abbrev pub unlessRefused : ℕ → Meaning → Meaning
-unlessRefused zero m = m
-unlessRefused (suc c) m = refused (suc c)
-
 unfoldable pub said : ℕ → ℕ → ℕ → ℕ → List ℕ → Meaning
-said n p r k s = unlessRefused (refusalOf n p r k s) (meaning (kindField s) n (restField s))
+said n p r k s = unlessRefused refused (refusalOf n p r k s) (meaning (kindField s) n (restField s))
 
 -- ---- as the code has it: an enum, and beside it the table of a list
 

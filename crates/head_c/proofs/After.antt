@@ -21,11 +21,6 @@ use Rattle.head_spec.specs.Calls.{closedCollection, closedPhase, closing, close
 use Rattle.head_lent.specs.Answers.{closedAnswer}
 use Rattle.head_c.specs.Blocks.{after}
 
--- a refusal leaves what was
-pub unchanged : (c : ℕ) (new old : List ℕ) → (c ≡ 0 → ⊥) → old ≡ leaves c new old
-unchanged zero new old n = absurd (n refl)
-unchanged (suc c) new old n = refl
-
 pub answered : (w : List ℕ) {r : ℕ} {w′ : List ℕ} {a b : Answer} → (r ≡ a .refusal) × (w′ ≡ after w a) → a ≡ b → (r ≡ b .refusal) × (w′ ≡ after w b)
 answered w p e = (p .0 ∙ ap (λ (x : Answer). x .refusal) e, p .1 ∙ ap (after w) e)
 

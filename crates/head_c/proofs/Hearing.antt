@@ -11,7 +11,7 @@ use lib.ListN.{getD, set, getD-replicate}
 use lib.Seq.{set-out, getD-set-same, getD-set-other}
 use lib.IntN.{pos}
 use borrow.Author.Tests.{lt-ltb, le-ltb}
-use Rattle.terms.specs.Refusals.{leaves}
+use Rattle.terms.specs.Refusals.{leaves, unlessRefused}
 use Rattle.terms.specs.Refusals as refusal
 use Rattle.terms.specs.Refusals.{check}
 use Rattle.terms.specs.declared.Entry.{Entry}
@@ -23,7 +23,7 @@ use Rattle.entries.proofs.Entries.{numbers-length}
 use Rattle.frame_check.specs.Check.{Kind, position, silence, list, confession, unknown, kindField}
 use Rattle.frame_spec.specs.declared.Said.{Said}
 use Rattle.frame_spec.specs.Said.{Meaning, refused, collected, listed, confessed, restField, entriesIn, refusalOf, tableIn, meaning}
-use Rattle.frame_spec.specs.Said.{unlessRefused, said, saidOf, meant}
+use Rattle.frame_spec.specs.Said.{said, saidOf, meant}
 use Rattle.frame_spec.proofs.OneMeaning.{meant-said}
 use Rattle.head_spec.specs.declared.Head.{Head}
 use Rattle.head_spec.specs.declared.Answer.{Answer}
@@ -97,7 +97,7 @@ said-fits : (n p r k : ℕ) (s : List ℕ) → FitMeaning (said n p r k s)
 unfolding said tableIn
 said-fits n p r k s = go (refusalOf n p r k s) (kindField s)
   where
-    go : (c : ℕ) (K : Kind) → FitMeaning (unlessRefused c (meaning K n (restField s)))
+    go : (c : ℕ) (K : Kind) → FitMeaning (unlessRefused refused c (meaning K n (restField s)))
     go zero position = signed-fits (at4 (restField s) 0)
     go zero silence = tt
     go zero list = record { long = numbers-length (entriesIn (restField s)) n; each = number-fits (entriesIn (restField s)) n }
@@ -156,7 +156,7 @@ module _ (w : List ℕ) (block : IsBlock w) (k : ℕ) (s : List ℕ) where
   meant-link : meant (saidOf (linkSays h k s)) (tableIn (h .seat .n) (restField s)) ≡ linkSays h k s
   meant-link = go (linkRefusal (h .seat) (h .heard) k)
     where
-      go : (c : ℕ) → let m = unlessRefused c (saidTo (h .seat) k s) in meant (saidOf m) (tableIn (h .seat .n) (restField s)) ≡ m
+      go : (c : ℕ) → let m = unlessRefused refused c (saidTo (h .seat) k s) in meant (saidOf m) (tableIn (h .seat .n) (restField s)) ≡ m
       go zero = meant-said (h .seat .n) (h .seat .phase) (h .seat .round) k s
       go (suc c) = refl
 
@@ -169,12 +169,12 @@ module _ (w : List ℕ) (block : IsBlock w) (k : ℕ) (s : List ℕ) where
       row a b c rest = check a refusal.ended (check b refusal.head-number (check c refusal.heard rest))
 
       frame : (c : ℕ) (m : Meaning) (new : Head)
-          → heardIn w k (unlessRefused c m) ≡ leaves (answer c new h .refusal) (heardIn w k (unlessRefused c m)) w
+          → heardIn w k (unlessRefused refused c m) ≡ leaves (answer c new h .refusal) (heardIn w k (unlessRefused refused c m)) w
       frame zero m new = refl
       frame (suc c) m new = heard-refused w k (suc c)
 
       go : (a b c : Bool) → let m = saidTo (h .seat) k s in
-          heardIn w k (unlessRefused (row a b c 0) m) ≡ leaves (answer (row a b c (refusalTo (h .seat) k s)) (taken h k m) h .refusal) (heardIn w k m) w
+          heardIn w k (unlessRefused refused (row a b c 0) m) ≡ leaves (answer (row a b c (refusalTo (h .seat) k s)) (taken h k m) h .refusal) (heardIn w k m) w
       go true true true = frame (refusalTo (h .seat) k s) (meaning (kindField s) (h .seat .n) (restField s)) _
       go true true false = heard-refused w k _
       go true false c = heard-refused w k _

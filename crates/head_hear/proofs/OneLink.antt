@@ -8,14 +8,14 @@ use Prim.Native.Nat.{ℕ, zero, suc}
 use lib.Dec.{eqb, leb, ltb}
 use lib.ListN.{length, set}
 use Rattle.terms.specs.Refusals as refusal
-use Rattle.terms.specs.Refusals.{check}
+use Rattle.terms.specs.Refusals.{check, unlessRefused}
 use Rattle.terms.specs.declared.Entry.{Entry}
 use Rattle.terms.specs.declared.Table.{Table}
 use Rattle.marks.specs.Marks.{bitOf, withMark}
 use Rattle.frame_check.specs.Check.{Kind, position, silence, list, confession, unknown, isKnown, kindField, lengthField, checkFrame}
 use Rattle.frame_check.proofs.Checks.{passed}
 use Rattle.frame_spec.specs.declared.Said.{Said}
-use Rattle.frame_spec.specs.Said.{Meaning, refused, collected, listed, confessed, refusalOf, tableIn, meaning, unlessRefused, said, saidOf, meant, restField}
+use Rattle.frame_spec.specs.Said.{Meaning, refused, collected, listed, confessed, refusalOf, tableIn, meaning, said, saidOf, meant, restField}
 use Rattle.frame_spec.specs.Proper.{AcceptedMeaning}
 use Rattle.frame_spec.proofs.OneMeaning.{meant-said}
 use Rattle.settle_trust.specs.declared.Links.{Links}
@@ -61,7 +61,7 @@ module _ (h : Head) (k : ℕ) (s : List ℕ) where
   frame-answered =
       go (refusalTo (h .seat) k s) (meaning (kindField s) (h .seat .n) (restField s)) (says-something (h .seat .n) (h .seat .phase) (h .seat .round) k s)
     where
-      go : (c : ℕ) (m : Meaning) → (c ≡ 0 → AcceptedMeaning m) → answer c (taken h k (unlessRefused c m)) h ≡ answered h k (unlessRefused c m)
+      go : (c : ℕ) (m : Meaning) → (c ≡ 0 → AcceptedMeaning m) → answer c (taken h k (unlessRefused refused c m)) h ≡ answered h k (unlessRefused refused c m)
       go zero (refused d) a = absurd (a refl)
       go zero (collected x) a = refl
       go zero (listed t) a = refl
@@ -77,7 +77,7 @@ module _ (h : Head) (k : ℕ) (s : List ℕ) where
       row a b c rest = check a refusal.ended (check b refusal.head-number (check c refusal.heard rest))
 
       go : (a b c : Bool) → let m = saidTo (h .seat) k s in
-          answer (row a b c (refusalTo (h .seat) k s)) (taken h k m) h ≡ answered h k (unlessRefused (row a b c 0) m)
+          answer (row a b c (refusalTo (h .seat) k s)) (taken h k m) h ≡ answered h k (unlessRefused refused (row a b c 0) m)
       go true true true = frame-answered
       go true true false = refl
       go true false c = refl
@@ -87,7 +87,7 @@ module _ (h : Head) (k : ℕ) (s : List ℕ) where
   meant-link : meant (saidOf (linkSays h k s)) (tableIn (h .seat .n) (restField s)) ≡ linkSays h k s
   meant-link = go (linkRefusal (h .seat) (h .heard) k)
     where
-      go : (c : ℕ) → let m = unlessRefused c (saidTo (h .seat) k s) in meant (saidOf m) (tableIn (h .seat .n) (restField s)) ≡ m
+      go : (c : ℕ) → let m = unlessRefused refused c (saidTo (h .seat) k s) in meant (saidOf m) (tableIn (h .seat .n) (restField s)) ≡ m
       go zero = meant-said (h .seat .n) (h .seat .phase) (h .seat .round) k s
       go (suc c) = refl
 

@@ -4,9 +4,9 @@ use mathlib.Core.List.{List}
 use Prim.Native.Nat.{ℕ}
 use lib.Dec.{ltb}
 use Rattle.terms.specs.Refusals as refusal
-use Rattle.terms.specs.Refusals.{check}
+use Rattle.terms.specs.Refusals.{check, unlessRefused}
 use Rattle.marks.specs.Marks.{bitOf}
-use Rattle.frame_spec.specs.Said.{Meaning, unlessRefused}
+use Rattle.frame_spec.specs.Said.{Meaning, refused}
 use Rattle.head_spec.specs.declared.Seat.{Seat}
 use Rattle.head_spec.specs.Calls.{saidTo}
 
@@ -17,4 +17,4 @@ linkRefusal x heard k =
 
 -- what link k says to a head that has heard these links
 abbrev pub saidOn : Seat → ℕ → ℕ → List ℕ → Meaning
-saidOn x heard k s = unlessRefused (linkRefusal x heard k) (saidTo x k s)
+saidOn x heard k s = unlessRefused refused (linkRefusal x heard k) (saidTo x k s)

@@ -12,7 +12,7 @@ use lib.Seq.{drop-drop}
 use borrow.Author.Tests.{leb-true}
 use Rattle.terms.specs.Refusals as refusal
 use Rattle.terms.specs.Refusals.{leaves}
-use Rattle.frame_spec.proofs.Listing.{and-both}
+use Rattle.terms.proofs.Booleans.{and-both}
 use Rattle.head_spec.specs.declared.Head.{Head}
 use Rattle.head_spec.specs.Calls.{answer, Delivery, hearEach, answersTo}
 use Rattle.head_spec.specs.Batch.{frameLength, isWhole, firstEntry, behindFirst, entrySize, isEmpty, cutInto, isCutInto, entriesOf, isBatch, batchRefusal, hearBatch, batchAnswers, batchCount}

@@ -12,11 +12,12 @@ use native.Mathlib.Decide.{ℕ-discrete}
 use lib.Dec.{eqb}
 use lib.IntN.{ℤ}
 use borrow.Author.Tests.{lt-ltb, eqb-true, eqb-false, eq-eqb, ne-eqb}
+use Rattle.terms.specs.Refusals.{unlessRefused}
 use Rattle.entries.specs.Tables.{tableAt}
 use Rattle.marks.proofs.Marks.{bit-none, with-same}
 use Rattle.marks.specs.Marks.{bitOf, withMark}
 use Rattle.convergence.specs.Counting.{Each}
-use Rattle.frame_spec.specs.Said.{Meaning, refused, collected, listed, confessed, unlessRefused, said}
+use Rattle.frame_spec.specs.Said.{Meaning, refused, collected, listed, confessed, said}
 use Rattle.head_spec.specs.declared.Seat.{Seat}
 use Rattle.head_spec.specs.declared.Head.{Head}
 use Rattle.head_spec.specs.Record.{given, heardEntry, givenOf}
@@ -35,7 +36,7 @@ hear-takes h k s runs below new = ap (λ (c : ℕ). answer c (taken h k (saidTo 
     checks : hearRefusal h k s ≡ refusalTo (h .seat) k s
     checks = rw (runs, lt-ltb k (h .seat .n) below, new)
 
-    go : (c : ℕ) (m : Meaning) → answer c (taken h k (unlessRefused c m)) h .head ≡ taken h k (unlessRefused c m)
+    go : (c : ℕ) (m : Meaning) → answer c (taken h k (unlessRefused refused c m)) h .head ≡ taken h k (unlessRefused refused c m)
     go zero m = refl
     go (suc c) m = refl
 

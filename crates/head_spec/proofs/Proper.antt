@@ -20,7 +20,8 @@ use Rattle.marks.proofs.Marks.{bit-none}
 use Rattle.entries.proofs.Entries.{numbers-length}
 use Rattle.convergence.proofs.Support.{not-null}
 use Rattle.frame_spec.specs.Proper.{ProperTable}
-use Rattle.frame_spec.proofs.Listing.{and-both, numbers-none}
+use Rattle.terms.proofs.Booleans.{and-both}
+use Rattle.frame_spec.proofs.Listing.{numbers-none}
 use Rattle.head_spec.specs.declared.Seat.{Seat}
 use Rattle.head_spec.specs.Record.{noEntries, noLinks, noLists, opened}
 use Rattle.head_spec.specs.Seats.{firstSeat, healedSeat}

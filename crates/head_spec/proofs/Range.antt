@@ -26,7 +26,7 @@ use Rattle.convergence.specs.Trust.{nothing, confessed, gave, saysOf}
 use Rattle.convergence.proofs.Sums.{each-last, each-less}
 use Rattle.convergence.proofs.Support.{not-null, trusted-in-range}
 use Rattle.frame_spec.specs.Proper.{ProperTable}
-use Rattle.frame_spec.proofs.Listing.{and-both}
+use Rattle.terms.proofs.Booleans.{and-both}
 use Rattle.settle_midpoint.specs.Answers.{kept}
 use Rattle.settle_trust.specs.Received.{givenBy}
 use Rattle.head_spec.specs.declared.Head.{Head}

@@ -19,7 +19,7 @@ use Rattle.terms.specs.declared.Entry.the-variants.{Null}
 use Rattle.terms.specs.declared.Table.{Table}
 use Rattle.marks.specs.Marks.{bitOf}
 use Rattle.entries.specs.Tables.{mark, number, marksOf, numbersOf, tableOf}
-use Rattle.settle_trust.proofs.Tables.{marks-next, marks-fit}
+use Rattle.entries.proofs.Tables.{marks-next, marks-fit}
 use Rattle.convergence.specs.Counting.{Each}
 use Rattle.convergence.proofs.Sums.{each-last, each-less}
 use Rattle.frame_spec.specs.Said.{Meaning, collected, said}

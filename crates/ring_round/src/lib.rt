@@ -25,7 +25,7 @@ pub struct Stage {
 pub fn head_count(s: Stage) -> u8
     ensures { λ r. ⌜ r ≡ heads s ⌝ }
 {
-    if s.n < 32 { s.n } else { 32 }
+    terms::at_most_32(s.n as usize) as u8
 }
 
 // Writes the frame in which head k says `what` (a list with `table`) at the front of the buffer, and answers its length.

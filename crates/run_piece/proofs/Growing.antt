@@ -8,8 +8,9 @@ use native.Mathlib.Omega.{arith}
 use lib.ListN.{length, drop, length-append}
 use lib.Seq.{drop-at}
 use lib.IntN.{ℤ}
+use Rattle.terms.specs.Refusals.{unlessRefused}
 use Rattle.ring_spec.specs.Rounds.{Round, Ring, roundThen, afterRound, PhaseEnd, phaseEnd, withEnd, firstHeads, ringAfter, endsAfter}
-use Rattle.run_spec.specs.RunFile.{File, between, RecordKind, start, round, plant, other, isAllowed, countIn, limitIn, positionIn, struckIn, recordFault, thenPlayed, withRecord, stopped, unlessFault, judged, endsSoFar}
+use Rattle.run_spec.specs.RunFile.{File, between, RecordKind, start, round, plant, other, isAllowed, countIn, limitIn, positionIn, struckIn, recordFault, thenPlayed, withRecord, stopped, judged, endsSoFar}
 use Rattle.run_spec.specs.Listing.{title, line, lines, shown}
 use Rattle.run_spec.proofs.Streaming.{start-shows, plant-shows, stop-shows}
 use Rattle.run_record.proofs.Records.{start-place, round-place}
@@ -81,6 +82,6 @@ module _ (F : File) (s : List ℕ) {text : List ℕ} where
   unfolding judged
   judged-grown K len may t = go (recordFault K F s) t
     where
-      go : (c : ℕ) → let G = unlessFault c (withRecord K F s) F in shown G ≡ shown F ++ text → GrownTo F G text
+      go : (c : ℕ) → let G = unlessRefused (stopped F) c (withRecord K F s) in shown G ≡ shown F ++ text → GrownTo F G text
       go zero t = taken-grown K len may t
       go (suc c) t = grown-none F (stopped F (suc c)) refl (stop-shows F (suc c)) t

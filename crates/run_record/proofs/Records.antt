@@ -10,7 +10,7 @@ use lib.IntN.{pos}
 use borrow.Author.Tests.{leb-true, ltb-true, not-true}
 use Rattle.terms.specs.Sizes.{isCount}
 use Rattle.convergence.specs.Counting.{Each}
-use Rattle.frame_spec.proofs.Listing.{and-both}
+use Rattle.terms.proofs.Booleans.{and-both}
 use Rattle.head_spec.proofs.Proper.{both-passed}
 use Rattle.ring_spec.specs.Rounds.{Ring, ringAfter, mostRounds}
 use Rattle.run_spec.specs.RunFile.{File, given, RecordKind, start, round, plant, allowedWhen, isAllowed, countIn, limitIn, positionIn, struckIn, fewMarks, senderIn, receiverIn, plantFault, recordFault, withRecord, stopped, judged}

@@ -10,13 +10,14 @@ use native.Mathlib.Nat.{add-zero, zero-add}
 use lib.Dec.{ltb, leb, eqb}
 use lib.ListN.{length, length-append}
 use borrow.Author.Tests.{leb-true, eqb-true, ltb-false, eq-eqb, not-true, not-false}
+use Rattle.terms.specs.Refusals.{leaves, unlessRefused}
 use Rattle.terms.specs.Refusals as refusal
 use Rattle.terms.specs.Sizes.{isCount}
-use Rattle.frame_spec.proofs.Listing.{and-both}
+use Rattle.terms.proofs.Booleans.{and-both}
 use Rattle.head_spec.proofs.Proper.{both-passed}
 use Rattle.ring_spec.specs.Rounds.{Round}
 use Rattle.ring_spec.proofs.Counts.{counted}
-use Rattle.run_spec.specs.RunFile.{File, unread, given, RecordKind, start, round, plant, other, lengthOf, kindOf, isAllowed, countIn, recordFault, withRecord, stopped, unlessFault, judged, withPart, readOn, unlessStopped, step, feed, readFile, recordsOf, accepted, ending, roundsPlayed, endsPlayed, endsFrom, allRounds}
+use Rattle.run_spec.specs.RunFile.{File, unread, given, RecordKind, start, round, plant, other, lengthOf, kindOf, isAllowed, countIn, recordFault, withRecord, stopped, judged, withPart, readOn, step, feed, readFile, recordsOf, accepted, ending, roundsPlayed, endsPlayed, endsFrom, allRounds}
 use Rattle.run_spec.proofs.Reached.{length-then}
 use Rattle.run_spec.proofs.Whole.{stands, RoundsFit, kept-on, kept-read, kept}
 use Rattle.run_spec.proofs.Streaming.{feed-append}
@@ -39,7 +40,7 @@ module _ (P : File → ℕ → Type 0)
     unfolding judged
     judges may all = go (recordFault (kindOf s) F s) refl
       where
-        go : (c : ℕ) → recordFault (kindOf s) F s ≡ c → P (unlessFault c (withRecord (kindOf s) F s) F) (suc k)
+        go : (c : ℕ) → recordFault (kindOf s) F s ≡ c → P (unlessRefused (stopped F) c (withRecord (kindOf s) F s)) (suc k)
         go zero e = takes F s k one may all e p
         go (suc c) e = stops F (suc c) k p
 
@@ -70,7 +71,7 @@ module _ (P : File → ℕ → Type 0)
       let e : suc k + length xs ≡ k + length (x ∷ xs) = omega arith in
       subst (λ (m : ℕ). P (feed (step F x) xs) m) e (from (step F x) xs (suc k) q h)
     where
-      go : (c : ℕ) → let G = unlessStopped c F (readOn F (F .part ++ (x ∷ []))) in RoundsFit G × P G (suc k)
+      go : (c : ℕ) → let G = leaves c (readOn F (F .part ++ (x ∷ []))) F in RoundsFit G × P G (suc k)
       go zero = (kept-read F kept x, reads F kept x k p)
       go (suc c) = (kept, rests F k p)
 
@@ -166,7 +167,7 @@ pub none-accepted : (K : RecordKind) (F : File) (s : List ℕ) (len : ℕ) → i
 unfolding judged
 none-accepted K F s len may W = go (recordFault K F s)
   where
-    go : (c : ℕ) → accepted (unlessFault c (withRecord K F s) F) ≡ accepted F → unlessFault c (withRecord K F s) F .fault ≡ 0 → ⊥
+    go : (c : ℕ) → accepted (unlessRefused (stopped F) c (withRecord K F s)) ≡ accepted F → unlessRefused (stopped F) c (withRecord K F s) .fault ≡ 0 → ⊥
     go zero e z = omega (arith, one-accepted K F s len may W)
     go (suc c) e z = omega arith
 

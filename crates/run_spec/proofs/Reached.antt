@@ -9,18 +9,19 @@ use lib.Dec.{ltb, eqb}
 use lib.ListN.{length}
 use lib.IntN.{ℤ}
 use borrow.Author.Tests.{leb-true, ltb-true}
+use Rattle.terms.specs.Refusals.{leaves, unlessRefused}
 use Rattle.terms.specs.Refusals as refusal
 use Rattle.terms.specs.Sizes.{isCount, isLimit}
 use Rattle.terms.specs.Positions.{isPosition}
 use Rattle.marks.specs.Marks.{bitOf, marksBelow}
 use Rattle.convergence.specs.Counting.{Each, bit, AtMost}
 use Rattle.convergence.proofs.Sums.{each-more}
-use Rattle.frame_spec.proofs.Listing.{and-both}
+use Rattle.terms.proofs.Booleans.{and-both}
 use Rattle.head_spec.proofs.Proper.{Sized, both-passed, sized-by}
 use Rattle.ring_spec.specs.Rounds.{Round, mostRounds}
 use Rattle.ring_spec.specs.Converges.{FewStruckIn}
 use Rattle.ring_spec.proofs.Demand3.{none-struck}
-use Rattle.run_spec.specs.RunFile.{File, unread, given, RecordKind, start, round, plant, other, lengthOf, kindOf, isAllowed, countIn, limitIn, positionIn, positionsFit, struckIn, fewMarks, recordFault, thenPlayed, withRecord, stopped, unlessFault, judged, withPart, readOn, unlessStopped, step, feed, readFile}
+use Rattle.run_spec.specs.RunFile.{File, unread, given, RecordKind, start, round, plant, other, lengthOf, kindOf, isAllowed, countIn, limitIn, positionIn, positionsFit, struckIn, fewMarks, recordFault, thenPlayed, withRecord, stopped, judged, withPart, readOn, step, feed, readFile}
 
 -- of a start that was accepted, and the rounds after it
 pub record TakenSo (n f : ℕ) (first : ℕ → ℤ) (played : List Round) (pending : Bool) (struck : ℕ) : Type 0 where
@@ -88,7 +89,7 @@ module _ (F : File) (G : Good F) where
   unfolding judged
   good-judged K s = go (recordFault K F s) refl
     where
-      go : (c : ℕ) → recordFault K F s ≡ c → Good (unlessFault c (withRecord K F s) F)
+      go : (c : ℕ) → recordFault K F s ≡ c → Good (unlessRefused (stopped F) c (withRecord K F s))
       go zero e = good-record K s e
       go (suc c) e = G
 
@@ -106,7 +107,7 @@ module _ (F : File) (G : Good F) where
   unfolding step
   good-step x = go (F .fault)
     where
-      go : (c : ℕ) → Good (unlessStopped c F (readOn F (F .part ++ (x ∷ []))))
+      go : (c : ℕ) → Good (leaves c (readOn F (F .part ++ (x ∷ []))) F)
       go zero = good-read (F .part ++ (x ∷ []))
       go (suc c) = G
 

@@ -10,10 +10,12 @@ use lib.Dec.{ltb, leb, eqb}
 use lib.ListN.{length, take, length-append}
 use lib.Seq.{getD-take, take-append-seam, append-snoc}
 use borrow.Author.Tests.{leb-true, eqb-true, eqb-false, ltb-true, ltb-false, not-false, le-ltb, eq-eqb, ne-eqb}
+use Rattle.terms.specs.Refusals.{leaves, unlessRefused}
+use Rattle.terms.proofs.Refusals.{unchanged, changed}
 use Rattle.terms.specs.Refusals as refusal
 use Rattle.fields.specs.Bytes.{at2}
-use Rattle.frame_spec.proofs.Listing.{and-both}
-use Rattle.run_spec.specs.RunFile.{File, unread, RecordKind, start, round, plant, other, lengthOf, kindOf, allowedWhen, isAllowed, recordFault, stopped, unlessFault, judged, withPart, readOn, unlessStopped, step, feed, readFile}
+use Rattle.terms.proofs.Booleans.{and-both}
+use Rattle.run_spec.specs.RunFile.{File, unread, RecordKind, start, round, plant, other, lengthOf, kindOf, allowedWhen, isAllowed, recordFault, stopped, judged, withPart, readOn, step, feed, readFile}
 
 -- ---- the header: four bytes
 
@@ -88,7 +90,7 @@ module _ (F : File) (s : List ℕ) where
 
 -- ---- the bytes kept so far are not looked at
 
-unless-over : (c : ℕ) (good F : File) (q : List ℕ) → unlessFault c good (withPart F q) ≡ unlessFault c good F
+unless-over : (c : ℕ) (good F : File) (q : List ℕ) → unlessRefused (stopped (withPart F q)) c good ≡ unlessRefused (stopped F) c good
 unless-over zero good F q = refl
 unless-over (suc c) good F q = refl
 
@@ -105,14 +107,10 @@ read-over F q s = rw (judged-over (kindOf s) F q s)
 
 -- ---- byte by byte, or at once
 
-unless-none : (c : ℕ) (F G : File) → c ≡ 0 → unlessStopped c F G ≡ G
-unless-none zero F G e = refl
-unless-none (suc c) F G e = absurd (omega arith)
-
 module _ (F : File) (ok : F .fault ≡ 0) where
   step-at : (q : List ℕ) (x : ℕ) → step (withPart F q) x ≡ readOn F (q ++ (x ∷ []))
   unfolding step
-  step-at q x = unless-none (F .fault) _ _ ok ∙ read-over F q (q ++ (x ∷ []))
+  step-at q x = changed (F .fault) _ _ ok ∙ read-over F q (q ++ (x ∷ []))
 
   reads-on : {s : List ℕ} → ((k : ℕ) → k < length s → Cut F s k) → (q xs : List ℕ) → q ++ xs ≡ s → 0 < length xs
       → feed (withPart F q) xs ≡ readOn F s
@@ -148,14 +146,10 @@ module _ (F : File) (ok : F .fault ≡ 0) where
 pub feed-stopped : (F : File) (xs : List ℕ) → (F .fault ≡ 0 → ⊥) → feed F xs ≡ F
 unfolding feed step
 feed-stopped F [] fault = refl
-feed-stopped F (x ∷ xs) fault = ap (λ (G : File). feed G xs) (go (F .fault) fault) ∙ feed-stopped F xs fault
-  where
-    go : (c : ℕ) → (c ≡ 0 → ⊥) → unlessStopped c F (readOn F (F .part ++ (x ∷ []))) ≡ F
-    go zero no-fault = absurd (no-fault refl)
-    go (suc c) no-fault = refl
+feed-stopped F (x ∷ xs) fault = ap (λ (G : File). feed G xs) (sym (unchanged (F .fault) _ F fault)) ∙ feed-stopped F xs fault
 
 -- after a record nothing is kept
-unless-empty : (c : ℕ) (good F : File) → good .part ≡ [] → unlessFault c good F .part ≡ []
+unless-empty : (c : ℕ) (good F : File) → good .part ≡ [] → unlessRefused (stopped F) c good .part ≡ []
 unless-empty zero good F e = e
 unless-empty (suc c) good F e = refl
 
@@ -215,7 +209,7 @@ unfolding feed step
 kept-feed F [] k = k
 kept-feed F (x ∷ s) k = kept-feed (step F x) s (go (F .fault))
   where
-    go : (c : ℕ) → RoundsFit (unlessStopped c F (readOn F (F .part ++ (x ∷ []))))
+    go : (c : ℕ) → RoundsFit (leaves c (readOn F (F .part ++ (x ∷ []))) F)
     go zero = kept-read F k x
     go (suc c) = k
 

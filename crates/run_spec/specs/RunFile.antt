@@ -6,7 +6,7 @@ use lib.Dec.{ltb, leb, eqb}
 use lib.ListN.{length, getD, drop}
 use lib.IntN.{ℤ, pos}
 use Rattle.terms.specs.Refusals as refusal
-use Rattle.terms.specs.Refusals.{check}
+use Rattle.terms.specs.Refusals.{check, unlessRefused, leaves}
 use Rattle.terms.specs.Sizes.{checkSize}
 use Rattle.terms.specs.Positions.{isPosition}
 use Rattle.fields.specs.Bytes.{at2, at4, signedAt}
@@ -185,12 +185,8 @@ withRecord other F s = F
 abbrev pub stopped : File → ℕ → File
 stopped F c = record { part = []; fault = c; setup = F .setup; rounds = F .rounds }
 
-abbrev pub unlessFault : ℕ → File → File → File
-unlessFault zero good F = good
-unlessFault (suc c) good F = stopped F (suc c)
-
 unfoldable pub judged : RecordKind → File → List ℕ → File
-judged K F s = unlessFault (recordFault K F s) (withRecord K F s) F
+judged K F s = unlessRefused (stopped F) (recordFault K F s) (withRecord K F s)
 
 -- ---- byte by byte
 
@@ -204,12 +200,9 @@ readOn F s =
     (cond (eqb (length s) 4 && not (isAllowed (kindOf s) F (lengthOf s))) (stopped F refusal.run-record)
     (cond (eqb (length s) (lengthOf s)) (judged (kindOf s) F s) (withPart F s)))
 
-abbrev pub unlessStopped : ℕ → File → File → File
-unlessStopped zero F G = G
-unlessStopped (suc c) F G = F
-
+-- after a fault nothing is read
 unfoldable pub step : File → ℕ → File
-step F x = unlessStopped (F .fault) F (readOn F (F .part ++ (x ∷ [])))
+step F x = leaves (F .fault) (readOn F (F .part ++ (x ∷ []))) F
 
 -- the state after more bytes
 unfoldable pub feed : File → List ℕ → File

@@ -12,7 +12,7 @@ use borrow.Author.Tests.{leb-true, eq-eqb, ne-eqb}
 use Rattle.terms.specs.declared.Entry.{Entry}
 use Rattle.marks.specs.Marks.{bitOf}
 use Rattle.convergence.specs.Counting.{Each}
-use Rattle.frame_spec.proofs.Listing.{and-both}
+use Rattle.terms.proofs.Booleans.{and-both}
 use Rattle.ring_spec.specs.Rounds.{Ring, PhaseEnd}
 use Rattle.run_listing.specs.declared.Text.{Text}
 use Rattle.run_listing.specs.Texts.{bytesOf}

@@ -4,7 +4,7 @@ use Prim.Native.Nat.{ℕ, zero, suc, _*_}
 use lib.Dec.{eqb}
 use lib.ListN.{length}
 use Rattle.terms.specs.Refusals as refusal
-use Rattle.terms.specs.Refusals.{check}
+use Rattle.terms.specs.Refusals.{check, unlessRefused}
 use Rattle.terms.specs.Sizes.{checkSize}
 use Rattle.terms.specs.declared.Entry.{Entry}
 use Rattle.marks.specs.Marks.{marksBelow}
@@ -26,10 +26,6 @@ listRefusal n f m s =
     (check (marksBelow m n) refusal.marks
     (check (entriesFit m s n) refusal.entry 0)))
 
-abbrev pub unlessRefused : ℕ → Settled → Settled
-unlessRefused zero x = x
-unlessRefused (suc c) x = Settled.Refused (suc c)
-
 -- rounded as in phase 1
 unfoldable pub midpointCall : ℕ → ℕ → ℕ → List ℕ → Settled
-midpointCall n f m s = unlessRefused (listRefusal n f m s) (settling (rounding 1) n (twoRounds f) (entriesGiven n m s))
+midpointCall n f m s = unlessRefused Settled.Refused (listRefusal n f m s) (settling (rounding 1) n (twoRounds f) (entriesGiven n m s))

@@ -142,7 +142,7 @@ fn settle_after(
     ensures { λ r. ⌜ r ≡ settling (bit up) n (twoRounds f) (trusted n f (givenBy links (now (lists .entry)))) ⌝ }
 {
     let need = settle_trust::lists_needed(links.confessed, n, f);
-    let count = settle_trust::link_count(n);
+    let count = terms::at_most_32(n as usize);
     let given = settle_trust::all_marks(links, n);
     let comparison = compare(lists, &given, count, reference);
     let alike = comparison.alike;

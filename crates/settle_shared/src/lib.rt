@@ -303,7 +303,7 @@ pub fn trust_codes(
     ensures { λ _. ⌜ (n ≤ 32 → Each n (λ j. getD (now (out .exit)) j (pos 0)
         ≡ cond (bitOf confessed j) noCode (cond (leb need (getD (now (same .entry)) j 0)) (getD (now (codes .entry)) j (pos 0)) noCode))) ⌝ }
 {
-    let count = settle_trust::link_count(n);
+    let count = terms::at_most_32(n as usize);
     pick(codes, same, need, count, out);
     if confessed != 0 {
         drop_confessed(out, confessed, count);
@@ -314,7 +314,7 @@ pub fn trust_codes(
 pub fn settle_codes(codes: &Numbers, n: u8, f: u8, up: bool) -> settle_midpoint::Settled
     ensures { λ r. ⌜ (n ≤ 32 → r ≡ settling (bit up) n (twoRounds f) (λ j. entryOf (getD (now (codes .entry)) j (pos 0)))) ⌝ }
 {
-    let count = settle_trust::link_count(n);
+    let count = terms::at_most_32(n as usize);
     let mut positions = [0i32; 32];
     let mut len: usize = 0;
     let mut j: usize = 0;

@@ -4,4 +4,3 @@ pub mod Cells
 pub mod Received
 pub mod Search
 pub mod Trusted
-pub mod Tables

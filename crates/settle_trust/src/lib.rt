@@ -22,25 +22,11 @@ pub struct Links {
     pub marks: Words,
 }
 
-// How many of n links are looked at: those from 32 on give nothing.
-fn first_32(n: usize) -> usize
-    ensures { λ r. ⌜ r ≡ min n 32 ⌝ }
-{
-    if 32 < n { 32 } else { n }
-}
-
-// How many links of a ring are looked at.
-pub fn link_count(n: u8) -> usize
-    ensures { λ r. ⌜ r ≡ min n 32 ⌝ }
-{
-    first_32(n as usize)
-}
-
 // How many lists have to agree on a position for it to be trusted; 0 if the confessions alone reach n - f.
 pub fn lists_needed(confessed: u32, n: u8, f: u8) -> usize
     ensures { λ r. ⌜ r ≡ n - f - markedTo confessed (min n 32) ⌝ }
 {
-    let c = marks::marked_to(confessed, link_count(n));
+    let c = marks::marked_to(confessed, terms::at_most_32(n as usize));
     if n <= f {
         return 0;
     }
@@ -69,7 +55,7 @@ fn marks_given(confessed: bool, listed: bool, m: u32) -> u32
 pub fn all_marks(links: Links, n: u8) -> Words
     ensures { λ r. ⌜ r ≡ marksTo links (min n 32) ⌝ }
 {
-    let count = link_count(n);
+    let count = terms::at_most_32(n as usize);
     let mut marks = [0u32; 32];
     let mut k: usize = 0;
     while k < count {
@@ -191,7 +177,7 @@ pub fn trusted_cell(
     if need == 0 {
         return 0;
     }
-    let count = first_32(n);
+    let count = terms::at_most_32(n);
     let mut cells = [0u64; 32];
     column(lists, marks, count, j, &mut cells);
     only(&cells, count, need)
@@ -201,7 +187,7 @@ pub fn trusted_cell(
 pub fn support(lists: Lists, links: Links, n: u8, j: usize, u: i32) -> usize
     ensures { λ r. ⌜ r ≡ support n (givenBy links lists) j u ⌝ }
 {
-    let count = link_count(n);
+    let count = terms::at_most_32(n as usize);
     let given = all_marks(links, n);
     let mut cells = [0u64; 32];
     column(&lists, &given, count, j, &mut cells);
@@ -213,7 +199,7 @@ pub fn trusted_entry(lists: Lists, links: Links, n: u8, f: u8, j: usize) -> Entr
     ensures { λ r. ⌜ r ≡ trusted n f (givenBy links lists) j ⌝ }
 {
     let need = lists_needed(links.confessed, n, f);
-    let count = link_count(n);
+    let count = terms::at_most_32(n as usize);
     let given = all_marks(links, n);
     let x = trusted_cell(&lists, &given, links.confessed, count, need, j);
     if x == 0 {
@@ -227,7 +213,7 @@ pub fn trusted_table(lists: Lists, links: Links, n: u8, f: u8) -> Table
     ensures { λ r. ⌜ r ≡ tableOf n (trusted n f (givenBy links lists)) ⌝ }
 {
     let need = lists_needed(links.confessed, n, f);
-    let count = link_count(n);
+    let count = terms::at_most_32(n as usize);
     let given = all_marks(links, n);
     let mut marks: u32 = 0;
     let mut entries = [0i32; 32];

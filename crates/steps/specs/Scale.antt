@@ -4,7 +4,7 @@ use Prim.Native.Nat.{ℕ, zero, suc}
 use lib.Dec.{leb}
 use lib.IntN.{ℤ, pos, _*ℤ_}
 use Rattle.terms.specs.Refusals as refusal
-use Rattle.terms.specs.Refusals.{check}
+use Rattle.terms.specs.Refusals.{check, unlessRefused}
 use Rattle.terms.specs.Positions.{isPosition, floorDiv}
 use Rattle.steps.specs.declared.scale.Scaled.{Scaled}
 
@@ -25,9 +25,5 @@ unfoldable pub scaleRefusal : ℤ → ℕ → ℕ → ℕ
 scaleRefusal v a d = check (isScale a d) refusal.scale (check (isPosition v) refusal.position 0)
 
 -- a refusal gives only its number
-abbrev pub unlessRefused : ℕ → Scaled → Scaled
-unlessRefused zero s = s
-unlessRefused (suc c) s = Scaled.Refused (suc c)
-
 unfoldable pub scaled : ℤ → ℕ → ℕ → Scaled
-scaled v a d = unlessRefused (scaleRefusal v a d) (Scaled.Nanometres (nanometres v a d))
+scaled v a d = unlessRefused Scaled.Refused (scaleRefusal v a d) (Scaled.Nanometres (nanometres v a d))

@@ -1,2 +1,4 @@
 pub mod Whole
 pub mod Machine
+pub mod Booleans
+pub mod Refusals

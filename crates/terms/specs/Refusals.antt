@@ -7,6 +7,11 @@ abbrev pub check : Bool → ℕ → ℕ → ℕ
 check true number rest = rest
 check false number rest = number
 
+-- what a call answers: by `refused`, its number if that is a refusal's
+abbrev pub unlessRefused : {A : Type 0} → (ℕ → A) → ℕ → A → A
+unlessRefused refused zero x = x
+unlessRefused refused (suc number) x = refused (suc number)
+
 -- what a call leaves of memory that it may change: as it was if its number is a refusal's
 abbrev pub leaves : {A : Type 0} → ℕ → A → A → A
 leaves zero new old = new

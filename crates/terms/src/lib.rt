@@ -1,9 +1,18 @@
-// The papers' terms that every other crate speaks of: an entry, a table of entries, and the numbers of the refusals. No functions.
+// The papers' terms that every other crate speaks of: an entry, a table of entries, and the numbers of the refusals.
+ghost use mathlib.Core.Path.{_≡_};
+ghost use Prim.Native.Nat.{min};
 
 pub mod refusal;
 
 // A ring has 32 heads at most.
 pub const HEADS: usize = 32;
+
+// How many of n heads, links or entries are looked at: those from 32 on give nothing.
+pub fn at_most_32(n: usize) -> usize
+    ensures { λ r. ⌜ r ≡ min n 32 ⌝ }
+{
+    if n < 32 { n } else { 32 }
+}
 
 // A number for each head, as the entries of a list or the heads' positions; a mark word for each; and a list for each.
 pub type Numbers = [i32; HEADS];

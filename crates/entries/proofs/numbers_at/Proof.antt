@@ -1,6 +1,5 @@
 -- `entries::numbers_at` meets its contract. The loop's invariant: the array has the first k numbers, and it is filled up to n, or to 32, where it ends.
 use mathlib.Core.Path.{_≡_, refl, ap, sym, _∙_}
-use mathlib.Core.Logic.{⊎-elim}
 use Prim.Native.Nat.{_≤_, _-_}
 use native.Mathlib.Omega.{arith}
 use mir.Facts.{toZ-ofZ}
@@ -9,7 +8,7 @@ use borrow.Author.Needs.{needs}
 use borrow.Author.Tests.{leb-true}
 use Rattle.fields.specs.Bytes.{signedOf}
 use Rattle.entries.specs.Entries.{zeros, numbers}
-use Rattle.entries.proofs.Entries.{numbers-next, numbers-past}
+use Rattle.entries.proofs.Entries.{numbers-next, numbers-first-32}
 use Rattle.entries.proofs.numbers_at.Statement.{statement}
 use Rattle.entries.proofs.numbers_at.Tie as tie
 
@@ -20,22 +19,19 @@ abbrev μ-loop : tie.MeasureT-loop
 μ-loop s n out₀ end whole k₀ out k = end - k
 
 -- the loop stores n entries, or 32, from where on nothing would be stored
-capped : (c : tie.Joined1 Inv-loop μ-loop) →
+capped : (c : tie.After-at-most-32 Inv-loop μ-loop) →
     let s = now (c .before .before .args .s) in
-    (c .if1 .end ≤ 32) × (numbers s (c .if1 .end) ≡ numbers s (c .before .before .args .n))
+    (c .at-most-32 .result ≤ 32) × (numbers s (c .at-most-32 .result) ≡ numbers s (c .before .before .args .n))
 capped c =
     let a = c .before .before .args in
-    ⊎-elim
-    (λ w. (omega (arith, w .1), ap (numbers (now (a .s))) (w .1) ∙ sym (numbers-past (now (a .s)) (a .n) (omega (arith, w .0)))))
-    (λ w. (omega (arith, w .0, w .1), ap (numbers (now (a .s))) (w .1)))
-    (c .if1 .came)
+    (omega (arith, c .at-most-32 .ensures), ap (numbers (now (a .s))) (c .at-most-32 .ensures) ∙ numbers-first-32 (now (a .s)) (a .n))
 
 mul-whole : tie.Need-mul-whole Inv-loop μ-loop
-mul-whole c = omega (arith, capped (c .before) .0)
+mul-whole c = omega (arith, capped c .0)
 
 loop-holds : tie.Need-loop-holds Inv-loop μ-loop
 unfolding numbers zeros
-loop-holds c = (capped (c .before) .0, capped (c .before) .1, search needs, refl)
+loop-holds c = (capped c .0, capped c .1, search needs, refl)
 
 word-in-requires : tie.Need-word-in-requires Inv-loop μ-loop
 word-in-requires c κs = λ t. omega (arith, leb-true)
@@ -44,7 +40,7 @@ loop-again : tie.Need-loop-again Inv-loop μ-loop
 loop-again c =
     let w = c .before in
     let l = w .before .before in
-    let a = l .before .before .before .before .args in (
+    let a = l .before .before .before .args in (
       l .loop .inv .0,
       l .loop .inv .1,
       search needs,
@@ -54,7 +50,7 @@ loop-again c =
 returns : tie.Need-returns Inv-loop μ-loop
 returns c =
     let l = c .before in
-    let e : l .loop .k ≡ l .before .before .if1 .end = omega arith in
+    let e : l .loop .k ≡ l .before .at-most-32 .result = omega arith in
     l .loop .inv .3 ∙ ap (numbers _) e ∙ l .loop .inv .1
 
 pub numbers-at-spec : {M : Type 1} → statement M
@@ -63,6 +59,7 @@ numbers-at-spec =
     (tie.spec
     Inv-loop
     μ-loop
+    (λ c κs. search needs)
     mul-whole
     loop-holds
     (λ c. search needs)

@@ -8,7 +8,7 @@ use Rattle.head_spec.specs.Batch.{batchRefusal, entriesOf}
 use Rattle.head_spec.proofs.Batches.{taken-told, batch-heard, batch-refused}
 use Rattle.head_hear.specs.declared.Cuts.{Cuts}
 use Rattle.head_c.specs.Blocks.{IsBlock, headOf, heardEach}
-use Rattle.head_c.proofs.After.{unchanged}
+use Rattle.terms.proofs.Refusals.{unchanged}
 use Rattle.head_c.proofs.focus_head_hear_batch.Statement.{statement}
 use Rattle.head_c.proofs.focus_head_hear_batch.Tie as tie
 

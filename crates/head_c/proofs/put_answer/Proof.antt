@@ -5,7 +5,7 @@ use denote.Ref.{now}
 use Rattle.terms.specs.Refusals.{leaves}
 use Rattle.head_spec.specs.declared.Head.{Head}
 use Rattle.head_c.specs.Blocks.{withHead, after}
-use Rattle.head_c.proofs.After.{unchanged}
+use Rattle.terms.proofs.Refusals.{unchanged}
 use borrow.Author.Needs.{needs}
 use Rattle.head_c.proofs.put_answer.Statement.{statement}
 use Rattle.head_c.proofs.put_answer.Tie as tie

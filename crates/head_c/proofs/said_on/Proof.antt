@@ -1,15 +1,14 @@
 -- A refusal of the link stands whatever its frame says, and else the frame decides. Past the checks the link's number is below n, a byte.
-use mathlib.Core.Path.{_≡_, refl, sym, _∙_}
+use mathlib.Core.Path.{_≡_, sym, _∙_, ap}
 use mathlib.Core.Bool.{not}
-use mathlib.Core.Logic.{_≢_}
-use Prim.Native.Nat.{ℕ, zero, suc, _%_}
+use Prim.Native.Nat.{ℕ, _%_}
 use native.Mathlib.Omega.{arith}
 use lib.Dec.{ltb}
 use lib.ListN.{getD}
 use denote.Ref.{now}
 use borrow.Author.Tests.{ltb-true}
-use Rattle.frame_spec.specs.declared.Said.{Said}
-use Rattle.frame_spec.specs.Said.{Meaning, unlessRefused, saidOf}
+use Rattle.terms.proofs.Refusals.{refuses}
+use Rattle.frame_spec.specs.Said.{refused, saidOf}
 use Rattle.head_spec.proofs.Proper.{both-passed}
 use Rattle.head_hear.specs.Steps.{linkRefusal}
 use Rattle.head_c.specs.Blocks.{flag, seatOf}
@@ -17,12 +16,8 @@ use borrow.Author.Needs.{needs}
 use Rattle.head_c.proofs.said_on.Statement.{statement}
 use Rattle.head_c.proofs.said_on.Tie as tie
 
-stands : (c : ℕ) (m : Meaning) → c ≢ 0 → Said.Refused c ≡ saidOf (unlessRefused c m)
-stands zero m h = absurd (h refl)
-stands (suc c) m h = refl
-
 returns : tie.Need-returns
-returns c = rw (← c .before .link-refusal .ensures) (stands _ _ (c .if1 .taken))
+returns c = rw (← c .before .link-refusal .ensures) (ap saidOf (refuses refused _ _ (c .if1 .taken)))
 
 -- past the test no check of the link failed
 none : (c : tie.Else1) → let a = c .before .before .before .before .args in linkRefusal (seatOf (now (a .h))) (getD (now (a .h)) 24 0) (a .link) ≡ 0

@@ -9,7 +9,7 @@ use borrow.Author.Needs.{needs}
 use borrow.Author.Tests.{not-true, not-false}
 use Rattle.entries.specs.Entries.{zeros}
 use Rattle.entries.specs.Tables.{mark, number, marksOf, numbersOf}
-use Rattle.settle_trust.proofs.Tables.{marks-next, marks-fit, numbers-next}
+use Rattle.entries.proofs.Tables.{marks-next, marks-fit, numbers-next}
 use Rattle.ring_collection.specs.Inner.{sent, sentBy}
 use Rattle.ring_collection.proofs.Lists.{table-filled}
 use Rattle.ring_collection.proofs.entries_sent.Statement.{statement}

@@ -43,7 +43,7 @@ cell-by-requires c κs =
     let g = w .before .before in
     let s = g .before .before .before in
     let e = w .compare .ensures in
-    (search needs, omega (arith, g .before .before .lists-needed .ensures, s .fits .n .fits), s .pre, e .alike, e .apart, e .same (l .loop .j) (omega (arith, g .before .link-count .ensures)))
+    (search needs, omega (arith, g .before .before .lists-needed .ensures, s .fits .n .fits), s .pre, e .alike, e .apart, e .same (l .loop .j) (omega (arith, g .before .at-most-32 .ensures)))
 
 module _ (c : tie.After-cell-by Inv-loop μ-loop) where
   abbrev here : tie.At-loop Inv-loop μ-loop
@@ -52,7 +52,7 @@ module _ (c : tie.After-cell-by Inv-loop μ-loop) where
   abbrev given : tie.After-all-marks Inv-loop μ-loop
   given = here .before .before .before .before
 
-  abbrev counted : tie.After-link-count Inv-loop μ-loop
+  abbrev counted : tie.After-at-most-32 Inv-loop μ-loop
   counted = given .before
 
   abbrev start : tie.Start Inv-loop μ-loop
@@ -65,7 +65,7 @@ module _ (c : tie.After-cell-by Inv-loop μ-loop) where
   held : CellOf (c .cell-by .result) (entries (here .loop .j))
   held =
       let a = start .args in
-      trusted-held (a .links) (now (a .lists)) (words (a .links) (start .good .1 .0)) (a .n) (a .f) (here .loop .j) (counted .link-count .ensures)
+      trusted-held (a .links) (now (a .lists)) (words (a .links) (start .good .1 .0)) (a .n) (a .f) (here .loop .j) (counted .at-most-32 .ensures)
       (counted .before .lists-needed .ensures) (given .all-marks .ensures) (c .cell-by .ensures)
 
 add-len : tie.Need-add-len Inv-loop μ-loop
@@ -78,7 +78,7 @@ loop-again c =
     let t = c .before in
     let l = here t .loop in
     let e = held t .entry in
-    let h : l .j < 32 = omega (arith, counted t .link-count .ensures) in
+    let h : l .j < 32 = omega (arith, counted t .at-most-32 .ensures) in
     ⊎-elim
     (λ w. (
       search needs,
@@ -96,7 +96,7 @@ returns c =
     let s = n .before .before in
     let a = s .args in
     let E = trusted (a .n) (a .f) (givenBy (a .links) (now (a .lists))) in
-    let e : l .j ≡ min (a .n) 32 = omega (arith, n .link-count .ensures) in
+    let e : l .j ≡ min (a .n) 32 = omega (arith, n .at-most-32 .ensures) in
     let q = ap (λ (k : ℕ). ordered k E) e ∙ ordered-first-32 E (trusted-past (a .links) (now (a .lists)) (words (a .links) (s .good .1 .0)) (a .n) (a .f)) (a .n) in
     c .middle-of .ensures
     ∙ ap (λ (o : Order). settlingFrom (bit (a .up)) (a .n) (twoRounds (a .f)) (inOrder o)) (held-order (l .inv .1) ∙ ap orderOf q)

@@ -50,7 +50,7 @@ loop-again c =
     let h = x .before .before in
     let l = h .loop in
     let E = entries h in
-    let m : l .j < 32 = omega (arith, h .before .link-count .ensures) in
+    let m : l .j < 32 = omega (arith, h .before .at-most-32 .ensures) in
     ⊎-elim
     (λ w. (
       search needs,
@@ -66,7 +66,7 @@ returns c small =
     let l = h .loop in
     let a = h .before .before .args in
     let E = entries h in
-    let e : l .j ≡ a .n = omega (arith, h .before .link-count .ensures) in
+    let e : l .j ≡ a .n = omega (arith, h .before .at-most-32 .ensures) in
     c .middle-of .ensures
     ∙ ap (λ (o : Order). settlingFrom (bit (a .up)) (a .n) (twoRounds (a .f)) (inOrder o)) (held-order (l .inv .1) ∙ ap orderOf (ap (λ (k : ℕ). ordered k E) e))
     ∙ settling-in-order (bit (a .up)) (a .n) (twoRounds (a .f)) E

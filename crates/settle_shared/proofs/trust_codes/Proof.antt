@@ -13,14 +13,14 @@ returns : tie.Need-returns
 returns c small =
     let p = c .before .before .before in
     let n = p .before .before in
-    let m : n .link-count .result ≡ n .before .args .n = omega (arith, n .link-count .ensures) in
+    let m : n .at-most-32 .result ≡ n .before .args .n = omega (arith, n .at-most-32 .ensures) in
     λ j l. c .drop-confessed .ensures .1 j (rw m l) ∙ ap (cond (bitOf (n .before .args .confessed) j) noCode) (p .pick .ensures .1 j (rw m l))
 
 returns-2 : tie.Need-returns-2
 returns-2 c small =
     let p = c .before in
     let n = p .before .before in
-    let m : n .link-count .result ≡ n .before .args .n = omega (arith, n .link-count .ensures) in
+    let m : n .at-most-32 .result ≡ n .before .args .n = omega (arith, n .at-most-32 .ensures) in
     λ j l. p .pick .ensures .1 j (rw m l) ∙ rw (c .if1 .left, bit-none j)
 
 pub trust-codes-spec : {M : Type 1} → statement M

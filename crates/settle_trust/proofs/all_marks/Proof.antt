@@ -32,7 +32,7 @@ loop-again c =
 
 returns : tie.Need-returns Inv-loop μ-loop
 returns c =
-    let e : c .before .loop .k ≡ min (c .before .before .before .args .n) 32 = omega (arith, c .before .before .link-count .ensures) in
+    let e : c .before .loop .k ≡ min (c .before .before .before .args .n) 32 = omega (arith, c .before .before .at-most-32 .ensures) in
     c .before .loop .inv .1 ∙ ap (marksTo _) e
 
 pub all-marks-spec : {M : Type 1} → statement M

@@ -9,7 +9,7 @@ use Rattle.settle_trust.proofs.lists_needed.Tie as tie
 
 -- the confessions are counted among as many links as there are
 counted : (c : tie.After-marked-to) → c .marked-to .result ≡ markedTo (c .before .before .args .confessed) (min (c .before .before .args .n) 32)
-counted c = c .marked-to .ensures ∙ ap (markedTo (c .before .before .args .confessed)) (c .before .link-count .ensures)
+counted c = c .marked-to .ensures ∙ ap (markedTo (c .before .before .args .confessed)) (c .before .at-most-32 .ensures)
 
 returns-2 : tie.Need-returns-2
 returns-2 c = omega (arith, counted (c .before .before))

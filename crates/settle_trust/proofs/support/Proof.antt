@@ -30,7 +30,7 @@ module _ (c : tie.After-equal-to) where
   abbrev given : tie.After-all-marks
   given = filled .before .before .before .before
 
-  abbrev counted : tie.After-link-count
+  abbrev counted : tie.After-at-most-32
   counted = given .before
 
   abbrev start : tie.Start
@@ -38,7 +38,7 @@ module _ (c : tie.After-equal-to) where
 
 add-result : tie.Need-add-result
 add-result c =
-    let m = counted c .link-count .result in
+    let m = counted c .at-most-32 .result in
     let x = c .before .cell-of .result in
     let b : ℕ → Bool = λ k. eqb (getD (filled c .column .last .1 .1 .1 .1 .0) k 0) x in
     omega (
@@ -47,22 +47,22 @@ add-result c =
       c .equal-to .ensures,
       bits-le m (bitOf (start c .args .links .confessed)),
       bits-le m b,
-      counted c .link-count .ensures,
+      counted c .at-most-32 .ensures,
     )
 
 returns : tie.Need-returns
 returns c =
     let s = start c in
     let a = s .args in
-    let m = counted c .link-count .result in
+    let m = counted c .at-most-32 .result in
     let E : ℕ → Entry = λ k. saysOf (a .j) (givenBy (a .links) (a .t1) k) in
-    let e = counted c .link-count .ensures in
+    let e = counted c .at-most-32 .ensures in
     let q = column-given (a .links) (a .t1) m (a .j) (omega arith) (given c .all-marks .ensures ∙ ap (marksTo (a .links)) (sym e)) in
     let x = holds-position (s .fits .u) (c .before .cell-of .ensures) in
     ap (λ (k : ℕ). k + c .equal-to .result) (confessed c .marked-to .ensures)
     ∙ ap (λ (k : ℕ). markedTo (a .links .confessed) m + k)
     (c .equal-to .ensures ∙ equal-held m (filled c .column .last .1 .1 .1 .1 .0) E x (λ k l. holds-same (filled c .column .ensures k l) (q k l)))
-    ∙ support-counted (a .links) (a .t1) (words (a .links) (s .good .1 .0)) (a .n) (a .j) (a .u) (counted c .link-count .ensures)
+    ∙ support-counted (a .links) (a .t1) (words (a .links) (s .good .1 .0)) (a .n) (a .j) (a .u) (counted c .at-most-32 .ensures)
 
 pub support-spec : {M : Type 1} → statement M
 support-spec =

@@ -35,8 +35,8 @@ returns-3 c =
     let m = e .before in
     let s = m .before in
     holds-same (c .only .ensures (E s) (c .before .before .column .ensures))
-    (sym (decided-by-lists (k .first-32 .result) (s .args .need) (E s) (sym (m .marked .ensures) ∙ e .if1 .left) (t .if2 .left))
-    ∙ ap (λ (n : ℕ). decided (bitOf (s .args .confessed) (s .args .j)) n (s .args .need) (E s)) (k .first-32 .ensures))
+    (sym (decided-by-lists (k .at-most-32 .result) (s .args .need) (E s) (sym (m .marked .ensures) ∙ e .if1 .left) (t .if2 .left))
+    ∙ ap (λ (n : ℕ). decided (bitOf (s .args .confessed) (s .args .j)) n (s .args .need) (E s)) (k .at-most-32 .ensures))
 
 pub trusted-cell-spec : {M : Type 1} → statement M
 trusted-cell-spec =

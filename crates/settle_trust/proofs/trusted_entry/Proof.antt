@@ -17,7 +17,7 @@ module _ (c : tie.After-trusted-cell) where
   abbrev given : tie.After-all-marks
   given = c .before .before .before
 
-  abbrev counted : tie.After-link-count
+  abbrev counted : tie.After-at-most-32
   counted = given .before
 
   abbrev start : tie.Start
@@ -27,7 +27,7 @@ module _ (c : tie.After-trusted-cell) where
   held : CellOf (c .trusted-cell .result) (trusted (start .args .n) (start .args .f) (givenBy (start .args .links) (start .args .t1)) (start .args .j))
   held =
       let a = start .args in
-      trusted-held (a .links) (a .t1) (words (a .links) (start .good .1 .0)) (a .n) (a .f) (a .j) (omega (arith, counted .link-count .ensures))
+      trusted-held (a .links) (a .t1) (words (a .links) (start .good .1 .0)) (a .n) (a .f) (a .j) (omega (arith, counted .at-most-32 .ensures))
       (counted .before .lists-needed .ensures) (given .all-marks .ensures) (c .trusted-cell .ensures)
 
 returns : tie.Need-returns

@@ -13,7 +13,7 @@ use Rattle.settle_trust.specs.Received.{givenBy}
 use Rattle.settle_trust.specs.Cells.{CellOf}
 use Rattle.settle_trust.proofs.Received.{words}
 use Rattle.settle_trust.proofs.Trusted.{trusted-held, trusted-past}
-use Rattle.settle_trust.proofs.Tables.{marks-next, marks-fit, numbers-next, table-first-32}
+use Rattle.entries.proofs.Tables.{marks-next, marks-fit, numbers-next, table-first-32}
 use Rattle.settle_trust.proofs.trusted_table.Statement.{statement}
 use Rattle.settle_trust.proofs.trusted_table.Tie as tie
 
@@ -35,7 +35,7 @@ module _ (c : tie.After-trusted-cell Inv-loop μ-loop) where
   abbrev given : tie.After-all-marks Inv-loop μ-loop
   given = here .before
 
-  abbrev counted : tie.After-link-count Inv-loop μ-loop
+  abbrev counted : tie.After-at-most-32 Inv-loop μ-loop
   counted = given .before
 
   abbrev start : tie.Start Inv-loop μ-loop
@@ -48,14 +48,14 @@ module _ (c : tie.After-trusted-cell Inv-loop μ-loop) where
   held : CellOf (c .trusted-cell .result) (entries (here .loop .j))
   held =
       let a = start .args in
-      trusted-held (a .links) (a .t1) (words (a .links) (start .good .1 .0)) (a .n) (a .f) (here .loop .j) (omega (arith, counted .link-count .ensures))
+      trusted-held (a .links) (a .t1) (words (a .links) (start .good .1 .0)) (a .n) (a .f) (here .loop .j) (omega (arith, counted .at-most-32 .ensures))
       (counted .before .lists-needed .ensures) (given .all-marks .ensures) (c .trusted-cell .ensures)
 
 add-marks : tie.Need-add-marks Inv-loop μ-loop
 add-marks c =
     let t = c .before in
     let l = here t .loop in
-    record { fits = marks-fit (entries t) (l .j) (omega (arith, counted t .link-count .ensures)) (l .inv .1) (c .mark-of .ensures ∙ ap mark (held t .entry)) }
+    record { fits = marks-fit (entries t) (l .j) (omega (arith, counted t .at-most-32 .ensures)) (l .inv .1) (c .mark-of .ensures ∙ ap mark (held t .entry)) }
 
 loop-again : tie.Need-loop-again Inv-loop μ-loop
 loop-again c =
@@ -63,7 +63,7 @@ loop-again c =
     let t = m .before in
     let l = here t .loop in (
       search needs,
-      marks-next (entries t) (l .j) (omega (arith, counted t .link-count .ensures)) (l .inv .1) (m .mark-of .ensures ∙ ap mark (held t .entry)),
+      marks-next (entries t) (l .j) (omega (arith, counted t .at-most-32 .ensures)) (l .inv .1) (m .mark-of .ensures ∙ ap mark (held t .entry)),
       numbers-next (entries t) (l .j) (l .inv .2) (toZ-ofZ (record { sfits = c .number-of .ok }) ∙ c .number-of .ensures ∙ ap number (held t .entry)),
     )
 
@@ -73,7 +73,7 @@ returns c =
     let n = c .before .before .before in
     let s = n .before .before in
     let a = s .args in
-    let e : l .j ≡ min (a .n) 32 = omega (arith, n .link-count .ensures) in
+    let e : l .j ≡ min (a .n) 32 = omega (arith, n .at-most-32 .ensures) in
     let E = trusted (a .n) (a .f) (givenBy (a .links) (a .t1)) in
     table-first-32 E (trusted-past (a .links) (a .t1) (words (a .links) (s .good .1 .0)) (a .n) (a .f)) (a .n)
     (l .inv .1 ∙ ap (λ (k : ℕ). marksOf k E) e) (l .inv .2 ∙ ap (λ (k : ℕ). numbersOf k E) e)
