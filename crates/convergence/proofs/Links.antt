@@ -24,11 +24,11 @@ use Rattle.convergence.proofs.OnePhase.{Fact, Facts, both, TwoFaced, Li
 abbrev given : Bool → Bool → (ℕ → Entry) → Given → Given
 given c d l g = gives d c g confessed (gave l)
 
-is-le : (u : ℤ) (x : Entry) → is u x ≤ 1
+pub is-le : (u : ℤ) (x : Entry) → is u x ≤ 1
 is-le u Null = omega arith
 is-le u (Position w) = bit-le (eqZ u w)
 
-supports-le : (j : ℕ) (u : ℤ) (g : Given) → supports j u g ≤ 1
+pub supports-le : (j : ℕ) (u : ℤ) (g : Given) → supports j u g ≤ 1
 supports-le j u nothing = omega arith
 supports-le j u confessed = omega arith
 supports-le j u (gave l) = is-le u (l j)

@@ -1,9 +1,9 @@
 -- Bytes copied over a slice, if they fit and if they do not.
-use mathlib.Core.Path.{_≡_, sym, ap, _∙_}
-use mathlib.Core.List.{List, _++_}
+use mathlib.Core.Path.{_≡_}
+use mathlib.Core.List.{List}
 use Prim.Native.Nat.{ℕ, _+_, _≤_, _<_}
-use lib.ListN.{length, take, drop}
-use lib.Seq.{paste, take-length, take-paste, drop-paste, length-paste}
+use lib.ListN.{length, take}
+use lib.Seq.{paste, take-length}
 use borrow.Author.Tests.{le-leb, lt-leb}
 use Rattle.fields.specs.Bytes.{copied}
 

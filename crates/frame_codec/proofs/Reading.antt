@@ -1,9 +1,9 @@
 -- Reading goes by three rows of checks: the frame check, the common fields, the rest. The first that gives a number decides.
-use mathlib.Core.Path.{_≡_, refl, sym, _∙_, ap}
+use mathlib.Core.Path.{_≡_, refl, _∙_, ap}
 use mathlib.Core.Bool.{cond}
 use mathlib.Core.List.{List}
 use mathlib.Core.Logic.{_≢_}
-use Prim.Native.Nat.{ℕ, zero, suc}
+use Prim.Native.Nat.{ℕ}
 use lib.Dec.{eqb}
 use borrow.Author.Tests.{eq-eqb, ne-eqb}
 use Rattle.terms.proofs.Refusals.{refuses}
@@ -11,7 +11,7 @@ use Rattle.frame_check.specs.Check.{kindField, senderField, phaseField, frameRe
 use Rattle.frame_check.proofs.Checks.{followed}
 use Rattle.frame_check.proofs.Laws.{checkFrame-refuses}
 use Rattle.frame_spec.specs.declared.Said.{Said}
-use Rattle.frame_spec.specs.Said.{Meaning, refused, roundOf, restField, meaning, refusalOf, said, saidOf}
+use Rattle.frame_spec.specs.Said.{Meaning, refused, roundOf, restField, refusalOf, said, saidOf}
 use Rattle.frame_codec.specs.Steps.{fromMarks, commonRefusal, saidUnless}
 
 module _ (n p r k : ℕ) (s : List ℕ) where

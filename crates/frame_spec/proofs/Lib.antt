@@ -6,3 +6,4 @@ pub mod Fronts
 pub mod ReadsBack
 pub mod OneMeaning
 pub mod Senders
+pub mod Tables

@@ -1,7 +1,7 @@
 -- The entries of a list, one by one: what was read into the array, what a frame's bytes hold, and when they all may stand there. Each is defined by
 -- one entry more, so each law goes by induction on the number of entries.
 use mathlib.Core.Path.{_≡_, refl, ap, sym, _∙_}
-use mathlib.Core.Bool.{Bool, true, false, _&&_, true≢false}
+use mathlib.Core.Bool.{Bool, true, false}
 use mathlib.Core.List.{List, [], _++_}
 use Prim.Native.Nat.{ℕ, zero, suc, _+_, _*_, _≤_, _<_}
 use native.Mathlib.Omega.{arith}

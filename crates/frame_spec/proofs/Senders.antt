@@ -1,6 +1,5 @@
 -- What a head says is heard the same of every head that says it: their frames differ in the sender alone, which is the link.
-use mathlib.Core.Path.{_≡_, refl, ap, sym, _∙_}
-use mathlib.Core.Bool.{true}
+use mathlib.Core.Path.{_≡_, refl}
 use Prim.Native.Nat.{ℕ}
 use borrow.Author.Tests.{eq-eqb}
 use Rattle.terms.specs.declared.Entry.{Entry}

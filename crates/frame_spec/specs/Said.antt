@@ -1,7 +1,7 @@
 -- What a frame says on link k, to a head of a ring of n heads in phase p and round r (0 collection, 1 confession). Nothing else of the head matters.
 use mathlib.Core.Bool.{Bool, true, _&&_}
 use mathlib.Core.List.{List}
-use Prim.Native.Nat.{ℕ, zero, suc}
+use Prim.Native.Nat.{ℕ}
 use lib.Dec.{eqb}
 use lib.ListN.{getD, drop}
 use lib.IntN.{ℤ}

@@ -7,7 +7,6 @@ use Prim.Native.Nat.{ℕ, zero, suc}
 use native.Mathlib.Omega.{arith}
 use lib.IntN.{ℤ}
 use Rattle.terms.specs.Refusals as refusal
-use Rattle.terms.specs.Refusals.{leaves}
 use Rattle.convergence.specs.Settling.{twoRounds, enough}
 use Rattle.settle_midpoint.specs.Answers.{settling}
 use Rattle.settle_midpoint.specs.declared.Kept.{Kept}

@@ -5,7 +5,7 @@ use mathlib.Core.Bool.{Bool, true, false, cond}
 use Prim.Native.Nat.{ℕ, zero, suc, _*_, _≤_}
 use borrow.Author.Tests.{leb-true}
 use Rattle.terms.specs.Refusals as refusal
-use Rattle.convergence.specs.Settling.{nulls, twoRounds, midpoint, enough}
+use Rattle.convergence.specs.Settling.{nulls, midpoint, enough}
 use Rattle.convergence.specs.Phases.{rounding}
 use Rattle.convergence.proofs.Demand3.{rounding-le}
 use Rattle.convergence.proofs.OnePhase.{in-kept}

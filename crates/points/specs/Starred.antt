@@ -1,10 +1,10 @@
 -- Document 01, "Points on the ring": the starred points as one table, and one theorem that they all hold, which is computed.
-use mathlib.Core.Bool.{Bool, true, false}
+use mathlib.Core.Bool.{Bool}
 use mathlib.Core.List.{List, [], _∷_}
 use mathlib.Core.Path.{_≡_, refl}
 use Prim.Native.Nat.{ℕ, suc, _-_}
 use native.Mathlib.Omega.{arith}
-use lib.Dec.{T, leb, ltb, eqb}
+use lib.Dec.{T}
 use lib.ListN.{getD}
 use lib.IntN.{ℤ, pos, negsuc}
 use Rattle.terms.specs.Positions.{floorDiv, half, eqZ}

@@ -1,27 +1,22 @@
 -- The list that a head fills: what head i hears of head k is what is planted, or what head k sent. Two tables of n entries are the same if their entries below n
 -- are, and an entry is put into a table where there was none by its mark and its number.
 use mathlib.Core.Path.{_≡_, refl, ap, ap₂, sym, _∙_}
-use mathlib.Core.Logic.{_≢_, by-cases}
 use mathlib.Core.Bool.{Bool, true, false, cond}
 use mathlib.Core.List.{List, []}
-use Prim.Native.Nat.{ℕ, zero, suc, _+_, _*_, _%_, _^_, _≤_, _<_}
+use Prim.Native.Nat.{ℕ, _+_, _*_, _%_, _^_, _<_}
 use native.Mathlib.Omega.{arith}
-use native.Mathlib.Numerals.{add-one}
-use native.Mathlib.Nat.{mod-eq-of-lt}
 use native.Mathlib.Decide.{ℕ-discrete}
-use lib.Dec.{eqb}
 use lib.ListN.{length, set}
-use lib.Seq.{getD-set-same, getD-set-other, set-set, set-comm}
+use lib.Seq.{getD-set-same, getD-set-other}
 use lib.IntN.{ℤ}
-use borrow.Author.Tests.{lt-ltb, eq-eqb, ne-eqb}
+use borrow.Author.Tests.{lt-ltb}
 use Rattle.terms.specs.declared.Entry.{Entry}
 use Rattle.terms.specs.declared.Entry.the-variants.{Null, Position}
 use Rattle.terms.specs.declared.Table.{Table}
 use Rattle.marks.specs.Marks.{bitOf}
 use Rattle.entries.specs.Tables.{mark, number, marksOf, numbersOf, tableOf}
-use Rattle.entries.proofs.Tables.{marks-next, marks-fit}
+use Rattle.entries.proofs.Tables.{marks-same, numbers-same, table-same, put, put-same, put-other, numbers-put, marks-sum, marks-room}
 use Rattle.convergence.specs.Counting.{Each}
-use Rattle.convergence.proofs.Sums.{each-last, each-less}
 use Rattle.frame_spec.specs.Said.{Meaning, collected, said}
 use Rattle.frame_spec.specs.Written.{frameOf}
 use Rattle.frame_spec.specs.Proper.{Proper}
@@ -32,69 +27,6 @@ use Rattle.ring_round.specs.declared.Stage.{Stage}
 use Rattle.ring_round.specs.Memory.{heads, hears, ToldAlike, sends, listEntry, rowIn}
 use Rattle.ring_collection.specs.Inner.{sayable, ownEntry, sent, sentBy, heardOf, heardWith, Shared}
 use Rattle.ring_round.proofs.Filling.{filledTo, Filled, filled-none, filled-passed, filled-stored, filled-yet}
-
--- ---- tables
-
-marks-same : (n : ℕ) (E E′ : ℕ → Entry) → Each n (λ k. E k ≡ E′ k) → marksOf n E ≡ marksOf n E′
-unfolding marksOf
-marks-same zero E E′ h = refl
-marks-same (suc n) E E′ h = rw (marks-same n E E′ (each-less h), each-last h)
-
-numbers-same : (n : ℕ) (E E′ : ℕ → Entry) → Each n (λ k. E k ≡ E′ k) → numbersOf n E ≡ numbersOf n E′
-unfolding numbersOf
-numbers-same zero E E′ h = refl
-numbers-same (suc n) E E′ h = rw (numbers-same n E E′ (each-less h), each-last h)
-
-pub table-same : (n : ℕ) (E E′ : ℕ → Entry) → Each n (λ k. E k ≡ E′ k) → tableOf n E ≡ tableOf n E′
-table-same n E E′ h = ap₂ (λ (m : ℕ) (l : List ℤ). record { marks = m; entries = l }) (marks-same n E E′ h) (numbers-same n E E′ h)
-
--- marks and numbers that were filled up to n
-pub table-filled : (E : ℕ → Entry) {n k m : ℕ} {l : List ℤ} → k ≡ n → m ≡ marksOf k E → l ≡ numbersOf k E
-    → _≡_ {A = Table} (record { marks = m; entries = l }) (tableOf n E)
-table-filled E e p q = rw (p, q, e)
-
--- ---- an entry put where there was none
-
-module _ (E : ℕ → Entry) (k : ℕ) (e : Entry) where
-  abbrev pub put : ℕ → Entry
-  put j = cond (eqb j k) e (E j)
-
-  pub put-same : put k ≡ e
-  put-same = rw (eq-eqb k k refl)
-
-  pub put-other : (j : ℕ) → j ≢ k → put j ≡ E j
-  put-other j d = rw (ne-eqb j k d)
-
-  pub marks-put : E k ≡ Null → (n : ℕ) → k < n → marksOf n put ≡ marksOf n E + mark e * 2 ^ k
-  unfolding marksOf
-  marks-put none zero l = absurd (omega arith)
-  marks-put none (suc n) l = by-cases (ℕ-discrete n k)
-      (λ q. rw (q, put-same, marks-same k put E (λ j h. put-other j (omega arith)), none) (omega arith))
-      (λ d. rw (put-other n d, marks-put none n (omega arith)) (omega arith))
-
-  pub numbers-put : (n : ℕ) → k < n → numbersOf n put ≡ set (numbersOf n E) k (number e)
-  unfolding numbersOf
-  numbers-put zero l = absurd (omega arith)
-  numbers-put (suc n) l = by-cases (ℕ-discrete n k)
-      (λ q. rw (q, put-same, numbers-same k put E (λ j h. put-other j (omega arith))) (sym (set-set (numbersOf k E) k (number (E k)) (number e))))
-      (λ d. rw (put-other n d, numbers-put n (omega arith)) (set-comm (numbersOf n E) k n (number e) (number (E n)) (omega arith)))
-
--- the marks of 32 entries are a word
-marks-word : (E : ℕ → Entry) (n : ℕ) → n ≤ 32 → marksOf n E < 4294967296
-unfolding marksOf
-marks-word E zero l = omega arith
-marks-word E (suc n) l = omega (arith, marks-fit E n l refl refl, rw (add-one n) at (marks-next E n l refl refl))
-
--- the mark r of entry e
-module _ (E : ℕ → Entry) (k n : ℕ) (e : Entry) {m r : ℕ} (none : E k ≡ Null) (l : k < n) (size : n ≤ 32) (p : m ≡ marksOf n E) (q : r ≡ mark e) where
-  marks-sum : m + r * 2 ^ k % 4294967296 ≡ marksOf n (put E k e)
-  marks-sum =
-      let s = marks-put E k e none n l in
-      let w : mark e * 2 ^ k < 4294967296 = omega (arith, marks-word (put E k e) n size) in
-      rw (p, q, mod-eq-of-lt w) (sym s)
-
-  marks-room : m + r * 2 ^ k % 4294967296 < 4294967296
-  marks-room = rw marks-sum (marks-word (put E k e) n size)
 
 -- ---- what is heard
 

@@ -3,7 +3,7 @@
 use mathlib.Core.Path.{_≡_, refl, ap, sym, _∙_, fun-ext}
 use mathlib.Core.Logic.{by-cases}
 use mathlib.Core.Bool.{Bool, true, false, not, cond, _&&_, true≢false}
-use mathlib.Core.List.{List, [], _∷_, _++_}
+use mathlib.Core.List.{List, [], _∷_}
 use Prim.Native.Nat.{ℕ, zero, suc, _+_, _*_, _^_, _≤_, _<_}
 use native.Mathlib.Omega.{arith}
 use native.Mathlib.Decide.{decLt}
@@ -14,8 +14,7 @@ use borrow.Author.Tests.{ltb-true}
 use Rattle.terms.specs.Positions.{isPosition, eqZ}
 use Rattle.terms.specs.declared.Entry.{Entry}
 use Rattle.terms.specs.declared.Table.{Table}
-use Rattle.terms.proofs.Whole.{eqZ-refl}
-use Rattle.fields.specs.Bytes.{signedOf, put4, wordOf}
+use Rattle.fields.specs.Bytes.{signedOf, put4}
 use Rattle.fields.proofs.Bytes.{signed-back}
 use Rattle.marks.specs.Marks.{bitOf, marksBelow, withMark}
 use Rattle.marks.proofs.Marks.{bit-none, bit-above, with-same, with-other}

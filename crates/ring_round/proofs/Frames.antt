@@ -1,13 +1,13 @@
 -- Frames as the player writes and reads them. A frame of up to 32 heads has 140 bytes at most, so it fits a buffer of 140; and what was read, with the table
 -- beside it, is all that the frame says.
 use mathlib.Core.Path.{_≡_, refl, ap, sym, _∙_}
-use mathlib.Core.List.{List, [], _++_}
-use Prim.Native.Nat.{ℕ, _+_, _-_, _*_, _≤_, _<_}
+use mathlib.Core.List.{List, _++_}
+use Prim.Native.Nat.{ℕ, _+_, _-_, _≤_, _<_}
 use native.Mathlib.Omega.{arith}
 use mir.Val.{Val}
 use denote.Laws.{Is}
-use lib.ListN.{length, getD, take, drop, drop-of-length-le, length-append, length-drop}
-use lib.Seq.{take-nil, take-all, take-at}
+use lib.ListN.{length, take, drop, length-append}
+use lib.Seq.{take-at}
 use borrow.Author.Tests.{le-leb}
 use Rattle.terms.specs.declared.Entry.{Entry}
 use Rattle.frame_spec.specs.declared.Said.{Said}

@@ -31,7 +31,8 @@ use Rattle.ring_round.specs.declared.Stage.{Stage}
 use Rattle.ring_round.specs.Memory.{heads, hears, sends, listEntry, rowIn, replies, givenEntry, positionOf, newPosition}
 use Rattle.run_state.specs.Memory.{Memory}
 use Rattle.run_state.specs.Heads.{HeadsOf}
-use Rattle.run_round.proofs.Tables.{table-same, table-of-entries}
+use Rattle.entries.proofs.Tables.{table-same}
+use Rattle.frame_spec.proofs.Tables.{table-of-entries}
 use Rattle.run_round.proofs.Carried.{Plays, heads-are, hears-unstruck, said-same}
 
 -- a record holds one position at most

@@ -1,6 +1,5 @@
--- A player that keeps positions and lists apart from the head records holds what the records hold (`Tables` to `Waiting`), and shows a line for each phase that
+-- A player that keeps positions and lists apart from the head records holds what the records hold (`Carried` to `Waiting`), and shows a line for each phase that
 -- it plays (`Shown`, `Rounds`). The positions that it holds keep demand 3 (`Converging`).
-pub mod Tables
 pub mod Carried
 pub mod Keeping
 pub mod Waiting

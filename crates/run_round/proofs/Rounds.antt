@@ -4,12 +4,11 @@
 use mathlib.Core.Path.{_≡_, refl, ap, sym, _∙_}
 use mathlib.Core.Bool.{true, false, cond}
 use mathlib.Core.List.{List, _∷_, _++_}
-use Prim.Native.Nat.{ℕ, _+_, _≤_, _<_}
+use Prim.Native.Nat.{ℕ, _+_, _≤_}
 use native.Mathlib.Omega.{arith}
 use lib.ListN.{length, getD}
 use lib.IntN.{pos}
 use Rattle.entries.specs.Tables.{tableOf}
-use Rattle.convergence.specs.Counting.{bit}
 use Rattle.ring_spec.specs.Rounds.{Round, Ring, endsPhase}
 use Rattle.ring_spec.proofs.Counts.{next-phase, next-ends, next-opens}
 use Rattle.run_spec.specs.RunFile.{File, endsFrom}

@@ -1,5 +1,5 @@
 -- What the player tells of the file: before the first record, as bytes and records come, and whether a record is allowed or has a fault.
-use mathlib.Core.Path.{_≡_, refl, _∙_}
+use mathlib.Core.Path.{_≡_, refl}
 use mathlib.Core.Bool.{Bool, true, false, cond}
 use mathlib.Core.List.{List, []}
 use Prim.Native.Nat.{ℕ, _<_}

@@ -21,11 +21,12 @@ use Rattle.convergence.specs.Counting.{sum, bit}
 use Rattle.convergence.specs.Trust.{is, choose}
 use Rattle.convergence.proofs.Sums.{sums-le}
 use Rattle.convergence.proofs.Support.{same-position, not-null, is-same, is-other}
+use Rattle.convergence.proofs.Links.{is-le}
 use Rattle.settle_trust.specs.Cells.{columnOf, CellOf, standsIn, decided}
 use Rattle.settle_position.specs.Reference.{sameNumber, isApart, agrees, alikeTo, apartFrom, agreeing, Decides, Lacks}
 use Rattle.marks.proofs.Counts.{sum-next}
 use Rattle.settle_trust.proofs.Cells.{holds-null, holds-same}
-use Rattle.settle_trust.proofs.Search.{is-le, only-seen, none-seen}
+use Rattle.settle_trust.proofs.Search.{only-seen, none-seen}
 use Rattle.settle_trust.proofs.Trusted.{decided-by-lists}
 
 -- ---- one list, with the mark word m and the number a, beside the reference's, v and b

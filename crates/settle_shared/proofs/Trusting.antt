@@ -15,10 +15,11 @@ use Rattle.terms.specs.declared.Entry.{Entry}
 use Rattle.terms.specs.declared.Entry.the-variants.{Null, Position}
 use Rattle.terms.proofs.Whole.{other}
 use Rattle.convergence.specs.Counting.{Each, sum, bit}
-use Rattle.convergence.specs.Trust.{Given, nothing, confessed, gave, is, supports, support, hasConfessed, confessions, saysOf, trusted}
+use Rattle.convergence.specs.Trust.{Given, nothing, is, supports, support, hasConfessed, confessions, saysOf, trusted}
 use Rattle.convergence.proofs.Sums.{sums-le, sum-same, sum-none}
 use Rattle.convergence.proofs.Support.{trusted-is, trusted-only, is-other}
-use Rattle.settle_trust.proofs.Search.{is-le}
+use Rattle.convergence.proofs.Links.{supports-le}
+use Rattle.settle_trust.proofs.Search.{}
 use Rattle.settle_trust.proofs.Trusted.{support-parts}
 use Rattle.settle_shared.specs.Codes.{noCode, entryOf, holds}
 use Rattle.settle_shared.specs.Shared.{Shares}
@@ -62,11 +63,6 @@ module _ (n f : ℕ) (G : ℕ → Given) (j : ℕ) where
     few-confessions = let w = c +ℤ pos 1 in omega (arith, few w (other c), support-parts n G j w)
 
 -- ---- a receiver: G is what all links give alike, G′ what they give it, other than G on the struck links alone
-
-supports-le : (j : ℕ) (u : ℤ) (g : Given) → supports j u g ≤ 1
-supports-le j u nothing = omega arith
-supports-le j u confessed = omega arith
-supports-le j u (gave l) = is-le u (l j)
 
 module _ (n f p : ℕ) (G G′ : ℕ → Given) (struck : ℕ → Bool) (codes : List ℤ) (same : List ℕ) (S : Shares n f p G codes same)
     (counted : sum n (λ k. bit (struck k)) ≡ p) (untold : Each n (λ k. struck k ≡ true → G k ≡ nothing)) (kept : Each n (λ k. struck k ≡ false → G′ k ≡ G k))

@@ -19,7 +19,7 @@ use Rattle.terms.proofs.Whole.{eqZ→eq, eqZ-refl}
 use Rattle.fields.specs.Bytes.{wordOf}
 use Rattle.convergence.specs.Counting.{sum, bit}
 use Rattle.convergence.specs.Trust.{is, Seen, none, one, many, pick, see, seeEntry, seen, choose}
-use Rattle.convergence.proofs.Sums.{bit-le}
+use Rattle.convergence.proofs.Links.{is-le}
 use Rattle.settle_trust.specs.Cells.{CellOf, HoldsEach, equalTo, isAnother, standsIn}
 use Rattle.settle_trust.proofs.Cells.{holds-same, same-cells, equal-held}
 
@@ -182,10 +182,6 @@ module _ (ok : ℤ → Bool) (E : ℕ → Entry) where
       go : (e : Entry) → seeEntry ok e none ≡ none
       go Null = refl
       go (Position w) = rw (h w)
-
-pub is-le : (u : ℤ) (e : Entry) → is u e ≤ 1
-is-le u Null = omega arith
-is-le u (Position w) = bit-le (eqZ u w)
 
 tail-le : (u : ℤ) (E : ℕ → Entry) (k n : ℕ) → k ≤ n → sum n (λ i. is u (E i)) ≤ sum k (λ i. is u (E i)) + (n - k)
 unfolding sum

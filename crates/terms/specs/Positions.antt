@@ -1,5 +1,5 @@
 -- Document 01, positions: whole steps with a sign. In ℤ `pos n` is n and `negsuc n` is -(n + 1).
-use mathlib.Core.Bool.{Bool, true, false, _&&_}
+use mathlib.Core.Bool.{Bool, false, _&&_}
 use Prim.Native.Nat.{ℕ, _/_}
 use lib.Dec.{eqb}
 use lib.IntN.{ℤ, pos, negsuc, natAbs, _+ℤ_, _-ℤ_}

@@ -1,5 +1,5 @@
 -- `entries::all_fit` meets its contract. The loop's invariant: the flag says whether the first i entries fit, for every mark word that marks all n.
-use mathlib.Core.Path.{_≡_, refl, ap, sym, _∙_}
+use mathlib.Core.Path.{_≡_, refl, ap, _∙_}
 use mathlib.Core.Logic.{⊎-elim}
 use mathlib.Core.Bool.{true}
 use Prim.Native.Nat.{ℕ, _-_, _≤_}

@@ -1,5 +1,5 @@
 -- `entries::numbers_at` meets its contract. The loop's invariant: the array has the first k numbers, and it is filled up to n, or to 32, where it ends.
-use mathlib.Core.Path.{_≡_, refl, ap, sym, _∙_}
+use mathlib.Core.Path.{_≡_, refl, ap, _∙_}
 use Prim.Native.Nat.{_≤_, _-_}
 use native.Mathlib.Omega.{arith}
 use mir.Facts.{toZ-ofZ}

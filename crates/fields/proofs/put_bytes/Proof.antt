@@ -1,6 +1,5 @@
 -- `fields::put_bytes` meets its contract: the bytes are copied just if they fit.
 use borrow.Author.Needs.{needs}
-use native.Mathlib.Omega.{arith}
 use mathlib.Core.Path.{sym, _∙_}
 use Rattle.fields.proofs.Copying.{copied-fits, copied-not}
 use Rattle.fields.proofs.put_bytes.Statement.{statement}

@@ -1,5 +1,4 @@
 -- Phase 65,535 is the last: a phase, of two bytes, is at most that.
-use native.Mathlib.Omega.{arith}
 use mir.Syntax.{w32}
 use mir.Val.{SFits}
 use mir.Facts.{toZ-ofZ}

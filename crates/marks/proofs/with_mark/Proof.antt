@@ -1,6 +1,6 @@
 -- `marks::with_mark` meets its contract: a bit that is not there, that is set already, and that is added.
-use mathlib.Core.Path.{_≡_, sym, ap, _∙_}
-use Prim.Native.Nat.{ℕ, _+_, _^_}
+use mathlib.Core.Path.{sym, ap, _∙_}
+use Prim.Native.Nat.{ℕ, _+_}
 use borrow.Author.Needs.{needs}
 use Rattle.marks.proofs.Marks.{bit-below, with-past, with-old, with-new}
 use Rattle.marks.proofs.with_mark.Statement.{statement}

@@ -11,7 +11,7 @@ use Rattle.entries.specs.Entries.{zeros}
 use Rattle.entries.specs.Tables.{mark, number, marksOf, numbersOf}
 use Rattle.entries.proofs.Tables.{marks-next, marks-fit, numbers-next}
 use Rattle.ring_collection.specs.Inner.{sent, sentBy}
-use Rattle.ring_collection.proofs.Lists.{table-filled}
+use Rattle.entries.proofs.Tables.{table-filled}
 use Rattle.ring_collection.proofs.entries_sent.Statement.{statement}
 use Rattle.ring_collection.proofs.entries_sent.Tie as tie
 

@@ -21,24 +21,9 @@ use Rattle.entries.specs.Entries.{fits, entryAt, numbers}
 use Rattle.entries.specs.Tables.{tableAt, mark, number, marksOf, numbersOf, tableOf}
 use Rattle.entries.proofs.Entries.{numbers-length}
 use Rattle.convergence.specs.Counting.{Each}
-use Rattle.convergence.proofs.Sums.{each-last, each-less, each-more}
+use Rattle.convergence.proofs.Sums.{each-more}
 use Rattle.frame_spec.specs.Proper.{ProperTable}
 use Rattle.frame_spec.proofs.Listing.{numbers-none, unmarked-zero}
-
--- ---- a table depends on its entries only
-
-marks-same : (n : ℕ) (E E′ : ℕ → Entry) → Each n (λ j. E j ≡ E′ j) → marksOf n E ≡ marksOf n E′
-unfolding marksOf
-marks-same zero E E′ h = refl
-marks-same (suc n) E E′ h = cc (each-last h, marks-same n E E′ (each-less h))
-
-numbers-same : (n : ℕ) (E E′ : ℕ → Entry) → Each n (λ j. E j ≡ E′ j) → numbersOf n E ≡ numbersOf n E′
-unfolding numbersOf
-numbers-same zero E E′ h = refl
-numbers-same (suc n) E E′ h = cc (each-last h, numbers-same n E E′ (each-less h))
-
-pub table-same : (n : ℕ) (E E′ : ℕ → Entry) → Each n (λ j. E j ≡ E′ j) → tableOf n E ≡ tableOf n E′
-table-same n E E′ h = rw (marks-same n E E′ h, numbers-same n E E′ h)
 
 -- ---- marks
 
