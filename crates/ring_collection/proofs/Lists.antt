@@ -15,7 +15,7 @@ use lib.Seq.{getD-set-same, getD-set-other, set-set, set-comm}
 use lib.IntN.{ℤ}
 use borrow.Author.Tests.{lt-ltb, eq-eqb, ne-eqb}
 use Rattle.terms.specs.declared.Entry.{Entry}
-use Rattle.terms.specs.declared.Entry.the-variants.{Null}
+use Rattle.terms.specs.declared.Entry.the-variants.{Null, Position}
 use Rattle.terms.specs.declared.Table.{Table}
 use Rattle.marks.specs.Marks.{bitOf}
 use Rattle.entries.specs.Tables.{mark, number, marksOf, numbersOf, tableOf}
@@ -24,11 +24,13 @@ use Rattle.convergence.specs.Counting.{Each}
 use Rattle.convergence.proofs.Sums.{each-last, each-less}
 use Rattle.frame_spec.specs.Said.{Meaning, collected, said}
 use Rattle.frame_spec.specs.Written.{frameOf}
+use Rattle.frame_spec.specs.Proper.{Proper}
+use Rattle.frame_spec.proofs.ReadsBack.{reads-back}
 use Rattle.frame_spec.proofs.Senders.{said-alike}
 use Rattle.head_spec.specs.Record.{heardEntry}
 use Rattle.ring_round.specs.declared.Stage.{Stage}
 use Rattle.ring_round.specs.Memory.{heads, hears, ToldAlike, sends, listEntry, rowIn}
-use Rattle.ring_collection.specs.Inner.{ownEntry, sent, sentBy, heardOf, heardWith, Shared}
+use Rattle.ring_collection.specs.Inner.{sayable, ownEntry, sent, sentBy, heardOf, heardWith, Shared}
 use Rattle.ring_round.proofs.Filling.{filledTo, Filled, filled-none, filled-passed, filled-stored, filled-yet}
 
 -- ---- tables
@@ -96,11 +98,26 @@ module _ (E : ℕ → Entry) (k n : ℕ) (e : Entry) {m r : ℕ} (none : E k ≡
 
 -- ---- what is heard
 
--- e: what head k sends; bytes: its frame; r: the entry that was read of it
-pub sent-is : (s : Stage) (positions : List ℤ) (k : ℕ) {n : ℕ} {e r : Entry} {bytes : List ℕ} → n ≡ heads s → e ≡ ownEntry s positions k
-    → bytes ≡ frameOf (heads s) k (s .phase) (collected e) → r ≡ heardEntry (said n (s .phase) 0 k bytes) → r ≡ sent s positions k
-unfolding sent
-sent-is s positions k p q f e = e ∙ rw (f, q, p)
+-- n: the heads that are played; bytes: the frame of the entry e; r: the entry that was read of it
+pub written-is : (s : Stage) (k : ℕ) (e : Entry) {n : ℕ} {r : Entry} {bytes : List ℕ} → n ≡ heads s
+    → bytes ≡ frameOf (heads s) k (s .phase) (collected e) → r ≡ heardEntry (said n (s .phase) 0 k bytes) → r ≡ heardOf s (frameOf (heads s) k (s .phase) (collected e)) k
+unfolding heardOf
+written-is s k e p f q = q ∙ rw (f, p)
+
+-- e: what head k sends
+module _ (s : Stage) (positions : List ℤ) (k : ℕ) {e : Entry} (own : e ≡ ownEntry s positions k) where
+  pub sent-written : {r : Entry} → r ≡ heardOf s (frameOf (heads s) k (s .phase) (collected e)) k → r ≡ sent s positions k
+  unfolding heardOf sent
+  sent-written q = q ∙ rw own
+
+  -- what a frame can say is heard as it is
+  pub sent-as-is : s .phase < 65536 → sayable e ≡ true → e ≡ sent s positions k
+  unfolding sent
+  sent-as-is small h = sym (ap heardEntry (reads-back (heads s) k (s .phase) (collected e) (omega arith) small (proper e h))) ∙ rw own
+    where
+      proper : (x : Entry) → sayable x ≡ true → Proper (heads s) (collected x)
+      proper Null q = tt
+      proper (Position v) q = q
 
 pub sent-none : (s : Stage) (positions : List ℤ) (k : ℕ) → bitOf (s .struck) k ≡ true → sentBy s positions k ≡ Null
 unfolding sentBy

@@ -1,11 +1,13 @@
 -- What the private functions promise each other. Readers of the public promises do not need this file.
 use mathlib.Core.Path.{_≡_}
-use mathlib.Core.Bool.{true, cond}
+use mathlib.Core.Bool.{Bool, true, cond}
 use mathlib.Core.List.{List}
 use Prim.Native.Nat.{ℕ}
 use lib.ListN.{getD}
 use lib.IntN.{ℤ, pos}
+use Rattle.terms.specs.Positions.{isPosition}
 use Rattle.terms.specs.declared.Entry.{Entry}
+use Rattle.terms.specs.declared.Entry.the-variants.{Null, Position}
 use Rattle.terms.specs.declared.Table.{Table}
 use Rattle.marks.specs.Marks.{bitOf}
 use Rattle.entries.specs.Tables.{tableOf}
@@ -15,6 +17,11 @@ use Rattle.head_spec.specs.Record.{heardEntry}
 use Rattle.ring_round.specs.declared.Stage.{Stage}
 use Rattle.ring_round.specs.Memory.{heads, sends}
 
+-- whether a frame can say an entry
+abbrev pub sayable : Entry → Bool
+sayable Null = true
+sayable (Position v) = isPosition v
+
 -- what head k sends
 abbrev pub ownEntry : Stage → List ℤ → ℕ → Entry
 ownEntry s positions k = cond (bitOf (s .before) k) Entry.Null (Entry.Position (getD positions k (pos 0)))
@@ -23,7 +30,7 @@ ownEntry s positions k = cond (bitOf (s .before) k) Entry.Null (Entry.Position (
 unfoldable pub sent : Stage → List ℤ → ℕ → Entry
 sent s positions k = heardEntry (said (heads s) (s .phase) 0 k (frameOf (heads s) k (s .phase) (sends s positions k)))
 
--- what is heard of head k, if these bytes are planted
+-- what is heard of head k, if these bytes come from it
 unfoldable pub heardOf : Stage → List ℕ → ℕ → Entry
 heardOf s bytes k = heardEntry (said (heads s) (s .phase) 0 k bytes)
 

@@ -1,14 +1,15 @@
-// A collection round of a whole ring, played on the heads' memory: the list of each head that is not struck. What all unstruck heads say is read once.
+// A collection round of a whole ring, played on the heads' memory: the list of each head that is not struck. What all unstruck heads say is heard once.
 ghost use mathlib.Core.Bool.{true, cond};
 ghost use mathlib.Core.Path.{_≡_};
 ghost use Prim.Native.Nat.{ℕ, _<_};
 ghost use lib.ListN.{length};
 ghost use Rattle.entries.specs.Tables.{tableOf, mark, number};
-ghost use Rattle.frame_spec.specs.Said.{said};
+ghost use Rattle.frame_spec.specs.Said.{said, collected};
+ghost use Rattle.frame_spec.specs.Written.{frameOf};
 ghost use Rattle.head_spec.specs.Record.{heardEntry};
 ghost use Rattle.ring_round.specs.Memory.{heads, hears, sends, listEntry, rowIn};
 ghost use Rattle.frame_slots.specs.Slots.{plantedIn};
-ghost use Rattle.ring_collection.specs.Inner.{ownEntry, sent, sentBy, heardOf, heardWith, Shared};
+ghost use Rattle.ring_collection.specs.Inner.{sayable, ownEntry, sent, sentBy, heardOf, heardWith, Shared};
 use frame_spec::Said;
 use ring_round::Stage;
 use terms::Entry;
@@ -40,18 +41,39 @@ fn own_entry(s: Stage, positions: &Numbers, k: usize) -> Entry
     Entry::Position(positions[k])
 }
 
-// What each unstruck head hears of head k, if that is not struck either.
-fn entry_sent(s: Stage, positions: &Numbers, k: usize) -> Entry
+// Whether a frame can say an entry: null, or a position in range.
+fn is_sayable(e: Entry) -> bool
+    ensures { λ r. ⌜ r ≡ sayable e ⌝ }
+{
+    match e {
+        Entry::Null => true,
+        Entry::Position(v) => steps::is_position(v),
+    }
+}
+
+// What is heard of head k if it sends this entry in a frame.
+fn entry_written(s: Stage, own: Entry, k: usize) -> Entry
     requires { ⌜ k < 32 ⌝ }
-    ensures { λ r. ⌜ r ≡ sent s (now (positions .entry)) k ⌝ }
+    ensures { λ r. ⌜ r ≡ heardOf s (frameOf (heads s) k (s .phase) (collected own)) k ⌝ }
 {
     let n = ring_round::head_count(s);
     let entries = [0i32; 32];
     let table = Table { marks: 0, entries };
-    let what = Said::Collection(own_entry(s, positions, k));
     let mut buffer = [0u8; 140];
-    let len = ring_round::write_frame(what, table, s, k as u8, &mut buffer);
+    let len = ring_round::write_frame(Said::Collection(own), table, s, k as u8, &mut buffer);
     entry_in(&buffer[..len], n, s.phase, k as u8)
+}
+
+// What each unstruck head hears of head k, if that is not struck either. What a frame can say is heard as it is, so no frame is written.
+fn entry_sent(s: Stage, positions: &Numbers, k: usize) -> Entry
+    requires { ⌜ k < 32 ⌝ }
+    ensures { λ r. ⌜ r ≡ sent s (now (positions .entry)) k ⌝ }
+{
+    let own = own_entry(s, positions, k);
+    if is_sayable(own) {
+        return own;
+    }
+    entry_written(s, own, k)
 }
 
 // Whether heads i and m send the same position.

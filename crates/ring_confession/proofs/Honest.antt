@@ -7,8 +7,6 @@ use mathlib.Core.List.{List, [], _∷_, _++_}
 use Prim.Native.Nat.{ℕ, zero, suc, _+_, _*_, _^_, _≤_, _<_}
 use native.Mathlib.Omega.{arith}
 use native.Mathlib.Decide.{decLt}
-use mir.Val.{Val}
-use denote.Laws.{Is}
 use lib.Dec.{ltb}
 use lib.ListN.{getD}
 use lib.IntN.{ℤ, pos}
@@ -36,7 +34,6 @@ use Rattle.settle_trust.specs.Received.{givenBy}
 use Rattle.head_spec.specs.Record.{givenOf}
 use Rattle.ring_round.specs.declared.Stage.{Stage}
 use Rattle.ring_round.specs.Memory.{heads, hears, rowIn}
-use Rattle.ring_round.proofs.Stage.{the-row}
 use Rattle.ring_round.proofs.Filling.{Filled, filled-none, filled-passed, filled-stored, filled-yet}
 use Rattle.ring_confession.specs.Inner.{replied, givenAlike, ListFits, ListsFit, OwnLinks}
 
@@ -92,10 +89,6 @@ module _ (n m : ℕ) (E : List ℤ) (size : n ≤ 32) (F : ListFits n m E) where
   heard-as-is k p small = ap givenOf (said-front k p small) ∙ ap gave (fun-ext front-entry)
 
 -- ---- what the unstruck heads say
-
--- the third field of a stage is a word of two bytes
-pub phase-small : {vs : List Val} (s : Stage) → Is the-row s vs → s .phase < 65536
-phase-small s is = is .1 .1 .1 .1 .0 .1
 
 module _ (s : Stage) where
   abbrev unstruck : ℕ → Bool

@@ -2,8 +2,10 @@
 -- beside it, is all that the frame says.
 use mathlib.Core.Path.{_≡_, refl, ap, sym, _∙_}
 use mathlib.Core.List.{List, [], _++_}
-use Prim.Native.Nat.{ℕ, _+_, _-_, _*_, _≤_}
+use Prim.Native.Nat.{ℕ, _+_, _-_, _*_, _≤_, _<_}
 use native.Mathlib.Omega.{arith}
+use mir.Val.{Val}
+use denote.Laws.{Is}
 use lib.ListN.{length, getD, take, drop, drop-of-length-le, length-append, length-drop}
 use lib.Seq.{take-nil, take-all, take-at}
 use borrow.Author.Tests.{le-leb}
@@ -14,7 +16,9 @@ use Rattle.frame_spec.specs.Said.{Meaning, refused, collected, listed, confesse
 use Rattle.frame_spec.specs.Written.{frameOf, written, buffered}
 use Rattle.frame_spec.proofs.Listing.{list-length}
 use Rattle.frame_spec.proofs.OneMeaning.{meant-said}
+use Rattle.ring_round.specs.declared.Stage.{Stage}
 use Rattle.ring_round.specs.Frames.{Front}
+use Rattle.ring_round.proofs.Stage.{the-row}
 
 -- ---- written
 
@@ -50,3 +54,9 @@ front-written {n} k p m s {x} {out} same h l e f =
 -- x: what was read
 pub said-read : (n p r k : ℕ) (s : List ℕ) {x : Said} → x ≡ saidOf (said n p r k s) → said n p r k s ≡ meant x (tableIn n (restField s))
 said-read n p r k s e = sym (meant-said n p r k s) ∙ ap (λ (x : Said). meant x (tableIn n (restField s))) (sym e)
+
+-- ---- the phase of a frame
+
+-- a phase is a word of two bytes; s: a stage as the machine holds it
+pub phase-small : {vs : List Val} (s : Stage) → Is the-row s vs → s .phase < 65536
+phase-small s is = is .1 .1 .1 .1 .0 .1

@@ -1,4 +1,4 @@
-// A round of a whole ring, played on the heads' memory: what each head says is written as its frame and heard as a frame, planted bytes are heard as they are.
+// A round of a whole ring, played on the heads' memory: what each head says is heard as its frame reads back, planted bytes are heard as they are.
 // `collection` and `confession` play the two rounds; here is what both need.
 ghost use mathlib.Core.Bool.{true};
 ghost use mathlib.Core.Path.{_≡_};

@@ -1,33 +1,23 @@
--- `ring_collection::entry_sent` meets its contract: the frame of what head k sends is written and read back.
-use mathlib.Core.Path.{sym}
+-- `ring_collection::entry_sent` meets its contract: what a frame can say is heard as it is, and anything else in its frame.
+use mathlib.Core.Path.{sym, _∙_}
 use denote.Ref.{now}
 use borrow.Author.Needs.{needs}
-use lib.Seq.{length-take-le}
-use Rattle.ring_collection.proofs.Lists.{sent-is}
+use Rattle.ring_round.proofs.Frames.{phase-small}
+use Rattle.ring_collection.proofs.Lists.{sent-written, sent-as-is}
 use Rattle.ring_collection.proofs.entry_sent.Statement.{statement}
 use Rattle.ring_collection.proofs.entry_sent.Tie as tie
 
-slice-aggregate-entry-in : tie.Need-slice-aggregate-entry-in
-slice-aggregate-entry-in c = sym (length-take-le _ _ (c .before .write-frame .ensures .within))
-
 returns : tie.Need-returns
 returns c =
-    let w = c .before .before in
-    let o = w .before .before in
-    let h = o .before in
-    let a = h .before .args in
-    sent-is (a .s) (now (a .positions)) (a .k) (h .head-count .ensures) (o .own-entry .ensures) (w .write-frame .ensures .front) (c .entry-in .ensures)
+    let o = c .before .before in
+    let s = o .before in
+    sent-as-is (s .args .s) (now (s .args .positions)) (s .args .k) (o .own-entry .ensures) (phase-small (s .args .s) (s .good .0)) (sym (c .before .is-sayable .ensures) ∙ c .if1 .taken)
+
+returns-2 : tie.Need-returns-2
+returns-2 c =
+    let o = c .before .before .before in
+    let s = o .before in
+    sent-written (s .args .s) (now (s .args .positions)) (s .args .k) (o .own-entry .ensures) (c .entry-written .ensures)
 
 pub entry-sent-spec : {M : Type 1} → statement M
-entry-sent-spec =
-    tie.close
-    (tie.spec
-    (λ c κs. search needs)
-    (λ c κs. search needs)
-    (λ c. search needs)
-    (λ c κs. search needs)
-    (λ c. search needs)
-    slice-aggregate-entry-in
-    (λ c. search needs)
-    (λ c κs. search needs)
-    returns)
+entry-sent-spec = tie.close (tie.spec (λ c κs. search needs) (λ c κs. search needs) returns (λ c κs. search needs) returns-2)

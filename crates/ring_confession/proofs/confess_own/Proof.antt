@@ -9,12 +9,13 @@ use lib.ListN.{getD}
 use lib.IntN.{ℤ, pos}
 use Rattle.frame_slots.specs.Slots.{plantedIn}
 use Rattle.ring_round.specs.Memory.{hears, newPosition}
+use Rattle.ring_round.proofs.Frames.{phase-small}
 use Rattle.settle_trust.specs.declared.Links.{Links}
 use Rattle.settle_trust.specs.Received.{givenBy}
 use Rattle.ring_shared.specs.Planted.{Alike, givenTo, settledFrom}
 use Rattle.ring_confession.specs.Inner.{givenAlike}
 use Rattle.ring_confession.proofs.Settling.{alike-given, new-settled}
-use Rattle.ring_confession.proofs.Honest.{phase-small, own-given}
+use Rattle.ring_confession.proofs.Honest.{own-given}
 use Rattle.ring_confession.proofs.confess_own.Statement.{statement}
 use Rattle.ring_confession.proofs.confess_own.Tie as tie
 
