@@ -1,15 +1,16 @@
 // From what the links gave in a confession round to the new position.
 ghost use mathlib.Core.Path.{_≡_};
 ghost use mathlib.Core.Bool.{true, false};
-ghost use Prim.Native.Nat.{_+_, _≤_, _<_};
+ghost use Prim.Native.Nat.{ℕ, _+_, _≤_, _<_};
 ghost use lib.ListN.{length, getD};
-ghost use Rattle.marks.specs.Marks.{bitOf};
 ghost use Rattle.convergence.specs.Counting.{Each, bit};
 ghost use Rattle.convergence.specs.Settling.{twoRounds};
 ghost use Rattle.convergence.specs.Trust.{trusted};
 ghost use Rattle.settle_trust.specs.Received.{givenBy};
-ghost use Rattle.settle_position.specs.Reference.{sameNumber, isApart, alikeTo, apartFrom, agreeing, Compares, Decides, Lacks};
-ghost use Rattle.settle_trust.specs.Cells.{columnOf, CellOf, decided};
+ghost use Rattle.settle_position.specs.Reference.{sameNumber, isApart, Compares, Decides, Lacks};
+ghost use Rattle.settle_position.specs.Deciding.{Prepared};
+ghost use Rattle.settle_trust.specs.Cells.{CellOf};
+ghost use Rattle.settle_midpoint.specs.Orders.{OrderAfter};
 ghost use Rattle.settle_midpoint.specs.Answers.{settling};
 use settle_midpoint::Order;
 use settle_trust::Links;
@@ -66,13 +67,13 @@ fn compare(lists: &Lists, marks: &Words, n: usize, reference: usize) -> Comparis
 {
     let word = marks[reference];
     let row = lists[reference];
-    let mut alike: usize = 0;
-    let mut apart: usize = 0;
+    let mut alike: u8 = 0;
+    let mut apart: u8 = 0;
     let mut same = [0u32; 32];
     let mut k: usize = 0;
     while k < n {
-        alike += (marks[k] == word) as usize;
-        apart += is_apart(marks[k], word) as usize;
+        alike += (marks[k] == word) as u8;
+        apart += is_apart(marks[k], word) as u8;
         if marks[k] == word {
             add_same(&lists[k], &row, &mut same);
         }
@@ -124,7 +125,14 @@ fn cell_by(lists: &Lists, marks: &Words, same: &Words, d: Deciding, j: usize) ->
     if lacks(x, d.need, d.alike, d.apart, same[j]) {
         return 0;
     }
-    settle_trust::trusted_cell(lists, marks, d.confessed, d.count as usize, d.need as usize, j)
+    settle_trust::trusted_cell(
+        lists,
+        marks,
+        d.confessed,
+        d.count as usize,
+        d.need as usize,
+        j,
+    )
 }
 
 // What deciding looks at, with the list of the link `reference` looked at first: if most lists are like it, it decides nearly all entries. It goes to the two lent
@@ -144,7 +152,8 @@ pub fn prepare(
     let count = terms::at_most_32(n as usize);
     *marks = settle_trust::all_marks(links, n);
     let comparison = compare(lists, marks, count, first);
-    *same = comparison.same;
+    let agreeing = comparison.same;
+    *same = agreeing;
     Deciding {
         count: count as u8,
         need: settle_trust::lists_needed(links.confessed, n, f) as u8,
