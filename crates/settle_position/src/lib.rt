@@ -105,7 +105,7 @@ fn lacks(x: u64, need: u8, alike: u8, apart: u8, same: u32) -> bool
     if need as u64 <= same as u64 + apart as u64 {
         return false;
     }
-    alike as u64 + (apart as u64) < same as u64 + need as u64
+    apart as u64 + (alike as u64) < same as u64 + need as u64
 }
 
 // The cell of trusted entry j as `trusted_cell` has it, from the reference's list alone if that decides.

@@ -17,7 +17,7 @@ returns-2 c = λ t. absurd (true≢false (sym t))
 returns-3 : tie.Need-returns-3
 returns-3 c =
     let a = c .before .before .args in
-    λ t. (omega (arith, c .before .if1 .left), omega (arith, c .if2 .left), omega (arith, ltb-true (a .alike + a .apart) (a .same + a .need) t))
+    λ t. (omega (arith, c .before .if1 .left), omega (arith, c .if2 .left), omega (arith, ltb-true (a .apart + a .alike) (a .same + a .need) t))
 
 pub lacks-spec : {M : Type 1} → statement M
 lacks-spec =
