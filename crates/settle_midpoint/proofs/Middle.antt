@@ -16,7 +16,7 @@ use Rattle.convergence.specs.Settling.{Rule, nulls, trim, twoRounds, ordered, l
 use Rattle.convergence.proofs.Order.{length-ordered}
 use Rattle.settle_midpoint.specs.declared.Settled.{Settled}
 use Rattle.settle_midpoint.specs.Answers.{settling, settlingFrom}
-use Rattle.settle_midpoint.specs.Orders.{orderOf, inOrder}
+use Rattle.settle_midpoint.specs.Orders.{OrderAfter}
 use Rattle.settle_midpoint.proofs.Ordering.{padded-front}
 
 pub settling-from : (r n : ℕ) (R : Rule) (E : ℕ → Entry) → settling r n R E ≡ settlingFrom r n R (ordered n E)
@@ -25,9 +25,9 @@ settling-from r n R E =
     let z : nulls n E ≡ n - length (ordered n E) = omega (arith, length-ordered n E) in
     rw z
 
--- what `order_of` gives, `middle_of` settles
-pub settling-in-order : (r n : ℕ) (R : Rule) (E : ℕ → Entry) → settlingFrom r n R (inOrder (orderOf (ordered n E))) ≡ settling r n R E
-settling-in-order r n R E = rw padded-front (sym (settling-from r n R E))
+-- after n entries the order says all that settling asks of them
+pub settling-after : (r n : ℕ) (R : Rule) (E : ℕ → Entry) {len : ℕ} {a : List ℤ} → OrderAfter n E len a → settlingFrom r n R (take len a) ≡ settling r n R E
+settling-after r n R E h = rw (h .counts, h .holds, padded-front (ordered n E)) (sym (settling-from r n R E))
 
 -- ---- as the code works it out
 

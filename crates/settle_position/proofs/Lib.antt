@@ -1,3 +1,2 @@
--- Laws of the crate: what a reference list decides, and how the trusted entries make the new position.
+-- Laws of the crate: what a reference list decides.
 pub mod Reference
-pub mod Settling

@@ -4,8 +4,9 @@ use mathlib.Core.Path.{_≡_, refl, ap, sym, _∙_}
 use mathlib.Core.Logic.{_≢_}
 use mathlib.Core.Bool.{Bool, true, false, not, cond, _&&_}
 use mathlib.Core.List.{List, [], _∷_}
-use Prim.Native.Nat.{ℕ, zero, suc, _+_, _≤_, _<_}
+use Prim.Native.Nat.{ℕ, zero, suc, _+_, _%_, _≤_, _<_}
 use native.Mathlib.Omega.{arith}
+use native.Mathlib.Nat.{mod-eq-of-lt}
 use lib.Dec.{T, eqb, eqb→eq}
 use lib.IntN.{ℤ, pos, ℤ-discrete}
 use lib.ListN.{getD}
@@ -24,6 +25,8 @@ use Rattle.convergence.proofs.Support.{same-position, not-null, is-same, is-oth
 use Rattle.convergence.proofs.Links.{is-le}
 use Rattle.settle_trust.specs.Cells.{columnOf, CellOf, standsIn, decided}
 use Rattle.settle_position.specs.Reference.{sameNumber, isApart, agrees, alikeTo, apartFrom, agreeing, Decides, Lacks}
+use Rattle.settle_position.specs.declared.Deciding.{Deciding}
+use Rattle.settle_position.specs.Deciding.{Prepared}
 use Rattle.marks.proofs.Counts.{sum-next}
 use Rattle.settle_trust.proofs.Cells.{holds-null, holds-same}
 use Rattle.settle_trust.proofs.Search.{only-seen, none-seen}
@@ -203,17 +206,26 @@ module _ (n need : ℕ) (marks : List ℕ) (lists : List (List ℤ)) (reference 
       few w =
           omega (arith, sums-le n ((λ k. is w (E k)) ∷ []) (aparts ∷ []) (λ k l. omega (arith, rw (says k) at (apart-is j (m k) (m reference) (a k) (a reference) w (sym leads ∙ e)))))
 
-  -- the cell x of the reference is the one that the lists decide on
-  pub led-decided : {x alike apart same : ℕ} {b : Bool} → b ≡ false → alike ≡ alikeTo n marks reference → apart ≡ apartFrom n marks reference → same ≡ agreeing n marks lists reference j
-      → CellOf x (E reference) → Decides x need alike apart same → CellOf x (decided b n need E)
-  led-decided {x = zero} z p q r h d =
-      holds-same h (sym (h .entry) ∙ sym (led-null (sym (h .entry)) (omega arith)) ∙ sym (ap (λ (b : Bool). decided b n need E) z))
-  led-decided {x = suc w} z p q r h d =
-      holds-same h (sym (h .entry) ∙ sym (led-position (sym (h .entry)) (omega (arith, d .0)) (omega (arith, d .1))) ∙ sym (ap (λ (b : Bool). decided b n need E) z))
+  led : {x : ℕ} → CellOf x (E reference) → Decides x need (alikeTo n marks reference) (apartFrom n marks reference) (agreeing n marks lists reference j) → CellOf x (decided false n need E)
+  led {x = zero} h d = holds-same h (sym (h .entry) ∙ sym (led-null (sym (h .entry)) d))
+  led {x = suc w} h d = holds-same h (sym (h .entry) ∙ sym (led-position (sym (h .entry)) (d .0) (d .1)))
 
-  -- the cell x of the reference shows that the lists decide on none
-  pub led-lacks : {x alike apart same : ℕ} {b : Bool} → b ≡ false → alike ≡ alikeTo n marks reference → apart ≡ apartFrom n marks reference → same ≡ agreeing n marks lists reference j
-      → CellOf x (E reference) → Lacks x need alike apart same → CellOf 0 (decided b n need E)
-  led-lacks {x = zero} z p q r h d = absurd (omega (arith, d .0))
-  led-lacks {x = suc w} z p q r h d =
-      holds-same holds-null (sym (led-lacking (sym (h .entry)) (omega (arith, d .1)) (omega (arith, d .2))) ∙ sym (ap (λ (b : Bool). decided b n need E) z))
+  lacking : {x : ℕ} → CellOf x (E reference) → Lacks x need (alikeTo n marks reference) (apartFrom n marks reference) (agreeing n marks lists reference j) → CellOf 0 (decided false n need E)
+  lacking {x = zero} h d = absurd (omega (arith, d .0))
+  lacking {x = suc w} h d = holds-same holds-null (sym (led-lacking (sym (h .entry)) (d .1) (d .2)))
+
+-- ---- entry j of a link that did not confess, by the cell x of the reference
+
+module _ {E : ℕ → Entry} {lists : List (List ℤ)} {marks same : List ℕ} {d : Deciding} (P : Prepared E lists marks same d) (j : ℕ) {x : ℕ} (below : j < 32)
+    (unconfessed : bitOf (d .confessed) j ≡ false) (h : CellOf x (columnOf marks lists j (d .reference % 32))) where
+  cell : CellOf x (columnOf marks lists j (d .reference))
+  cell = rw (mod-eq-of-lt (P .within)) at h
+
+  is-entry : decided false (d .count) (d .need) (columnOf marks lists j) ≡ E j
+  is-entry = rw unconfessed at (P .decides j)
+
+  pub led-decided : Decides x (d .need) (d .alike) (d .apart) (getD same j 0) → CellOf x (E j)
+  led-decided t = holds-same (led (d .count) (d .need) marks lists (d .reference) j cell (rw (P .alike, P .apart, P .agree j below) at t)) is-entry
+
+  pub led-lacks : Lacks x (d .need) (d .alike) (d .apart) (getD same j 0) → CellOf 0 (E j)
+  led-lacks t = holds-same (lacking (d .count) (d .need) marks lists (d .reference) j cell (rw (P .alike, P .apart, P .agree j below) at t)) is-entry

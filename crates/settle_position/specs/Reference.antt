@@ -1,5 +1,5 @@
--- How the search for the trusted entries goes by the list of one link, the reference, before it counts a column. Nothing here is needed to read the promises of
--- public functions.
+-- How the search for the trusted entries goes by the list of one link, the reference, before it counts a column. Nothing here is needed to read what
+-- `settle_by` and `settle` promise.
 use mathlib.Core.Path.{_≡_}
 use mathlib.Core.Bool.{Bool, not, _&&_}
 use mathlib.Core.List.{List, []}

@@ -1,15 +1,16 @@
 // From what the links gave in a confession round to the new position.
 ghost use mathlib.Core.Path.{_≡_};
 ghost use mathlib.Core.Bool.{true, false};
-ghost use Prim.Native.Nat.{_+_, _≤_, _<_};
+ghost use Prim.Native.Nat.{ℕ, _+_, _≤_, _<_};
 ghost use lib.ListN.{length, getD};
-ghost use Rattle.marks.specs.Marks.{bitOf};
 ghost use Rattle.convergence.specs.Counting.{Each, bit};
 ghost use Rattle.convergence.specs.Settling.{twoRounds};
 ghost use Rattle.convergence.specs.Trust.{trusted};
 ghost use Rattle.settle_trust.specs.Received.{givenBy};
-ghost use Rattle.settle_position.specs.Reference.{sameNumber, isApart, alikeTo, apartFrom, agreeing, Compares, Decides, Lacks};
-ghost use Rattle.settle_trust.specs.Cells.{columnOf, CellOf, decided};
+ghost use Rattle.settle_position.specs.Reference.{sameNumber, isApart, Compares, Decides, Lacks};
+ghost use Rattle.settle_position.specs.Deciding.{Prepared};
+ghost use Rattle.settle_trust.specs.Cells.{CellOf};
+ghost use Rattle.settle_midpoint.specs.Orders.{OrderAfter};
 ghost use Rattle.settle_midpoint.specs.Answers.{settling};
 use settle_midpoint::Order;
 use settle_trust::Links;
@@ -20,10 +21,21 @@ use terms::Words;
 
 // How n lists stand to the list of one link, the reference: how many have its mark word, how many another one that is not 0, and for each entry how many of the
 // first have its number.
-pub struct Comparison {
-    pub alike: usize,
-    pub apart: usize,
-    pub same: Words,
+struct Comparison {
+    alike: u8,
+    apart: u8,
+    same: Words,
+}
+
+// What deciding an entry looks at beside the lists, their marks, and how many of them agree with the reference: worked out once when a round is closed. How many
+// links there are, how many lists have to agree, who confessed, which link is the reference, how many lists have its marks, and how many have others.
+pub struct Deciding {
+    pub count: u8,
+    pub need: u8,
+    pub confessed: u32,
+    pub reference: u8,
+    pub alike: u8,
+    pub apart: u8,
 }
 
 // One more for each entry at which two lists have the same number.
@@ -55,13 +67,13 @@ fn compare(lists: &Lists, marks: &Words, n: usize, reference: usize) -> Comparis
 {
     let word = marks[reference];
     let row = lists[reference];
-    let mut alike: usize = 0;
-    let mut apart: usize = 0;
+    let mut alike: u8 = 0;
+    let mut apart: u8 = 0;
     let mut same = [0u32; 32];
     let mut k: usize = 0;
     while k < n {
-        alike += (marks[k] == word) as usize;
-        apart += is_apart(marks[k], word) as usize;
+        alike += (marks[k] == word) as u8;
+        apart += is_apart(marks[k], word) as u8;
         if marks[k] == word {
             add_same(&lists[k], &row, &mut same);
         }
@@ -71,109 +83,109 @@ fn compare(lists: &Lists, marks: &Words, n: usize, reference: usize) -> Comparis
 }
 
 // Whether the cell x of the reference's list decides: enough lists hold it, and those that may hold another position are too few.
-fn decides(x: u64, need: usize, alike: usize, apart: usize, same: usize) -> bool
-    requires { ⌜ (need ≤ 255) × (alike ≤ 32) × (apart ≤ 32) × (same ≤ 32) ⌝ }
+fn decides(x: u64, need: u8, alike: u8, apart: u8, same: u32) -> bool
     ensures { λ r. ⌜ (r ≡ true → Decides x need alike apart same) ⌝ }
 {
     if x == 0 {
         return apart < need;
     }
-    if same < need {
+    if same < need as u32 {
         return false;
     }
-    alike + apart < same + need
+    alike as u64 + (apart as u64) < same as u64 + need as u64
 }
 
 // Whether there is no trusted position, by the cell x of the reference's list: the lists that may hold it are too few, and so are those that may hold another.
-fn lacks(x: u64, need: usize, alike: usize, apart: usize, same: usize) -> bool
-    requires { ⌜ (need ≤ 255) × (alike ≤ 32) × (apart ≤ 32) × (same ≤ 32) ⌝ }
+fn lacks(x: u64, need: u8, alike: u8, apart: u8, same: u32) -> bool
     ensures { λ r. ⌜ (r ≡ true → Lacks x need alike apart same) ⌝ }
 {
     if x == 0 {
         return false;
     }
-    if need <= same + apart {
+    if need as u64 <= same as u64 + apart as u64 {
         return false;
     }
-    apart + alike < same + need
+    apart as u64 + (alike as u64) < same as u64 + need as u64
 }
 
 // The cell of trusted entry j as `trusted_cell` has it, from the reference's list alone if that decides.
-fn cell_by(
-    lists: &Lists,
-    marks: &Words,
-    confessed: u32,
-    n: usize,
-    need: usize,
-    j: usize,
-    reference: usize,
-    alike: usize,
-    apart: usize,
-    same: usize,
-) -> u64
-    requires { ⌜ (n ≤ 32) × (need ≤ 255) × (reference < 32) × (alike ≡ alikeTo n (now marks) reference) × (apart ≡ apartFrom n (now marks) reference) × (same ≡ agreeing n (now marks) (now lists) reference j) ⌝ }
-    ensures { λ r. ⌜ CellOf r (decided (bitOf confessed j) n need (columnOf (now (marks .entry)) (now (lists .entry)) j)) ⌝ }
+fn cell_by(lists: &Lists, marks: &Words, same: &Words, d: Deciding, j: usize) -> u64
+    requires { ⌜ j < 32 ⌝ }
+    ensures { λ r. ⌜ ((E : ℕ → Entry) → Prepared E (now (lists .entry)) (now (marks .entry)) (now (same .entry)) d → CellOf r (E j)) ⌝ }
 {
-    let confesses = marks::marked(confessed, j);
+    let confesses = marks::marked(d.confessed, j);
     if confesses {
         return 0;
     }
-    let x = settle_trust::entry_cell(marks[reference], &lists[reference], j);
-    if decides(x, need, alike, apart, same) {
+    let k = (d.reference % 32) as usize;
+    let x = settle_trust::entry_cell(marks[k], &lists[k], j);
+    if decides(x, d.need, d.alike, d.apart, same[j]) {
         return x;
     }
-    if lacks(x, need, alike, apart, same) {
+    if lacks(x, d.need, d.alike, d.apart, same[j]) {
         return 0;
     }
-    settle_trust::trusted_cell(lists, marks, confessed, n, need, j)
+    settle_trust::trusted_cell(
+        lists,
+        marks,
+        d.confessed,
+        d.count as usize,
+        d.need as usize,
+        j,
+    )
 }
 
-// The new position from what the links gave; `up`: whether an odd sum is rounded up. Each trusted entry goes to its place in the order as soon as it is
-// decided, from entry 0 up. The list of the link `reference` is looked at first: if most lists are like it, it decides nearly all entries.
-fn settle_after(
+// What deciding looks at, with the list of the link `reference` looked at first: if most lists are like it, it decides nearly all entries. It goes to the two lent
+// arrays and the answer.
+pub fn prepare(
     lists: &Lists,
     links: Links,
     reference: usize,
     n: u8,
     f: u8,
-    up: bool,
-) -> settle_midpoint::Settled
-    requires { ⌜ reference < 32 ⌝ }
-    ensures { λ r. ⌜ r ≡ settling (bit up) n (twoRounds f) (trusted n f (givenBy links (now (lists .entry)))) ⌝ }
+    marks: &mut Words,
+    same: &mut Words,
+) -> Deciding
+    ensures { λ r. ⌜ Prepared (trusted n f (givenBy links (now (lists .entry)))) (now (lists .entry)) (now (marks .exit)) (now (same .exit)) r ⌝ }
 {
-    let need = settle_trust::lists_needed(links.confessed, n, f);
+    let first = reference % 32;
     let count = terms::at_most_32(n as usize);
-    let given = settle_trust::all_marks(links, n);
-    let comparison = compare(lists, &given, count, reference);
-    let alike = comparison.alike;
-    let apart = comparison.apart;
-    let same = comparison.same;
-    let mut positions = [0i32; 32];
-    let mut len: usize = 0;
-    let mut j: usize = 0;
-    while j < count {
-        let x = cell_by(
-            lists,
-            &given,
-            links.confessed,
-            count,
-            need,
-            j,
-            reference,
-            alike,
-            apart,
-            same[j] as usize,
-        );
-        if x != 0 {
-            settle_midpoint::insert(&mut positions, len, settle_trust::number_of(x));
-            len += 1;
-        }
-        j += 1;
+    *marks = settle_trust::all_marks(links, n);
+    let comparison = compare(lists, marks, count, first);
+    let agreeing = comparison.same;
+    *same = agreeing;
+    Deciding {
+        count: count as u8,
+        need: settle_trust::lists_needed(links.confessed, n, f) as u8,
+        confessed: links.confessed,
+        reference: first as u8,
+        alike: comparison.alike,
+        apart: comparison.apart,
     }
-    settle_midpoint::middle_of(Order { len, positions }, n, f, up)
 }
 
-// The same for every reference.
+// Document 02, A3: decides entry j, and puts it in its place in the order at once; answers how many positions there are then. Called from entry 0 up: after entry
+// j the order holds exactly the positions trusted among entries 0 to j, lowest first, equal ones each time.
+pub fn decide_entry(
+    lists: &Lists,
+    marks: &Words,
+    same: &Words,
+    d: Deciding,
+    j: usize,
+    positions: &mut Numbers,
+    len: usize,
+) -> usize
+    ensures { λ r. ⌜ ((E : ℕ → Entry) → Prepared E (now (lists .entry)) (now (marks .entry)) (now (same .entry)) d
+        → OrderAfter j E len (now (positions .entry)) → OrderAfter (j + 1) E r (now (positions .exit))) ⌝ }
+{
+    if 32 <= j {
+        return len;
+    }
+    let x = cell_by(lists, marks, same, d, j);
+    settle_midpoint::place(settle_trust::entry_of(x), positions, len)
+}
+
+// The new position from what the links gave, entry by entry; `up`: whether an odd sum is rounded up.
 pub fn settle_by(
     lists: &Lists,
     links: Links,
@@ -184,10 +196,18 @@ pub fn settle_by(
 ) -> settle_midpoint::Settled
     ensures { λ r. ⌜ r ≡ settling (bit up) n (twoRounds f) (trusted n f (givenBy links (now (lists .entry)))) ⌝ }
 {
-    if 32 <= reference {
-        return settle_after(lists, links, 0, n, f, up);
+    let mut marks = [0u32; 32];
+    let mut same = [0u32; 32];
+    let d = prepare(lists, links, reference, n, f, &mut marks, &mut same);
+    let count = terms::at_most_32(n as usize);
+    let mut positions = [0i32; 32];
+    let mut len: usize = 0;
+    let mut j: usize = 0;
+    while j < count {
+        len = decide_entry(lists, &marks, &same, d, j, &mut positions, len);
+        j += 1;
     }
-    settle_after(lists, links, reference, n, f, up)
+    settle_midpoint::middle_of(Order { len, positions }, n, f, up)
 }
 
 // The same of lists by value.

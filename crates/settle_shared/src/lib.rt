@@ -16,6 +16,7 @@ ghost use Rattle.settle_shared.specs.Shared.{Shares};
 ghost use Rattle.settle_shared.specs.Inner.{Voted, Leads, gives};
 use settle_midpoint::Order;
 use settle_trust::Links;
+use terms::Entry;
 use terms::Lists;
 use terms::Numbers;
 use terms::Words;
@@ -310,6 +311,17 @@ pub fn trust_codes(
     }
 }
 
+// The entry of a code.
+fn entry_of(x: i32) -> Entry
+    ensures { λ r. ⌜ r ≡ entryOf x ⌝ }
+{
+    if x == NONE {
+        Entry::Null
+    } else {
+        Entry::Position(x)
+    }
+}
+
 // The new position from the codes of n trusted entries; `up`: whether an odd sum is rounded up.
 pub fn settle_codes(codes: &Numbers, n: u8, f: u8, up: bool) -> settle_midpoint::Settled
     ensures { λ r. ⌜ (n ≤ 32 → r ≡ settling (bit up) n (twoRounds f) (λ j. entryOf (getD (now (codes .entry)) j (pos 0)))) ⌝ }
@@ -319,11 +331,7 @@ pub fn settle_codes(codes: &Numbers, n: u8, f: u8, up: bool) -> settle_midpoint:
     let mut len: usize = 0;
     let mut j: usize = 0;
     while j < count {
-        let x = codes[j];
-        if x != NONE {
-            settle_midpoint::insert(&mut positions, len, x);
-            len += 1;
-        }
+        len = settle_midpoint::place(entry_of(codes[j]), &mut positions, len);
         j += 1;
     }
     settle_midpoint::middle_of(Order { len, positions }, n, f, up)

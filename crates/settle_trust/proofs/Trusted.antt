@@ -17,10 +17,9 @@ use Rattle.marks.proofs.Marks.{bit-above}
 use Rattle.convergence.proofs.Sums.{each-last, each-less, sums-le, sum-same}
 use Rattle.settle_trust.specs.declared.Links.{Links}
 use Rattle.settle_trust.specs.Received.{givenBy}
-use Rattle.settle_trust.specs.Cells.{marksTo, columnOf, CellOf, standsIn, agreed, decided}
+use Rattle.settle_trust.specs.Cells.{marksTo, columnOf, standsIn, agreed, decided}
 use Rattle.marks.proofs.Counts.{first-32}
 use Rattle.settle_trust.proofs.Tests.{leb-rest, none-left}
-use Rattle.settle_trust.proofs.Cells.{holds-same}
 use Rattle.settle_trust.proofs.Received.{confessed-given, column-given, Words, given-past, says-past}
 
 -- ---- confessions and lists
@@ -122,12 +121,11 @@ module _ (g : Links) (lists : List (List ℤ)) (w : Words g) where
   trusted-decided {need} n f j e q =
       rw (← confessed-given g lists j, e, agreed-first-32 need (λ k. saysOf j (G k)) (says-nothing j) n, q, confessions-marked n) (decided-trusted n f G j)
 
-  -- the cell x that is decided from the lists and their marks holds the trusted entry
-  pub trusted-held : {m need x : ℕ} {marks : List ℕ} (n f j : ℕ) → m ≡ min n 32 → need ≡ n - f - markedTo (g .confessed) (min n 32) → marks ≡ marksTo g (min n 32)
-      → CellOf x (decided (bitOf (g .confessed) j) m need (columnOf marks lists j)) → CellOf x (trusted n f G j)
-  trusted-held {m} {need} n f j e q h d =
-      holds-same d
-      (decided-same (bitOf (g .confessed) j) m need _ _ (column-given g lists m j (omega arith) (h ∙ ap (marksTo g) (sym e))) ∙ trusted-decided n f j e q)
+  -- what the lists and their marks decide is the trusted entry
+  pub decided-marked : {m need : ℕ} {marks : List ℕ} (n f j : ℕ) → m ≡ min n 32 → need ≡ n - f - markedTo (g .confessed) (min n 32) → marks ≡ marksTo g (min n 32)
+      → decided (bitOf (g .confessed) j) m need (columnOf marks lists j) ≡ trusted n f G j
+  decided-marked {m} {need} n f j e q h =
+      decided-same (bitOf (g .confessed) j) m need _ _ (column-given g lists m j (omega arith) (h ∙ ap (marksTo g) (sym e))) ∙ trusted-decided n f j e q
 
   -- no entry of a head from 32 on is trusted
   pub trusted-past : (n f j : ℕ) → 32 ≤ j → trusted n f G j ≡ Null

@@ -87,7 +87,7 @@ fn mark_of(x: u64) -> u32
 }
 
 // The number of the entry that a cell holds.
-pub fn number_of(x: u64) -> i32
+fn number_of(x: u64) -> i32
     ensures { λ r. ⌜ r ≡ number (cellEntry x) ⌝ }
 {
     if x == 0 {
@@ -95,6 +95,16 @@ pub fn number_of(x: u64) -> i32
     } else {
         fields::signed(((x - 1) % 4294967296) as u32)
     }
+}
+
+// The entry that a cell holds.
+pub fn entry_of(x: u64) -> Entry
+    ensures { λ r. ⌜ r ≡ cellEntry x ⌝ }
+{
+    if x == 0 {
+        return Entry::Null;
+    }
+    Entry::Position(number_of(x))
 }
 
 // ---- From what the links gave in a confession round to the trusted entries: support, and the one position that enough links support.
@@ -201,11 +211,7 @@ pub fn trusted_entry(lists: Lists, links: Links, n: u8, f: u8, j: usize) -> Entr
     let need = lists_needed(links.confessed, n, f);
     let count = terms::at_most_32(n as usize);
     let given = all_marks(links, n);
-    let x = trusted_cell(&lists, &given, links.confessed, count, need, j);
-    if x == 0 {
-        return Entry::Null;
-    }
-    Entry::Position(number_of(x))
+    entry_of(trusted_cell(&lists, &given, links.confessed, count, need, j))
 }
 
 // The trusted entries of heads 0 .. n - 1.

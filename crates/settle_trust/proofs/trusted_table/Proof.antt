@@ -10,9 +10,9 @@ use Rattle.entries.specs.Entries.{zeros}
 use Rattle.entries.specs.Tables.{mark, number, marksOf, numbersOf}
 use Rattle.convergence.specs.Trust.{trusted}
 use Rattle.settle_trust.specs.Received.{givenBy}
-use Rattle.settle_trust.specs.Cells.{CellOf}
+use Rattle.settle_trust.specs.Cells.{cellEntry}
 use Rattle.settle_trust.proofs.Received.{words}
-use Rattle.settle_trust.proofs.Trusted.{trusted-held, trusted-past}
+use Rattle.settle_trust.proofs.Trusted.{decided-marked, trusted-past}
 use Rattle.entries.proofs.Tables.{marks-next, marks-fit, numbers-next, table-first-32}
 use Rattle.settle_trust.proofs.trusted_table.Statement.{statement}
 use Rattle.settle_trust.proofs.trusted_table.Tie as tie
@@ -44,18 +44,18 @@ module _ (c : tie.After-trusted-cell Inv-loop μ-loop) where
   abbrev entries : ℕ → Entry
   entries = trusted (start .args .n) (start .args .f) (givenBy (start .args .links) (start .args .t1))
 
-  -- the cell is that of the trusted entry
-  held : CellOf (c .trusted-cell .result) (entries (here .loop .j))
+  held : cellEntry (c .trusted-cell .result) ≡ entries (here .loop .j)
   held =
       let a = start .args in
-      trusted-held (a .links) (a .t1) (words (a .links) (start .good .1 .0)) (a .n) (a .f) (here .loop .j) (omega (arith, counted .at-most-32 .ensures))
-      (counted .before .lists-needed .ensures) (given .all-marks .ensures) (c .trusted-cell .ensures)
+      c .trusted-cell .ensures .entry
+      ∙ decided-marked (a .links) (a .t1) (words (a .links) (start .good .1 .0)) (a .n) (a .f) (here .loop .j) (omega (arith, counted .at-most-32 .ensures))
+      (counted .before .lists-needed .ensures) (given .all-marks .ensures)
 
 add-marks : tie.Need-add-marks Inv-loop μ-loop
 add-marks c =
     let t = c .before in
     let l = here t .loop in
-    record { fits = marks-fit (entries t) (l .j) (omega (arith, counted t .at-most-32 .ensures)) (l .inv .1) (c .mark-of .ensures ∙ ap mark (held t .entry)) }
+    record { fits = marks-fit (entries t) (l .j) (omega (arith, counted t .at-most-32 .ensures)) (l .inv .1) (c .mark-of .ensures ∙ ap mark (held t)) }
 
 loop-again : tie.Need-loop-again Inv-loop μ-loop
 loop-again c =
@@ -63,8 +63,8 @@ loop-again c =
     let t = m .before in
     let l = here t .loop in (
       search needs,
-      marks-next (entries t) (l .j) (omega (arith, counted t .at-most-32 .ensures)) (l .inv .1) (m .mark-of .ensures ∙ ap mark (held t .entry)),
-      numbers-next (entries t) (l .j) (l .inv .2) (toZ-ofZ (record { sfits = c .number-of .ok }) ∙ c .number-of .ensures ∙ ap number (held t .entry)),
+      marks-next (entries t) (l .j) (omega (arith, counted t .at-most-32 .ensures)) (l .inv .1) (m .mark-of .ensures ∙ ap mark (held t)),
+      numbers-next (entries t) (l .j) (l .inv .2) (toZ-ofZ (record { sfits = c .number-of .ok }) ∙ c .number-of .ensures ∙ ap number (held t)),
     )
 
 returns : tie.Need-returns Inv-loop μ-loop
