@@ -6,6 +6,7 @@ use crate::random::Random;
 use crate::rules::frames::{self, Said};
 use crate::rules::head::Head;
 use crate::rules::midpoint::{self, Entry, LIMIT};
+use crate::rules::scale;
 
 /// How many inputs, or heads, are taken in one measured stretch.
 const MANY: usize = 64;
@@ -100,6 +101,29 @@ fn midpoint(wanted: Wanted, n: usize, f: usize, nulls: usize) -> Option<Row> {
     row(wanted, format!("midpoint, ({n},{f}), {nulls} null"), MANY, (&ready, &export), (&ready, &plain))
 }
 
+/// Positions through a scale, or their readings back.
+fn scaled(wanted: Wanted, name: &str, back: bool) -> Option<Row> {
+    const RATIO: (u32, u32) = (1_000, 7);
+    let mut random = Random::new(3);
+    let steps: Vec<i32> = (0..MANY * MANY).map(|_| random.between(-LIMIT, LIMIT)).collect();
+    let readings: Vec<i64> = steps.iter().map(|&v| scale::scale(v, RATIO.0, RATIO.1).expect("a reading") + (v % 5 == 0) as i64).collect();
+    let there = |_: &mut ()| {
+        let mut out = 0;
+        steps.iter().map(|&v| exported::scale(v, RATIO.0, RATIO.1, &mut out) as u64 + out as u64 % 8).sum()
+    };
+    let plain_there = |_: &mut ()| steps.iter().map(|&v| scale::scale(v, RATIO.0, RATIO.1).map_or_else(u64::from, |out| out as u64 % 8)).sum();
+    let from = |_: &mut ()| {
+        let mut out = 0;
+        readings.iter().map(|&x| exported::unscale(x, RATIO.0, RATIO.1, &mut out) as u64 + out as u64 % 8).sum()
+    };
+    let plain_from = |_: &mut ()| {
+        let given = |x| scale::unscale(x, RATIO.0, RATIO.1).map_or_else(u64::from, |out| out.unwrap_or(i32::MIN) as u64 % 8);
+        readings.iter().map(|&x| given(x)).sum()
+    };
+    let (export, plain): (&dyn Fn(&mut ()) -> u64, &dyn Fn(&mut ()) -> u64) = if back { (&from, &plain_from) } else { (&there, &plain_there) };
+    row(wanted, name.to_string(), MANY * MANY, (&|| (), export), (&|| (), plain))
+}
+
 /// A round as a head hears it: its frames by link.
 struct Heard {
     n: usize,
@@ -189,6 +213,7 @@ impl Heard {
 pub fn rows(wanted: Wanted) -> Vec<Row> {
     let mut rows = vec![frame_check(wanted, 5), frame_check(wanted, 32)];
     rows.extend([midpoint(wanted, 5, 1, 0), midpoint(wanted, 32, 8, 0), midpoint(wanted, 32, 8, 16)]);
+    rows.extend([scaled(wanted, "scale, from steps to nanometres", false), scaled(wanted, "scale, from nanometres to steps", true)]);
     for (n, f) in [(5, 1), (32, 8)] {
         let (collection, confession, lies) = (Heard::new(n, f, 0, 0, 0), Heard::new(n, f, 1, 0, 0), Heard::new(n, f, 1, f, f));
         rows.extend([collection.hearing(wanted, "a position"), confession.hearing(wanted, "a list")]);

@@ -1,4 +1,4 @@
-/* The camera's three calls: every refusal alone, every set of faults together (the first in the order of checks decides), the extremes of each
+/* The camera's calls: every refusal alone, every set of faults together (the first in the order of checks decides), the extremes of each
  * argument, and the memory before and after. The number of checks is printed; the first that fails stops the program. */
 #include "check.h"
 
@@ -52,6 +52,15 @@ static void scale(const char *what, int32_t steps, uint32_t numerator, uint32_t 
     struct lent64 lent = {GUARD, -777, GUARD};
     uint8_t got = focus_scale(steps, numerator, denominator, &lent.value);
     int64_t want = number == 0 ? nanometres : -777;
+    same(what, got, number);
+    same(what, lent.value, want);
+    same("memory beside the lent room", lent.before == GUARD && lent.after == GUARD, 1);
+}
+
+static void unscale(const char *what, int64_t nanometres, uint32_t numerator, uint32_t denominator, uint8_t number, int32_t steps) {
+    struct lent32 lent = {GUARD, -777, GUARD};
+    uint8_t got = focus_unscale(nanometres, numerator, denominator, &lent.value);
+    int32_t want = number == 0 ? steps : -777;
     same(what, got, number);
     same(what, lent.value, want);
     same("memory beside the lent room", lent.before == GUARD && lent.after == GUARD, 1);
@@ -179,6 +188,95 @@ static void scales(void) {
     scale("just below zero", -1, 1000000, 999999, 0, -2);
 }
 
+/* ---- back from nanometres: 12, or the step, or none */
+
+#define FAR INT64_C(1000000000000)
+
+struct reading {
+    int64_t nanometres;
+    uint32_t numerator, denominator;
+    int32_t steps;
+};
+
+static void readings(void) {
+    static const struct reading all[] = {
+        /* the ends of the range, and the readings beside them */
+        {FAR, 1000000, 1, 1000000}, {FAR - 1, 1000000, 1, FOCUS_NO_STEP}, {FAR + 1, 1000000, 1, FOCUS_NO_STEP},
+        {-FAR, 1000000, 1, -1000000}, {-FAR + 1, 1000000, 1, FOCUS_NO_STEP}, {-FAR - 1, 1000000, 1, FOCUS_NO_STEP},
+        {FAR, 1, 1, FOCUS_NO_STEP}, {-FAR, 1, 1, FOCUS_NO_STEP}, {FAR, 1000000, 1000000, FOCUS_NO_STEP}, {-FAR, 1000000, 1000000, FOCUS_NO_STEP},
+        {1000000, 1, 1, 1000000}, {1000001, 1, 1, FOCUS_NO_STEP}, {-1000000, 1, 1, -1000000}, {-1000001, 1, 1, FOCUS_NO_STEP},
+        {1000001, 1000000, 999999, 1000000}, {1000002, 1000000, 999999, FOCUS_NO_STEP},
+        {-1000002, 1000000, 999999, -1000000}, {-1000003, 1000000, 999999, FOCUS_NO_STEP},
+        {INT64_C(1) << 32, 1, 1, FOCUS_NO_STEP}, {(INT64_C(1) << 32) + 7, 1, 1, FOCUS_NO_STEP},
+        /* every reading from -8 to 8, by 5 / 2 */
+        {-8, 5, 2, -3}, {-7, 5, 2, FOCUS_NO_STEP}, {-6, 5, 2, FOCUS_NO_STEP}, {-5, 5, 2, -2}, {-4, 5, 2, FOCUS_NO_STEP}, {-3, 5, 2, -1},
+        {-2, 5, 2, FOCUS_NO_STEP}, {-1, 5, 2, FOCUS_NO_STEP}, {0, 5, 2, 0}, {1, 5, 2, FOCUS_NO_STEP}, {2, 5, 2, 1}, {3, 5, 2, FOCUS_NO_STEP},
+        {4, 5, 2, FOCUS_NO_STEP}, {5, 5, 2, 2}, {6, 5, 2, FOCUS_NO_STEP}, {7, 5, 2, 3}, {8, 5, 2, FOCUS_NO_STEP},
+        /* just below zero, by nearly one */
+        {0, 1000000, 999999, 0}, {-1, 1000000, 999999, FOCUS_NO_STEP}, {-2, 1000000, 999999, -1}, {-3, 1000000, 999999, -2},
+    };
+    for (size_t i = 0; i < sizeof all / sizeof *all; i++)
+        unscale("a reading", all[i].nanometres, all[i].numerator, all[i].denominator, 0, all[i].steps);
+}
+
+static const uint32_t ratios[][2] = {
+    {1, 1}, {2, 1}, {5, 2}, {3, 3}, {1000000, 1}, {1000000, 999999}, {1000000, 1000000}, {999999, 524288}, {524288, 524287},
+};
+enum { RATIOS = sizeof ratios / sizeof *ratios };
+
+static void unscales(void) {
+    /* 12 alone is refused, whatever the reading; far readings have no step by any scale */
+    static const uint32_t bad[] = {0, 1000001, UINT32_MAX};
+    static const int64_t any[] = {0, 1, -1, FAR, -FAR, FAR + 1, -FAR - 1, INT64_MAX, INT64_MIN, INT64_MAX - 1, INT64_MIN + 1};
+    for (size_t j = 0; j < sizeof any / sizeof *any; j++) {
+        for (size_t i = 0; i < 3; i++) {
+            unscale("numerator, any reading", any[j], bad[i], 1, FOCUS_SCALE, 0);
+            unscale("denominator, any reading", any[j], 1000000, bad[i], FOCUS_SCALE, 0);
+        }
+        unscale("numerator below denominator, any reading", any[j], 1, 2, FOCUS_SCALE, 0);
+        unscale("numerator just below denominator", any[j], 999999, 1000000, FOCUS_SCALE, 0);
+        for (size_t k = 0; j >= 5 && k < RATIOS; k++)
+            unscale("a far reading", any[j], ratios[k][0], ratios[k][1], 0, FOCUS_NO_STEP);
+    }
+    /* readings that are a step's in their low bits only, also once they are multiplied in 64 bits */
+    for (int bit = 40; bit < 63; bit++)
+        for (size_t k = 0; k < RATIOS; k++) {
+            unscale("a reading with a high bit", INT64_C(1) << bit, ratios[k][0], ratios[k][1], 0, FOCUS_NO_STEP);
+            unscale("a low reading with a high bit", -(INT64_C(1) << bit), ratios[k][0], ratios[k][1], 0, FOCUS_NO_STEP);
+        }
+    readings();
+}
+
+static int64_t reading_of(int32_t steps, size_t k) {
+    int64_t nanometres = 0;
+    same("a scale that is taken", focus_scale(steps, ratios[k][0], ratios[k][1], &nanometres), 0);
+    return nanometres;
+}
+
+/* a position through the scale and back; and the readings up to the next position's, which are no step's */
+static void back(int32_t steps, size_t k) {
+    uint32_t numerator = ratios[k][0], denominator = ratios[k][1];
+    int64_t x = reading_of(steps, k), next = steps < 1000000 ? reading_of(steps + 1, k) : INT64_MAX;
+    unscale("through and back", x, numerator, denominator, 0, steps);
+    unscale("one above a reading", x + 1, numerator, denominator, 0, x + 1 == next ? steps + 1 : FOCUS_NO_STEP);
+    if (steps < 1000000 && x + 1 < next)
+        unscale("one below the next reading", next - 1, numerator, denominator, 0, FOCUS_NO_STEP);
+    if (steps == -1000000)
+        unscale("one below all readings", x - 1, numerator, denominator, 0, FOCUS_NO_STEP);
+}
+
+static void through_and_back(void) {
+    for (size_t k = 0; k < RATIOS; k++) {
+        for (int32_t steps = -1000000; steps <= 1000000; steps += 97)
+            back(steps, k);
+        for (int32_t off = 0; off < 100; off++) {
+            back(-1000000 + off, k);
+            back(1000000 - off, k);
+            back(off - 50, k);
+        }
+    }
+}
+
 /* ---- the frame check: 6, 7, 8 */
 
 /* a frame with any length field, kind and count over any number of bytes */
@@ -239,6 +337,8 @@ int main(void) {
     midpoint_extremes();
     midpoint_points();
     scales();
+    unscales();
+    through_and_back();
     frames();
     return all_checked();
 }

@@ -7,6 +7,9 @@ use crate::rules::midpoint::{self, Kept};
 use crate::rules::scale;
 use std::fmt;
 
+/// What an export gives where no step reads so.
+const NO_STEP: i32 = i32::MIN;
+
 /// Bytes that are lent, printed in hexadecimal as far as a frame can go.
 #[derive(Clone, PartialEq)]
 pub struct Bytes(pub Vec<u8>);
@@ -25,6 +28,7 @@ pub enum Call {
     Midpoint { n: u32, f: u32, marks: u32, entries: Bytes, out: i32 },
     MidpointKept { n: u32, f: u32, marks: u32, entries: Bytes, out: [i32; 4] },
     Scale { steps: i32, numerator: u32, denominator: u32, out: i64 },
+    Unscale { nanometres: i64, numerator: u32, denominator: u32, out: i32 },
     Start { n: u32, f: u32, number: u32, position: i32 },
     Restart { n: u32, f: u32, number: u32, phase: u32, round: u32 },
     Hear { link: u32, frame: Bytes },
@@ -54,14 +58,15 @@ impl Call {
             Call::Midpoint { .. } => 1,
             Call::MidpointKept { .. } => 2,
             Call::Scale { .. } => 3,
-            Call::Start { .. } => 4,
-            Call::Restart { .. } => 5,
-            Call::Hear { .. } => 6,
-            Call::HearBatch { .. } => 7,
-            Call::Write { .. } => 8,
-            Call::Close => 9,
-            Call::Position { .. } => 10,
-            Call::Kept { .. } => 11,
+            Call::Unscale { .. } => 4,
+            Call::Start { .. } => 5,
+            Call::Restart { .. } => 6,
+            Call::Hear { .. } => 7,
+            Call::HearBatch { .. } => 8,
+            Call::Write { .. } => 9,
+            Call::Close => 10,
+            Call::Position { .. } => 11,
+            Call::Kept { .. } => 12,
         }
     }
 
@@ -85,6 +90,9 @@ impl Call {
             Call::Midpoint { n, f, marks, mut out, .. } => (exported::midpoint(n, f, marks, &mut lent, &mut out), out as i64),
             Call::MidpointKept { n, f, marks, .. } => (exported::midpoint_kept(n, f, marks, &mut lent, &mut kept), 0),
             Call::Scale { steps, numerator, denominator, mut out } => (exported::scale(steps, numerator, denominator, &mut out), out),
+            Call::Unscale { nanometres, numerator, denominator, mut out } => {
+                (exported::unscale(nanometres, numerator, denominator, &mut out), out as i64)
+            }
             Call::Start { n, f, number, position } => (block.start(n, f, number, position), 0),
             Call::Restart { n, f, number, phase, round } => (block.restart(n, f, number, phase, round), 0),
             Call::Hear { link, .. } => (block.hear(link, &mut lent), 0),
@@ -111,6 +119,9 @@ impl Call {
                 (midpoint::midpoint(n as usize, f as usize, marks, &lent).map(|new| kept = four(new)), 0)
             }
             Call::Scale { steps, numerator, denominator, out } => valued(scale::scale(steps, numerator, denominator), out),
+            Call::Unscale { nanometres, numerator, denominator, out } => {
+                valued(scale::unscale(nanometres, numerator, denominator).map(|step| step.unwrap_or(NO_STEP)), out)
+            }
             Call::Start { n, f, number, position } => (opened(head, Head::start(n as usize, f as usize, number as usize, position)), 0),
             Call::Restart { n, f, number, phase, round } => {
                 (opened(head, Head::restart(n as usize, f as usize, number as usize, phase as usize, round as usize)), 0)

@@ -11,6 +11,7 @@ mod c {
         pub fn focus_midpoint(n: u32, f: u32, marks: u32, entries: *const u8, length: usize, position: *mut i32) -> u8;
         pub fn focus_midpoint_kept(n: u32, f: u32, marks: u32, entries: *const u8, length: usize, kept: *mut [i32; 4]) -> u8;
         pub fn focus_scale(steps: i32, numerator: u32, denominator: u32, nanometres: *mut i64) -> u8;
+        pub fn focus_unscale(nanometres: i64, numerator: u32, denominator: u32, steps: *mut i32) -> u8;
         pub fn focus_head_start(head: *mut Block, n: u32, f: u32, number: u32, position: i32) -> u8;
         pub fn focus_head_restart(head: *mut Block, n: u32, f: u32, number: u32, phase: u32, round: u32) -> u8;
         pub fn focus_head_hear(head: *mut Block, link: u32, frame: *const u8, length: usize) -> u8;
@@ -53,6 +54,10 @@ pub fn midpoint_kept(n: u32, f: u32, marks: u32, entries: &mut [u8], kept: &mut 
 
 pub fn scale(steps: i32, numerator: u32, denominator: u32, nanometres: &mut i64) -> u8 {
     unsafe { c::focus_scale(steps, numerator, denominator, nanometres) }
+}
+
+pub fn unscale(nanometres: i64, numerator: u32, denominator: u32, steps: &mut i32) -> u8 {
+    unsafe { c::focus_unscale(nanometres, numerator, denominator, steps) }
 }
 
 impl Block {

@@ -75,7 +75,14 @@ pub fn four(random: &mut Random) -> [i32; 4] {
 
 fn ratio_side(random: &mut Random) -> u32 {
     let any = 1 + random.below(1_000_000) as u32;
-    random.pick(&[1, 2, 3, 999_999, 1_000_000, any, any])
+    random.pick(&[1, 2, 3, 1 << 19, 999_999, 1_000_000, any, any])
+}
+
+/// A numerator and a denominator.
+fn ratio(random: &mut Random) -> (u32, u32) {
+    let (one, other) = (ratio_side(random), ratio_side(random));
+    let (low, high) = if random.chance(1, 12) { (one, other) } else { (one.min(other), one.max(other)) };
+    (near(random, high, 12), near(random, low, 12))
 }
 
 pub fn scale(random: &mut Random) -> Call {
@@ -84,10 +91,28 @@ pub fn scale(random: &mut Random) -> Call {
         1 => random.next() as i32,
         _ => position(random),
     };
-    let (one, other) = (ratio_side(random), ratio_side(random));
-    let (low, high) = if random.chance(1, 12) { (one, other) } else { (one.min(other), one.max(other)) };
-    let (numerator, denominator) = (near(random, high, 12), near(random, low, 12));
+    let (numerator, denominator) = ratio(random);
     Call::Scale { steps, numerator, denominator, out: random.next() as i64 }
+}
+
+/// Ends of the readings that steps have, and of all readings.
+const READINGS: [i64; 10] =
+    [0, -1, 1_000_000_000_000, 1_000_000_000_001, -1_000_000_000_000, -1_000_000_000_001, i64::MAX, i64::MAX - 1, i64::MIN, i64::MIN + 1];
+
+/// A step's reading, one beside it or equal to it in its low bits, or any other.
+pub fn unscale(random: &mut Random) -> Call {
+    let steps = if random.chance(1, 8) { out_of_range(random) } else { position(random) };
+    let (numerator, denominator) = ratio(random);
+    let reading = (steps as i64 * numerator as i64).div_euclid(denominator.max(1) as i64);
+    let nanometres = match random.below(16) {
+        0 | 1 => reading.wrapping_add(1),
+        2 | 3 => reading.wrapping_sub(1),
+        4 => reading.wrapping_add(1 << (40 + random.below(24))),
+        5 => random.pick(&READINGS),
+        6 => random.next() as i64 >> random.below(64),
+        _ => reading,
+    };
+    Call::Unscale { nanometres, numerator, denominator, out: random.next() as i32 }
 }
 
 /// The frame check looks at length, kind and a list's own count, which may be any byte.

@@ -1,4 +1,4 @@
-//! Compares the proved C exports with the second implementation of document 01 (host/plain) on calls made from seeds: the camera's three calls, and
+//! Compares the proved C exports with the second implementation of document 01 (host/plain) on calls made from seeds: the camera's calls, and
 //! whole sequences of calls on a head's block against a head of that implementation.
 //!
 //!     exports COUNT [SEED]    at least COUNT calls, from the seed on
@@ -76,6 +76,7 @@ fn compare(seed: u64, tally: &mut Tally) -> Result<(), String> {
         pair.ask(tally, &inputs::frame_check(&mut random))?;
         pair.ask(tally, &inputs::midpoint(&mut random))?;
         pair.ask(tally, &inputs::scale(&mut random))?;
+        pair.ask(tally, &inputs::unscale(&mut random))?;
     }
     rounds::sequence(&mut random, zeros, &mut |call| pair.ask(tally, &call))
 }

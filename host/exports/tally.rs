@@ -1,11 +1,12 @@
 //! How often each call gave each number.
 
 /// Each call with the numbers it can give, in the order of its checks. A position or a kept range is answered 1 if one is held, else 0.
-pub const CALLS: [(&str, &[u8]); 12] = [
+pub const CALLS: [(&str, &[u8]); 13] = [
     ("frame_check", &[0, 6, 7, 8]),
     ("midpoint", &[0, 1, 2, 8, 10, 11, 25]),
     ("midpoint_kept", &[0, 1, 2, 8, 10, 11, 25]),
     ("scale", &[0, 12, 4]),
+    ("unscale", &[0, 12]),
     ("head_start", &[0, 1, 2, 3, 4]),
     ("head_restart", &[0, 1, 2, 3, 5]),
     ("head_hear", &[0, 26, 3, 21, 6, 7, 8, 22, 9, 23, 10, 11]),

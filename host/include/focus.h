@@ -78,6 +78,16 @@ uint8_t focus_midpoint_kept(uint32_t n, uint32_t f, uint32_t marks, const uint8_
  * Promised: number and *nanometres are those of `scaled` (crates/steps/specs/Scale.antt). */
 uint8_t focus_scale(int32_t steps, uint32_t numerator, uint32_t denominator, int64_t *nanometres);
 
+/* What stands for no step: no position is so low. */
+#define FOCUS_NO_STEP INT32_MIN
+
+/* From nanometres back to steps: the step in range, from -1,000,000 to 1,000,000, whose reading by the step scale it
+ * is. Any reading is taken. No two steps read alike, since the numerator is at least the denominator.
+ * Returns 0 and puts the step in *steps, or FOCUS_NO_STEP if no step in range reads so; or 12.
+ * Promised: `StepLent` (crates/camera/specs/Out.antt), for an answer of `Answers` (crates/steps/specs/Unscale.antt),
+ * of which there is one at most; what focus_scale puts in *nanometres comes back as the steps it was given. */
+uint8_t focus_unscale(int64_t nanometres, uint32_t numerator, uint32_t denominator, int32_t *steps);
+
 /* ---- a whole run file: crates/run_whole/src/lib.rt */
 
 /* How many phase ends a run file of so many bytes can have, the start among them; and the room that its listing and

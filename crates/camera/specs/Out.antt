@@ -1,12 +1,16 @@
 -- An answer as C gets it: 0 or the refusal's number, and beside it the result in memory that the caller lends, which a refusal leaves as it was.
 use mathlib.Core.List.{List, [], _∷_}
+use mathlib.Core.Path.{_≡_}
 use Prim.Native.Nat.{ℕ}
-use lib.IntN.{ℤ, pos}
+use lib.IntN.{ℤ, pos, negsuc}
 use Rattle.settle_midpoint.specs.declared.Kept.{Kept}
 use Rattle.settle_midpoint.specs.declared.Settled.{Settled}
 use Rattle.settle_midpoint.specs.declared.Settled.the-variants.{Refused, New}
 use Rattle.steps.specs.declared.scale.Scaled.{Scaled}
 use Rattle.steps.specs.declared.scale.Scaled.the-variants as scale
+use Rattle.steps.specs.declared.scale.Unscaled.{Unscaled}
+use Rattle.steps.specs.declared.scale.Unscaled.the-variants as unscale
+use Rattle.steps.specs.Unscale.{Answers}
 
 -- of the midpoint: the number, and the new position or what stood there
 abbrev pub settledNumber : Settled → ℕ
@@ -30,3 +34,25 @@ scaledNumber (scale.Nanometres x) = 0
 abbrev pub scaledOr : Scaled → ℤ → ℤ
 scaledOr (scale.Refused c) old = old
 scaledOr (scale.Nanometres x) old = x
+
+-- of a reading: -2^31 stands for none; it is no position, so it cannot be mistaken for a step
+abbrev pub noStep : ℤ
+noStep = negsuc 2_147_483_647
+
+-- the number, and the step, `noStep` or what stood there
+abbrev pub stepNumber : Unscaled → ℕ
+stepNumber (unscale.Refused c) = c
+stepNumber unscale.None = 0
+stepNumber (unscale.Step v) = 0
+
+abbrev pub stepOr : Unscaled → ℤ → ℤ
+stepOr (unscale.Refused c) old = old
+stepOr unscale.None old = noStep
+stepOr (unscale.Step v) old = v
+
+-- the number r and the lent step are those of an answer for the reading x by the scale a / d
+pub record StepLent (x : ℤ) (a d r : ℕ) (old new : ℤ) : Type 0 where
+  pub answer : Unscaled
+  pub means : Answers x a d answer
+  pub number : r ≡ stepNumber answer
+  pub lent : new ≡ stepOr answer old

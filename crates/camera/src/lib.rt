@@ -1,12 +1,13 @@
-// What the camera's C firmware calls: the frame check, the midpoint and the scale, on plain numbers and byte slices. host/include/focus.h declares them.
+// What the camera's C firmware calls: the frame check, the midpoint and the scale both ways, on plain numbers and byte slices. host/include/focus.h declares them.
 // Each returns 0 or the refusal's number; a result goes to memory that the caller lends, which a refusal leaves as it was.
 ghost use mathlib.Core.Path.{_≡_};
 ghost use Rattle.frame_check.specs.Check.{frameRefusal};
 ghost use Rattle.settle_midpoint.specs.Call.{midpointCall};
 ghost use Rattle.steps.specs.Scale.{scaled};
-ghost use Rattle.camera.specs.Out.{settledNumber, settledOr, keptOr, scaledNumber, scaledOr};
+ghost use Rattle.camera.specs.Out.{settledNumber, settledOr, keptOr, scaledNumber, scaledOr, StepLent};
 use settle_midpoint::Settled;
 use steps::scale::Scaled;
+use steps::scale::Unscaled;
 
 // The frame check: 0, 6, 7 or 8. The rest of an accepted frame starts at its byte 7.
 #[no_mangle]
@@ -77,6 +78,30 @@ pub extern "C" fn focus_scale(
         Scaled::Refused(number) => number,
         Scaled::Nanometres(x) => {
             *nanometres = x;
+            0
+        }
+    }
+}
+
+// From nanometres back to steps: 0 and the step whose reading it is, or -2147483648 if there is none; or 12.
+#[no_mangle]
+pub extern "C" fn focus_unscale(
+    nanometres: i64,
+    numerator: u32,
+    denominator: u32,
+    steps: &mut i32,
+) -> u8
+    ensures { λ r. ⌜ StepLent nanometres numerator denominator r (now (steps .entry)) (now (steps .exit)) ⌝ }
+{
+    let answer = steps::scale::unscale(nanometres, numerator, denominator);
+    match answer {
+        Unscaled::Refused(number) => number,
+        Unscaled::None => {
+            *steps = -2147483648;
+            0
+        }
+        Unscaled::Step(v) => {
+            *steps = v;
             0
         }
     }

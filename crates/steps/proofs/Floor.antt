@@ -12,12 +12,13 @@ use denote.Floats.{passes}
 use Rattle.terms.specs.Positions.{isPosition, floorDiv}
 use Rattle.terms.proofs.Whole.{plus, minus, arithZ, sum-lin, pos-lin}
 use Rattle.steps.specs.Scale.{inScale, isScale, nanometres}
+use Rattle.steps.specs.Unscale.{Within}
 
 -- the negative of a natural number, for `omega`
 pub negative-lin : (m : ℕ) → plus (negℤ (pos m)) + m ≡ minus (negℤ (pos m))
 negative-lin m = omega (arithZ, sum-lin (pos m) (negℤ (pos m)), +ℤ-invr (pos m), pos-lin m, pos-lin 0)
 
-one-more-times : (q : ℤ) (d : ℕ) → (q +ℤ pos 1) *ℤ pos d ≡ q *ℤ pos d +ℤ pos d
+pub one-more-times : (q : ℤ) (d : ℕ) → (q +ℤ pos 1) *ℤ pos d ≡ q *ℤ pos d +ℤ pos d
 one-more-times q d = ap (λ (z : ℤ). z *ℤ pos d) (+ℤ-one q) ∙ sucℤ-*ℤ q (pos d)
 
 pub floor-is : (x : ℤ) (d : ℕ) → 0 < d → ((floorDiv x d *ℤ pos d) ≤ℤ x) × (x <ℤ ((floorDiv x d +ℤ pos 1) *ℤ pos d))
@@ -28,16 +29,12 @@ floor-is (negsuc n) d h =
     (omega
     (arithZ, div-mul-le-self n d, lt-div-mul-add {a = n} h, suc-mul (n / d) d, negative-lin (suc (n / d) * d), sum-lin (negℤ (pos (suc (n / d) * d))) (pos d)))
 
--- from -b to b
-abbrev pub Within : ℕ → ℤ → Type 0
-Within b x = (negℤ (pos b) ≤ℤ x) × (x ≤ℤ pos b)
-
 floor-within : (b : ℕ) (x : ℤ) (d : ℕ) → Within b x → Within b (floorDiv x d)
 unfolding floorDiv plus minus
 floor-within b (pos n) d h = omega (arithZ, negative-lin b, div-le-self n d)
 floor-within b (negsuc n) d h = omega (arithZ, negative-lin b, div-le-self n d)
 
-product-within : (b c : ℕ) (x : ℤ) (a : ℕ) → Within b x → a ≤ c → Within (b * c) (x *ℤ pos a)
+pub product-within : (b c : ℕ) (x : ℤ) (a : ℕ) → Within b x → a ≤ c → Within (b * c) (x *ℤ pos a)
 unfolding plus minus
 product-within b c (pos n) a h l =
     let k : n ≤ b = omega arithZ in
@@ -46,7 +43,7 @@ product-within b c (negsuc n) a h l =
     let k : suc n ≤ b = omega (arithZ, negative-lin b) in
     omega (arithZ, negative-lin (b * c), negative-lin (suc n * a), mul-le-mul k l)
 
-position-within : (v : ℤ) → isPosition v ≡ true → Within 1_000_000 v
+pub position-within : (v : ℤ) → isPosition v ≡ true → Within 1_000_000 v
 unfolding isPosition
 position-within v p =
     let h = and-yes (leZ (negsuc 999_999) v) (leZ v (pos 1_000_000)) (passes _ p) in

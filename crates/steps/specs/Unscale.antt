@@ -1,0 +1,41 @@
+-- Document 02, A4: from nanometres back to steps.
+use mathlib.Core.Path.{_≡_}
+use mathlib.Core.Bool.{true, false}
+use Prim.Native.Nat.{ℕ}
+use lib.IntN.{ℤ, pos, negℤ}
+use lib.Signed.{_≤ℤ_}
+use Rattle.terms.specs.Refusals as refusal
+use Rattle.terms.specs.Positions.{isPosition}
+use Rattle.steps.specs.Scale.{isScale, nanometres, scaled}
+use Rattle.steps.specs.declared.scale.Scaled.{Scaled}
+use Rattle.steps.specs.declared.scale.Unscaled.{Unscaled}
+
+-- from -b to b
+abbrev pub Within : ℕ → ℤ → Type 0
+Within b x = (negℤ (pos b) ≤ℤ x) × (x ≤ℤ pos b)
+
+-- v is a step in range, and its reading is x
+abbrev pub ReadsAs : ℕ → ℕ → ℤ → ℤ → Type 0
+ReadsAs a d x v = (isPosition v ≡ true) × (nanometres v a d ≡ x)
+
+-- no other number of steps than v reads x
+abbrev pub OnlyOne : ℤ → ℕ → ℕ → ℤ → Type 0
+OnlyOne x a d v = (w : ℤ) → nanometres w a d ≡ x → w ≡ v
+
+-- what is answered for the reading x: 12 if a and d make no scale; else the step in range whose reading it is, or none if no step in range reads so
+pub data Answers (x : ℤ) (a d : ℕ) : Unscaled → Type 0 where
+  refused : isScale a d ≡ false → Answers x a d (Unscaled.Refused refusal.scale)
+  step : isScale a d ≡ true → (v : ℤ) → ReadsAs a d x v → Answers x a d (Unscaled.Step v)
+  none : isScale a d ≡ true → ((v : ℤ) → ReadsAs a d x v → ⊥) → Answers x a d Unscaled.None
+
+-- one answer at most: the numerator is at least the denominator, so no two steps read alike
+abbrev pub OneAnswer : Type 0
+OneAnswer = (x : ℤ) (a d : ℕ) (s t : Unscaled) → Answers x a d s → Answers x a d t → s ≡ t
+
+-- every position, sent through the scale and back, returns as itself
+abbrev pub ThroughAndBack : Type 0
+ThroughAndBack = (v x : ℤ) (a d : ℕ) (s : Unscaled) → scaled v a d ≡ Scaled.Nanometres x → Answers x a d s → s ≡ Unscaled.Step v
+
+-- every reading that is given a step is that step's reading
+abbrev pub GivenItsReading : Type 0
+GivenItsReading = (v x : ℤ) (a d : ℕ) → Answers x a d (Unscaled.Step v) → scaled v a d ≡ Scaled.Nanometres x
