@@ -1,3 +1,2 @@
 -- What other crates may cite: the record as it is lent.
 pub mod Lendings
-pub mod Given

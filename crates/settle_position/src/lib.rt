@@ -164,8 +164,8 @@ pub fn prepare(
     }
 }
 
-// Document 02, A3: decides entry j, and puts it in its place in the order at once; answers how many positions there are then. Called from entry 0 up: after entry
-// j the order holds exactly the positions trusted among entries 0 to j, lowest first, equal ones each time.
+// Document 02, A3: decides entry j, and puts it in its place in the order at once; answers how many positions there are then. Called from entry 0 up, with 32
+// zeros and none counted at first: after entry j the order holds exactly the positions trusted among entries 0 to j, lowest first, equal ones each time.
 pub fn decide_entry(
     lists: &Lists,
     marks: &Words,

@@ -1,5 +1,5 @@
--- What a number decides: a refusal's is answered alone, and leaves memory as it was.
-use mathlib.Core.Path.{_≡_, refl}
+-- What a number decides: a refusal's is answered alone, and leaves memory as it was. And what is given of an answer that was taken apart: number and memory.
+use mathlib.Core.Path.{_≡_, refl, sym, _∙_}
 use mathlib.Core.Logic.{_≢_}
 use Prim.Native.Nat.{ℕ, zero, suc}
 use native.Mathlib.Omega.{arith}
@@ -16,3 +16,13 @@ unchanged (suc c) new old h = refl
 pub changed : {A : Type 0} (c : ℕ) (new old : A) → c ≡ 0 → leaves c new old ≡ new
 changed zero new old e = refl
 changed (suc c) new old e = absurd (omega arith)
+
+-- an answer is promised to be m and was found to be x: number and memory of x are those of m
+pub given-out : {A B : Type 0} (number : A → ℕ) (result : A → B → B) {s m x : A} {c : ℕ} {v old : B}
+    → c ≡ number x → v ≡ result x old → s ≡ m → s ≡ x → (c ≡ number m) × (v ≡ result m old)
+given-out number result p q e t = rw (sym e ∙ t) (p, q)
+
+-- the same with another fact between
+pub given-with : {A B P : Type 0} (number : A → ℕ) (result : A → B → B) {s m x : A} {c : ℕ} {v old : B}
+    → P → c ≡ number x → v ≡ result x old → s ≡ m → s ≡ x → (c ≡ number m) × P × (v ≡ result m old)
+given-with number result f p q e t = rw (sym e ∙ t) (p, f, q)

@@ -3,7 +3,7 @@ use mathlib.Core.Path.{refl}
 use mir.Facts.{toZ-ofZ}
 use borrow.Author.Needs.{needs}
 use Rattle.camera.specs.Out.{settledNumber, settledOr}
-use Rattle.camera.proofs.Answers.{given-out}
+use Rattle.terms.proofs.Refusals.{given-out}
 use Rattle.camera.proofs.focus_midpoint.Statement.{statement}
 use Rattle.camera.proofs.focus_midpoint.Tie as tie
 

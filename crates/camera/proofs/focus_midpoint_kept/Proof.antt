@@ -3,7 +3,7 @@ use mathlib.Core.Path.{refl}
 use borrow.Author.Needs.{needs}
 use Rattle.settle_midpoint.proofs.Stored.{stored}
 use Rattle.camera.specs.Out.{settledNumber, keptOr}
-use Rattle.camera.proofs.Answers.{given-out}
+use Rattle.terms.proofs.Refusals.{given-out}
 use Rattle.camera.proofs.focus_midpoint_kept.Statement.{statement}
 use Rattle.camera.proofs.focus_midpoint_kept.Tie as tie
 

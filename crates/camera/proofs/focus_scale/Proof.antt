@@ -5,7 +5,7 @@ use mir.Facts.{toZ-ofZ}
 use borrow.Author.Needs.{needs}
 use Rattle.steps.specs.Scale.{scaled}
 use Rattle.camera.specs.Out.{scaledNumber, scaledOr}
-use Rattle.camera.proofs.Answers.{given-out}
+use Rattle.terms.proofs.Refusals.{given-out}
 use Rattle.camera.proofs.focus_scale.Statement.{statement}
 use Rattle.camera.proofs.focus_scale.Tie as tie
 

@@ -3,7 +3,7 @@ use mathlib.Core.Path.{refl}
 use mir.Facts.{toZ-ofZ}
 use borrow.Author.Needs.{needs}
 use Rattle.head_lent.specs.Answers.{heldNumber, heldOr}
-use Rattle.head_lent.proofs.Given.{given-out}
+use Rattle.terms.proofs.Refusals.{given-out}
 use Rattle.head_lent.proofs.held.Statement.{statement}
 use Rattle.head_lent.proofs.held.Tie as tie
 

@@ -4,7 +4,7 @@ use borrow.Author.Needs.{needs}
 use denote.Ref.{now}
 use Rattle.head_spec.specs.Calls.{writeBuffer}
 use Rattle.head_lent.specs.Answers.{writtenNumber, writtenOr}
-use Rattle.head_lent.proofs.Given.{given-with}
+use Rattle.terms.proofs.Refusals.{given-with}
 use Rattle.head_lent.proofs.written.Statement.{statement}
 use Rattle.head_lent.proofs.written.Tie as tie
 
