@@ -1,8 +1,8 @@
 -- Document 02, A5: the head as a register window of sixteen bytes, and what stands beside the head: pending events and a mask. Of both only the three low bits
 -- count: 0 phase end, 1 refusal 25, 2 strike over.
-use mathlib.Core.Bool.{Bool, not, cond, _&&_, _||_}
+use mathlib.Core.Bool.{Bool, true, false, not, cond, _&&_, _||_}
 use mathlib.Core.List.{List, [], _∷_}
-use Prim.Native.Nat.{ℕ, _+_, _*_}
+use Prim.Native.Nat.{ℕ, zero, suc, _+_, _*_}
 use lib.Dec.{eqb, ltb}
 use lib.ListN.{getD}
 use Rattle.terms.specs.Refusals as refusal
@@ -64,9 +64,9 @@ positionWord (Position v) = wordOf v
 
 -- byte 3: position held, healed in this round, confession round. After the last phase end no round is open in which it was healed.
 abbrev pub statusBits : Seat → ℕ → Bool
-statusBits s 0 = isHeld (s .position)
-statusBits s 1 = s .healed && not (s .ended)
-statusBits s k = not (eqb (s .round) 0)
+statusBits s zero = isHeld (s .position)
+statusBits s (suc zero) = s .healed && not (s .ended)
+statusBits s (suc (suc k)) = not (eqb (s .round) 0)
 
 unfoldable pub window : Seat → Beside → List ℕ
 window s b =
