@@ -38,6 +38,6 @@ blockAfter w (hearsBatch s room) = leaves (batchRefusal s room) (heardEach w (en
 blockAfter w closes = withBeside (besideAfter w closes) (after w (closedAnswer (close (headOf w))))
 blockAfter w (sets at x) = withBeside (besideAfter w (sets at x)) w
 
--- the theorem: of any block, after any call, what stands beside the head is this, and the head is that of the call by value
+-- the theorem: of any block, after any call, what stands beside the head is this
 abbrev pub OnlyTheseChange : Type 0
 OnlyTheseChange = (w : List ℕ) (c : Call) → IsBlock w → besideOf (blockAfter w c) ≡ besideAfter w c
