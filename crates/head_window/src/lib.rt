@@ -24,7 +24,7 @@ const TOO_FEW: usize = 1;
 
 const STRIKE_OVER: usize = 2;
 
-// The bytes that may be written.
+// The bytes that may be written, one after the other.
 const EVENTS_BYTE: u32 = 10;
 
 const MASK_BYTE: u32 = 11;
@@ -172,13 +172,13 @@ pub fn read_refusal(at: u32) -> u8
 pub fn set_refusal(at: u32) -> u8
     ensures { λ r. ⌜ r ≡ setRefusal at ⌝ }
 {
-    if at == EVENTS_BYTE {
-        return 0;
+    if at < EVENTS_BYTE {
+        return refusal::REGISTER;
     }
-    if at == MASK_BYTE {
-        return 0;
+    if MASK_BYTE < at {
+        return refusal::REGISTER;
     }
-    refusal::REGISTER
+    0
 }
 
 // Whether event k is left when a byte is written over the events: ones clear.

@@ -13,10 +13,4 @@ returns c =
     (p .0, b .put-beside .ensures ∙ ap (withBeside (a .before .before .before .args .b)) (p .1))
 
 pub put-call-spec : {M : Type 1} → statement M
-put-call-spec =
-    tie.close
-    (tie.spec
-    (λ c κs. search needs)
-    (λ c κs. search needs)
-    (λ c. search needs)
-    returns)
+put-call-spec = tie.close (tie.spec (λ c κs. search needs) (λ c κs. search needs) (λ c. search needs) returns)
