@@ -16,7 +16,8 @@ use Rattle.head_spec.proofs.Proper.{ProperHead}
 use Rattle.head_lent.specs.Answers.{closedAnswer}
 use Rattle.head_window.specs.declared.Beside.{Beside}
 use Rattle.fields.specs.Bytes.{signedOf}
-use Rattle.head_c.specs.Blocks.{IsBlock, flag, entryIn, rangeIn, upTo, numbersAt, listAt, seatOf, headOf, listWords, withHead, after, besideOf, withBeside, heardIn, heardEach}
+use Rattle.head_c.specs.Blocks.{IsBlock, flag, entryIn, rangeIn, upTo, numbersAt, listAt, seatOf, headOf, listWords, withHead, after}
+use Rattle.head_c.specs.Blocks.{besideOf, withBeside, heardIn, heardEach}
 use Rattle.head_c.specs.Events.{Call, starts, restarts, hears, hearsBatch, closes, sets, blockAfter, OnlyTheseChange}
 use Rattle.head_c.proofs.Copying.{upTo-same}
 use Rattle.head_c.proofs.Putting.{second, third, second-long}
@@ -130,7 +131,8 @@ module _ (b : Beside) (w : List ℕ) where
       }
 
 -- the other words from 14 to 23 are kept by every call
-pub others-stay : (w : List ℕ) (c : Call) → IsBlock w → (i : ℕ) → 14 ≤ i → i < 24 → (i ≡ 16 → ⊥) → (i ≡ 17 → ⊥) → getD (blockAfter w c) i 0 ≡ getD w i 0
+pub others-stay : (w : List ℕ) (c : Call) → IsBlock w → (i : ℕ) → 14 ≤ i → i < 24 → (i ≡ 16 → ⊥) → (i ≡ 17 → ⊥)
+    → getD (blockAfter w c) i 0 ≡ getD w i 0
 unfolding blockAfter
 others-stay w (starts n f j v) block i from to d e =
     let a = start (headOf w) n f j v in
