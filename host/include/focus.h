@@ -160,7 +160,7 @@ uint8_t focus_head_kept(const focus_head *head, focus_kept *kept);
  *
  * Events and mask stand beside the head. A start clears both, a restart sets FOCUS_EVENT_STRIKE_OVER, a closing that ends
  * a phase sets FOCUS_EVENT_PHASE_END, and one that is refused 25 sets FOCUS_EVENT_TOO_FEW and changes nothing else. Only
- * these and the two writes change them: `only-these-change` (crates/head_c/proofs/Events.antt). */
+ * these and the two writes change them: `OnlyTheseChange` (crates/head_c/specs/Events.antt). */
 enum focus_event {
     FOCUS_EVENT_PHASE_END = 1,
     FOCUS_EVENT_TOO_FEW = 2, /* a closing was refused 25 */

@@ -9,3 +9,4 @@ pub mod After
 pub mod Calls
 pub mod Beside
 pub mod Events
+pub mod Refused

@@ -1,14 +1,16 @@
 -- Document 02, A5: which calls change what stands beside a head: a start, a restart, a closing and a write to the window. Nothing else changes it.
 use mathlib.Core.Path.{_≡_}
+use mathlib.Core.Logic.{_≢_}
 use mathlib.Core.List.{List}
 use Prim.Native.Nat.{ℕ}
 use lib.IntN.{ℤ}
+use Rattle.terms.specs.Refusals as refusal
 use Rattle.terms.specs.Refusals.{leaves}
 use Rattle.head_spec.specs.Calls.{start, restart, hear, saidTo, close}
 use Rattle.head_spec.specs.Batch.{entriesOf, batchRefusal}
 use Rattle.head_lent.specs.Answers.{closedAnswer}
 use Rattle.head_window.specs.declared.Beside.{Beside}
-use Rattle.head_window.specs.Window.{startedBeside, restartedBeside, closedBeside, setBeside}
+use Rattle.head_window.specs.Window.{startedBeside, restartedBeside, closedBeside, setRefusal, setBeside}
 use Rattle.head_c.specs.Blocks.{IsBlock, headOf, after, besideOf, withBeside, heardIn, heardEach}
 
 -- a call that is lent the block to change; all others are lent it to read
@@ -19,6 +21,15 @@ pub data Call : Type 0 where
   hearsBatch : (batch : List ℕ) (room : ℕ) → Call
   closes : Call
   sets : (at byte : ℕ) → Call
+
+-- the number that it answers
+abbrev pub numberAfter : List ℕ → Call → ℕ
+numberAfter w (starts n f i v) = start (headOf w) n f i v .refusal
+numberAfter w (restarts n f i p r) = restart (headOf w) n f i p r .refusal
+numberAfter w (hears k s) = hear (headOf w) k s .refusal
+numberAfter w (hearsBatch s room) = batchRefusal s room
+numberAfter w closes = closedAnswer (close (headOf w)) .refusal
+numberAfter w (sets at x) = setRefusal at
 
 -- what stands beside the head after it
 abbrev pub besideAfter : List ℕ → Call → Beside
@@ -41,3 +52,9 @@ blockAfter w (sets at x) = withBeside (besideAfter w (sets at x)) w
 -- the theorem: of any block, after any call, what stands beside the head is this
 abbrev pub OnlyTheseChange : Type 0
 OnlyTheseChange = (w : List ℕ) (c : Call) → IsBlock w → besideOf (blockAfter w c) ≡ besideAfter w c
+
+-- demand 1 of these calls: one that is refused changes nothing but what stands beside the head, and that only if it is refused 25
+abbrev pub RefusedLeaves : Type 0
+RefusedLeaves =
+    (w : List ℕ) (c : Call) → numberAfter w c ≢ 0
+    → (blockAfter w c ≡ withBeside (besideAfter w c) w) × (numberAfter w c ≢ refusal.trusted → blockAfter w c ≡ w)
