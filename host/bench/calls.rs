@@ -7,6 +7,7 @@ use crate::rules::frames::{self, Said};
 use crate::rules::head::Head;
 use crate::rules::midpoint::{self, Entry, LIMIT};
 use crate::rules::scale;
+use crate::rules::window::Device;
 
 /// How many inputs, or heads, are taken in one measured stretch.
 const MANY: usize = 64;
@@ -124,6 +125,28 @@ fn scaled(wanted: Wanted, name: &str, back: bool) -> Option<Row> {
     row(wanted, name.to_string(), MANY * MANY, (&|| (), export), (&|| (), plain))
 }
 
+/// All sixteen bytes of a head's window.
+fn window(wanted: Wanted) -> Option<Row> {
+    let position = |i: usize| 15_625 * i as i32 - 500_000;
+    let block = |i: usize| {
+        let mut block = Block([0; SIZE]);
+        block.start(5, 1, 2, position(i));
+        block
+    };
+    let device = |i: usize| Device { head: Head::start(5, 1, 2, position(i)).expect("a start that is taken"), events: 0, mask: 0 };
+    let export = |blocks: &mut Vec<Block>| {
+        let mut bytes = [0; 16];
+        let mut read = |block: &mut Block| {
+            block.window(&mut bytes);
+            sum(&bytes)
+        };
+        (0..MANY * MANY).map(|i| read(&mut blocks[i % MANY])).sum()
+    };
+    let plain = |devices: &mut Vec<Device>| (0..MANY * MANY).map(|i| sum(&black_box(devices[i % MANY].bytes()))).sum();
+    let (blocks, devices) = (|| (0..MANY).map(block).collect(), || (0..MANY).map(device).collect());
+    row(wanted, "reading the sixteen bytes of a window".to_owned(), MANY * MANY, (&blocks, &export), (&devices, &plain))
+}
+
 /// A round as a head hears it: its frames by link.
 struct Heard {
     n: usize,
@@ -214,6 +237,7 @@ pub fn rows(wanted: Wanted) -> Vec<Row> {
     let mut rows = vec![frame_check(wanted, 5), frame_check(wanted, 32)];
     rows.extend([midpoint(wanted, 5, 1, 0), midpoint(wanted, 32, 8, 0), midpoint(wanted, 32, 8, 16)]);
     rows.extend([scaled(wanted, "scale, from steps to nanometres", false), scaled(wanted, "scale, from nanometres to steps", true)]);
+    rows.push(window(wanted));
     for (n, f) in [(5, 1), (32, 8)] {
         let (collection, confession, lies) = (Heard::new(n, f, 0, 0, 0), Heard::new(n, f, 1, 0, 0), Heard::new(n, f, 1, f, f));
         rows.extend([collection.hearing(wanted, "a position"), confession.hearing(wanted, "a list")]);

@@ -1,10 +1,10 @@
 //! A call with all its arguments, made on both sides: the proved export, and the second implementation.
 
-use crate::exported::{self, Block};
+use crate::exported::{self, Block, EVENTS};
 use crate::rules::frames;
-use crate::rules::head::Head;
 use crate::rules::midpoint::{self, Kept};
 use crate::rules::scale;
+use crate::rules::window::Device;
 use std::fmt;
 
 /// What an export gives where no step reads so.
@@ -37,6 +37,10 @@ pub enum Call {
     Close,
     Position { out: i32 },
     Kept { out: [i32; 4] },
+    Register { at: u32, out: u8 },
+    Window { out: [u8; 16] },
+    SetRegister { at: u32, byte: u8 },
+    Interrupt,
 }
 
 /// What a call gave back and left in lent memory. Memory is disturbed if a refused or reading call changed the block of a head, or a call the batch that
@@ -67,6 +71,10 @@ impl Call {
             Call::Close => 10,
             Call::Position { .. } => 11,
             Call::Kept { .. } => 12,
+            Call::Register { .. } => 13,
+            Call::Window { .. } => 14,
+            Call::SetRegister { .. } => 15,
+            Call::Interrupt => 16,
         }
     }
 
@@ -76,6 +84,7 @@ impl Call {
             Call::Midpoint { entries, .. } | Call::MidpointKept { entries, .. } => entries.0.clone(),
             Call::HearBatch { answers, .. } => answers.0.clone(),
             Call::Write { buffer, .. } => buffer.0.clone(),
+            Call::Window { out } => out.to_vec(),
             _ => Vec::new(),
         }
     }
@@ -101,16 +110,35 @@ impl Call {
             Call::Close => (block.close(), 0),
             Call::Position { mut out } => (block.position(&mut out), out as i64),
             Call::Kept { .. } => (block.kept(&mut kept), 0),
+            Call::Register { at, mut out } => (block.register(at, &mut out), out as i64),
+            Call::Window { mut out } => {
+                block.window(&mut out);
+                lent = out.to_vec();
+                (0, 0)
+            }
+            Call::SetRegister { at, byte } => (block.set_register(at, byte), 0),
+            Call::Interrupt => (block.interrupt(), 0),
         };
-        let reads = matches!(self, Call::Write { .. } | Call::Position { .. } | Call::Kept { .. });
+        let reads = self.reads();
         let read = matches!(self, Call::HearBatch { batch: given, .. } if given.0 != batch);
+        let mut before = before;
+        if number == 25 && matches!(self, Call::Close) {
+            before.0[EVENTS].copy_from_slice(&block.0[EVENTS]); // its event is compared in the window
+        }
         let disturbed = read || (number != 0 || reads) && *block != before;
         Answer { number, out, kept, lent: Bytes(lent), disturbed }
     }
 
+    /// Whether the call may not change the block, whatever it answers.
+    fn reads(&self) -> bool {
+        matches!(self, Call::Write { .. } | Call::Position { .. } | Call::Kept { .. })
+            || matches!(self, Call::Register { .. } | Call::Window { .. } | Call::Interrupt)
+    }
+
     /// By the second implementation, on its head.
-    pub fn plain(&self, head: &mut Head) -> Answer {
+    pub fn plain(&self, device: &mut Device) -> Answer {
         let mut lent = self.lent();
+        let head = &mut device.head;
         let mut kept = self.kept();
         let (done, out) = match *self {
             Call::FrameCheck { .. } => (frames::check(&lent).map(drop), 0),
@@ -122,21 +150,28 @@ impl Call {
             Call::Unscale { nanometres, numerator, denominator, out } => {
                 valued(scale::unscale(nanometres, numerator, denominator).map(|step| step.unwrap_or(NO_STEP)), out)
             }
-            Call::Start { n, f, number, position } => (opened(head, Head::start(n as usize, f as usize, number as usize, position)), 0),
+            Call::Start { n, f, number, position } => (device.start(n as usize, f as usize, number as usize, position), 0),
             Call::Restart { n, f, number, phase, round } => {
-                (opened(head, Head::restart(n as usize, f as usize, number as usize, phase as usize, round as usize)), 0)
+                (device.restart(n as usize, f as usize, number as usize, phase as usize, round as usize), 0)
             }
             Call::Hear { link, .. } => (head.hear(link as usize, &lent), 0),
             Call::HearBatch { ref batch, room, out, .. } => {
                 valued(head.hear_batch(&batch.0, &mut lent[..room]).map(|count| count as i64), out as i64)
             }
             Call::Write { room, out, .. } => valued(head.write(&mut lent[..room]).map(|length| length as i64), out as i64),
-            Call::Close => (head.close(), 0),
+            Call::Close => (device.close(), 0),
             Call::Position { out } => (head.position.map_or(Ok(()), |_| Err(1)), head.position.unwrap_or(out) as i64),
             Call::Kept { .. } => {
                 kept = head.kept.map_or(kept, four);
                 (head.kept.map_or(Ok(()), |_| Err(1)), 0)
             }
+            Call::Register { at, out } => valued(device.read(at as usize), out),
+            Call::Window { .. } => {
+                lent = device.bytes().to_vec();
+                (Ok(()), 0)
+            }
+            Call::SetRegister { at, byte } => (device.write(at as usize, byte), 0),
+            Call::Interrupt => (if device.is_up() { Err(1) } else { Ok(()) }, 0),
         };
         Answer { number: done.err().unwrap_or(0), out, kept, lent: Bytes(lent), disturbed: false }
     }
@@ -152,11 +187,6 @@ impl Call {
 
 fn four(kept: Kept) -> [i32; 4] {
     [kept.low, kept.high, kept.trim as i32, kept.position]
-}
-
-/// The head as it was opened, or as it was before a refusal.
-fn opened(head: &mut Head, new: Result<Head, u8>) -> Result<(), u8> {
-    new.map(|new| *head = new)
 }
 
 /// The value given, or what stood there before a refusal.

@@ -20,6 +20,10 @@ mod c {
         pub fn focus_head_close(head: *mut Block) -> u8;
         pub fn focus_head_position(head: *const Block, position: *mut i32) -> u8;
         pub fn focus_head_kept(head: *const Block, kept: *mut [i32; 4]) -> u8;
+        pub fn focus_head_register(head: *const Block, at: u32, byte: *mut u8) -> u8;
+        pub fn focus_head_window(head: *const Block, bytes: *mut [u8; 16]);
+        pub fn focus_head_set_register(head: *mut Block, at: u32, byte: u8) -> u8;
+        pub fn focus_head_interrupt(head: *const Block) -> u8;
     }
 }
 
@@ -32,8 +36,9 @@ pub fn as_in_header() -> bool {
     include_str!("../include/focus.h").contains(&format!("opaque[{WORDS}]"))
 }
 
-/// The bytes of a block, words 14 to 23, that no call changes.
-pub const BESIDE: Range<usize> = 56..96;
+/// The bytes of a block, words 14, 15 and 18 to 23, that no call changes; and those of its pending events, which a closing refused 25 changes.
+pub const BESIDE: [Range<usize>; 2] = [56..64, 72..96];
+pub const EVENTS: Range<usize> = 64..68;
 
 /// A head's block, as C keeps it.
 #[repr(C, align(4))]
@@ -91,5 +96,21 @@ impl Block {
 
     pub fn kept(&mut self, kept: &mut [i32; 4]) -> u8 {
         unsafe { c::focus_head_kept(self, kept) }
+    }
+
+    pub fn register(&mut self, at: u32, byte: &mut u8) -> u8 {
+        unsafe { c::focus_head_register(self, at, byte) }
+    }
+
+    pub fn window(&mut self, bytes: &mut [u8; 16]) {
+        unsafe { c::focus_head_window(self, bytes) }
+    }
+
+    pub fn set_register(&mut self, at: u32, byte: u8) -> u8 {
+        unsafe { c::focus_head_set_register(self, at, byte) }
+    }
+
+    pub fn interrupt(&mut self) -> u8 {
+        unsafe { c::focus_head_interrupt(self) }
     }
 }

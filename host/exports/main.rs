@@ -3,7 +3,8 @@
 //!
 //!     exports COUNT [SEED]    at least COUNT calls, from the seed on
 //!
-//! Return numbers and lent memory must be the same, and a refused call must leave every byte of the block. The first difference prints its seed,
+//! Return numbers and lent memory must be the same, and a refused call must leave every byte of the block, but for the event of refusal 25; after each
+//! call all sixteen bytes of the head's window and its interrupt line must be the same. The first difference prints its seed,
 //! its call and both answers, and the exit status is 1; `exports 1 SEED` makes the calls of that seed again. From ENOUGH calls on, an answer that
 //! no call gave is a failure too.
 
@@ -25,6 +26,7 @@ use calls::Call;
 use exported::{Block, BESIDE, SIZE};
 use random::Random;
 use rules::head::Head;
+use rules::window::Device;
 use std::panic::{catch_unwind, AssertUnwindSafe};
 use std::process::ExitCode;
 use tally::{Tally, CALLS};
@@ -34,10 +36,12 @@ const ENOUGH: u64 = 20_000;
 /// How often each of the camera's calls is made for a seed.
 const EACH: usize = 36;
 
-/// A block between two others that no call may touch, and the head beside it.
+/// A block between two others that no call may touch, and the second implementation's head.
 struct Pair {
     blocks: [Block; 3],
-    head: Head,
+    device: Device,
+    /// Whether the block's record is known: it is zeros, or was started.
+    known: bool,
     calls: u64,
 }
 
@@ -48,21 +52,41 @@ impl Pair {
         if !zeros {
             block.0.copy_from_slice(&random.bytes(SIZE));
         }
-        Pair { blocks: [guard, block, guard], head: Head::none(), calls: 0 }
+        // what stands beside a head that was never started is whatever is read there
+        let mut window = [0; 16];
+        block.window(&mut window);
+        let device = Device { head: Head::none(), events: window[10], mask: window[11] };
+        Pair { blocks: [guard, block, guard], device, known: zeros, calls: 0 }
+    }
+
+    /// Whether both sides show the same window and the same line; of a block that was never started the events and all behind them.
+    fn alike(&mut self) -> bool {
+        let mut window = [0; 16];
+        self.blocks[1].window(&mut window);
+        let from = if self.known { 0 } else { 10 };
+        window[from..] == self.device.bytes()[from..] && self.blocks[1].interrupt() == self.device.is_up() as u8
     }
 
     fn ask(&mut self, tally: &mut Tally, call: &Call) -> Result<u8, String> {
         self.calls += 1;
-        self.blocks[1].0[BESIDE].fill(self.calls as u8);
-        let (export, plain) = (call.exported(&mut self.blocks[1]), call.plain(&mut self.head));
+        for words in BESIDE {
+            self.blocks[1].0[words].fill(self.calls as u8);
+        }
+        let (export, plain) = (call.exported(&mut self.blocks[1]), call.plain(&mut self.device));
+        self.known |= matches!(call, Call::Start { .. } | Call::Restart { .. }) && plain.number == 0;
         let known = tally.count(call.index(), plain.number);
         let guarded = [0, 2].iter().all(|&at| self.blocks[at] == Block([0xa5; SIZE]));
-        let beside = self.blocks[1].0[BESIDE].iter().all(|&byte| byte == self.calls as u8);
-        if export == plain && known && guarded && beside {
+        let beside = BESIDE.into_iter().all(|words| self.blocks[1].0[words].iter().all(|&byte| byte == self.calls as u8));
+        let alike = self.alike();
+        if export == plain && known && guarded && beside && alike {
             return Ok(plain.number);
         }
         let name = CALLS[call.index()].0;
-        let beside = if guarded { "" } else { "\nmemory beside the block was changed" };
+        let beside = match (guarded, alike) {
+            (false, _) => "\nmemory beside the block was changed",
+            (_, false) => "\nanother window, or another interrupt line",
+            _ => "",
+        };
         Err(format!("call {}, focus_{name}: {call:?}\nexport: {export:?}\nplain:  {plain:?}{beside}", self.calls))
     }
 }

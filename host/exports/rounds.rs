@@ -32,6 +32,7 @@ pub fn sequence(random: &mut Random, zeros: bool, ask: Ask) -> Result<(), String
             writer.looks()?;
         }
         writer.refused_opening()?;
+        writer.bus()?;
     }
     writer.opening()?;
     for _ in 0..1 + writer.random.below(6) {
@@ -107,6 +108,9 @@ impl Writer<'_> {
             }
         }
         self.looks()?;
+        if self.random.chance(1, 3) {
+            self.bus()?;
+        }
         self.close()?;
         if self.turns == turns && self.random.chance(3, 4) {
             self.opening()?; // the round cannot be closed
@@ -178,11 +182,12 @@ impl Writer<'_> {
 
     fn other_call(&mut self) -> Result<(), String> {
         let link = self.random.below(self.n);
-        match self.random.below(12) {
+        match self.random.below(14) {
             0..=2 => self.looks(),
             3..=7 => self.wrong_frame(link),
             8 | 9 => self.refused_opening(),
             10 => self.hear(link, Vec::new()),
+            11 | 12 => self.bus(),
             _ if self.random.chance(1, 4) => self.close(),
             _ => Ok(()),
         }
@@ -199,7 +204,21 @@ impl Writer<'_> {
         (self.ask)(Call::Write { buffer, room, out })?;
         (self.ask)(Call::Position { out: self.random.next() as i32 })?;
         (self.ask)(Call::Kept { out: four(self.random) })?;
+        let at = self.random.below(17) as u32;
+        let at = near(self.random, at, 12);
+        (self.ask)(Call::Register { at, out: self.random.next() as u8 })?;
+        (self.ask)(Call::Window { out: [self.random.next() as u8; 16] })?;
         if self.n == 0 { self.hear(0, frames::write(&Said::Silence, 0, 0)) } else { Ok(()) }
+    }
+
+    /// Events cleared and masked, with any bits, and writes to bytes that take none; whatever the head is.
+    fn bus(&mut self) -> Result<(), String> {
+        let at = self.random.pick(&[10, 11]);
+        let at = near(self.random, at, 4);
+        let bits = 1 << self.random.below(4);
+        let byte = self.random.pick(&[bits, bits, 7 - bits % 8, 0xff]) ^ if self.random.chance(1, 4) { self.random.next() as u8 } else { 0 };
+        (self.ask)(Call::SetRegister { at, byte })?;
+        (self.ask)(Call::Interrupt).map(drop)
     }
 
     fn collection(&mut self) -> Vec<Option<Said>> {

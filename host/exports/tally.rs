@@ -1,7 +1,8 @@
 //! How often each call gave each number.
 
-/// Each call with the numbers it can give, in the order of its checks. A position or a kept range is answered 1 if one is held, else 0.
-pub const CALLS: [(&str, &[u8]); 13] = [
+/// Each call with the numbers it can give, in the order of its checks. A position or a kept range is answered 1 if one is held, else 0; the interrupt
+/// line 1 if it is up.
+pub const CALLS: [(&str, &[u8]); 17] = [
     ("frame_check", &[0, 6, 7, 8]),
     ("midpoint", &[0, 1, 2, 8, 10, 11, 25]),
     ("midpoint_kept", &[0, 1, 2, 8, 10, 11, 25]),
@@ -15,6 +16,10 @@ pub const CALLS: [(&str, &[u8]); 13] = [
     ("head_close", &[0, 26, 25]),
     ("head_position", &[0, 1]),
     ("head_kept", &[0, 1]),
+    ("head_register", &[0, 16]),
+    ("head_window", &[0]),
+    ("head_set_register", &[0, 16]),
+    ("head_interrupt", &[0, 1]),
 ];
 
 #[derive(Default)]

@@ -3,9 +3,9 @@
  *
  * Each function returns 0, or the number of the refusal, and puts a result where the caller lends room for it. If a
  * call has several faults, the first check that fails decides, in the order given at each call. A refusal writes
- * nothing. No function keeps a pointer, allocates, or changes the bytes it reads. Pointers are not NULL, and what is
- * lent to one call does not overlap; nothing else is asked of an argument: every value of every argument has its
- * answer.
+ * nothing, but for the event that a closing refused 25 leaves in the head's window. No function keeps a pointer,
+ * allocates, or changes the bytes it reads. Pointers are not NULL, and what is lent to one call does not overlap;
+ * nothing else is asked of an argument: every value of every argument has its answer.
  *
  * Link with the archives, in one line:
  *
@@ -39,6 +39,7 @@ enum focus_refusal {
     FOCUS_RUN_RECORD = 13,  /* run record of wrong form or out of order, or file ended before a start or inside a phase */
     FOCUS_STRUCK = 14,      /* more than f struck, or a mark at n or above */
     FOCUS_BATCH_ENTRY = 15, /* an entry's length field is missing, below 4 or runs past the end (document 02, A1) */
+    FOCUS_REGISTER = 16,    /* a write to a byte of the window other than 10 and 11, or a read past byte 15 (document 02, A5) */
     FOCUS_HEARD = 21,       /* link already heard this round */
     FOCUS_OTHER_ROUND = 22,/* frame of the other round */
     FOCUS_OTHER_PHASE = 23, /* frame of another phase */
@@ -110,10 +111,11 @@ uint8_t focus_play(const uint8_t *file, size_t bytes, uint8_t *out, size_t out_s
 /* ---- a head that C keeps: crates/head_c/src/lib.rt has what its calls promise; crates/head_spec/specs/Calls.antt
  * defines the calls */
 
-/* A head's block: 1,116 words all shift, of which each call changes those that it must, in place. Words 14 to 23 are
- * room for later calls: no call changes them. Every content is some record, so no block makes a call undefined, not
- * even one that was never started; a block of zeros is a head of no ring. Promised of each call:
- * crates/head_c/specs/Blocks.antt says which record a block is, and crates/head_c/src/lib.rt which words change. */
+/* A head's block: 1,116 words all shift, of which each call changes those that it must, in place. Words 16 and 17 are
+ * the pending events and the mask of its window; 14, 15 and 18 to 23 are room for later calls: no call changes them.
+ * Every content is some record, so no block makes a call undefined, not even one that was never started; a block of
+ * zeros is a head of no ring. Promised of each call: crates/head_c/specs/Blocks.antt says which record a block is,
+ * crates/head_c/specs/Events.antt what stands beside it after a call, and crates/head_c/src which words change. */
 typedef struct focus_head {
     uint32_t opaque[1116];
 } focus_head;
@@ -121,11 +123,12 @@ typedef struct focus_head {
 /* The longest frame: a list of 32 entries. */
 #define FOCUS_FRAME_MAX 140
 
-/* Starts the head in phase 1 with its position: n heads, struck limit f, its number. Refusals 1, 2, 3, 4. */
+/* Starts the head in phase 1 with its position: n heads, struck limit f, its number. Clears events and mask.
+ * Refusals 1, 2, 3, 4. */
 uint8_t focus_head_start(focus_head *head, uint32_t n, uint32_t f, uint32_t number, int32_t position);
 
 /* Restarts a head whose strike is over, in the phase and round (0 collection, 1 confession) that are told it, with no
- * position.
+ * position. Sets the event of a strike that is over.
  * Refusals 1, 2, 3, 5. */
 uint8_t focus_head_restart(focus_head *head, uint32_t n, uint32_t f, uint32_t number, uint32_t phase, uint32_t round);
 
@@ -147,7 +150,7 @@ uint8_t focus_head_hear_batch(focus_head *head, const uint8_t *batch, size_t len
 uint8_t focus_head_write(const focus_head *head, uint8_t *buffer, size_t room, size_t *length);
 
 /* Closes the round: after collection its list stands, after confession it holds a new position and the next phase is
- * open. Refusals 26, 25. */
+ * open, which is an event. Refusals 26, 25, of which 25 is an event and changes nothing else. */
 uint8_t focus_head_close(focus_head *head);
 
 /* No refusal: 1 and the head's position in *position, or 0 if it holds none, with *position as it was. */
@@ -156,6 +159,38 @@ uint8_t focus_head_position(const focus_head *head, int32_t *position);
 /* No refusal: 1 and what the head's last phase end kept in *kept, or 0 if it passed none since it was started or
  * restarted, with *kept as it was. */
 uint8_t focus_head_kept(const focus_head *head, focus_kept *kept);
+
+/* ---- the head as a register window of sixteen bytes (document 02, A5): crates/head_c/src/window.rt has what its calls
+ * promise, crates/head_window/specs/Window.antt says what each byte is
+ *
+ * Bytes 0 to 2 are n, f and the head's number. Byte 3 has bit 0 if a position is held, bit 1 if the head was healed in
+ * this round, bit 2 in a confession round. Bytes 4 and 5 are the phase, 6 to 9 the position, or 0 if there is none, each
+ * lowest byte first. After the last phase end phase and bit 2 stay, and bit 1 is 0. Byte 10 is the pending events, byte
+ * 11 the mask. All else is 0. Refusal 26 is not checked here: the window goes on after the last phase end.
+ *
+ * Events and mask stand beside the head. A start clears both, a restart sets FOCUS_EVENT_STRIKE_OVER, a closing that ends
+ * a phase sets FOCUS_EVENT_PHASE_END, and one that is refused 25 sets FOCUS_EVENT_TOO_FEW and changes nothing else. Only
+ * these and the two writes change them: `OnlyTheseChange` (crates/head_c/specs/Events.antt). */
+enum focus_event {
+    FOCUS_EVENT_PHASE_END = 1,
+    FOCUS_EVENT_TOO_FEW = 2, /* a closing was refused 25 */
+    FOCUS_EVENT_STRIKE_OVER = 4
+};
+
+enum focus_window { FOCUS_WINDOW_EVENTS = 10, FOCUS_WINDOW_MASK = 11, FOCUS_WINDOW_BYTES = 16 };
+
+/* Reads a byte of the window into *byte. Refusal 16 from address 16 on, with *byte as it was. */
+uint8_t focus_head_register(const focus_head *head, uint32_t address, uint8_t *byte);
+
+/* No refusal: all sixteen bytes. */
+void focus_head_window(const focus_head *head, uint8_t bytes[FOCUS_WINDOW_BYTES]);
+
+/* Writes a byte of the window: byte 10 clears the events written as one, byte 11 sets the mask to its low three bits.
+ * Refusal 16 at every other address. */
+uint8_t focus_head_set_register(focus_head *head, uint32_t address, uint8_t byte);
+
+/* No refusal: 1 if the interrupt line is up, that is, if a pending event is also in the mask, else 0. */
+uint8_t focus_head_interrupt(const focus_head *head);
 
 #ifdef __cplusplus
 }

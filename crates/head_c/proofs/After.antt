@@ -18,10 +18,13 @@ use Rattle.head_spec.specs.Record.{opened, trustedBy}
 use Rattle.head_spec.specs.Calls.{answer, startRefusal, started, start, restartRefusal, restarted, restart}
 use Rattle.head_spec.specs.Calls.{closedCollection, closedPhase, closing, closeSettled, closeIn, close}
 use Rattle.head_lent.specs.Answers.{closedAnswer}
-use Rattle.head_c.specs.Blocks.{after}
+use Rattle.head_window.specs.declared.Beside.{Beside}
+use Rattle.head_c.specs.Blocks.{after, withBeside}
 
-pub answered : (w : List ℕ) {r : ℕ} {w′ : List ℕ} {a b : Answer} → (r ≡ a .refusal) × (w′ ≡ after w a) → a ≡ b → (r ≡ b .refusal) × (w′ ≡ after w b)
-answered w p e = (p .0 ∙ ap (λ (x : Answer). x .refusal) e, p .1 ∙ ap (after w) e)
+-- what a call leaves: its answer is a, found to be a′, and b stands beside the head
+pub answered : (w : List ℕ) {r : ℕ} {w′ : List ℕ} {a a′ : Answer} {b b′ : Beside} → (r ≡ a .refusal) × (w′ ≡ withBeside b (after w a)) → a ≡ a′ → b ≡ b′
+    → (r ≡ a′ .refusal) × (w′ ≡ withBeside b′ (after w a′))
+answered w p e q = (p .0 ∙ ap (λ (x : Answer). x .refusal) e, p .1 ∙ (λ i. withBeside (q i) (after w (e i))))
 
 -- ---- a call that is not refused makes a record with nothing heard
 

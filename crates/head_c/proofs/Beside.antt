@@ -1,4 +1,4 @@
--- Every call leaves words 14 to 23 of a block as they were, whatever it answers.
+-- A record put into a block, and hearing, leave words 14 to 23 as they were, whatever is answered.
 use mathlib.Core.Path.{_≡_, refl, ap, sym, _∙_}
 use mathlib.Core.List.{List, [], _∷_}
 use mathlib.Core.Logic.{by-cases}

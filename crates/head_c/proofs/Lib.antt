@@ -8,3 +8,5 @@ pub mod Hearing
 pub mod After
 pub mod Calls
 pub mod Beside
+pub mod Events
+pub mod Refused

@@ -1,5 +1,6 @@
 -- A head as C keeps it: a block of 1,116 words, one for each number. Every block is a record, whatever it holds (`headOf`), and a record is put into
--- a block (`withHead`). Hearing changes a few words alone (`heardIn`). Words 14 to 23 are no part of a record: each call leaves them as they were.
+-- a block (`withHead`). Hearing changes a few words alone (`heardIn`). Words 14 to 23 are no part of a record. Words 16 and 17 are what
+-- stands beside the head; each call leaves the others as they were.
 use mathlib.Core.Path.{_≡_}
 use mathlib.Core.Bool.{Bool, not, cond}
 use mathlib.Core.List.{List, [], _∷_, _++_}
@@ -22,6 +23,7 @@ use Rattle.head_spec.specs.declared.Head.{Head}
 use Rattle.head_spec.specs.declared.Answer.{Answer}
 use Rattle.head_spec.specs.Calls.{saidTo, hear, Delivery}
 use Rattle.head_spec.specs.Batch.{entriesOf, batchRefusal, hearBatch, batchAnswers, batchCount}
+use Rattle.head_window.specs.declared.Beside.{Beside}
 use Rattle.head_lent.specs.Answers.{heldNumber, heldOr, rangeNumber}
 use Rattle.head_c.specs.Places as place
 
@@ -122,6 +124,14 @@ withHead h w =
 -- after a call that answers a, its record is put into the block
 unfoldable pub after : List ℕ → Answer → List ℕ
 after w a = leaves (a .refusal) (withHead (a .head) w) w
+
+-- ---- what stands beside the head (document 02, A5)
+
+abbrev pub besideOf : List ℕ → Beside
+besideOf w = record { events = getD w place.events 0; mask = getD w place.mask 0 }
+
+abbrev pub withBeside : Beside → List ℕ → List ℕ
+withBeside b w = set (set w place.events (b .events)) place.mask (b .mask)
 
 -- ---- hearing
 

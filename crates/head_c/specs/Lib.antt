@@ -2,3 +2,4 @@
 pub mod Places
 pub mod Blocks
 pub mod Steps
+pub mod Events

@@ -47,7 +47,13 @@ trim = 12
 abbrev pub middle : ℕ
 middle = 13
 
--- ---- 16 to 23 are room for what C keeps beside a head
+-- ---- what C keeps beside a head: pending events and mask (document 02, A5); 18 to 23 are room for more
+
+abbrev pub events : ℕ
+events = 16
+
+abbrev pub mask : ℕ
+mask = 17
 
 -- ---- what was heard
 

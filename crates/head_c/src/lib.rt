@@ -1,5 +1,6 @@
 // A head as C keeps it: a block of words, which each call changes in place. Each call changes the record that the block is as the call by value
-// changes it; specs/Blocks.antt says which record a block is. A refusal gives its number and leaves the block, and what else is lent, as it was.
+// changes it; specs/Blocks.antt says which record a block is. A refusal gives its number and leaves the block, and what else is lent, as it was;
+// but a closing refused 25 leaves its event beside the head (specs/Events.antt).
 ghost use mathlib.Core.Path.{_≡_};
 ghost use mathlib.Core.Bool.{true};
 ghost use mathlib.Core.List.{_∷_, _++_};
@@ -16,7 +17,9 @@ ghost use Rattle.head_hear.specs.Steps.{linkRefusal, saidOn};
 ghost use Rattle.head_lent.specs.Answers.{closedAnswer, writtenNumber, writtenOr, heldNumber, heldOr, rangeNumber, rangeOr};
 ghost use Rattle.head_c.specs.Places as place;
 ghost use Rattle.head_c.specs.Blocks.{IsBlock, upTo, entryIn, rangeIn, numbersAt, listAt, seatOf, headOf};
-ghost use Rattle.head_c.specs.Blocks.{wordsOf, keptOf, seatWords, withHead, after, marked, changed, Hears, heardEach, HearsBatch};
+ghost use Rattle.head_c.specs.Blocks.{wordsOf, keptOf, seatWords, withHead, after, besideOf, withBeside};
+ghost use Rattle.head_c.specs.Blocks.{marked, changed, Hears, heardEach, HearsBatch};
+ghost use Rattle.head_c.specs.Events.{starts, restarts, closes, blockAfter};
 ghost use Rattle.head_c.specs.Steps.{numberOf};
 use frame_spec::Said;
 use head_spec::Answer;
@@ -24,6 +27,7 @@ use head_spec::Head;
 use head_spec::LastKept;
 use head_spec::Row;
 use head_spec::Seat;
+use head_window::Beside;
 use settle_midpoint::Kept;
 use settle_trust::Links;
 use terms::Entry;
@@ -31,6 +35,7 @@ use terms::Table;
 use terms::refusal;
 
 pub mod place;
+pub mod window;
 
 // A head as C keeps it: 1,116 words.
 pub const WORDS: usize = 1116;
@@ -301,6 +306,36 @@ fn put_answer(h: &mut [u32], a: Answer) -> u8
     a.refusal
 }
 
+// ---- What stands beside the head.
+
+fn beside_in(h: &[u32]) -> Beside
+    requires { ⌜ IsBlock (now h) ⌝ }
+    ensures { λ r. ⌜ r ≡ besideOf (now (h .entry)) ⌝ }
+{
+    Beside {
+        events: h[place::EVENTS],
+        mask: h[place::MASK],
+    }
+}
+
+fn put_beside(h: &mut [u32], b: Beside)
+    requires { ⌜ IsBlock (now h) ⌝ }
+    ensures { λ _. ⌜ now (h .exit) ≡ withBeside b (now (h .entry)) ⌝ }
+{
+    h[place::EVENTS] = b.events;
+    h[place::MASK] = b.mask;
+}
+
+// Leaves what a call answers in the block, and what stands beside the head after it, and gives its number.
+fn put_call(h: &mut [u32], a: Answer, b: Beside) -> u8
+    requires { ⌜ IsBlock (now h) × (a .refusal ≡ 0 → a .head ≡ opened (a .head .seat) (a .head .list)) ⌝ }
+    ensures { λ r. ⌜ (r ≡ a .refusal) × (now (h .exit) ≡ withBeside b (after (now (h .entry)) a)) ⌝ }
+{
+    let number = put_answer(h, a);
+    put_beside(h, b);
+    number
+}
+
 // ---- What hearing changes.
 
 // Sets bit k of a word.
@@ -443,10 +478,11 @@ fn hear_entries(h: &mut [u32], batch: &[u8], answers: &mut [u8])
 #[no_mangle]
 pub extern "C" fn focus_head_start(h: &mut Block, n: u32, f: u32, number: u32, position: i32) -> u8
     ensures { λ r. ⌜ (r ≡ start (headOf (now (h .entry))) n f number position .refusal)
-        × (now (h .exit) ≡ after (now (h .entry)) (start (headOf (now (h .entry))) n f number position)) ⌝ }
+        × (now (h .exit) ≡ blockAfter (now (h .entry)) (starts n f number position)) ⌝ }
 {
     let a = head_calls::start(head_of(h), n, f, number, position);
-    put_answer(h, a)
+    let b = head_window::after_start(a.refusal, beside_in(h));
+    put_call(h, a, b)
 }
 
 // Starts a head that was healed, in the phase and round given, with no position: 0, or 1, 2, 3, 5.
@@ -460,10 +496,11 @@ pub extern "C" fn focus_head_restart(
     round: u32,
 ) -> u8
     ensures { λ r. ⌜ (r ≡ restart (headOf (now (h .entry))) n f number phase round .refusal)
-        × (now (h .exit) ≡ after (now (h .entry)) (restart (headOf (now (h .entry))) n f number phase round)) ⌝ }
+        × (now (h .exit) ≡ blockAfter (now (h .entry)) (restarts n f number phase round)) ⌝ }
 {
     let a = head_calls::restart(head_of(h), n, f, number, phase, round);
-    put_answer(h, a)
+    let b = head_window::after_restart(a.refusal, beside_in(h));
+    put_call(h, a, b)
 }
 
 // Hears a frame on a link: 0, or 26, 3, 21, 6, 7, 8, 22, 9, 23, 10, 11.
@@ -499,10 +536,12 @@ pub extern "C" fn focus_head_hear_batch(
 #[no_mangle]
 pub extern "C" fn focus_head_close(h: &mut Block) -> u8
     ensures { λ r. ⌜ (r ≡ closedAnswer (close (headOf (now (h .entry)))) .refusal)
-        × (now (h .exit) ≡ after (now (h .entry)) (closedAnswer (close (headOf (now (h .entry)))))) ⌝ }
+        × (now (h .exit) ≡ blockAfter (now (h .entry)) closes) ⌝ }
 {
-    let a = head_lent::closed(head_of(h));
-    put_answer(h, a)
+    let out = head_calls::close(head_of(h));
+    let closed = out.closed;
+    let b = head_window::after_close(closed, beside_in(h));
+    put_call(h, head_lent::closed_answer(out), b)
 }
 
 // Writes what the head has to say at the front of the buffer, and the frame's length: 0, or 26, 24.

@@ -29,7 +29,10 @@ pub const TRIM: usize = 12;
 
 pub const MIDDLE: usize = 13;
 
-// 16 to 23 are room for what C keeps beside a head.
+// What C keeps beside a head: pending events and mask; 18 to 23 are room for more.
+pub const EVENTS: usize = 16;
+
+pub const MASK: usize = 17;
 
 // Of what was heard.
 pub const HEARD: usize = 24; // the links heard in this round

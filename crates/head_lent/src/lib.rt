@@ -8,6 +8,7 @@ ghost use Rattle.head_lent.specs.Answers.{closedNumber, closedAnswer, wr
 use frame_spec::Written;
 use head_spec::Answer;
 use head_spec::Closed;
+use head_spec::Closing;
 use head_spec::Head;
 use terms::Entry;
 
@@ -51,11 +52,10 @@ pub fn hear_batch(h: &mut Head, batch: &[u8], answers: &mut [u8], count: &mut us
     out.refusal
 }
 
-// What closing by value answers, as a number and the record.
-pub fn closed(h: Head) -> Answer
-    ensures { λ r. ⌜ r ≡ closedAnswer (close h) ⌝ }
+// What a closing answers, as a number and the record.
+pub fn closed_answer(out: Closing) -> Answer
+    ensures { λ r. ⌜ r ≡ closedAnswer out ⌝ }
 {
-    let out = head_calls::close(h);
     let c = out.closed;
     let g = out.head;
     match c {
@@ -72,6 +72,13 @@ pub fn closed(h: Head) -> Answer
             head: g,
         },
     }
+}
+
+// What closing by value answers, as a number and the record.
+pub fn closed(h: Head) -> Answer
+    ensures { λ r. ⌜ r ≡ closedAnswer (close h) ⌝ }
+{
+    closed_answer(head_calls::close(h))
 }
 
 // Closes the round: 0, or 26, 25.

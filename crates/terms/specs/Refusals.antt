@@ -78,6 +78,10 @@ struck = 14
 abbrev pub batch-entry : ℕ
 batch-entry = 15
 
+-- a write to another byte of the window than 10 and 11, or a read past byte 15 (document 02, A5)
+abbrev pub register : ℕ
+register = 16
+
 -- link already heard this round
 abbrev pub heard : ℕ
 heard = 21

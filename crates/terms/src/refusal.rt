@@ -31,6 +31,8 @@ pub const STRUCK: u8 = 14; // more than f struck, or a mark at n or above
 
 pub const BATCH_ENTRY: u8 = 15; // an entry's length field is missing, below 4 or runs past the end
 
+pub const REGISTER: u8 = 16; // a write to another byte of the window than 10 and 11, or a read past byte 15
+
 // From the state.
 pub const HEARD: u8 = 21; // link already heard this round
 

@@ -6,13 +6,13 @@ use super::midpoint::{is_position, settle, size, Entry, Kept};
 pub const LAST_PHASE: usize = 65_535;
 
 pub struct Head {
-    n: usize,
-    f: usize,
-    number: usize,
-    phase: usize,
-    round: usize,
-    healed: bool,
-    ended: bool,
+    pub(super) n: usize,
+    pub(super) f: usize,
+    pub(super) number: usize,
+    pub(super) phase: usize,
+    pub(super) round: usize,
+    pub(super) healed: bool,
+    pub(super) ended: bool,
     pub position: Entry,
     /// Of the last phase end since the start or restart.
     pub kept: Option<Kept>,
@@ -23,7 +23,7 @@ pub struct Head {
 impl Head {
     /// A head of no ring: what was never started.
     pub fn none() -> Head {
-        Head::healed(0, 0, 0, 0, 0)
+        Head { healed: false, ..Head::healed(0, 0, 0, 0, 0) }
     }
 
     fn healed(n: usize, f: usize, number: usize, phase: usize, round: usize) -> Head {

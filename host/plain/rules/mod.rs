@@ -1,4 +1,4 @@
-//! Document 01's rules, plainly: frames as bytes, a record for each head, the midpoint, the scale, and the records of a run file. They share
+//! Document 01's rules, plainly: frames as bytes, a record for each head, its window, the midpoint, the scale, and the records of a run file. They share
 //! nothing with the proved crates. The player of host/plain plays by them; host/exports, host/bench and the writer of host/compare take from them
 //! what they need.
 
@@ -7,3 +7,4 @@ pub mod head;
 pub mod midpoint;
 pub mod records;
 pub mod scale;
+pub mod window;

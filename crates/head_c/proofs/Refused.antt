@@ -1,0 +1,70 @@
+-- A call that is refused leaves the block as it was, but for the event of a closing refused 25.
+use mathlib.Core.Path.{_≡_, refl, ap, sym, _∙_}
+use mathlib.Core.Logic.{_≢_, by-cases}
+use mathlib.Core.List.{List}
+use Prim.Native.Nat.{ℕ}
+use native.Mathlib.Omega.{arith}
+use native.Mathlib.Decide.{decLt}
+use lib.ListN.{getD, set}
+use lib.Seq.{set-getD}
+use borrow.Author.Tests.{eq-eqb, ne-eqb}
+use Rattle.terms.proofs.Refusals.{unchanged}
+use Rattle.head_spec.specs.declared.Answer.{Answer}
+use Rattle.head_spec.specs.declared.Closed.{Closed}
+use Rattle.head_spec.specs.Calls.{start, restart, hear, close}
+use Rattle.head_spec.specs.Batch.{batchRefusal}
+use Rattle.head_lent.specs.Answers.{closedNumber, closedAnswer}
+use Rattle.head_window.specs.declared.Beside.{Beside}
+use Rattle.head_window.specs.Window.{closedBeside, setRefusal, setBeside}
+use Rattle.head_c.specs.Blocks.{headOf, after, besideOf, withBeside}
+use Rattle.head_c.specs.Events.{starts, restarts, hears, hearsBatch, closes, sets, blockAfter, RefusedLeaves}
+
+-- what stands beside the head, put back where it stands
+pub same-put : (w : List ℕ) → withBeside (besideOf w) w ≡ w
+same-put w = ap (λ (l : List ℕ). set l 17 (getD w 17 0)) (set-getD w 16 0) ∙ set-getD w 17 0
+
+same-after : (w : List ℕ) (a : Answer) → a .refusal ≢ 0 → after w a ≡ w
+unfolding after
+same-after w a h = sym (unchanged (a .refusal) _ w h)
+
+-- ---- only refusal 25 is an event
+
+closed-same : (x : Closed) (b : Beside) → closedNumber x ≢ 0 → closedNumber x ≢ 25 → closedBeside x b ≡ b
+closed-same (Closed.Refused c) b h d = rw (ne-eqb c 25 d)
+closed-same Closed.Listed b h d = absurd (h refl)
+closed-same (Closed.Settled k) b h d = absurd (h refl)
+
+set-same : (at x : ℕ) (b : Beside) → setRefusal at ≢ 0 → setBeside at x b ≡ b
+set-same at x b h = by-cases (decLt at 10)
+    (λ l. other (omega arith) (omega arith))
+    (λ g. by-cases (decLt at 11)
+    (λ l. absurd (h (rw (eq-eqb at 10 (omega arith)))))
+    (λ m. by-cases (decLt at 12)
+    (λ l. absurd (h (rw (ne-eqb at 10 (omega arith), eq-eqb at 11 (omega arith)))))
+    (λ n. other (omega arith) (omega arith))))
+  where
+    other : at ≢ 10 → at ≢ 11 → setBeside at x b ≡ b
+    other d e = rw (ne-eqb at 10 d, ne-eqb at 11 e)
+
+-- ---- the calls
+
+module _ (w : List ℕ) where
+  abbrev Leaves : ℕ → Beside → List ℕ → Type 0
+  Leaves c b w′ = (w′ ≡ withBeside b w) × (c ≢ 25 → w′ ≡ w)
+
+  put-leaves : (a : Answer) (b : Beside) → a .refusal ≢ 0 → (a .refusal ≢ 25 → b ≡ besideOf w) → Leaves (a .refusal) b (withBeside b (after w a))
+  put-leaves a b h q =
+      let e = ap (withBeside b) (same-after w a h) in
+      (e, λ d. e ∙ ap (λ (x : Beside). withBeside x w) (q d) ∙ same-put w)
+
+  heard-leaves : (c : ℕ) {w′ : List ℕ} → w ≡ w′ → Leaves c (besideOf w) w′
+  heard-leaves c e = (sym e ∙ sym (same-put w), λ d. sym e)
+
+pub refused-leaves : RefusedLeaves
+unfolding blockAfter
+refused-leaves w (starts n f i v) h = put-leaves w (start (headOf w) n f i v) _ h (λ d. sym (unchanged _ _ _ h))
+refused-leaves w (restarts n f i p r) h = put-leaves w (restart (headOf w) n f i p r) _ h (λ d. sym (unchanged _ _ _ h))
+refused-leaves w closes h = put-leaves w (closedAnswer (close (headOf w))) _ h (closed-same (close (headOf w) .closed) (besideOf w) h)
+refused-leaves w (sets at x) h = (refl, λ d. ap (λ (b : Beside). withBeside b w) (set-same at x (besideOf w) h) ∙ same-put w)
+refused-leaves w (hears k s) h = heard-leaves w (hear (headOf w) k s .refusal) (unchanged _ _ w h)
+refused-leaves w (hearsBatch s room) h = heard-leaves w (batchRefusal s room) (unchanged _ _ w h)

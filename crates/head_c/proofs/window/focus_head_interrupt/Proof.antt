@@ -1,0 +1,14 @@
+-- The line as a number.
+use mathlib.Core.Path.{ap, _∙_}
+use Rattle.convergence.specs.Counting.{bit}
+use Rattle.marks.proofs.Counts.{byte-bit}
+use Rattle.head_window.specs.Window.{isUp}
+use borrow.Author.Needs.{needs}
+use Rattle.head_c.proofs.window.focus_head_interrupt.Statement.{statement}
+use Rattle.head_c.proofs.window.focus_head_interrupt.Tie as tie
+
+returns : tie.Need-returns
+returns c = byte-bit (c .is-up .result) ∙ ap bit (c .is-up .ensures ∙ ap isUp (c .before .beside-in .ensures))
+
+pub focus-head-interrupt-spec : {M : Type 1} → statement M
+focus-head-interrupt-spec = tie.close (tie.spec (λ c κs. search needs) (λ c κs. search needs) (λ c. search needs) returns)

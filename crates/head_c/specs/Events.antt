@@ -1,0 +1,60 @@
+-- Document 02, A5: which calls change what stands beside a head: a start, a restart, a closing and a write to the window. Nothing else changes it.
+use mathlib.Core.Path.{_≡_}
+use mathlib.Core.Logic.{_≢_}
+use mathlib.Core.List.{List}
+use Prim.Native.Nat.{ℕ}
+use lib.IntN.{ℤ}
+use Rattle.terms.specs.Refusals as refusal
+use Rattle.terms.specs.Refusals.{leaves}
+use Rattle.head_spec.specs.Calls.{start, restart, hear, saidTo, close}
+use Rattle.head_spec.specs.Batch.{entriesOf, batchRefusal}
+use Rattle.head_lent.specs.Answers.{closedAnswer}
+use Rattle.head_window.specs.declared.Beside.{Beside}
+use Rattle.head_window.specs.Window.{startedBeside, restartedBeside, closedBeside, setRefusal, setBeside}
+use Rattle.head_c.specs.Blocks.{IsBlock, headOf, after, besideOf, withBeside, heardIn, heardEach}
+
+-- a call that is lent the block to change; all others are lent it to read
+pub data Call : Type 0 where
+  starts : (n f number : ℕ) (position : ℤ) → Call
+  restarts : (n f number phase round : ℕ) → Call
+  hears : (link : ℕ) (frame : List ℕ) → Call
+  hearsBatch : (batch : List ℕ) (room : ℕ) → Call
+  closes : Call
+  sets : (at byte : ℕ) → Call
+
+-- the number that it answers
+abbrev pub numberAfter : List ℕ → Call → ℕ
+numberAfter w (starts n f i v) = start (headOf w) n f i v .refusal
+numberAfter w (restarts n f i p r) = restart (headOf w) n f i p r .refusal
+numberAfter w (hears k s) = hear (headOf w) k s .refusal
+numberAfter w (hearsBatch s room) = batchRefusal s room
+numberAfter w closes = closedAnswer (close (headOf w)) .refusal
+numberAfter w (sets at x) = setRefusal at
+
+-- what stands beside the head after it
+abbrev pub besideAfter : List ℕ → Call → Beside
+besideAfter w (starts n f i v) = startedBeside (start (headOf w) n f i v .refusal) (besideOf w)
+besideAfter w (restarts n f i p r) = restartedBeside (restart (headOf w) n f i p r .refusal) (besideOf w)
+besideAfter w (hears k s) = besideOf w
+besideAfter w (hearsBatch s room) = besideOf w
+besideAfter w closes = closedBeside (close (headOf w) .closed) (besideOf w)
+besideAfter w (sets at x) = setBeside at x (besideOf w)
+
+-- the block after it, as its contract has it
+unfoldable pub blockAfter : List ℕ → Call → List ℕ
+blockAfter w (starts n f i v) = withBeside (besideAfter w (starts n f i v)) (after w (start (headOf w) n f i v))
+blockAfter w (restarts n f i p r) = withBeside (besideAfter w (restarts n f i p r)) (after w (restart (headOf w) n f i p r))
+blockAfter w (hears k s) = leaves (hear (headOf w) k s .refusal) (heardIn w k (saidTo (headOf w .seat) k s)) w
+blockAfter w (hearsBatch s room) = leaves (batchRefusal s room) (heardEach w (entriesOf s)) w
+blockAfter w closes = withBeside (besideAfter w closes) (after w (closedAnswer (close (headOf w))))
+blockAfter w (sets at x) = withBeside (besideAfter w (sets at x)) w
+
+-- the theorem: of any block, after any call, what stands beside the head is this
+abbrev pub OnlyTheseChange : Type 0
+OnlyTheseChange = (w : List ℕ) (c : Call) → IsBlock w → besideOf (blockAfter w c) ≡ besideAfter w c
+
+-- demand 1 of these calls: one that is refused changes nothing but what stands beside the head, and that only if it is refused 25
+abbrev pub RefusedLeaves : Type 0
+RefusedLeaves =
+    (w : List ℕ) (c : Call) → numberAfter w c ≢ 0
+    → (blockAfter w c ≡ withBeside (besideAfter w c) w) × (numberAfter w c ≢ refusal.trusted → blockAfter w c ≡ w)

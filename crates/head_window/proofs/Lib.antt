@@ -1,0 +1,2 @@
+-- Laws of bits, for the proofs of the functions.
+mod Bits

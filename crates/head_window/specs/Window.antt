@@ -1,0 +1,99 @@
+-- Document 02, A5: the head as a register window of sixteen bytes, and what stands beside the head: pending events and a mask. Of both only the three low bits
+-- count: 0 phase end, 1 refusal 25, 2 strike over.
+use mathlib.Core.Bool.{Bool, true, false, not, cond, _&&_, _||_}
+use mathlib.Core.List.{List, [], _∷_}
+use Prim.Native.Nat.{ℕ, zero, suc, _+_, _*_}
+use lib.Dec.{eqb, ltb}
+use lib.ListN.{getD}
+use Rattle.terms.specs.Refusals as refusal
+use Rattle.terms.specs.Refusals.{check, leaves}
+use Rattle.terms.specs.declared.Entry.{Entry}
+use Rattle.terms.specs.declared.Entry.the-variants.{Null, Position}
+use Rattle.fields.specs.Bytes.{wordOf, put2, put4}
+use Rattle.convergence.specs.Counting.{bit}
+use Rattle.marks.specs.Marks.{bitOf, withMark}
+use Rattle.head_spec.specs.declared.Seat.{Seat}
+use Rattle.head_spec.specs.declared.Closed.{Closed}
+use Rattle.head_window.specs.declared.Beside.{Beside}
+
+-- ---- events and mask
+
+-- the byte with these three bits
+abbrev pub three : (ℕ → Bool) → ℕ
+three g = bit (g 0) + 2 * bit (g 1) + 4 * bit (g 2)
+
+abbrev pub phaseEnd : ℕ
+phaseEnd = 0
+
+abbrev pub tooFew : ℕ
+tooFew = 1
+
+abbrev pub strikeOver : ℕ
+strikeOver = 2
+
+-- one event more
+abbrev pub withEvent : ℕ → Beside → Beside
+withEvent k b = record { events = withMark (b .events) k; mask = b .mask }
+
+-- ---- which call changes them; c is the number that it answers
+
+-- a start clears both
+abbrev pub startedBeside : ℕ → Beside → Beside
+startedBeside c b = leaves c (record { events = 0; mask = 0 }) b
+
+-- a restart sets strike over
+abbrev pub restartedBeside : ℕ → Beside → Beside
+restartedBeside c b = leaves c (withEvent strikeOver b) b
+
+-- a closing that ends a phase sets that event, and so does one that is refused 25: the one exception from demand 1
+abbrev pub closedBeside : Closed → Beside → Beside
+closedBeside (Closed.Refused c) b = cond (eqb c refusal.trusted) (withEvent tooFew b) b
+closedBeside Closed.Listed b = b
+closedBeside (Closed.Settled k) b = withEvent phaseEnd b
+
+-- ---- the sixteen bytes
+
+abbrev pub isHeld : Entry → Bool
+isHeld Null = false
+isHeld (Position v) = true
+
+-- the word of a position, 0 if there is none
+abbrev pub positionWord : Entry → ℕ
+positionWord Null = 0
+positionWord (Position v) = wordOf v
+
+-- byte 3: position held, healed in this round, confession round. After the last phase end no round is open in which it was healed.
+abbrev pub statusBits : Seat → ℕ → Bool
+statusBits s zero = isHeld (s .position)
+statusBits s (suc zero) = s .healed && not (s .ended)
+statusBits s (suc (suc k)) = not (eqb (s .round) 0)
+
+unfoldable pub window : Seat → Beside → List ℕ
+window s b =
+    s .n ∷ s .f ∷ s .number ∷ three (statusBits s)
+    ∷ put2 (s .phase) (put4 (positionWord (s .position)) (three (bitOf (b .events)) ∷ three (bitOf (b .mask)) ∷ 0 ∷ 0 ∷ 0 ∷ 0 ∷ []))
+
+-- ---- reading a byte: 16 past byte 15
+
+abbrev pub readRefusal : ℕ → ℕ
+readRefusal at = check (ltb at 16) refusal.register 0
+
+-- the byte, or what stood where it is to go
+abbrev pub byteRead : Seat → Beside → ℕ → ℕ → ℕ
+byteRead s b at old = leaves (readRefusal at) (getD (window s b) at 0) old
+
+-- ---- writing a byte: 16 but for bytes 10 and 11
+
+abbrev pub setRefusal : ℕ → ℕ
+setRefusal at = check (eqb at 10 || eqb at 11) refusal.register 0
+
+-- byte 10 clears the events written as one; byte 11 sets the mask to its low three bits
+abbrev pub setBeside : ℕ → ℕ → Beside → Beside
+setBeside at x b =
+    cond (eqb at 10) (record { events = three (λ k. bitOf (b .events) k && not (bitOf x k)); mask = b .mask })
+    (cond (eqb at 11) (record { events = b .events; mask = three (bitOf x) }) b)
+
+-- ---- the interrupt line is up exactly when a pending event is in the mask
+
+unfoldable pub isUp : Beside → Bool
+isUp b = not (eqb (three (λ k. bitOf (b .events) k && bitOf (b .mask) k)) 0)
