@@ -45,9 +45,12 @@ after-long w a block = go (a .refusal)
 
     go : (c : ℕ) → 17 < length (leaves c (withHead h w) w)
     go zero =
-        omega
-        (arith, second-long h w block, length-append (third h w) (listWords (h .lists) 32),
-        length-append (second h w) (h .links .confessed ∷ h .links .listed ∷ h .links .marks))
+        omega (
+          arith,
+          second-long h w block,
+          length-append (third h w) (listWords (h .lists) 32),
+          length-append (second h w) (h .links .confessed ∷ h .links .listed ∷ h .links .marks),
+        )
     go (suc c) = omega arith
 
 put-after : (b : Beside) (w : List ℕ) (a : Answer) → IsBlock w → besideOf (withBeside b (after w a)) ≡ b

@@ -23,8 +23,8 @@ returns c =
     let call = old .before .before .before in
     let a = call .before .before .before .before .args in
     let answer =
-        call .restart .ensures
-        ∙ ap (λ (h : Head). restart h (a .n) (a .f) (a .number) (a .phase) (a .round)) (call .before .head-of .ensures) in
+    call .restart .ensures
+    ∙ ap (λ (h : Head). restart h (a .n) (a .f) (a .number) (a .phase) (a .round)) (call .before .head-of .ensures) in
     answered (now (a .h)) (c .put-call .ensures) answer
     (beside .after-restart .ensures ∙ (λ i. restartedBeside (answer i .refusal) (old .beside-in .ensures i)))
 
