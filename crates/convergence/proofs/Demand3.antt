@@ -1,24 +1,26 @@
 -- Demand 3, for a ring played on what its links carry (`converges`): a phase within the limits takes an end to a nearer one, since the facts of
--- `Links` hold at each of its receivers, and then any two ends are as `Ends` says. Besides: no receiver ever meets refusal 25, and each keeps an
--- entry.
+-- `Links` hold at each of its receivers, head or listener, and then any two ends are as `Ends` says. Besides: no receiver ever meets refusal 25, and each
+-- keeps an entry.
 use mathlib.Core.Path.{_≡_, refl}
+use mathlib.Core.Bool.{not}
 use Prim.Native.Nat.{ℕ, zero, suc, _+_, _*_, _≤_, _<_}
 use native.Mathlib.Omega.{arith}
 use native.Mathlib.Nat.{le-refl}
-use borrow.Author.Tests.{le-leb}
+use borrow.Author.Tests.{le-leb, lt-ltb}
+use lib.Dec.{ltb}
 use lib.IntN.{ℤ}
 use Rattle.terms.specs.declared.Entry.{Entry}
 use Rattle.terms.specs.declared.Entry.the-variants.{Position}
-use Rattle.convergence.specs.Counting.{AtMost}
+use Rattle.convergence.specs.Counting.{bit, AtMost}
 use Rattle.convergence.specs.Settling.{nulls, trim, twoRounds, midpoint, enough, settled}
 use Rattle.convergence.specs.Trust.{trusted}
 use Rattle.convergence.specs.Phases.{End, start, Faults, soundAt, lowest, highest, givenTo, after, rounding, endAfter}
 use Rattle.convergence.specs.Demand3.{KeptBetween, AcceptedSize, Halves, FewStruck, Converges}
-use Rattle.convergence.proofs.Sums.{sum-none}
+use Rattle.convergence.proofs.Sums.{sum-same, sum-none}
 use Rattle.convergence.proofs.Support.{same-position}
 use Rattle.convergence.proofs.OnePhase.{Facts, Between, Limits, low, high, few-nulls, some-kept, kept-in, range, closer}
 use Rattle.convergence.proofs.Links.{facts, two-faced}
-use Rattle.convergence.proofs.Ends.{number, AllHold, Inside, held-position, held-between, sound-holds, Nearer, Run, bounds-inside, holds-at, any-two}
+use Rattle.convergence.proofs.Ends.{number, AllHold, Inside, held-position, held-between, sound-holds, Nearer, Run, heads-inside, holds-at, bounds-inside, any-two}
 
 -- ---- one phase of a ring
 
@@ -88,36 +90,40 @@ module _ (n f : ℕ) (size : AcceptedSize n f) (v : ℕ → ℤ) (F : ℕ → Fa
 
   pub few-struck : (p : ℕ) → AtMost f n (end p .struck)
   unfolding endAfter start after
-  few-struck zero = omega (arith, sum-none n)
+  few-struck zero = omega (arith, sum-none n, sum-same n (λ j. bit (not (ltb j n))) (λ j. 0) (λ j l. rw (lt-ltb j n l)))
   few-struck (suc p) = within (suc p) .1
 
   -- the phase after end p is within the limits
   limits : (p : ℕ) → Limits n f (F (suc p) .collect) (F (suc p) .confess) (end p .struck)
   limits p = record { size = size; few-c = within (suc p) .0; few-d = within (suc p) .1; few-p = few-struck p }
 
-  run : Run n n f (Halves n f) end
+  run : (N : ℕ) → n ≤ N → Run n N f (Halves n f) end
   unfolding endAfter start
-  run =
+  run N more =
       record {
         large = omega arith;
-        more = le-refl n;
+        more = more;
         few = few-struck;
         holds = λ j l s. refl;
-        step = λ p. nearer n f (end p) (F (suc p)) (limits p) n (rounding (suc p)) (rounding-le (suc p));
+        step = λ p. nearer n f (end p) (F (suc p)) (limits p) N (rounding (suc p)) (rounding-le (suc p));
       }
 
   -- at each receiver i of the phase after end p
   module _ (p i : ℕ) where
     -- refusal 25 does not happen
     pub few-nulls-in-ring : nulls n (trusted n f (givenTo (end p) (F (suc p)) i)) ≤ 3 * f
-    few-nulls-in-ring = few-nulls-in-phase n f (end p) (F (suc p)) (limits p) (holds-at run p) i
+    few-nulls-in-ring = few-nulls-in-phase n f (end p) (F (suc p)) (limits p) (holds-at (run n (le-refl n)) p) i
 
     pub something-kept : let z = nulls n (trusted n f (givenTo (end p) (F (suc p)) i)) in 2 * trim f z + z < n
-    something-kept = some-kept-in-phase n f (end p) (F (suc p)) (limits p) (holds-at run p) i
+    something-kept = some-kept-in-phase n f (end p) (F (suc p)) (limits p) (holds-at (run n (le-refl n)) p) i
 
-    -- and what is kept lies between the lowest and the highest of the sound positions at the phase's start
-    pub kept-between-in-ring : let E = trusted n f (givenTo (end p) (F (suc p)) i) in KeptBetween (lowest n (end p)) (highest n (end p)) (low n f E) (high n f E)
-    kept-between-in-ring = let (m, M, a, b, I) = bounds-inside run p in rw (a, b) (kept-inside n f (end p) (F (suc p)) (limits p) m M I i)
+    -- and what is kept lies between the lowest and the highest of the sound positions at the phase's start, those of listeners among them
+    pub kept-between-in-ring : (N : ℕ) → n ≤ N → let E = trusted n f (givenTo (end p) (F (suc p)) i) in
+        KeptBetween (lowest N (end p)) (highest N (end p)) (low n f E) (high n f E)
+    kept-between-in-ring N more =
+        let R = run N more in
+        let (m, M, a, b, I) = bounds-inside R p in
+        rw (a, b) (kept-inside n f (end p) (F (suc p)) (limits p) m M (heads-inside R p m M I) i)
 
 pub converges : Converges
-converges n f size v F within = any-two (run n f size v F within)
+converges n f N more size v F within = any-two (run n f size v F within N more)

@@ -179,7 +179,7 @@ pub record Run (n N f : ℕ) (Q : Type 0) (E : ℕ → End) : Type 0 where
   pub step : (p : ℕ) → Nearer n N Q (E p) (E (suc p))
 
 module _ {n N f : ℕ} {Q : Type 0} {E : ℕ → End} (R : Run n N f Q E) where
-  heads-inside : (p : ℕ) (m M : ℤ) → Inside N (E p) m M → Inside n (E p) m M
+  pub heads-inside : (p : ℕ) (m M : ℤ) → Inside N (E p) m M → Inside n (E p) m M
   heads-inside p m M I j l = I j (omega (arith, R .more))
 
   pub holds-at : (p : ℕ) → AllHold N (E p)

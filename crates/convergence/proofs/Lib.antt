@@ -9,3 +9,4 @@ pub mod Ends
 pub mod Demand3
 pub mod Same
 pub mod Tight
+pub mod Listeners

@@ -8,6 +8,7 @@ use mathlib.Core.Bool.{Bool, cond, _&&_, _||_}
 use Prim.Native.Nat.{ℕ, _+_, _-_, _*_, _≤_}
 use native.Mathlib.Omega.{arith}
 use native.Mathlib.Decide.{decLe}
+use native.Mathlib.Nat.{le-refl}
 use lib.Dec.{eqb, leb, ltb, lit≤}
 use lib.ListN.{getD}
 use lib.IntN.{ℤ, pos}
@@ -90,14 +91,14 @@ module _ (f x a s : ℕ) where
 
   -- Of those struck in confession only, the ones with 2 confess to the receivers below s, which then lack them, and the ones with 0 to the others. So the
   -- first see more zeros, the others more twos.
-  lying : Faults
-  lying = echo (start holding) telling (λ k i. cond (ltb i s) (twos k) (leb (f + a) k))
+  lying : ℕ → Faults
+  lying n = echo (start n holding) telling (λ k i. cond (ltb i s) (twos k) (leb (f + a) k))
 
   -- with n heads the size is accepted and below the bound, at most f heads are struck in each round, and the spread stays 2
   abbrev Stays : ℕ → Type 0
   Stays n =
-      AcceptedSize n f × (Halves n f → ⊥) × AtMost f n (lying .collect) × AtMost f n (lying .confess) × (spread n (start holding) ≡ 2)
-      × (spread n (after 0 n f (start holding) lying) ≡ 2)
+      AcceptedSize n f × (Halves n f → ⊥) × AtMost f n (lying n .collect) × AtMost f n (lying n .confess) × (spread n (start n holding) ≡ 2)
+      × (spread n (after 0 n f (start n holding) (lying n)) ≡ 2)
 
 stay : Stays 2 0 1 6 8 × Stays 4 0 1 11 15 × Stays 5 1 2 14 19 × Stays 6 0 1 16 22 × Stays 7 1 2 19 26 × Stays 8 0 1 21 29 × Stays 8 2 3 22 30
 unfolding shown twos holding telling echo lying sum spread lowest highest gap start after settled enough midpoint middle half floorDiv lowKept highKept trim nulls ordered insert trusted support confessions seen eqZ givenTo listOf
@@ -122,7 +123,7 @@ pub record NotHalved (n f : ℕ) : Type 0 where
 not-halved : (n f m g x a s : ℕ) → n ≡ m → f ≡ g → Stays g x a s m → NotHalved n f
 unfolding endAfter rounding
 not-halved n f m g x a s p q h =
-    rw (p, q) (record { v = holding g x a s; F = λ p. lying g x a s; within = λ p. (h .2, h .3); first = h .4; later = h .5 })
+    rw (p, q) (record { v = holding g x a s; F = λ p. lying g x a s m; within = λ p. (h .2, h .3); first = h .4; later = h .5 })
 
 pub tight : (n f : ℕ) → n ≤ 32 → AcceptedSize n f → (Halves n f → ⊥) → NotHalved n f
 tight n f most size below =
@@ -141,7 +142,7 @@ AllHalve n f = (v : ℕ → ℤ) (F : ℕ → Faults) → FewStruck n f F → (p
 
 pub halves-exactly : (n f : ℕ) → n ≤ 32 → AcceptedSize n f → AllHalve n f ↔ Halves n f
 unfolding halved
-halves-exactly n f most size = (λ all. go all (decLe (11 * f + 3) (3 * n)), λ h v F within p k. converges n f size v F within p k .halving h)
+halves-exactly n f most size = (λ all. go all (decLe (11 * f + 3) (3 * n)), λ h v F within p k. converges n f n (le-refl n) size v F within p k .halving h)
   where
     go : AllHalve n f → Dec (Halves n f) → Halves n f
     go all (yes h) = h

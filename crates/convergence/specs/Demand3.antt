@@ -14,7 +14,7 @@ use Rattle.convergence.specs.Phases.{End, Faults, endAfter, lowest, high
 unfoldable pub halved : ℕ → ℕ → ℕ
 halved k s = (s + 2 ^ k - 1) / 2 ^ k
 
--- a head holds a position, and it lies between the lowest and the highest
+-- a receiver holds a position, and it lies between the lowest and the highest
 abbrev pub HeldBetween : Entry → Entry → Entry → Type 0
 HeldBetween (Position low) (Position high) (Position u) = (low ≤ℤ u) × (u ≤ℤ high)
 HeldBetween low high Null = ⊥
@@ -35,8 +35,7 @@ AcceptedSize n f = 7 * f + 2 ≤ 2 * n
 abbrev pub Halves : ℕ → ℕ → Type 0
 Halves n f = 11 * f + 3 ≤ 3 * n
 
--- Two phase ends of receivers 0 .. N - 1, e the earlier and e′ the later, k phases apart; halves: what gives the right to halve. A receiver that does not
--- exist counts as struck.
+-- Two phase ends of receivers 0 .. N - 1, e the earlier and e′ the later, k phases apart; halves: what gives the right to halve.
 pub record Demand3 (N : ℕ) (halves : Type 0) (k : ℕ) (e e′ : End) : Type 0 where
   pub range : Each N (λ i. e′ .struck i ≡ false → HeldBetween (lowest N e) (highest N e) (e′ .at i))
   pub halving : halves → spread N e′ ≤ halved k (spread N e)
@@ -45,9 +44,10 @@ pub record Demand3 (N : ℕ) (halves : Type 0) (k : ℕ) (e e′ : End) : Type 0
 abbrev pub FewStruck : ℕ → ℕ → (ℕ → Faults) → Type 0
 FewStruck n f F = (p : ℕ) → AtMost f n (F p .collect) × AtMost f n (F p .confess)
 
--- At every accepted size, whatever the first positions, whichever heads each round strikes, at most f of them, and whatever these send to each
--- neighbour: any two phase ends, the start among them.
+-- Receivers 0 .. N - 1, of which the first n send. At every accepted size, whatever the first positions, whichever heads each round strikes, at most f of
+-- them, and whatever these send to each receiver: any two phase ends, the start among them. A receiver from n on is a listener; one that is struck, or
+-- does not exist, is marked in `confess`, and does not count in f.
 abbrev pub Converges : Type 0
 Converges =
-    (n f : ℕ) → AcceptedSize n f → (v : ℕ → ℤ) (F : ℕ → Faults) → FewStruck n f F
-    → (p k : ℕ) → Demand3 n (Halves n f) k (endAfter n f v F p) (endAfter n f v F (p + k))
+    (n f N : ℕ) → n ≤ N → AcceptedSize n f → (v : ℕ → ℤ) (F : ℕ → Faults) → FewStruck n f F
+    → (p k : ℕ) → Demand3 N (Halves n f) k (endAfter n f v F p) (endAfter n f v F (p + k))

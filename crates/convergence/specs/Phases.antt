@@ -1,6 +1,7 @@
 -- Document 01, "Strikes" and the two rounds, for a whole ring: from one phase end to the next.
-use mathlib.Core.Bool.{Bool, true, false, cond}
+use mathlib.Core.Bool.{Bool, true, false, not, cond}
 use Prim.Native.Nat.{ℕ, zero, suc}
+use lib.Dec.{ltb}
 use lib.IntN.{ℤ}
 use lib.Signed.{leZ}
 use Rattle.terms.specs.Positions.{gap}
@@ -9,17 +10,18 @@ use Rattle.terms.specs.declared.Entry.the-variants.{Null, Position}
 use Rattle.convergence.specs.Settling.{twoRounds, settled}
 use Rattle.convergence.specs.Trust.{Given, confessed, gave, trusted}
 
--- A phase end: the heads struck in its confession round, whose memory is lost, and the position that each other head holds. A head is sound
--- there if it is not struck.
+-- A phase end: the receivers struck in its confession round, whose memory is lost, and the position that each other one holds. A receiver is sound
+-- there if it is not struck. Receivers 0 .. n - 1 are the heads; the others are listeners (document 02, A6).
 pub record End : Type 0 where
   pub struck : ℕ → Bool
   pub at : ℕ → Entry
 
--- the start: all heads are sound, with the positions of the start record
-unfoldable pub start : (ℕ → ℤ) → End
-start v = record { struck = λ j. false; at = λ j. Position (v j) }
+-- At the start the heads are sound, with the positions of the start record; a receiver that is no head counts as struck, since it holds no position yet.
+unfoldable pub start : ℕ → (ℕ → ℤ) → End
+start n v = record { struck = λ j. not (ltb j n); at = λ j. Position (v j) }
 
--- A phase's strikes, and what the struck heads send: anything, something else to each receiver, or nothing (a null entry, `nothing`).
+-- A phase's strikes, and what the struck heads send: anything, something else to each receiver, or nothing (a null entry, `nothing`). A listener sends
+-- nothing: of it only `confess` matters.
 pub record Faults : Type 0 where
   pub collect : ℕ → Bool  -- struck in the collection round
   pub told : ℕ → ℕ → Entry  -- what such a sender then gives a receiver
@@ -41,7 +43,7 @@ listOf e F i k = gives (F .collect k) (e .struck k) (F .told k i) Null (e .at k)
 unfoldable pub givenTo : End → Faults → ℕ → ℕ → Given
 givenTo e F i k = gives (F .confess k) (F .collect k) (F .replied k i) confessed (gave (listOf e F k))
 
--- The phase's end: each head that is not struck settles a position. r: how odd sums are rounded.
+-- The phase's end: each receiver that is not struck settles a position. r: how odd sums are rounded.
 unfoldable pub after : ℕ → ℕ → ℕ → End → Faults → End
 after r n f e F = record { struck = F .confess; at = λ i. settled r n (twoRounds f) (trusted n f (givenTo e F i)) }
 
@@ -51,10 +53,10 @@ rounding p = 0
 
 -- the end of phase p; end 0 is the start
 unfoldable pub endAfter : ℕ → ℕ → (ℕ → ℤ) → (ℕ → Faults) → ℕ → End
-endAfter n f v F zero = start v
+endAfter n f v F zero = start n v
 endAfter n f v F (suc p) = after (rounding (suc p)) n f (endAfter n f v F p) (F (suc p))
 
--- ---- lowest, highest and spread of the sound heads 0 .. n - 1
+-- ---- lowest, highest and spread of the sound ones among receivers 0 .. n - 1
 
 abbrev pub lesser : ℤ → ℤ → ℤ
 lesser a b = cond (leZ a b) a b
@@ -68,7 +70,7 @@ join pick Null b = b
 join pick (Position a) Null = Position a
 join pick (Position a) (Position b) = Position (pick a b)
 
--- the position of a sound head
+-- the position of a sound receiver
 abbrev pub soundAt : End → ℕ → Entry
 soundAt e j = cond (e .struck j) Null (e .at j)
 

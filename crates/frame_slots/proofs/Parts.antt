@@ -24,6 +24,6 @@ module _ (bytes lengths : List ℕ) (k : ℕ) where
   slot-whole {len} e = let q : 140 * k + len - 140 * k ≡ getD lengths k 0 = omega arith in rw q
 
 -- a slot of no bytes
-pub planted-none : (bytes lengths : List ℕ) (k i : ℕ) → getD lengths (32 * k + i) 0 ≡ 0 → plantedIn bytes lengths k i ≡ []
+pub planted-none : (bytes lengths : List ℕ) (k i : ℕ) → getD lengths (48 * k + i) 0 ≡ 0 → plantedIn bytes lengths k i ≡ []
 unfolding slot
 planted-none bytes lengths k i e = rw e

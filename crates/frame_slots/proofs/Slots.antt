@@ -50,28 +50,28 @@ module _ (d b : List ℕ) (at : ℕ) (fits : at + length b ≤ length d) where
       let e : n + (from - n) ≡ from = omega arith in
       rw (← e) (sym (drop-drop (from - n) n pasted) ∙ ap (drop (from - n)) (drop-paste d at b (length b) (omega arith) (omega arith)) ∙ drop-drop (from - n) n d)
 
-module _ (d l b : List ℕ) (k i : ℕ) (hd : length d ≡ 143360) (hl : length l ≡ 1024) (hk : k < 32) (hi : i < 32) (hb : length b ≤ 140) (j m : ℕ)
-    (hm : m < 32) where
+module _ (d l b : List ℕ) (k i : ℕ) (hd : length d ≡ 215040) (hl : length l ≡ 1536) (hk : k < 32) (hi : i < 48) (hb : length b ≤ 140) (j m : ℕ)
+    (hm : m < 48) where
   abbrev after : List ℕ
-  after = plantedIn (paste d (140 * (32 * k + i)) b (length b)) (set l (32 * k + i) (length b)) j m
+  after = plantedIn (paste d (140 * (48 * k + i)) b (length b)) (set l (48 * k + i) (length b)) j m
 
   there : k ≡ j → i ≡ m → after ≡ b
   unfolding slot
-  there e q = rw (← e, ← q, getD-set-same l (32 * k + i) (length b) 0 (omega arith)) (part-pasted d b (140 * (32 * k + i)) (omega arith))
+  there e q = rw (← e, ← q, getD-set-same l (48 * k + i) (length b) 0 (omega arith)) (part-pasted d b (140 * (48 * k + i)) (omega arith))
 
-  elsewhere : (32 * j + m ≡ 32 * k + i → ⊥) → length (plantedIn d l j m) ≤ 140 → after ≡ plantedIn d l j m
+  elsewhere : (48 * j + m ≡ 48 * k + i → ⊥) → length (plantedIn d l j m) ≤ 140 → after ≡ plantedIn d l j m
   unfolding slot
   elsewhere other short =
-      rw (getD-set-other l (32 * k + i) (32 * j + m) (length b) 0 other) (go (decLt (32 * j + m) (32 * k + i)))
+      rw (getD-set-other l (48 * k + i) (48 * j + m) (length b) 0 other) (go (decLt (48 * j + m) (48 * k + i)))
     where
       n : ℕ
-      n = getD l (32 * j + m) 0
+      n = getD l (48 * j + m) 0
 
-      go : Dec (32 * j + m < 32 * k + i)
-          → take n (drop (140 * (32 * j + m)) (paste d (140 * (32 * k + i)) b (length b))) ≡ take n (drop (140 * (32 * j + m)) d)
+      go : Dec (48 * j + m < 48 * k + i)
+          → take n (drop (140 * (48 * j + m)) (paste d (140 * (48 * k + i)) b (length b))) ≡ take n (drop (140 * (48 * j + m)) d)
       go (yes h) =
-          part-before d b (140 * (32 * k + i)) (omega arith) (140 * (32 * j + m)) n (omega (arith, simp (length-take, length-drop) at short))
-      go (no h) = ap (take n) (part-behind d b (140 * (32 * k + i)) (omega arith) (140 * (32 * j + m)) (omega arith))
+          part-before d b (140 * (48 * k + i)) (omega arith) (140 * (48 * j + m)) n (omega (arith, simp (length-take, length-drop) at short))
+      go (no h) = ap (take n) (part-behind d b (140 * (48 * k + i)) (omega arith) (140 * (48 * j + m)) (omega arith))
 
   pub planted-after : length (plantedIn d l j m) ≤ 140 → after ≡ cond (eqb k j && eqb i m) b (plantedIn d l j m)
   planted-after short = go (eqb k j) (eqb i m) refl refl
@@ -85,30 +85,30 @@ module _ (d l b : List ℕ) (k i : ℕ) (hd : length d ≡ 143360) (hl : length 
 
 -- whether bytes can be planted, by what the code tests
 module _ (k i : ℕ) (b : List ℕ) where
-  pub plantable : k < 32 → i < 32 → length b ≤ 140 → isPlantable k i b ≡ true
-  plantable hk hi hb = rw (lt-ltb k 32 hk, lt-ltb i 32 hi, le-leb (length b) 140 hb)
+  pub plantable : k < 32 → i < 48 → length b ≤ 140 → isPlantable k i b ≡ true
+  plantable hk hi hb = rw (lt-ltb k 32 hk, lt-ltb i 48 hi, le-leb (length b) 140 hb)
 
   pub no-sender : 32 ≤ k → isPlantable k i b ≡ false
   no-sender h = rw (le-ltb k 32 h)
 
-  pub no-receiver : 32 ≤ i → isPlantable k i b ≡ false
-  no-receiver h = rw (le-ltb i 32 h, and-false)
+  pub no-receiver : 48 ≤ i → isPlantable k i b ≡ false
+  no-receiver h = rw (le-ltb i 48 h, and-false)
 
   pub too-long : 140 < length b → isPlantable k i b ≡ false
   too-long h = rw (lt-leb (length b) 140 h, and-false)
 
 -- a slot of at most 140 bytes holds what was planted on its link, and else what it held
-pub planted-then : (d l b : List ℕ) (k i : ℕ) → length d ≡ 143360 → length l ≡ 1024 → length b ≤ 140
-    → (j m : ℕ) → j < 32 → m < 32 → length (plantedIn d l j m) ≤ 140
+pub planted-then : (d l b : List ℕ) (k i : ℕ) → length d ≡ 215040 → length l ≡ 1536 → length b ≤ 140
+    → (j m : ℕ) → j < 32 → m < 48 → length (plantedIn d l j m) ≤ 140
     → plantedIn (withPlanted d k i b) (withLength l k i b) j m ≡ cond (eqb k j && eqb i m) b (plantedIn d l j m)
 unfolding withPlanted withLength
-planted-then d l b k i hd hl hb j m hj hm short = go (decLt k 32) (decLt i 32)
+planted-then d l b k i hd hl hb j m hj hm short = go (decLt k 32) (decLt i 48)
   where
     after : Type 0
     after = plantedIn (withPlanted d k i b) (withLength l k i b) j m ≡ cond (eqb k j && eqb i m) b (plantedIn d l j m)
 
-    go : Dec (k < 32) → Dec (i < 32) → after
+    go : Dec (k < 32) → Dec (i < 48) → after
     go (yes hk) (yes hi) =
-        rw (plantable k i b hk hi hb, copied-fits d (140 * (32 * k + i)) b (omega arith)) (planted-after d l b k i hd hl hk hi hb j m hm short)
+        rw (plantable k i b hk hi hb, copied-fits d (140 * (48 * k + i)) b (omega arith)) (planted-after d l b k i hd hl hk hi hb j m hm short)
     go (yes hk) (no hi) = rw (no-receiver k i b (omega arith), ne-eqb i m (omega arith), and-false)
     go (no hk) x = rw (no-sender k i b (omega arith), ne-eqb k j (omega arith))

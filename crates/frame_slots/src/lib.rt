@@ -6,12 +6,13 @@ ghost use Prim.Native.Nat.{ℕ, _+_, _*_, _<_};
 ghost use lib.ListN.{length, getD, set};
 ghost use Rattle.frame_slots.specs.Slots.{slot, plantedIn, withPlanted, withLength, PlantedThen};
 use terms::HEADS;
+use terms::RECEIVERS;
 
 // The longest frame, a list of 32 entries, has 140 bytes.
 pub const SLOT: usize = 140;
 
-// A slot for each link of a ring, and how many bytes it holds.
-pub const LINKS: usize = HEADS * HEADS;
+// A slot for each link from a head to a receiver, and how many bytes it holds.
+pub const LINKS: usize = HEADS * RECEIVERS;
 
 pub const BYTES: usize = LINKS * SLOT;
 
@@ -40,7 +41,7 @@ pub fn slot<'a, 'b>(bytes: &'a [u8], lengths: &'b [u8], k: u16) -> &'a [u8]
 pub fn planted<'a, 'b>(bytes: &'a [u8], lengths: &'b [u8], k: u8, i: u8) -> &'a [u8]
     ensures { λ r. ⌜ now r ≡ plantedIn (now (bytes .entry)) (now (lengths .entry)) k i ⌝ }
 {
-    slot(bytes, lengths, 32 * (k as u16) + (i as u16))
+    slot(bytes, lengths, 48 * (k as u16) + (i as u16))
 }
 
 // Whether two slices have the same bytes. All are looked at, without a branch, so that many are compared at once.
@@ -95,7 +96,7 @@ fn put_length(lengths: &mut [u8], slot: usize, len: u8)
     lengths[slot] = len;
 }
 
-// Plants bytes on the link from k to i: at most 140 bytes, on the links of 32 heads; else nothing changes.
+// Plants bytes on the link from k to i: at most 140 bytes, on the links of 32 heads to 48 receivers; else nothing changes.
 pub fn plant(planted: &mut PlantedBytes, lengths: &mut PlantedLengths, k: u8, i: u8, bytes: &[u8])
     ensures bytes { λ _. ⌜ now (planted .exit) ≡ withPlanted (now (planted .entry)) k i (now (bytes .entry)) ⌝ }
     ensures lengths { λ _. ⌜ now (lengths .exit) ≡ withLength (now (lengths .entry)) k i (now (bytes .entry)) ⌝ }
@@ -104,14 +105,14 @@ pub fn plant(planted: &mut PlantedBytes, lengths: &mut PlantedLengths, k: u8, i:
     if 32 <= k {
         return;
     }
-    if 32 <= i {
+    if 48 <= i {
         return;
     }
     let len = bytes.len();
     if 140 < len {
         return;
     }
-    let slot = 32 * (k as usize) + (i as usize);
+    let slot = 48 * (k as usize) + (i as usize);
     fields::put_bytes(planted, 140 * slot, bytes);
     put_length(lengths, slot, len as u8);
 }

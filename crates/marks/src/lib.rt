@@ -10,6 +10,13 @@ pub fn marked(m: u32, j: usize) -> bool
     if j < 32 { (m >> j) % 2 == 1 } else { false }
 }
 
+// Whether bit j of a mark word for heads and listeners is set.
+pub fn marked_wide(m: u64, j: usize) -> bool
+    ensures { λ r. ⌜ r ≡ bitOf m j ⌝ }
+{
+    if j < 64 { (m >> j) % 2 == 1 } else { false }
+}
+
 // Whether no mark stands at n or above.
 pub fn marks_below(m: u32, n: usize) -> bool
     ensures { λ r. ⌜ r ≡ marksBelow m n ⌝ }

@@ -1,4 +1,5 @@
 pub mod Whole
 pub mod Machine
 pub mod Booleans
+pub mod Sizes
 pub mod Refusals

@@ -82,6 +82,10 @@ batch-entry = 15
 abbrev pub register : ℕ
 register = 16
 
+-- a listener is told to send (document 02, A6)
+abbrev pub listener : ℕ
+listener = 17
+
 -- link already heard this round
 abbrev pub heard : ℕ
 heard = 21

@@ -13,6 +13,10 @@ isCount n = leb 1 n && leb n 32
 unfoldable pub isLimit : ℕ → ℕ → Bool
 isLimit n f = leb (7 * f + 2) (2 * n)
 
+-- listeners are numbered 32 to 47 (document 02, A6)
+unfoldable pub isListener : ℕ → Bool
+isListener i = leb 32 i && leb i 47
+
 -- 1, then 2, before the checks that follow
 abbrev pub checkSize : ℕ → ℕ → ℕ → ℕ
 checkSize n f rest = check (isCount n) refusal.head-count (check (isLimit n f) refusal.struck-limit rest)

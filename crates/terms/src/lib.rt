@@ -1,6 +1,7 @@
 // The papers' terms that every other crate speaks of: an entry, a table of entries, and the numbers of the refusals.
 ghost use mathlib.Core.Path.{_≡_};
 ghost use Prim.Native.Nat.{min};
+ghost use Rattle.terms.specs.Sizes.{isListener};
 
 pub mod refusal;
 
@@ -14,7 +15,20 @@ pub fn at_most_32(n: usize) -> usize
     if n < 32 { n } else { 32 }
 }
 
-// A number for each head, as the entries of a list or the heads' positions; a mark word for each; and a list for each.
+// Whether a number is a listener's.
+pub fn is_listener(number: u32) -> bool
+    ensures { λ r. ⌜ r ≡ isListener number ⌝ }
+{
+    32 <= number && number <= 47
+}
+
+// Receivers are the heads, 0 to 31, and the listeners, 32 to 47.
+pub const RECEIVERS: usize = 48;
+
+// A position for each receiver.
+pub type Positions = [i32; RECEIVERS];
+
+// A number for each head, as the entries of a list; a mark word for each; and a list for each.
 pub type Numbers = [i32; HEADS];
 
 pub type Words = [u32; HEADS];

@@ -33,6 +33,8 @@ pub const BATCH_ENTRY: u8 = 15; // an entry's length field is missing, below 4 o
 
 pub const REGISTER: u8 = 16; // a write to another byte of the window than 10 and 11, or a read past byte 15
 
+pub const LISTENER: u8 = 17; // a listener is told to send
+
 // From the state.
 pub const HEARD: u8 = 21; // link already heard this round
 

@@ -6,7 +6,7 @@ use Rattle.frame_slots.proofs.clear.Statement.{statement}
 use Rattle.frame_slots.proofs.clear.Tie as tie
 
 returns : tie.Need-returns
-returns c = λ bytes k i. planted-none bytes _ k i (c .wipe .ensures (32 * k + i))
+returns c = λ bytes k i. planted-none bytes _ k i (c .wipe .ensures (48 * k + i))
 
 pub clear-spec : {M : Type 1} → statement M
 clear-spec = tie.close (tie.spec (λ c κs. search needs) returns)

@@ -1,4 +1,4 @@
--- `frame_slots::plant` meets its contract: if each test holds, slot 32 k + i is stored; if one fails, nothing is.
+-- `frame_slots::plant` meets its contract: if each test holds, slot 48 k + i is stored; if one fails, nothing is.
 use mathlib.Core.Bool.{and-false}
 use native.Mathlib.Omega.{arith}
 use borrow.Author.Tests.{ne-eqb}
