@@ -16,6 +16,7 @@ use Rattle.head_spec.specs.declared.Answer.{Answer}
 use Rattle.head_spec.specs.declared.Closed.{Closed}
 use Rattle.head_spec.specs.Record.{opened, trustedBy}
 use Rattle.head_spec.specs.Calls.{answer, startRefusal, started, start, restartRefusal, restarted, restart}
+use Rattle.head_spec.specs.Calls.{startListenerRefusal, startedListener, startListener, restartListenerRefusal, restartListener}
 use Rattle.head_spec.specs.Calls.{closedCollection, closedPhase, closing, closeSettled, closeIn, close}
 use Rattle.head_lent.specs.Answers.{closedAnswer}
 use Rattle.head_window.specs.declared.Beside.{Beside}
@@ -25,6 +26,12 @@ use Rattle.head_c.specs.Blocks.{after, withBeside}
 pub answered : (w : List ℕ) {r : ℕ} {w′ : List ℕ} {a a′ : Answer} {b b′ : Beside} → (r ≡ a .refusal) × (w′ ≡ withBeside b (after w a)) → a ≡ a′ → b ≡ b′
     → (r ≡ a′ .refusal) × (w′ ≡ withBeside b′ (after w a′))
 answered w p e q = (p .0 ∙ ap (λ (x : Answer). x .refusal) e, p .1 ∙ (λ i. withBeside (q i) (after w (e i))))
+
+-- the same where what stands beside the head is decided by the number answered
+pub answered-by : (w : List ℕ) (beside : ℕ → Beside) {r : ℕ} {w′ : List ℕ} {a a′ : Answer}
+    → (r ≡ a .refusal) × (w′ ≡ withBeside (beside (a .refusal)) (after w a)) → a ≡ a′
+    → (r ≡ a′ .refusal) × (w′ ≡ withBeside (beside (a′ .refusal)) (after w a′))
+answered-by w beside p e = answered w p e (ap (λ (x : Answer). beside (x .refusal)) e)
 
 -- ---- a call that is not refused makes a record with nothing heard
 
@@ -42,6 +49,14 @@ start-opens h n f i v = answer-opens (startRefusal n f i v) (started n f i v) h 
 pub restart-opens : (h : Head) (n f i p r : ℕ) → Opens (restart h n f i p r)
 unfolding restart restarted
 restart-opens h n f i p r = answer-opens (restartRefusal n f i p r) (restarted n f i p r) h refl
+
+pub start-listener-opens : (h : Head) (n f i : ℕ) → Opens (startListener h n f i)
+unfolding startListener startedListener
+start-listener-opens h n f i = answer-opens (startListenerRefusal n f i) (startedListener n f i) h refl
+
+pub restart-listener-opens : (h : Head) (n f i p r : ℕ) → Opens (restartListener h n f i p r)
+unfolding restartListener restarted
+restart-listener-opens h n f i p r = answer-opens (restartListenerRefusal n f i p r) (restarted n f i p r) h refl
 
 pub close-opens : (h : Head) → Opens (closedAnswer (close h))
 unfolding close closedCollection closedPhase settling

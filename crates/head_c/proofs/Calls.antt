@@ -28,10 +28,11 @@ use Rattle.head_spec.specs.declared.Head.{Head}
 use Rattle.head_spec.specs.declared.Closed.{Closed}
 use Rattle.head_spec.specs.declared.Closing.{Closing}
 use Rattle.head_spec.specs.Record.{noEntries, noLinks, noLists, opened, trustedBy}
-use Rattle.head_spec.specs.Seats.{firstSeat, healedSeat, confessionSeat, nextSeat}
+use Rattle.head_spec.specs.Seats.{firstSeat, listenerSeat, healedSeat, confessionSeat, nextSeat}
 use Rattle.head_spec.specs.Calls.{answer, startRefusal, started, start, restartRefusal, restarted, restart}
+use Rattle.head_spec.specs.Calls.{startListenerRefusal, startedListener, startListener, restartListenerRefusal, restartListener}
 use Rattle.head_spec.specs.Calls.{closedCollection, closedPhase, closing, closeSettled, closeIn, close}
-use Rattle.head_spec.proofs.Proper.{ProperLast, ProperSeat, ProperHead, proper-started, proper-restarted}
+use Rattle.head_spec.proofs.Proper.{ProperLast, ProperSeat, ProperHead, number-small, proper-started, proper-restarted, proper-started-listener, proper-restarted-listener}
 use Rattle.head_spec.proofs.RoundEnd.{proper-close}
 use Rattle.head_lent.specs.Answers.{closedAnswer}
 use Rattle.head_c.specs.Blocks.{IsBlock, headOf, withHead, after}
@@ -73,7 +74,7 @@ seat-fits s P =
     record {
       n = omega arith;
       f = omega arith;
-      number = omega (arith, P .number);
+      number = omega (arith, number-small P);
       phase = omega (arith, P .to-last);
       round = omega (arith, P .round);
       position = entry-fits (s .n) (s .position) (P .position);
@@ -100,21 +101,28 @@ module _ (w : List ℕ) (block : IsBlock w) where
   put-back : (s : Seat) (t : Table) → ProperHead (opened s t) → headOf (withHead (opened s t) w) ≡ opened s t
   put-back s t P = head-back (opened s t) w block (opened-fits s t P)
 
+  -- a call that makes a proper record with nothing heard, unless it is refused
+  after-answer : (c : ℕ) (s : Seat) → (c ≡ 0 → ProperHead (opened s noEntries))
+      → let a = answer c (opened s noEntries) (headOf w) in headOf (after w a) ≡ a .head
+  unfolding after
+  after-answer zero s P = put-back s noEntries (P refl)
+  after-answer (suc c) s P = refl
+
   pub after-start : (n f i : ℕ) (v : ℤ) → headOf (after w (start (headOf w) n f i v)) ≡ start (headOf w) n f i v .head
-  unfolding after start started
-  after-start n f i v = go (startRefusal n f i v) refl
-    where
-      go : (c : ℕ) → startRefusal n f i v ≡ c → let a = answer c (started n f i v) (headOf w) in headOf (after w a) ≡ a .head
-      go zero e = put-back (firstSeat n f i v) noEntries (proper-started n f i v e)
-      go (suc c) e = refl
+  unfolding start started
+  after-start n f i v = after-answer (startRefusal n f i v) (firstSeat n f i v) (proper-started n f i v)
 
   pub after-restart : (n f i p r : ℕ) → headOf (after w (restart (headOf w) n f i p r)) ≡ restart (headOf w) n f i p r .head
-  unfolding after restart restarted
-  after-restart n f i p r = go (restartRefusal n f i p r) refl
-    where
-      go : (c : ℕ) → restartRefusal n f i p r ≡ c → let a = answer c (restarted n f i p r) (headOf w) in headOf (after w a) ≡ a .head
-      go zero e = put-back (healedSeat n f i p r) noEntries (proper-restarted n f i p r e)
-      go (suc c) e = refl
+  unfolding restart restarted
+  after-restart n f i p r = after-answer (restartRefusal n f i p r) (healedSeat n f i p r) (proper-restarted n f i p r)
+
+  pub after-start-listener : (n f i : ℕ) → headOf (after w (startListener (headOf w) n f i)) ≡ startListener (headOf w) n f i .head
+  unfolding startListener startedListener
+  after-start-listener n f i = after-answer (startListenerRefusal n f i) (listenerSeat n f i) (proper-started-listener n f i)
+
+  pub after-restart-listener : (n f i p r : ℕ) → headOf (after w (restartListener (headOf w) n f i p r)) ≡ restartListener (headOf w) n f i p r .head
+  unfolding restartListener restarted
+  after-restart-listener n f i p r = after-answer (restartListenerRefusal n f i p r) (healedSeat n f i p r) (proper-restarted-listener n f i p r)
 
   pub after-close : ProperHead (headOf w) → headOf (after w (closedAnswer (close (headOf w)))) ≡ close (headOf w) .head
   unfolding after close closedCollection closedPhase settling

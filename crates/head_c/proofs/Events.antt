@@ -10,19 +10,18 @@ use lib.IntN.{ℤ}
 use Rattle.terms.specs.Refusals.{leaves}
 use Rattle.head_spec.specs.declared.Head.{Head}
 use Rattle.head_spec.specs.declared.Answer.{Answer}
-use Rattle.head_spec.specs.Calls.{start, restart, hear, saidTo, close}
+use Rattle.head_spec.specs.Calls.{start, restart, startListener, restartListener, hear, saidTo, close}
 use Rattle.head_spec.specs.Batch.{entriesOf, batchRefusal}
 use Rattle.head_spec.proofs.Proper.{ProperHead}
 use Rattle.head_lent.specs.Answers.{closedAnswer}
 use Rattle.head_window.specs.declared.Beside.{Beside}
 use Rattle.fields.specs.Bytes.{signedOf}
-use Rattle.head_c.specs.Blocks.{IsBlock, flag, entryIn, rangeIn, upTo, numbersAt, listAt, seatOf, headOf, listWords, withHead, after}
-use Rattle.head_c.specs.Blocks.{besideOf, withBeside, heardIn, heardEach}
-use Rattle.head_c.specs.Events.{Call, starts, restarts, hears, hearsBatch, closes, sets, blockAfter, OnlyTheseChange}
+use Rattle.head_c.specs.Blocks.{IsBlock, flag, entryIn, rangeIn, upTo, numbersAt, listAt, seatOf, headOf, listWords, withHead, after, besideOf, withBeside, heardIn, heardEach}
+use Rattle.head_c.specs.Events.{Call, starts, restarts, startsListener, restartsListener, hears, hearsBatch, closes, sets, blockAfter, OnlyTheseChange}
 use Rattle.head_c.proofs.Copying.{upTo-same}
 use Rattle.head_c.proofs.Putting.{second, third, second-long}
 use Rattle.head_c.proofs.Beside.{after-beside, heard-beside, each-beside}
-use Rattle.head_c.proofs.Calls.{after-start, after-restart, after-close}
+use Rattle.head_c.proofs.Calls.{after-start, after-restart, after-start-listener, after-restart-listener, after-close}
 
 same-beside : (w′ w : List ℕ) → getD w′ 16 0 ≡ getD w 16 0 → getD w′ 17 0 ≡ getD w 17 0 → besideOf w′ ≡ besideOf w
 same-beside w′ w p q = λ i. record { events = p i; mask = q i }
@@ -62,6 +61,8 @@ pub only-these-change : OnlyTheseChange
 unfolding blockAfter
 only-these-change w (starts n f i v) block = put-after _ w (start (headOf w) n f i v) block
 only-these-change w (restarts n f i p r) block = put-after _ w (restart (headOf w) n f i p r) block
+only-these-change w (startsListener n f i) block = put-after _ w (startListener (headOf w) n f i) block
+only-these-change w (restartsListener n f i p r) block = put-after _ w (restartListener (headOf w) n f i p r) block
 only-these-change w closes block = put-after _ w (closedAnswer (close (headOf w))) block
 only-these-change w (sets at x) block = beside-back _ w (omega arith)
 only-these-change w (hears k s) block = go (hear (headOf w) k s .refusal)
@@ -143,6 +144,12 @@ others-stay w (starts n f j v) block i from to d e =
 others-stay w (restarts n f j p r) block i from to d e =
     let a = restart (headOf w) n f j p r in
     kept _ (after w a) i d e ∙ after-beside w block i from to a
+others-stay w (startsListener n f j) block i from to d e =
+    let a = startListener (headOf w) n f j in
+    kept _ (after w a) i d e ∙ after-beside w block i from to a
+others-stay w (restartsListener n f j p r) block i from to d e =
+    let a = restartListener (headOf w) n f j p r in
+    kept _ (after w a) i d e ∙ after-beside w block i from to a
 others-stay w closes block i from to d e =
     let a = closedAnswer (close (headOf w)) in
     kept _ (after w a) i d e ∙ after-beside w block i from to a
@@ -167,6 +174,14 @@ module _ (w : List ℕ) (block : IsBlock w) where
   pub head-restarted : (n f i p r : ℕ) → headOf (blockAfter w (restarts n f i p r)) ≡ restart (headOf w) n f i p r .head
   unfolding blockAfter
   head-restarted n f i p r = head-apart _ (after w (restart (headOf w) n f i p r)) ∙ after-restart w block n f i p r
+
+  pub listener-started : (n f i : ℕ) → headOf (blockAfter w (startsListener n f i)) ≡ startListener (headOf w) n f i .head
+  unfolding blockAfter
+  listener-started n f i = head-apart _ (after w (startListener (headOf w) n f i)) ∙ after-start-listener w block n f i
+
+  pub listener-restarted : (n f i p r : ℕ) → headOf (blockAfter w (restartsListener n f i p r)) ≡ restartListener (headOf w) n f i p r .head
+  unfolding blockAfter
+  listener-restarted n f i p r = head-apart _ (after w (restartListener (headOf w) n f i p r)) ∙ after-restart-listener w block n f i p r
 
   pub head-closed : ProperHead (headOf w) → headOf (blockAfter w closes) ≡ close (headOf w) .head
   unfolding blockAfter

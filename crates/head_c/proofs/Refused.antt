@@ -11,13 +11,13 @@ use borrow.Author.Tests.{eq-eqb, ne-eqb}
 use Rattle.terms.proofs.Refusals.{unchanged}
 use Rattle.head_spec.specs.declared.Answer.{Answer}
 use Rattle.head_spec.specs.declared.Closed.{Closed}
-use Rattle.head_spec.specs.Calls.{start, restart, hear, close}
+use Rattle.head_spec.specs.Calls.{start, restart, hear, close, startListener, restartListener}
 use Rattle.head_spec.specs.Batch.{batchRefusal}
 use Rattle.head_lent.specs.Answers.{closedNumber, closedAnswer}
 use Rattle.head_window.specs.declared.Beside.{Beside}
 use Rattle.head_window.specs.Window.{closedBeside, setRefusal, setBeside}
 use Rattle.head_c.specs.Blocks.{headOf, after, besideOf, withBeside}
-use Rattle.head_c.specs.Events.{starts, restarts, hears, hearsBatch, closes, sets, blockAfter, RefusedLeaves}
+use Rattle.head_c.specs.Events.{starts, restarts, startsListener, restartsListener, hears, hearsBatch, closes, sets, blockAfter, RefusedLeaves}
 
 -- what stands beside the head, put back where it stands
 pub same-put : (w : List ℕ) → withBeside (besideOf w) w ≡ w
@@ -64,6 +64,8 @@ pub refused-leaves : RefusedLeaves
 unfolding blockAfter
 refused-leaves w (starts n f i v) h = put-leaves w (start (headOf w) n f i v) _ h (λ d. sym (unchanged _ _ _ h))
 refused-leaves w (restarts n f i p r) h = put-leaves w (restart (headOf w) n f i p r) _ h (λ d. sym (unchanged _ _ _ h))
+refused-leaves w (startsListener n f i) h = put-leaves w (startListener (headOf w) n f i) _ h (λ d. sym (unchanged _ _ _ h))
+refused-leaves w (restartsListener n f i p r) h = put-leaves w (restartListener (headOf w) n f i p r) _ h (λ d. sym (unchanged _ _ _ h))
 refused-leaves w closes h = put-leaves w (closedAnswer (close (headOf w))) _ h (closed-same (close (headOf w) .closed) (besideOf w) h)
 refused-leaves w (sets at x) h = (refl, λ d. ap (λ (b : Beside). withBeside b w) (set-same at x (besideOf w) h) ∙ same-put w)
 refused-leaves w (hears k s) h = heard-leaves w (hear (headOf w) k s .refusal) (unchanged _ _ w h)

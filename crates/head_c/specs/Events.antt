@@ -6,7 +6,7 @@ use Prim.Native.Nat.{ℕ}
 use lib.IntN.{ℤ}
 use Rattle.terms.specs.Refusals as refusal
 use Rattle.terms.specs.Refusals.{leaves}
-use Rattle.head_spec.specs.Calls.{start, restart, hear, saidTo, close}
+use Rattle.head_spec.specs.Calls.{start, restart, startListener, restartListener, hear, saidTo, close}
 use Rattle.head_spec.specs.Batch.{entriesOf, batchRefusal}
 use Rattle.head_lent.specs.Answers.{closedAnswer}
 use Rattle.head_window.specs.declared.Beside.{Beside}
@@ -17,6 +17,8 @@ use Rattle.head_c.specs.Blocks.{IsBlock, headOf, after, besideOf, withBe
 pub data Call : Type 0 where
   starts : (n f number : ℕ) (position : ℤ) → Call
   restarts : (n f number phase round : ℕ) → Call
+  startsListener : (n f number : ℕ) → Call
+  restartsListener : (n f number phase round : ℕ) → Call
   hears : (link : ℕ) (frame : List ℕ) → Call
   hearsBatch : (batch : List ℕ) (room : ℕ) → Call
   closes : Call
@@ -26,6 +28,8 @@ pub data Call : Type 0 where
 abbrev pub numberAfter : List ℕ → Call → ℕ
 numberAfter w (starts n f i v) = start (headOf w) n f i v .refusal
 numberAfter w (restarts n f i p r) = restart (headOf w) n f i p r .refusal
+numberAfter w (startsListener n f i) = startListener (headOf w) n f i .refusal
+numberAfter w (restartsListener n f i p r) = restartListener (headOf w) n f i p r .refusal
 numberAfter w (hears k s) = hear (headOf w) k s .refusal
 numberAfter w (hearsBatch s room) = batchRefusal s room
 numberAfter w closes = closedAnswer (close (headOf w)) .refusal
@@ -35,6 +39,8 @@ numberAfter w (sets at x) = setRefusal at
 abbrev pub besideAfter : List ℕ → Call → Beside
 besideAfter w (starts n f i v) = startedBeside (start (headOf w) n f i v .refusal) (besideOf w)
 besideAfter w (restarts n f i p r) = restartedBeside (restart (headOf w) n f i p r .refusal) (besideOf w)
+besideAfter w (startsListener n f i) = startedBeside (startListener (headOf w) n f i .refusal) (besideOf w)
+besideAfter w (restartsListener n f i p r) = restartedBeside (restartListener (headOf w) n f i p r .refusal) (besideOf w)
 besideAfter w (hears k s) = besideOf w
 besideAfter w (hearsBatch s room) = besideOf w
 besideAfter w closes = closedBeside (close (headOf w) .closed) (besideOf w)
@@ -44,6 +50,9 @@ besideAfter w (sets at x) = setBeside at x (besideOf w)
 unfoldable pub blockAfter : List ℕ → Call → List ℕ
 blockAfter w (starts n f i v) = withBeside (besideAfter w (starts n f i v)) (after w (start (headOf w) n f i v))
 blockAfter w (restarts n f i p r) = withBeside (besideAfter w (restarts n f i p r)) (after w (restart (headOf w) n f i p r))
+blockAfter w (startsListener n f i) = withBeside (besideAfter w (startsListener n f i)) (after w (startListener (headOf w) n f i))
+blockAfter w (restartsListener n f i p r) =
+    withBeside (besideAfter w (restartsListener n f i p r)) (after w (restartListener (headOf w) n f i p r))
 blockAfter w (hears k s) = leaves (hear (headOf w) k s .refusal) (heardIn w k (saidTo (headOf w .seat) k s)) w
 blockAfter w (hearsBatch s room) = leaves (batchRefusal s room) (heardEach w (entriesOf s)) w
 blockAfter w closes = withBeside (besideAfter w closes) (after w (closedAnswer (close (headOf w))))

@@ -11,15 +11,16 @@ ghost use lib.IntN.{pos};
 ghost use Rattle.fields.specs.Bytes.{signedOf, wordOf};
 ghost use Rattle.frame_spec.specs.Said.{collected, listed, confessed, restField, tableIn, saidOf, meant};
 ghost use Rattle.head_spec.specs.Record.{opened};
-ghost use Rattle.head_spec.specs.Calls.{start, restart, hearEach, answersTo, writeAnswer, writeBuffer, close};
+ghost use Rattle.head_spec.specs.Calls.{start, restart, startListener, restartListener, hearEach, answersTo, writeAnswer, writeBuffer, close};
 ghost use Rattle.head_spec.specs.Batch.{isBatch, entriesOf};
 ghost use Rattle.head_hear.specs.Steps.{linkRefusal, saidOn};
 ghost use Rattle.head_lent.specs.Answers.{closedAnswer, writtenNumber, writtenOr, heldNumber, heldOr, rangeNumber, rangeOr};
+ghost use Rattle.head_window.specs.Window.{startedBeside, restartedBeside};
 ghost use Rattle.head_c.specs.Places as place;
 ghost use Rattle.head_c.specs.Blocks.{IsBlock, upTo, entryIn, rangeIn, numbersAt, listAt, seatOf, headOf};
 ghost use Rattle.head_c.specs.Blocks.{wordsOf, keptOf, seatWords, withHead, after, besideOf, withBeside};
 ghost use Rattle.head_c.specs.Blocks.{marked, changed, Hears, heardEach, HearsBatch};
-ghost use Rattle.head_c.specs.Events.{starts, restarts, closes, blockAfter};
+ghost use Rattle.head_c.specs.Events.{starts, restarts, startsListener, restartsListener, closes, blockAfter};
 ghost use Rattle.head_c.specs.Steps.{numberOf};
 use frame_spec::Said;
 use head_spec::Answer;
@@ -336,6 +337,26 @@ fn put_call(h: &mut [u32], a: Answer, b: Beside) -> u8
     number
 }
 
+// Leaves what a start answers: what stood beside the head is cleared, unless it is refused.
+fn put_start(h: &mut [u32], a: Answer) -> u8
+    requires { ⌜ IsBlock (now h) × (a .refusal ≡ 0 → a .head ≡ opened (a .head .seat) (a .head .list)) ⌝ }
+    ensures { λ r. ⌜ (r ≡ a .refusal)
+        × (now (h .exit) ≡ withBeside (startedBeside (a .refusal) (besideOf (now (h .entry)))) (after (now (h .entry)) a)) ⌝ }
+{
+    let b = head_window::after_start(a.refusal, beside_in(h));
+    put_call(h, a, b)
+}
+
+// Leaves what a restart answers: its event stands beside the head, unless it is refused.
+fn put_restart(h: &mut [u32], a: Answer) -> u8
+    requires { ⌜ IsBlock (now h) × (a .refusal ≡ 0 → a .head ≡ opened (a .head .seat) (a .head .list)) ⌝ }
+    ensures { λ r. ⌜ (r ≡ a .refusal)
+        × (now (h .exit) ≡ withBeside (restartedBeside (a .refusal) (besideOf (now (h .entry)))) (after (now (h .entry)) a)) ⌝ }
+{
+    let b = head_window::after_restart(a.refusal, beside_in(h));
+    put_call(h, a, b)
+}
+
 // ---- What hearing changes.
 
 // Sets bit k of a word.
@@ -481,8 +502,7 @@ pub extern "C" fn focus_head_start(h: &mut Block, n: u32, f: u32, number: u32, p
         × (now (h .exit) ≡ blockAfter (now (h .entry)) (starts n f number position)) ⌝ }
 {
     let a = head_calls::start(head_of(h), n, f, number, position);
-    let b = head_window::after_start(a.refusal, beside_in(h));
-    put_call(h, a, b)
+    put_start(h, a)
 }
 
 // Starts a head that was healed, in the phase and round given, with no position: 0, or 1, 2, 3, 5.
@@ -499,8 +519,34 @@ pub extern "C" fn focus_head_restart(
         × (now (h .exit) ≡ blockAfter (now (h .entry)) (restarts n f number phase round)) ⌝ }
 {
     let a = head_calls::restart(head_of(h), n, f, number, phase, round);
-    let b = head_window::after_restart(a.refusal, beside_in(h));
-    put_call(h, a, b)
+    put_restart(h, a)
+}
+
+// Starts a listener, in phase 1, with no position: 0, or 1, 2, 3.
+#[no_mangle]
+pub extern "C" fn focus_listener_start(h: &mut Block, n: u32, f: u32, number: u32) -> u8
+    ensures { λ r. ⌜ (r ≡ startListener (headOf (now (h .entry))) n f number .refusal)
+        × (now (h .exit) ≡ blockAfter (now (h .entry)) (startsListener n f number)) ⌝ }
+{
+    let a = head_calls::start_listener(head_of(h), n, f, number);
+    put_start(h, a)
+}
+
+// Starts a listener that was healed, in the phase and round given, with no position: 0, or 1, 2, 3, 5.
+#[no_mangle]
+pub extern "C" fn focus_listener_restart(
+    h: &mut Block,
+    n: u32,
+    f: u32,
+    number: u32,
+    phase: u32,
+    round: u32,
+) -> u8
+    ensures { λ r. ⌜ (r ≡ restartListener (headOf (now (h .entry))) n f number phase round .refusal)
+        × (now (h .exit) ≡ blockAfter (now (h .entry)) (restartsListener n f number phase round)) ⌝ }
+{
+    let a = head_calls::restart_listener(head_of(h), n, f, number, phase, round);
+    put_restart(h, a)
 }
 
 // Hears a frame on a link: 0, or 26, 3, 21, 6, 7, 8, 22, 9, 23, 10, 11.
@@ -544,7 +590,7 @@ pub extern "C" fn focus_head_close(h: &mut Block) -> u8
     put_call(h, head_lent::closed_answer(out), b)
 }
 
-// Writes what the head has to say at the front of the buffer, and the frame's length: 0, or 26, 24.
+// Writes what the head has to say at the front of the buffer, and the frame's length: 0, or 26, 17, 24.
 #[no_mangle]
 pub extern "C" fn focus_head_write(h: &Block, buffer: &mut [u8], length: &mut usize) -> u8
     ensures { λ r. ⌜ (r ≡ writtenNumber (writeAnswer (headOf (now (h .entry))) (now (buffer .entry))))

@@ -1,21 +1,48 @@
 -- The calls, cut into the steps of the code.
-use mathlib.Core.Bool.{Bool, cond, _&&_}
+use mathlib.Core.Bool.{Bool, false, cond}
 use Prim.Native.Nat.{ℕ, zero, suc}
-use lib.Dec.{leb, ltb}
+use lib.Dec.{ltb}
 use Rattle.terms.specs.Refusals as refusal
 use Rattle.terms.specs.Refusals.{check}
-use Rattle.terms.specs.Sizes.{checkSize}
+use Rattle.terms.specs.Sizes.{checkSize, isListener}
 use Rattle.terms.specs.declared.Entry.{Entry}
 use Rattle.frame_spec.specs.declared.Said.{Said}
+use Rattle.head_spec.specs.declared.LastKept.{LastKept}
 use Rattle.head_spec.specs.declared.Seat.{Seat}
+use Rattle.head_spec.specs.declared.Head.{Head}
+use Rattle.head_spec.specs.declared.Answer.{Answer}
+use Rattle.head_spec.specs.Record.{noEntries, opened}
+use Rattle.head_spec.specs.Calls.{answer, isTime, restarted}
+
+-- a number that is taken: a head's, or a listener's
+abbrev pub isMember : Bool → ℕ → ℕ → Bool
+isMember listens n i = cond listens (isListener i) (ltb i n)
 
 -- 1, 2, 3, before the checks that follow
-abbrev pub checkMember : ℕ → ℕ → ℕ → ℕ → ℕ
-checkMember n f i rest = checkSize n f (check (ltb i n) refusal.head-number rest)
+abbrev pub checkMember : Bool → ℕ → ℕ → ℕ → ℕ → ℕ
+checkMember listens n f i rest = checkSize n f (check (isMember listens n i) refusal.head-number rest)
 
--- phases 1 to 65,535, and the two rounds
-abbrev pub isTime : ℕ → ℕ → Bool
-isTime p r = leb 1 p && leb p 65535 && ltb r 2
+-- phase 1 opens, with the position that is held, if one is
+abbrev pub openingSeat : ℕ → ℕ → ℕ → Entry → Seat
+openingSeat n f i e =
+    record {
+      n = n;
+      f = f;
+      number = i;
+      phase = 1;
+      round = 0;
+      healed = false;
+      ended = false;
+      position = e;
+      last = LastKept.Nothing;
+    }
+
+-- a start of a head or a listener, and a restart
+unfoldable pub startAs : Bool → Head → ℕ → ℕ → ℕ → Entry → ℕ → Answer
+startAs listens h n f i e rest = answer (checkMember listens n f i rest) (opened (openingSeat n f i e) noEntries) h
+
+unfoldable pub restartAs : Bool → Head → ℕ → ℕ → ℕ → ℕ → ℕ → Answer
+restartAs listens h n f i p r = answer (checkMember listens n f i (check (isTime p r) refusal.phase 0)) (restarted n f i p r) h
 
 -- what a head has to say, as the code has it: a list stands beside this
 abbrev pub saidBy : ℕ → Seat → Said

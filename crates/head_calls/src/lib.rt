@@ -1,11 +1,12 @@
-// The head's calls on its record, by value, other than hearing and closing: start, restart, write. Each promise is one equation with a definition of record's
-// specs/Calls.antt; a refusal gives its number and leaves the record as it was.
+// The calls on a head's or a listener's record, by value, other than hearing and closing: start, restart, write. Each promise is one equation with a
+// definition of record's specs/Calls.antt; a refusal gives its number and leaves the record as it was.
 ghost use mathlib.Core.Path.{_≡_};
 ghost use Rattle.terms.specs.Refusals.{check};
 ghost use Rattle.head_spec.specs.Record.{noEntries, opened, rows};
-ghost use Rattle.head_spec.specs.Seats.{firstSeat, healedSeat, confessionSeat, nextSeat};
-ghost use Rattle.head_spec.specs.Calls.{start, restart, writeAnswer, writeBuffer, closedCollection, closedPhase, closeIn, close};
-ghost use Rattle.head_calls.specs.Steps.{checkMember, isTime, saidBy};
+ghost use Rattle.head_spec.specs.Seats.{healedSeat, confessionSeat, nextSeat};
+ghost use Rattle.head_spec.specs.Calls.{isTime, start, restart, startListener, restartListener, writeAnswer, writeBuffer};
+ghost use Rattle.head_spec.specs.Calls.{closedCollection, closedPhase, closeIn, close};
+ghost use Rattle.head_calls.specs.Steps.{isMember, checkMember, openingSeat, startAs, restartAs, saidBy};
 use frame_spec::Said;
 use frame_spec::Written;
 use head_spec::Answer;
@@ -55,11 +56,10 @@ pub fn opened(seat: Seat, list: Table) -> Head
 
 // ---- The seats that calls make.
 
-// A start, at a position: phase 1 opens.
-fn first_seat(n: u8, f: u8, number: u8, position: i32) -> Seat
-    ensures { λ r. ⌜ r ≡ firstSeat n f number position ⌝ }
+// A start: phase 1 opens.
+fn opening_seat(n: u8, f: u8, number: u8, held: Entry) -> Seat
+    ensures { λ r. ⌜ r ≡ openingSeat n f number held ⌝ }
 {
-    let held = Entry::Position(position);
     Seat {
         n,
         f,
@@ -136,15 +136,25 @@ fn check(holds: bool, number: u8, rest: u8) -> u8
     if holds { rest } else { number }
 }
 
+// Whether a number is taken: for a head, or for a listener.
+fn is_member(listens: bool, n: u32, number: u32) -> bool
+    ensures { λ r. ⌜ r ≡ isMember listens n number ⌝ }
+{
+    if listens {
+        return terms::is_listener(number);
+    }
+    number < n
+}
+
 // Refusals 1, 2 and 3, before the checks that follow.
-fn member_refusal(n: u32, f: u32, number: u32, rest: u8) -> u8
-    ensures { λ r. ⌜ r ≡ checkMember n f number rest ⌝ }
+fn member_refusal(listens: bool, n: u32, f: u32, number: u32, rest: u8) -> u8
+    ensures { λ r. ⌜ r ≡ checkMember listens n f number rest ⌝ }
 {
     let size = steps::size_refusal(n, f);
     if size != 0 {
         return size;
     }
-    check(number < n, refusal::HEAD_NUMBER, rest)
+    check(is_member(listens, n, number), refusal::HEAD_NUMBER, rest)
 }
 
 // Whether there is such a phase, and such a round.
@@ -160,29 +170,43 @@ fn is_time(phase: u32, round: u32) -> bool
     round < 2
 }
 
-// The record of a head that starts with a position, in phase 1.
-pub fn start(h: Head, n: u32, f: u32, number: u32, position: i32) -> Answer
-    ensures { λ r. ⌜ r ≡ start h n f number position ⌝ }
+// A start of a head or a listener that holds a position or none.
+fn start_as(listens: bool, h: Head, n: u32, f: u32, number: u32, held: Entry, rest: u8) -> Answer
+    ensures { λ r. ⌜ r ≡ startAs listens h n f number held rest ⌝ }
 {
-    let last = check(steps::is_position(position), refusal::POSITION, 0);
-    let refused = member_refusal(n, f, number, last);
+    let refused = member_refusal(listens, n, f, number, rest);
     if refused != 0 {
         return Answer {
             refusal: refused,
             head: h,
         };
     }
-    let seat = first_seat(n as u8, f as u8, number as u8, position);
+    let seat = opening_seat(n as u8, f as u8, number as u8, held);
     let head = opened(seat, no_entries());
     Answer { refusal: 0, head }
 }
 
-// The record of a head that was healed, in the phase and round given, with no position.
-pub fn restart(h: Head, n: u32, f: u32, number: u32, phase: u32, round: u32) -> Answer
-    ensures { λ r. ⌜ r ≡ restart h n f number phase round ⌝ }
+// The record of a head that starts with a position, in phase 1.
+pub fn start(h: Head, n: u32, f: u32, number: u32, position: i32) -> Answer
+    ensures { λ r. ⌜ r ≡ start h n f number position ⌝ }
+{
+    let last = check(steps::is_position(position), refusal::POSITION, 0);
+    start_as(false, h, n, f, number, Entry::Position(position), last)
+}
+
+// The record of a listener that starts, in phase 1, with no position.
+pub fn start_listener(h: Head, n: u32, f: u32, number: u32) -> Answer
+    ensures { λ r. ⌜ r ≡ startListener h n f number ⌝ }
+{
+    start_as(true, h, n, f, number, Entry::Null, 0)
+}
+
+// A restart of a head or a listener.
+fn restart_as(listens: bool, h: Head, n: u32, f: u32, number: u32, phase: u32, round: u32) -> Answer
+    ensures { λ r. ⌜ r ≡ restartAs listens h n f number phase round ⌝ }
 {
     let last = check(is_time(phase, round), refusal::PHASE, 0);
-    let refused = member_refusal(n, f, number, last);
+    let refused = member_refusal(listens, n, f, number, last);
     if refused != 0 {
         return Answer {
             refusal: refused,
@@ -192,6 +216,20 @@ pub fn restart(h: Head, n: u32, f: u32, number: u32, phase: u32, round: u32) -> 
     let seat = healed_seat(n as u8, f as u8, number as u8, phase as u16, round as u8);
     let head = opened(seat, no_entries());
     Answer { refusal: 0, head }
+}
+
+// The record of a head that was healed, in the phase and round given, with no position.
+pub fn restart(h: Head, n: u32, f: u32, number: u32, phase: u32, round: u32) -> Answer
+    ensures { λ r. ⌜ r ≡ restart h n f number phase round ⌝ }
+{
+    restart_as(false, h, n, f, number, phase, round)
+}
+
+// The record of a listener that was healed, likewise.
+pub fn restart_listener(h: Head, n: u32, f: u32, number: u32, phase: u32, round: u32) -> Answer
+    ensures { λ r. ⌜ r ≡ restartListener h n f number phase round ⌝ }
+{
+    restart_as(true, h, n, f, number, phase, round)
 }
 
 // What a head has to say; a list stands beside this.
@@ -212,7 +250,7 @@ fn spoken(seat: Seat) -> Said
     }
 }
 
-// Writes what the head has to say at the front of the buffer.
+// Writes what the head has to say at the front of the buffer; a listener sends nothing.
 pub fn write(h: Head, buffer: &mut [u8]) -> Written
     ensures answer { λ r. ⌜ r ≡ writeAnswer h (now (buffer .entry)) ⌝ }
     ensures bytes { λ r. ⌜ now (buffer .exit) ≡ writeBuffer h (now (buffer .entry)) ⌝ }
@@ -220,6 +258,9 @@ pub fn write(h: Head, buffer: &mut [u8]) -> Written
     let seat = h.seat;
     if seat.ended {
         return Written::Refused(refusal::ENDED);
+    }
+    if terms::is_listener(seat.number as u32) {
+        return Written::Refused(refusal::LISTENER);
     }
     let list = h.list;
     frame_codec::write(spoken(seat), list, seat.n, seat.number, seat.phase, buffer)

@@ -3,7 +3,7 @@
 ghost use mathlib.Core.Path.{_≡_};
 ghost use lib.ListN.{length};
 ghost use Rattle.head_spec.specs.Batch.{hearBatch, batchAnswers, batchCount};
-ghost use Rattle.head_spec.specs.Calls.{start, restart, hear, writeAnswer, writeBuffer, close};
+ghost use Rattle.head_spec.specs.Calls.{start, restart, startListener, restartListener, hear, writeAnswer, writeBuffer, close};
 ghost use Rattle.head_lent.specs.Answers.{closedNumber, closedAnswer, writtenNumber, writtenOr, heldNumber, heldOr};
 use frame_spec::Written;
 use head_spec::Answer;
@@ -26,6 +26,25 @@ pub fn restart(h: &mut Head, n: u32, f: u32, number: u32, phase: u32, round: u32
     ensures { λ r. ⌜ (r ≡ restart (now (h .entry)) n f number phase round .refusal) × (now (h .exit) ≡ restart (now (h .entry)) n f number phase round .head) ⌝ }
 {
     let out = head_calls::restart(*h, n, f, number, phase, round);
+    *h = out.head;
+    out.refusal
+}
+
+// Starts the record of a listener, in phase 1, with no position: 0, or 1, 2, 3.
+pub fn start_listener(h: &mut Head, n: u32, f: u32, number: u32) -> u8
+    ensures { λ r. ⌜ (r ≡ startListener (now (h .entry)) n f number .refusal) × (now (h .exit) ≡ startListener (now (h .entry)) n f number .head) ⌝ }
+{
+    let out = head_calls::start_listener(*h, n, f, number);
+    *h = out.head;
+    out.refusal
+}
+
+// Starts the record of a listener that was healed, in the phase and round given, with no position: 0, or 1, 2, 3, 5.
+pub fn restart_listener(h: &mut Head, n: u32, f: u32, number: u32, phase: u32, round: u32) -> u8
+    ensures { λ r. ⌜ (r ≡ restartListener (now (h .entry)) n f number phase round .refusal)
+        × (now (h .exit) ≡ restartListener (now (h .entry)) n f number phase round .head) ⌝ }
+{
+    let out = head_calls::restart_listener(*h, n, f, number, phase, round);
     *h = out.head;
     out.refusal
 }
@@ -106,7 +125,7 @@ pub fn written(h: Head, buffer: &mut [u8], length: &mut usize) -> u8
     }
 }
 
-// Writes what the head has to say at the front of the buffer, and the frame's length: 0, or 26, 24.
+// Writes what the head has to say at the front of the buffer, and the frame's length: 0, or 26, 17, 24.
 pub fn write(h: &Head, buffer: &mut [u8], length: &mut usize) -> u8
     ensures { λ r. ⌜ (r ≡ writtenNumber (writeAnswer (now (h .entry)) (now (buffer .entry))))
         × (now (buffer .exit) ≡ writeBuffer (now (h .entry)) (now (buffer .entry)))

@@ -21,8 +21,8 @@ use Rattle.head_spec.specs.declared.Closing.{Closing}
 use Rattle.head_spec.specs.Record.{given, givenOf, trustedBy}
 use Rattle.head_spec.specs.Calls.{Delivery, hearEach, closedCollection, closeSettled}
 use Rattle.head_spec.specs.Proper.{ProperHead}
-use Rattle.head_spec.specs.Demand2.{Reachable, starts, restarts, hears, closes, firstSaid, settledFrom, FollowsCC, AlgorithmCC, Demand2}
-use Rattle.head_spec.proofs.Proper.{proper-started, proper-restarted}
+use Rattle.head_spec.specs.Demand2.{Reachable, starts, restarts, listens, listens-again, hears, closes, firstSaid, settledFrom, FollowsCC, AlgorithmCC, Demand2}
+use Rattle.head_spec.proofs.Proper.{proper-started, proper-restarted, proper-started-listener, proper-restarted-listener}
 use Rattle.head_spec.proofs.Taking.{proper-hear}
 use Rattle.head_spec.proofs.Hearing.{Fresh, each-keep, gave-first, listed-first}
 use Rattle.head_spec.proofs.RoundEnd.{closes-collection, closes-confession, proper-close}
@@ -31,6 +31,8 @@ use Rattle.head_spec.proofs.Speaking.{spoken-reads-back, written-reads-
 reached-proper : {h : Head} → Reachable h → ProperHead h
 reached-proper (starts n f i v e) = proper-started n f i v e
 reached-proper (restarts n f i p r e) = proper-restarted n f i p r e
+reached-proper (listens n f i e) = proper-started-listener n f i e
+reached-proper (listens-again n f i p r e) = proper-restarted-listener n f i p r e
 reached-proper (hears {h} k s B R) = proper-hear h k s (reached-proper R)
 reached-proper (closes {h} R) = proper-close h (reached-proper R)
 
@@ -78,7 +80,7 @@ pub demand-2 : Demand2
 demand-2 =
     record {
       proper = λ h R. reached-proper R;
-      reads-back = λ h R. spoken-reads-back h (reached-proper R);
+      reads-back = λ h R o. spoken-reads-back h (reached-proper R);
       written-reads-back = λ h R buffer len e. written-reads-back h (reached-proper R) buffer e;
       only-frame = λ n p r k s t size B C a e. one-meaning n p r k t s size C B e refl a;
       algorithm = algorithm-cc;

@@ -20,10 +20,10 @@ use Rattle.frame_spec.specs.Said.{Meaning, refused, collected, listed, confesse
 use Rattle.head_spec.specs.declared.Seat.{Seat}
 use Rattle.head_spec.specs.declared.Head.{Head}
 use Rattle.head_spec.specs.Record.{given, heardEntry, givenOf}
-use Rattle.head_spec.specs.Calls.{answer, startRefusal, started, restartRefusal, restarted}
+use Rattle.head_spec.specs.Calls.{answer, startRefusal, started, restartRefusal, restarted, startListenerRefusal, startedListener, restartListenerRefusal}
 use Rattle.head_spec.specs.Calls.{saidTo, refusalTo, hearRefusal, taken, hear, hearAll, Delivery, hearEach, onLinks}
 use Rattle.head_spec.specs.Demand2.{orElse, firstSaid}
-use Rattle.head_spec.proofs.Proper.{ProperHead, proper-started, proper-restarted}
+use Rattle.head_spec.proofs.Proper.{ProperHead, proper-started, proper-restarted, proper-started-listener, proper-restarted-listener}
 use Rattle.head_spec.proofs.Taking.{entry-same, entry-other, given-same, given-other, heard-other, hear-cases, hear-keeps, proper-hear}
 
 -- a link that was not heard takes what is said; what is refused changes nothing
@@ -124,6 +124,14 @@ fresh-started n f i v e = record { proper = proper-started n f i v e; runs = ref
 pub fresh-restarted : (n f i p r : ℕ) → restartRefusal n f i p r ≡ 0 → Fresh (restarted n f i p r)
 unfolding restarted
 fresh-restarted n f i p r e = record { proper = proper-restarted n f i p r e; runs = refl; unheard = refl }
+
+pub fresh-started-listener : (n f i : ℕ) → startListenerRefusal n f i ≡ 0 → Fresh (startedListener n f i)
+unfolding startedListener
+fresh-started-listener n f i e = record { proper = proper-started-listener n f i e; runs = refl; unheard = refl }
+
+pub fresh-restarted-listener : (n f i p r : ℕ) → restartListenerRefusal n f i p r ≡ 0 → Fresh (restarted n f i p r)
+unfolding restarted
+fresh-restarted-listener n f i p r e = record { proper = proper-restarted-listener n f i p r e; runs = refl; unheard = refl }
 
 module _ (h : Head) (F : Fresh h) where
   abbrev n : ℕ

@@ -1,5 +1,6 @@
--- Start and restart make a proper record, since their checks ask for just that, and a record with nothing heard is proper whatever the round.
-use mathlib.Core.Path.{_≡_, refl, _∙_}
+-- Start and restart make a proper record, of a head as of a listener, since their checks ask for just that, and a record with nothing heard is proper whatever
+-- the round.
+use mathlib.Core.Path.{_≡_, refl, sym, _∙_}
 use mathlib.Core.Bool.{Bool, true, false, _&&_, true≢false}
 use mathlib.Core.List.{[]}
 use Prim.Native.Nat.{ℕ, suc, _+_, _*_, _≤_, _<_}
@@ -9,8 +10,9 @@ use lib.Pow.{pow-pos}
 use lib.ListN.{getD-replicate}
 use lib.IntN.{ℤ}
 use borrow.Author.Tests.{leb-true, ltb-true, le-leb, lt-ltb}
+use Rattle.terms.specs.Refusals as refusal
 use Rattle.terms.specs.Refusals.{check}
-use Rattle.terms.specs.Sizes.{isCount, isLimit, checkSize}
+use Rattle.terms.specs.Sizes.{isCount, isLimit, isListener, checkSize}
 use Rattle.terms.specs.Positions.{isPosition, eqZ}
 use Rattle.terms.specs.declared.Entry.{Entry}
 use Rattle.terms.specs.declared.Table.{Table}
@@ -21,11 +23,12 @@ use Rattle.entries.proofs.Entries.{numbers-length}
 use Rattle.convergence.proofs.Support.{not-null}
 use Rattle.frame_spec.specs.Proper.{ProperTable}
 use Rattle.terms.proofs.Booleans.{and-both}
+use Rattle.terms.proofs.Sizes.{member-not-listener, listener-small}
 use Rattle.frame_spec.proofs.Listing.{numbers-none}
 use Rattle.head_spec.specs.declared.Seat.{Seat}
 use Rattle.head_spec.specs.Record.{noEntries, noLinks, noLists, opened}
-use Rattle.head_spec.specs.Seats.{firstSeat, healedSeat}
-use Rattle.head_spec.specs.Calls.{startRefusal, started, restartRefusal, restarted}
+use Rattle.head_spec.specs.Seats.{firstSeat, listenerSeat, healedSeat}
+use Rattle.head_spec.specs.Calls.{startRefusal, started, isTime, restartRefusal, restarted, startListenerRefusal, startedListener, restartListenerRefusal}
 pub use Rattle.head_spec.specs.Proper.{Sized, ProperKept, ProperLast, ProperSeat, listFrom, ProperLinks, ProperHead}
 
 -- ---- nothing heard
@@ -76,14 +79,29 @@ sized-by n f count limit =
     let (some, most) = and-both (leb 1 n) (leb n 32) count in
     record { some = leb-true 1 n some; most = leb-true n 32 most; limit = leb-true (7 * f + 2) (2 * n) limit }
 
-sized : (n f : ℕ) {rest : ℕ} → checkSize n f rest ≡ 0 → Sized n f × (rest ≡ 0)
+pub sized : (n f : ℕ) {rest : ℕ} → checkSize n f rest ≡ 0 → Sized n f × (rest ≡ 0)
 sized n f e = let (count, limit, rest) = both-passed (isCount n) (isLimit n f) 0 1 e in (sized-by n f count limit, rest)
 
 sized-passes : (n f rest : ℕ) → Sized n f → checkSize n f rest ≡ rest
 unfolding isCount isLimit
 sized-passes n f rest S = rw (le-leb 1 n (S .some), le-leb n 32 (S .most), le-leb (7 * f + 2) (2 * n) (S .limit))
 
+-- a number is a head's or a listener's, so it is small
+pub number-small : {s : Seat} → ProperSeat s → s .number ≤ 47
+number-small {s} P = go (isListener (s .number)) refl
+  where
+    go : (b : Bool) → isListener (s .number) ≡ b → s .number ≤ 47
+    go true e = listener-small (s .number) e
+    go false e = omega (arith, P .number e, P .size .most)
+
 module _ (n f i : ℕ) where
+  -- a head's number is no listener's
+  pub started-head : (v : ℤ) → startRefusal n f i v ≡ 0 → isListener i ≡ false
+  unfolding startRefusal
+  started-head v e =
+      let (S, rest) = sized n f e in
+      member-not-listener i n (ltb-true i n (both-passed (ltb i n) (isPosition v) 2 3 rest .0)) (S .most)
+
   proper-first : (v : ℤ) → startRefusal n f i v ≡ 0 → ProperSeat (firstSeat n f i v)
   unfolding startRefusal
   proper-first v e =
@@ -91,12 +109,12 @@ module _ (n f i : ℕ) where
       let (number, range, done) = both-passed (ltb i n) (isPosition v) 2 3 rest in
       record {
         size = S;
-        number = ltb-true i n number;
+        number = λ o. ltb-true i n number;
         from-first = omega arith;
         to-last = omega arith;
         round = omega arith;
         position = range;
-        holds = λ r h q. not-null q refl;
+        holds = λ o r h q. not-null q refl;
         last = tt;
       }
 
@@ -104,27 +122,56 @@ module _ (n f i : ℕ) where
   unfolding started
   proper-started v e = proper-opened (proper-first v e) (no-entries n) (λ r. no-entry)
 
-  proper-healed : (p r : ℕ) → restartRefusal n f i p r ≡ 0 → ProperSeat (healedSeat n f i p r)
-  unfolding restartRefusal
-  proper-healed p r e =
+  -- what is asked of a number that is no listener's is not asked of a listener's
+  exempt : {A : Type 0} → isListener i ≡ true → isListener i ≡ false → A
+  exempt e o = absurd (true≢false (sym e ∙ o))
+
+  proper-listener : startListenerRefusal n f i ≡ 0 → ProperSeat (listenerSeat n f i)
+  unfolding startListenerRefusal
+  proper-listener e =
       let (S, rest) = sized n f e in
-      let (number, times, done) = both-passed (ltb i n) (leb 1 p && leb p 65535 && ltb r 2) 2 4 rest in
+      let (listens, none, done) = both-passed (isListener i) true 2 0 rest in
+      record {
+        size = S;
+        number = exempt listens;
+        from-first = omega arith;
+        to-last = omega arith;
+        round = omega arith;
+        position = tt;
+        holds = exempt listens;
+        last = tt;
+      }
+
+  pub proper-started-listener : startListenerRefusal n f i ≡ 0 → ProperHead (startedListener n f i)
+  unfolding startedListener
+  proper-started-listener e = proper-opened (proper-listener e) (no-entries n) (λ r. no-entry)
+
+  -- b: the test of the number
+  proper-healed : (b : Bool) (p r : ℕ) → (b ≡ true → isListener i ≡ false → i < n)
+      → checkSize n f (check b refusal.head-number (check (isTime p r) refusal.phase 0)) ≡ 0 → ProperSeat (healedSeat n f i p r)
+  proper-healed b p r number e =
+      let (S, rest) = sized n f e in
+      let (member, times, done) = both-passed b (isTime p r) 2 4 rest in
       let (phase, round) = and-both (leb 1 p && leb p 65535) (ltb r 2) times in
       let (first, last) = and-both (leb 1 p) (leb p 65535) phase in
       record {
         size = S;
-        number = ltb-true i n number;
+        number = number member;
         from-first = leb-true 1 p first;
         to-last = leb-true p 65535 last;
         round = ltb-true r 2 round;
         position = tt;
-        holds = λ z h q. true≢false h;
+        holds = λ o z h q. true≢false h;
         last = tt;
       }
 
   pub proper-restarted : (p r : ℕ) → restartRefusal n f i p r ≡ 0 → ProperHead (restarted n f i p r)
-  unfolding restarted
-  proper-restarted p r e = proper-opened (proper-healed p r e) (no-entries n) (λ z. no-entry)
+  unfolding restarted restartRefusal
+  proper-restarted p r e = proper-opened (proper-healed (ltb i n) p r (λ t o. ltb-true i n t) e) (no-entries n) (λ z. no-entry)
+
+  pub proper-restarted-listener : (p r : ℕ) → restartListenerRefusal n f i p r ≡ 0 → ProperHead (restarted n f i p r)
+  unfolding restarted restartListenerRefusal
+  proper-restarted-listener p r e = proper-opened (proper-healed (isListener i) p r exempt e) (no-entries n) (λ z. no-entry)
 
   -- in a ring of an accepted size no start at a position is refused, and no restart in phases 1 to 65,535
   module _ (S : Sized n f) (l : i < n) where
@@ -135,3 +182,13 @@ module _ (n f i : ℕ) where
     pub restart-accepted : (p r : ℕ) → 1 ≤ p → p ≤ 65535 → r < 2 → restartRefusal n f i p r ≡ 0
     unfolding restartRefusal
     restart-accepted p r a b c = sized-passes n f _ S ∙ rw (lt-ltb i n l, le-leb 1 p a, le-leb p 65535 b, lt-ltb r 2 c)
+
+  -- nor any of a listener
+  module _ (S : Sized n f) (listens : isListener i ≡ true) where
+    pub start-listener-accepted : startListenerRefusal n f i ≡ 0
+    unfolding startListenerRefusal
+    start-listener-accepted = sized-passes n f _ S ∙ rw listens
+
+    pub restart-listener-accepted : (p r : ℕ) → 1 ≤ p → p ≤ 65535 → r < 2 → restartListenerRefusal n f i p r ≡ 0
+    unfolding restartListenerRefusal
+    restart-listener-accepted p r a b c = sized-passes n f _ S ∙ rw (listens, le-leb 1 p a, le-leb p 65535 b, lt-ltb r 2 c)

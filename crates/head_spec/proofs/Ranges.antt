@@ -1,10 +1,13 @@
 -- A head holds the kept range that was passed on last: only a closing that settles puts one there, and it puts the one that it answers. The position lies in
--- it, since half the sum of the lowest and the highest kept lies between them.
-use mathlib.Core.Path.{_≡_, refl, ap, _∙_}
-use mathlib.Core.Bool.{Bool, true, false, cond}
+-- it, since half the sum of the lowest and the highest kept lies between them. Nothing else puts a position in a listener's record.
+use mathlib.Core.Path.{_≡_, refl, ap, sym, _∙_}
+use mathlib.Core.Bool.{Bool, true, false, cond, true≢false}
 use Prim.Native.Nat.{ℕ, zero, suc, _*_, _≤_}
+use native.Mathlib.Omega.{arith}
 use borrow.Author.Tests.{leb-true}
 use Rattle.terms.specs.Refusals as refusal
+use Rattle.terms.specs.Sizes.{isListener}
+use Rattle.terms.specs.declared.Entry.{Entry}
 use Rattle.convergence.specs.Settling.{nulls, midpoint, enough}
 use Rattle.convergence.specs.Phases.{rounding}
 use Rattle.convergence.proofs.Demand3.{rounding-le}
@@ -12,15 +15,16 @@ use Rattle.convergence.proofs.OnePhase.{in-kept}
 use Rattle.settle_midpoint.specs.Answers.{settling}
 use Rattle.settle_midpoint.specs.declared.Settled.{Settled}
 use Rattle.head_spec.specs.declared.LastKept.{LastKept}
+use Rattle.head_spec.specs.declared.Seat.{Seat}
 use Rattle.head_spec.specs.declared.Head.{Head}
 use Rattle.head_spec.specs.declared.Closed.{Closed}
 use Rattle.head_spec.specs.Record.{trustedBy}
-use Rattle.head_spec.specs.Calls.{started, restarted, closedCollection, closedPhase, closing, closeSettled, closeIn, close}
+use Rattle.head_spec.specs.Calls.{started, restarted, startedListener, closedCollection, closedPhase, closing, closeSettled, closeIn, close}
 use Rattle.head_spec.specs.Demand2.{Reachable}
 use Rattle.head_spec.specs.Demand2 as reachable
-use Rattle.head_spec.specs.Ranges.{passing, Passed, HoldsPassed, InRange, PassedInRange}
+use Rattle.head_spec.specs.Ranges.{passing, Passed, HoldsPassed, InRange, PassedInRange, ListenerHoldsNone}
 use Rattle.head_spec.specs.Ranges as passed
-use Rattle.head_spec.proofs.Proper.{ProperHead}
+use Rattle.head_spec.proofs.Proper.{ProperHead, started-head}
 use Rattle.head_spec.proofs.Taking.{hear-keeps}
 use Rattle.head_spec.proofs.RoundEnd.{settledBy, enoughTrusted, Answers, answers}
 use Rattle.head_spec.proofs.Demand2.{demand-2}
@@ -34,9 +38,11 @@ held-closing Closed.Listed h h′ x a e = ap (λ (y : Head). y .seat .last) a �
 held-closing (Closed.Settled k) h h′ x a e = ap (λ (y : Head). y .seat .last) a
 
 pub holds-passed : HoldsPassed
-unfolding started restarted
+unfolding started restarted startedListener
 holds-passed h x (passed.starts n f i v e) = refl
 holds-passed h x (passed.restarts n f i p r e) = refl
+holds-passed h x (passed.listens n f i e) = refl
+holds-passed h x (passed.listens-again n f i p r e) = refl
 holds-passed h x (passed.hears {h = y} k s bytes P) = rw (hear-keeps y k s) (holds-passed y x P)
 holds-passed h x (passed.closes {h = y} {x = z} P) = held-closing (close y .closed) y (close y .head) z (answers y) (holds-passed y z P)
 
@@ -45,6 +51,8 @@ holds-passed h x (passed.closes {h = y} {x = z} P) = held-closing (close y .clos
 reached : {h : Head} {x : LastKept} → Passed h x → Reachable h
 reached (passed.starts n f i v e) = reachable.starts n f i v e
 reached (passed.restarts n f i p r e) = reachable.restarts n f i p r e
+reached (passed.listens n f i e) = reachable.listens n f i e
+reached (passed.listens-again n f i p r e) = reachable.listens-again n f i p r e
 reached (passed.hears k s bytes P) = reachable.hears k s bytes (reached P)
 reached (passed.closes P) = reachable.closes (reached P)
 
@@ -74,11 +82,37 @@ module _ (h : Head) (P : ProperHead h) where
       go false (suc r) = settles (enoughTrusted h) refl
 
 sound : {h : Head} {x : LastKept} → Passed h x → Sound (h .seat .last)
-unfolding started restarted
+unfolding started restarted startedListener
 sound (passed.starts n f i v e) = tt
 sound (passed.restarts n f i p r e) = tt
+sound (passed.listens n f i e) = tt
+sound (passed.listens-again n f i p r e) = tt
 sound (passed.hears {h = x} k s bytes P) = rw (hear-keeps x k s) (sound P)
 sound (passed.closes {h = x} P) = closed-sound x (demand-2 .proper x (reached P)) (sound P)
 
 pub passed-in-range : PassedInRange
 passed-in-range h k P = rw (holds-passed h (LastKept.Range k) P) at (sound P)
+
+-- ---- a listener's first position
+
+-- what is to be shown of a seat
+abbrev None : Seat → Type 0
+None s = isListener (s .number) ≡ true → s .position ≡ Entry.Null
+
+none-closing : (c : Closed) (h h′ : Head) (x : LastKept) → Answers c h h′ → passing c x ≡ LastKept.Nothing → (x ≡ LastKept.Nothing → None (h .seat)) → None (h′ .seat)
+unfolding closedCollection
+none-closing (Closed.Refused c) h h′ x a e none = rw a (none e)
+none-closing Closed.Listed h h′ x a e none = rw a (none e)
+none-closing (Closed.Settled k) h h′ x a e none = let z : _≡_ {A = ℕ} 0 1 = cc in absurd (omega arith)
+
+none-held : {h : Head} {x : LastKept} → Passed h x → x ≡ LastKept.Nothing → None (h .seat)
+unfolding started restarted startedListener
+none-held (passed.starts n f i v r) e = λ l. absurd (true≢false (sym l ∙ started-head n f i v r))
+none-held (passed.restarts n f i p r c) e = λ l. refl
+none-held (passed.listens n f i c) e = λ l. refl
+none-held (passed.listens-again n f i p r c) e = λ l. refl
+none-held (passed.hears {h = y} k s bytes P) e = rw (hear-keeps y k s) (none-held P e)
+none-held (passed.closes {h = y} {x = z} P) e = none-closing (close y .closed) y (close y .head) z (answers y) e (λ q. none-held P q)
+
+pub listener-holds-none : ListenerHoldsNone
+listener-holds-none h P = none-held P refl

@@ -104,7 +104,7 @@ proper-confession P =
       to-last = P .to-last;
       round = omega arith;
       position = P .position;
-      holds = λ r. absurd (omega arith);
+      holds = λ o r. absurd (omega arith);
       last = P .last;
     }
 
@@ -118,7 +118,7 @@ proper-next {s} k P K =
       to-last = last;
       round = round;
       position = K .position;
-      holds = λ r t q. not-null q refl;
+      holds = λ o r t q. not-null q refl;
       last = K;
     }
   where

@@ -8,6 +8,7 @@ use native.Mathlib.Omega.{arith}
 use lib.ListN.{length, take, drop}
 use lib.Seq.{take-append-seam}
 use Rattle.terms.specs.Refusals as refusal
+use Rattle.terms.specs.Sizes.{isListener}
 use Rattle.terms.specs.declared.Entry.{Entry}
 use Rattle.frame_spec.specs.Said.{collected, listed, confessed}
 use Rattle.frame_spec.specs.Written.{fitsIn, written, buffered}
@@ -46,14 +47,16 @@ module _ (h : Head) (P : ProperHead h) where
   pub written-reads-back : (buffer : List ℕ) {len : ℕ} → writeAnswer h buffer ≡ Written.Length len
       → saidTo (h .seat) (h .seat .number) (take len (writeBuffer h buffer)) ≡ spoken h
   unfolding writeAnswer writeBuffer written buffered
-  written-reads-back buffer {len} = go (h .seat .ended) (fitsIn (frameFor h) buffer)
+  written-reads-back buffer {len} = go (h .seat .ended) (isListener (h .seat .number)) (fitsIn (frameFor h) buffer)
     where
       s : List ℕ
       s = frameFor h
 
-      go : (a b : Bool)
-          → cond a (Written.Refused refusal.ended) (cond b (Written.Length (length s)) (Written.Refused refusal.buffer)) ≡ Written.Length len
-          → saidTo (h .seat) (h .seat .number) (take len (cond a buffer (cond b (s ++ drop (length s) buffer) buffer))) ≡ spoken h
-      go true b e = let z : _≡_ {A = ℕ} 0 1 = cc in absurd (omega arith)
-      go false true e = let z : len ≡ length s = cc in rw (z, take-append-seam s (drop (length s) buffer)) spoken-reads-back
-      go false false e = let z : _≡_ {A = ℕ} 0 1 = cc in absurd (omega arith)
+      go : (a b c : Bool)
+          → cond a (Written.Refused refusal.ended) (cond b (Written.Refused refusal.listener) (cond c (Written.Length (length s)) (Written.Refused refusal.buffer)))
+          ≡ Written.Length len
+          → saidTo (h .seat) (h .seat .number) (take len (cond a buffer (cond b buffer (cond c (s ++ drop (length s) buffer) buffer)))) ≡ spoken h
+      go true b c e = let z : _≡_ {A = ℕ} 0 1 = cc in absurd (omega arith)
+      go false true c e = let z : _≡_ {A = ℕ} 0 1 = cc in absurd (omega arith)
+      go false false true e = let z : len ≡ length s = cc in rw (z, take-append-seam s (drop (length s) buffer)) spoken-reads-back
+      go false false false e = let z : _≡_ {A = ℕ} 0 1 = cc in absurd (omega arith)

@@ -1,16 +1,18 @@
 -- Stops of the calls, straight from their definitions: a refusal leaves the record, start and restart do not look at the record that was, and once
--- phase 65,535 has ended hearing, writing and closing are refused 26 before all else.
+-- phase 65,535 has ended hearing, writing and closing are refused 26 before all else. Before that, a listener's writing is refused 17.
 use mathlib.Core.Path.{_≡_, refl}
 use mathlib.Core.Logic.{_≢_}
-use mathlib.Core.Bool.{true}
+use mathlib.Core.Bool.{true, false}
 use mathlib.Core.List.{List}
 use Prim.Native.Nat.{ℕ, zero, suc}
 use lib.IntN.{ℤ}
 use Rattle.terms.specs.Refusals as refusal
+use Rattle.terms.specs.Sizes.{isListener}
 use Rattle.frame_spec.specs.declared.Written.{Written}
 use Rattle.head_spec.specs.declared.Head.{Head}
+use Rattle.head_spec.specs.declared.Answer.{Answer}
 use Rattle.head_spec.specs.declared.Closed.{Closed}
-use Rattle.head_spec.specs.Calls.{answer, startRefusal, started, start, restartRefusal, restarted, restart, hearRefusal, hear, writeAnswer, writeBuffer, closing, close}
+use Rattle.head_spec.specs.Calls.{answer, startRefusal, started, start, restartRefusal, restarted, restart, startListenerRefusal, startedListener, startListener, restartListenerRefusal, restartListener, hearRefusal, hear, writeAnswer, writeBuffer, closing, close}
 
 -- start, restart and hearing answer so: the refusal, the new record if it is 0, and else the record that was
 pub answer-refusal : (c : ℕ) (new old : Head) → answer c new old .refusal ≡ c
@@ -23,14 +25,35 @@ answer-kept (suc c) new old d = refl
 
 -- ---- whatever record there was
 
-pub starts-anew : (h : Head) (n f i : ℕ) (v : ℤ) → startRefusal n f i v ≡ 0 → start h n f i v ≡ record { refusal = 0; head = started n f i v }
-unfolding start
-starts-anew h n f i v e = rw e
+abbrev pub takes : Head → Answer
+takes h = record { refusal = 0; head = h }
 
-pub restarts-anew : (h : Head) (n f i p r : ℕ) → restartRefusal n f i p r ≡ 0
-    → restart h n f i p r ≡ record { refusal = 0; head = restarted n f i p r }
-unfolding restart
-restarts-anew h n f i p r e = rw e
+pub answer-taken : {c : ℕ} (new old : Head) → c ≡ 0 → answer c new old ≡ takes new
+answer-taken new old e = rw e
+
+module _ (h : Head) (n f i : ℕ) where
+  pub starts-anew : (v : ℤ) → startRefusal n f i v ≡ 0 → start h n f i v ≡ takes (started n f i v)
+  unfolding start
+  starts-anew v = answer-taken _ h
+
+  pub restarts-anew : (p r : ℕ) → restartRefusal n f i p r ≡ 0 → restart h n f i p r ≡ takes (restarted n f i p r)
+  unfolding restart
+  restarts-anew p r = answer-taken _ h
+
+  pub listener-starts-anew : startListenerRefusal n f i ≡ 0 → startListener h n f i ≡ takes (startedListener n f i)
+  unfolding startListener
+  listener-starts-anew = answer-taken _ h
+
+  pub listener-restarts-anew : (p r : ℕ) → restartListenerRefusal n f i p r ≡ 0 → restartListener h n f i p r ≡ takes (restarted n f i p r)
+  unfolding restartListener
+  listener-restarts-anew p r = answer-taken _ h
+
+-- ---- a listener sends nothing
+
+pub listener-writes : (h : Head) → h .seat .ended ≡ false → isListener (h .seat .number) ≡ true → (buffer : List ℕ)
+    → (writeAnswer h buffer ≡ Written.Refused refusal.listener) × (writeBuffer h buffer ≡ buffer)
+unfolding writeAnswer writeBuffer
+listener-writes h runs listens buffer = (rw (runs, listens), rw (runs, listens))
 
 -- ---- phase 65,535 has ended
 

@@ -1,5 +1,5 @@
 -- What each call answers and what it makes of the record. A refusal gives its number and leaves the record as it was.
-use mathlib.Core.Bool.{not, cond, _&&_}
+use mathlib.Core.Bool.{Bool, not, cond, _&&_}
 use mathlib.Core.List.{List, [], _∷_}
 use Prim.Native.Nat.{ℕ, zero, suc}
 use lib.Dec.{ltb, leb}
@@ -7,7 +7,7 @@ use lib.ListN.{set}
 use lib.IntN.{ℤ}
 use Rattle.terms.specs.Refusals as refusal
 use Rattle.terms.specs.Refusals.{check}
-use Rattle.terms.specs.Sizes.{checkSize}
+use Rattle.terms.specs.Sizes.{checkSize, isListener}
 use Rattle.terms.specs.Positions.{isPosition}
 use Rattle.terms.specs.declared.Entry.{Entry}
 use Rattle.terms.specs.declared.Table.{Table}
@@ -29,7 +29,7 @@ use Rattle.head_spec.specs.declared.Answer.{Answer}
 use Rattle.head_spec.specs.declared.Closed.{Closed}
 use Rattle.head_spec.specs.declared.Closing.{Closing}
 use Rattle.head_spec.specs.Record.{noEntries, opened, trustedBy}
-use Rattle.head_spec.specs.Seats.{firstSeat, healedSeat, confessionSeat, nextSeat}
+use Rattle.head_spec.specs.Seats.{firstSeat, listenerSeat, healedSeat, confessionSeat, nextSeat}
 
 -- the record changed if nothing was refused
 abbrev pub answer : ℕ → Head → Head → Answer
@@ -49,15 +49,36 @@ start h n f i v = answer (startRefusal n f i v) (started n f i v) h
 
 -- ---- a restart gives phase and round in place of the position; checks 1, 2, 3, 5. The head is healed, with no position
 
+-- a phase and a round that there are
+abbrev pub isTime : ℕ → ℕ → Bool
+isTime p r = leb 1 p && leb p 65535 && ltb r 2
+
 unfoldable pub restartRefusal : ℕ → ℕ → ℕ → ℕ → ℕ → ℕ
-restartRefusal n f i p r =
-    checkSize n f (check (ltb i n) refusal.head-number (check (leb 1 p && leb p 65535 && ltb r 2) refusal.phase 0))
+restartRefusal n f i p r = checkSize n f (check (ltb i n) refusal.head-number (check (isTime p r) refusal.phase 0))
 
 unfoldable pub restarted : ℕ → ℕ → ℕ → ℕ → ℕ → Head
 restarted n f i p r = opened (healedSeat n f i p r) noEntries
 
 unfoldable pub restart : Head → ℕ → ℕ → ℕ → ℕ → ℕ → Answer
 restart h n f i p r = answer (restartRefusal n f i p r) (restarted n f i p r) h
+
+-- ---- a listener (document 02, A6) is a record with a number from 32 to 47. Its start gives no position; checks 1, 2, 3. Its restart checks 1, 2, 3, 5 and makes
+-- the record that a head's makes. It hears and closes as a head does.
+
+unfoldable pub startListenerRefusal : ℕ → ℕ → ℕ → ℕ
+startListenerRefusal n f i = checkSize n f (check (isListener i) refusal.head-number 0)
+
+unfoldable pub startedListener : ℕ → ℕ → ℕ → Head
+startedListener n f i = opened (listenerSeat n f i) noEntries
+
+unfoldable pub startListener : Head → ℕ → ℕ → ℕ → Answer
+startListener h n f i = answer (startListenerRefusal n f i) (startedListener n f i) h
+
+unfoldable pub restartListenerRefusal : ℕ → ℕ → ℕ → ℕ → ℕ → ℕ
+restartListenerRefusal n f i p r = checkSize n f (check (isListener i) refusal.head-number (check (isTime p r) refusal.phase 0))
+
+unfoldable pub restartListener : Head → ℕ → ℕ → ℕ → ℕ → ℕ → Answer
+restartListener h n f i p r = answer (restartListenerRefusal n f i p r) (restarted n f i p r) h
 
 -- ---- hearing a frame on link k; checks 26, 3, 21, then those of the frame
 
@@ -122,7 +143,7 @@ onLinks g i (suc m) = record { link = i; bytes = g i } ∷ onLinks g (suc i) m
 unfoldable pub hearAll : Head → (ℕ → List ℕ) → ℕ → Head
 hearAll h g n = hearEach h (onLinks g 0 n)
 
--- ---- writing; checks 26, 24
+-- ---- writing; checks 26, 17 (a listener sends nothing), 24
 
 -- what a head has to say: in collection its position, or silence if it is healed; in confession its list, or a confession if it is healed
 abbrev pub spokenIn : ℕ → Head → Meaning
@@ -136,10 +157,12 @@ abbrev pub frameFor : Head → List ℕ
 frameFor h = frameOf (h .seat .n) (h .seat .number) (h .seat .phase) (spoken h)
 
 unfoldable pub writeAnswer : Head → List ℕ → Written
-writeAnswer h buffer = cond (h .seat .ended) (Written.Refused refusal.ended) (written (frameFor h) buffer)
+writeAnswer h buffer =
+    cond (h .seat .ended) (Written.Refused refusal.ended)
+    (cond (isListener (h .seat .number)) (Written.Refused refusal.listener) (written (frameFor h) buffer))
 
 unfoldable pub writeBuffer : Head → List ℕ → List ℕ
-writeBuffer h buffer = cond (h .seat .ended) buffer (buffered (frameFor h) buffer)
+writeBuffer h buffer = cond (h .seat .ended) buffer (cond (isListener (h .seat .number)) buffer (buffered (frameFor h) buffer))
 
 -- ---- closing; checks 26, 25
 

@@ -7,6 +7,7 @@ use Prim.Native.Nat.{ℕ, _≤_}
 use lib.Dec.{eqb}
 use lib.ListN.{take}
 use lib.IntN.{ℤ}
+use Rattle.terms.specs.Sizes.{isListener}
 use Rattle.terms.specs.declared.Entry.{Entry}
 use Rattle.entries.specs.Tables.{tableAt}
 use Rattle.convergence.specs.Counting.{Each}
@@ -21,13 +22,15 @@ use Rattle.frame_spec.specs.declared.Written.{Written}
 use Rattle.head_spec.specs.declared.Seat.{Seat}
 use Rattle.head_spec.specs.declared.Head.{Head}
 use Rattle.head_spec.specs.Record.{heardEntry, givenOf}
-use Rattle.head_spec.specs.Calls.{startRefusal, started, restartRefusal, restarted, saidTo, hear, Delivery, hearEach, spoken, frameFor, writeAnswer, writeBuffer, closeSettled, close}
+use Rattle.head_spec.specs.Calls.{startRefusal, started, restartRefusal, restarted, startListenerRefusal, startedListener, restartListenerRefusal, saidTo, hear, Delivery, hearEach, spoken, frameFor, writeAnswer, writeBuffer, closeSettled, close}
 use Rattle.head_spec.specs.Proper.{ProperHead}
 
--- The records that calls can reach: started or restarted, and then heard on and closed, with any arguments, whatever is refused on the way.
+-- The records that calls can reach: started or restarted, as a head or as a listener, and then heard on and closed, with any arguments, whatever is refused on the way.
 pub data Reachable : Head → Type 0 where
   starts : (n f i : ℕ) (v : ℤ) → startRefusal n f i v ≡ 0 → Reachable (started n f i v)
   restarts : (n f i p r : ℕ) → restartRefusal n f i p r ≡ 0 → Reachable (restarted n f i p r)
+  listens : (n f i : ℕ) → startListenerRefusal n f i ≡ 0 → Reachable (startedListener n f i)
+  listens-again : (n f i p r : ℕ) → restartListenerRefusal n f i p r ≡ 0 → Reachable (restarted n f i p r)
   hears : {h : Head} (k : ℕ) (s : List ℕ) → AllBytes s → Reachable h → Reachable (hear h k s .head)
   closes : {h : Head} → Reachable h → Reachable (close h .head)
 
@@ -35,10 +38,12 @@ abbrev pub EveryProper : Type 0
 EveryProper = (h : Head) → Reachable h → ProperHead h
 
 -- ---- "A frame written for a head's state reads back as what that head had to say": to every head of the same ring in the same phase and round, on
--- the link of its number
+-- the link of its number. A listener has nothing to say to anyone.
 
 abbrev pub ReadsBack : Type 0
-ReadsBack = (h : Head) → Reachable h → said (h .seat .n) (h .seat .phase) (h .seat .round) (h .seat .number) (frameFor h) ≡ spoken h
+ReadsBack =
+    (h : Head) → Reachable h → isListener (h .seat .number) ≡ false
+    → said (h .seat .n) (h .seat .phase) (h .seat .round) (h .seat .number) (frameFor h) ≡ spoken h
 
 -- so do the bytes that writing puts at the front of a lent buffer
 abbrev pub WrittenReadsBack : Type 0

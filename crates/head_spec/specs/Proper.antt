@@ -5,6 +5,7 @@ use mathlib.Core.Bool.{false, true}
 use mathlib.Core.List.{List, []}
 use Prim.Native.Nat.{ℕ, _^_, _≤_, _<_}
 use lib.ListN.{length, getD}
+use Rattle.terms.specs.Sizes.{isListener}
 use Rattle.terms.specs.Positions.{isPosition}
 use Rattle.terms.specs.declared.Entry.{Entry}
 use Rattle.terms.specs.declared.Table.{Table}
@@ -39,15 +40,16 @@ abbrev pub ProperLast : ℕ → LastKept → Type 0
 ProperLast f LastKept.Nothing = Unit {0}
 ProperLast f (LastKept.Range k) = ProperKept f k
 
--- The position is null or in range. A head in a collection round that is not healed holds one; in a confession round it may have none.
+-- The position is null or in range. A head in a collection round that is not healed holds one; in a confession round it may have none, and a listener may have
+-- none in either.
 pub record ProperSeat (s : Seat) : Type 0 where
   pub size : Sized (s .n) (s .f)
-  pub number : s .number < s .n
+  pub number : isListener (s .number) ≡ false → s .number < s .n
   pub from-first : 1 ≤ s .phase
   pub to-last : s .phase ≤ 65535
   pub round : s .round < 2
   pub position : Proper (s .n) (collected (s .position))
-  pub holds : s .round ≡ 0 → s .healed ≡ false → s .position ≢ Entry.Null
+  pub holds : isListener (s .number) ≡ false → s .round ≡ 0 → s .healed ≡ false → s .position ≢ Entry.Null
   pub last : ProperLast (s .f) (s .last)
 
 -- the list held of link k

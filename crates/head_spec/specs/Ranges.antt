@@ -1,16 +1,19 @@
 -- Which kept range a head holds (document 02, A2): the one that its last phase end since the start or restart passed on, as that closing answered it, or
 -- none. proofs/Ranges.antt proves it.
 use mathlib.Core.Path.{_≡_}
+use mathlib.Core.Bool.{true}
 use mathlib.Core.List.{List}
 use Prim.Native.Nat.{ℕ}
 use lib.IntN.{ℤ}
 use lib.Signed.{_≤ℤ_}
+use Rattle.terms.specs.Sizes.{isListener}
+use Rattle.terms.specs.declared.Entry.{Entry}
 use Rattle.settle_midpoint.specs.declared.Kept.{Kept}
 use Rattle.frame_spec.specs.Proper.{AllBytes}
 use Rattle.head_spec.specs.declared.LastKept.{LastKept}
 use Rattle.head_spec.specs.declared.Head.{Head}
 use Rattle.head_spec.specs.declared.Closed.{Closed}
-use Rattle.head_spec.specs.Calls.{startRefusal, started, restartRefusal, restarted, hear, close}
+use Rattle.head_spec.specs.Calls.{startRefusal, started, restartRefusal, restarted, startListenerRefusal, startedListener, restartListenerRefusal, hear, close}
 
 -- what was passed on last, after a closing that answered c; before it x was
 abbrev pub passing : Closed → LastKept → LastKept
@@ -22,6 +25,8 @@ passing (Closed.Settled k) x = LastKept.Range k
 pub data Passed : Head → LastKept → Type 0 where
   starts : (n f i : ℕ) (v : ℤ) → startRefusal n f i v ≡ 0 → Passed (started n f i v) LastKept.Nothing
   restarts : (n f i p r : ℕ) → restartRefusal n f i p r ≡ 0 → Passed (restarted n f i p r) LastKept.Nothing
+  listens : (n f i : ℕ) → startListenerRefusal n f i ≡ 0 → Passed (startedListener n f i) LastKept.Nothing
+  listens-again : (n f i p r : ℕ) → restartListenerRefusal n f i p r ≡ 0 → Passed (restarted n f i p r) LastKept.Nothing
   hears : {h : Head} {x : LastKept} (k : ℕ) (s : List ℕ) → AllBytes s → Passed h x → Passed (hear h k s .head) x
   closes : {h : Head} {x : LastKept} → Passed h x → Passed (close h .head) (passing (close h .closed) x)
 
@@ -35,3 +40,7 @@ pub record InRange (k : Kept) : Type 0 where
 
 abbrev pub PassedInRange : Type 0
 PassedInRange = (h : Head) (k : Kept) → Passed h (LastKept.Range k) → InRange k
+
+-- a listener "holds none before its first phase end" (document 02, A6): no position, while nothing was passed on
+abbrev pub ListenerHoldsNone : Type 0
+ListenerHoldsNone = (h : Head) → Passed h LastKept.Nothing → isListener (h .seat .number) ≡ true → h .seat .position ≡ Entry.Null

@@ -23,6 +23,21 @@ firstSeat n f i v =
       last = LastKept.Nothing;
     }
 
+-- a listener's start: phase 1 opens, and it holds no position before its first phase end (document 02, A6)
+abbrev pub listenerSeat : ℕ → ℕ → ℕ → Seat
+listenerSeat n f i =
+    record {
+      n = n;
+      f = f;
+      number = i;
+      phase = 1;
+      round = 0;
+      healed = false;
+      ended = false;
+      position = Entry.Null;
+      last = LastKept.Nothing;
+    }
+
 -- a restart, in round r of phase p: the head is healed, with no position and no kept range (document 02, A2)
 abbrev pub healedSeat : ℕ → ℕ → ℕ → ℕ → ℕ → Seat
 healedSeat n f i p r =

@@ -1,41 +1,30 @@
 -- A start of the record that the block is, left in the block, with what stands beside it.
 use mathlib.Core.Path.{ap, _∙_}
+use Prim.Native.Nat.{ℕ}
 use mir.Facts.{toZ-ofZ}
 use denote.Ref.{now}
 use Rattle.head_spec.specs.declared.Head.{Head}
 use Rattle.head_spec.specs.Calls.{start}
 use Rattle.head_window.specs.Window.{startedBeside}
+use Rattle.head_c.specs.Blocks.{besideOf}
 use Rattle.head_c.specs.Events.{blockAfter}
-use Rattle.head_c.proofs.After.{answered, start-opens, opens-as}
+use Rattle.head_c.proofs.After.{answered-by, start-opens, opens-as}
 use borrow.Author.Needs.{needs}
 use Rattle.head_c.proofs.focus_head_start.Statement.{statement}
 use Rattle.head_c.proofs.focus_head_start.Tie as tie
 
-put-call-requires : tie.Need-put-call-requires
-put-call-requires c κs =
-    let call = c .before .before .before .before .before in
-    (search needs, opens-as (call .start .ensures) (start-opens _ _ _ _ _))
+put-start-requires : tie.Need-put-start-requires
+put-start-requires c κs = (search needs, opens-as (c .before .start .ensures) (start-opens _ _ _ _ _))
 
 returns : tie.Need-returns
 unfolding blockAfter
 returns c =
-    let beside = c .before .before in
-    let old = beside .before in
-    let call = old .before .before .before in
+    let call = c .before .before in
     let b = call .before .before .before .before in
     let a = b .args in
     let made = rw (toZ-ofZ (b .fits .position)) at (call .start .ensures) in
-    let answer = made ∙ ap (λ (h : Head). start h (a .n) (a .f) (a .number) (a .position)) (call .before .head-of .ensures) in
-    answered (now (a .h)) (c .put-call .ensures) answer
-    (beside .after-start .ensures ∙ (λ i. startedBeside (answer i .refusal) (old .beside-in .ensures i)))
+    answered-by (now (a .h)) (λ (x : ℕ). startedBeside x (besideOf (now (a .h)))) (c .put-start .ensures)
+    (made ∙ ap (λ (h : Head). start h (a .n) (a .f) (a .number) (a .position)) (call .before .head-of .ensures))
 
 pub focus-head-start-spec : {M : Type 1} → statement M
-focus-head-start-spec =
-    tie.close
-    (tie.spec
-    (λ c κs. search needs)
-    (λ c κs. search needs)
-    (λ c κs. search needs)
-    (λ c κs. search needs)
-    put-call-requires
-    returns)
+focus-head-start-spec = tie.close (tie.spec (λ c κs. search needs) (λ c κs. search needs) put-start-requires returns)

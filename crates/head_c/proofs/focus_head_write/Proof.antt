@@ -5,6 +5,7 @@ use mathlib.Core.List.{List}
 use Prim.Native.Nat.{ℕ, zero, suc}
 use denote.Ref.{now}
 use Rattle.terms.specs.Refusals as refusal
+use Rattle.terms.specs.Sizes.{isListener}
 use Rattle.frame_spec.specs.Said.{Meaning}
 use Rattle.frame_spec.specs.Written.{frameOf, written, buffered}
 use Rattle.frame_spec.specs.declared.Written.{Written}
@@ -34,11 +35,14 @@ module _ (h : Head) (buffer : List ℕ) where
 
   same-answer : writeAnswer bare buffer ≡ writeAnswer h buffer
   unfolding writeAnswer frame
-  same-answer = ap (λ (m : Meaning). cond (h .seat .ended) (Written.Refused refusal.ended) (written (frame m) buffer)) same-spoken
+  same-answer =
+      ap
+      (λ (m : Meaning). cond (h .seat .ended) (Written.Refused refusal.ended)
+      (cond (isListener (h .seat .number)) (Written.Refused refusal.listener) (written (frame m) buffer))) same-spoken
 
   same-buffer : writeBuffer bare buffer ≡ writeBuffer h buffer
   unfolding writeBuffer frame
-  same-buffer = ap (λ (m : Meaning). cond (h .seat .ended) buffer (buffered (frame m) buffer)) same-spoken
+  same-buffer = ap (λ (m : Meaning). cond (h .seat .ended) buffer (cond (isListener (h .seat .number)) buffer (buffered (frame m) buffer))) same-spoken
 
   as-written : {x : Head} {r len : ℕ} {out : List ℕ} (old : ℕ) → x ≡ bare
       → (r ≡ writtenNumber (writeAnswer x buffer)) × (out ≡ writeBuffer x buffer) × (len ≡ writtenOr (writeAnswer x buffer) old)

@@ -10,8 +10,8 @@ returns c = let e = c .before .size-refusal .ensures in e ∙ size-refused _ _ _
 
 returns-2 : tie.Need-returns-2
 returns-2 c =
-    let d = c .before in
-    c .check .ensures ∙ sym (size-taken _ _ _ (sym (d .before .size-refusal .ensures) ∙ d .if1 .left))
+    let d = c .before .before in
+    rw (c .check .ensures, c .before .is-member .ensures) (sym (size-taken _ _ _ (sym (d .before .size-refusal .ensures) ∙ d .if1 .left)))
 
 pub member-refusal-spec : {M : Type 1} → statement M
-member-refusal-spec = tie.close (tie.spec (λ c κs. search needs) returns (λ c κs. search needs) returns-2)
+member-refusal-spec = tie.close (tie.spec (λ c κs. search needs) returns (λ c κs. search needs) (λ c κs. search needs) returns-2)

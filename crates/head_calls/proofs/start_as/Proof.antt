@@ -1,0 +1,54 @@
+-- The checks are the definition's, each before the next. Where they pass, n, f and the number are bytes, and the record is opened with them.
+use mathlib.Core.Path.{_≡_, sym, _∙_}
+use native.Mathlib.Omega.{arith}
+use borrow.Author.Needs.{needs}
+use Rattle.head_spec.proofs.Proper.{Sized}
+use Rattle.head_spec.proofs.Stops.{answer-taken}
+use Rattle.head_calls.specs.Steps.{checkMember, startAs}
+use Rattle.head_calls.proofs.Answers.{refuses, member-sized, member-small}
+use Rattle.head_calls.proofs.start_as.Statement.{statement}
+use Rattle.head_calls.proofs.start_as.Tie as tie
+
+returns : tie.Need-returns
+unfolding startAs
+returns c = rw (← c .before .member-refusal .ensures) (refuses _ _ _ (c .if1 .taken))
+
+-- past them n, f and the number are small
+module _ (c : tie.Else1) where
+  abbrev first : tie.Start
+  first = c .before .before
+
+  accepted : let a = first .args in checkMember (a .listens) (a .n) (a .f) (a .number) (a .rest) ≡ 0
+  accepted = sym (c .before .member-refusal .ensures) ∙ c .if1 .left
+
+  size : Sized (first .args .n) (first .args .f)
+  size = member-sized (first .args .listens) _ _ _ _ accepted
+
+cast-opening-seat : tie.Need-cast-opening-seat
+cast-opening-seat c = omega (arith, size c .most)
+
+cast-opening-seat-2 : tie.Need-cast-opening-seat-2
+cast-opening-seat-2 c = omega (arith, size c .most, size c .limit)
+
+cast-opening-seat-3 : tie.Need-cast-opening-seat-3
+cast-opening-seat-3 c = omega (arith, member-small (first c .args .listens) _ _ _ _ (accepted c))
+
+returns-2 : tie.Need-returns-2
+unfolding startAs
+returns-2 c =
+    let d = c .before .before in
+    rw (c .opened .ensures, c .before .no-entries .ensures, d .opening-seat .ensures) (sym (answer-taken _ _ (accepted (d .before))))
+
+pub start-as-spec : {M : Type 1} → statement M
+start-as-spec =
+    tie.close
+    (tie.spec
+    (λ c κs. search needs)
+    returns
+    cast-opening-seat
+    cast-opening-seat-2
+    cast-opening-seat-3
+    (λ c κs. search needs)
+    (λ c κs. search needs)
+    (λ c κs. search needs)
+    returns-2)
