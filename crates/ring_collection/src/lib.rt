@@ -14,7 +14,7 @@ use frame_spec::Said;
 use ring_round::Stage;
 use terms::Entry;
 use terms::Lists;
-use terms::Numbers;
+use terms::Positions;
 use terms::Table;
 use terms::Words;
 
@@ -31,7 +31,7 @@ fn entry_in(frame: &[u8], n: u8, phase: u16, k: u8) -> Entry
 }
 
 // What head k sends: a healed head silence, a healthy one its position.
-fn own_entry(s: Stage, positions: &Numbers, k: usize) -> Entry
+fn own_entry(s: Stage, positions: &Positions, k: usize) -> Entry
     requires { ⌜ k < 32 ⌝ }
     ensures { λ r. ⌜ r ≡ ownEntry s (now (positions .entry)) k ⌝ }
 {
@@ -65,7 +65,7 @@ fn entry_written(s: Stage, own: Entry, k: usize) -> Entry
 }
 
 // What each unstruck head hears of head k, if that is not struck either. What a frame can say is heard as it is, so no frame is written.
-fn entry_sent(s: Stage, positions: &Numbers, k: usize) -> Entry
+fn entry_sent(s: Stage, positions: &Positions, k: usize) -> Entry
     requires { ⌜ k < 32 ⌝ }
     ensures { λ r. ⌜ r ≡ sent s (now (positions .entry)) k ⌝ }
 {
@@ -77,7 +77,7 @@ fn entry_sent(s: Stage, positions: &Numbers, k: usize) -> Entry
 }
 
 // Whether heads i and m send the same position.
-fn sends_alike(s: Stage, positions: &Numbers, i: usize, m: usize) -> bool
+fn sends_alike(s: Stage, positions: &Positions, i: usize, m: usize) -> bool
     requires { ⌜ (i < 32) × (m < 32) ⌝ }
     ensures { λ r. ⌜ (r ≡ true → sends s (now (positions .entry)) i ≡ sends s (now (positions .entry)) m) ⌝ }
 {
@@ -91,7 +91,7 @@ fn sends_alike(s: Stage, positions: &Numbers, i: usize, m: usize) -> bool
 }
 
 // What is heard of head k, after `told` was heard of head `last`, or first if that is 32: heads that send the same are heard the same.
-fn entry_after(s: Stage, positions: &Numbers, k: usize, last: usize, told: Entry) -> Entry
+fn entry_after(s: Stage, positions: &Positions, k: usize, last: usize, told: Entry) -> Entry
     requires { ⌜ (k < 32) × (last < 32 → told ≡ sent s (now positions) last) ⌝ }
     ensures { λ r. ⌜ r ≡ sent s (now (positions .entry)) k ⌝ }
 {
@@ -124,7 +124,7 @@ fn number_of(e: Entry) -> i32
 }
 
 // What each unstruck head hears of the unstruck heads, with null for the struck ones.
-fn entries_sent(s: Stage, positions: &Numbers) -> Table
+fn entries_sent(s: Stage, positions: &Positions) -> Table
     ensures { λ r. ⌜ r ≡ tableOf (heads s) (sentBy s (now (positions .entry))) ⌝ }
 {
     let n = ring_round::head_count(s) as usize;
@@ -237,7 +237,7 @@ fn fill_lists(
 // A collection round: the list of each head that is not struck, from the positions and what is planted. The other lists stay as they were.
 pub fn collect(
     s: Stage,
-    positions: &Numbers,
+    positions: &Positions,
     planted: &[u8],
     lengths: &[u8],
     marks: &mut Words,

@@ -1,4 +1,4 @@
--- What a head settles in a confession round: the unstruck heads give all alike, and the struck ones what is planted.
+-- What a receiver settles in a confession round: the unstruck heads give all alike, and the struck ones what is planted.
 use mathlib.Core.Path.{_≡_, refl, ap, sym, _∙_, fun-ext}
 use mathlib.Core.Bool.{Bool, true, false, not, cond, _&&_, true≢false}
 use mathlib.Core.List.{List}

@@ -17,7 +17,7 @@ use Rattle.settle_trust.specs.Received.{givenBy}
 use Rattle.head_spec.specs.Record.{givenOf}
 use Rattle.head_spec.specs.Calls.{withConfession, withList}
 use Rattle.ring_round.specs.declared.Stage.{Stage}
-use Rattle.ring_round.specs.Memory.{heads, hears, replies, newPosition}
+use Rattle.ring_round.specs.Memory.{heads, hears, settles, replies, newPosition}
 use Rattle.ring_shared.specs.Planted.{isStruck}
 
 -- what head k replies, beside its list
@@ -65,7 +65,7 @@ pub record RowsKept (g : Links) (rows rows′ : List (List ℤ)) : Type 0 where
   pub long : length rows′ ≡ 32
   pub gives : givenBy g rows′ ≡ givenBy g rows
 
--- what the unstruck heads give, to each of them alike
+-- what the unstruck heads give, to all receivers alike
 unfoldable pub givenAlike : Stage → List ℕ → List (List ℤ) → ℕ → Given
 givenAlike s marks lists k = cond (hears s k) (givenOf (replied s marks lists k)) nothing
 
@@ -90,10 +90,10 @@ pub record OwnLinks (s : Stage) (marks : List ℕ) (g : Links) : Type 0 where
   pub lists : (k : ℕ) → bitOf (g .listed) k ≡ cond (hears s k) (not (bitOf (s .before) k)) false
   pub marks-kept : g .marks ≡ marks
 
--- each unstruck head has its new position, and the other positions are as they were
+-- each unstruck receiver has its new position, and the other positions are as they were
 abbrev pub ConfessedAll : Stage → List ℕ → List (List ℤ) → (ℕ → ℕ → List ℕ) → List ℤ → List ℤ → Type 0
 ConfessedAll s marks lists plant before after =
-    (i : ℕ) → getD after i (pos 0) ≡ cond (hears s i) (newPosition s marks lists plant i) (getD before i (pos 0))
+    (i : ℕ) → getD after i (pos 0) ≡ cond (settles s i) (newPosition s marks lists plant i) (getD before i (pos 0))
 
 -- the answer is yes if all have it
 pub record ConfessesAll (answer : Bool) (s : Stage) (marks : List ℕ) (lists : List (List ℤ)) (plant : ℕ → ℕ → List ℕ) (before after : List ℤ) : Type 0 where

@@ -1,5 +1,5 @@
-// A confession round of a whole ring, played on the heads' memory: each head that is not struck settles by the same functions that the head's calls are made
-// of. What all unstruck heads say is read once.
+// A confession round of a whole ring, played on the heads' memory: each receiver, head or listener, that is not struck settles by the same functions that the
+// head's calls are made of. What all unstruck heads say is read once.
 ghost use mathlib.Core.Bool.{true, false, cond};
 ghost use mathlib.Core.Path.{_≡_};
 ghost use Prim.Native.Nat.{ℕ, _≤_, _<_};
@@ -11,7 +11,7 @@ ghost use Rattle.convergence.specs.Counting.{Each};
 ghost use Rattle.frame_spec.specs.Said.{said};
 ghost use Rattle.settle_trust.specs.Received.{givenBy};
 ghost use Rattle.head_spec.specs.Record.{givenOf};
-ghost use Rattle.ring_round.specs.Memory.{hears, replies, newPosition};
+ghost use Rattle.ring_round.specs.Memory.{settles, replies, newPosition};
 ghost use Rattle.frame_slots.specs.Slots.{plantedIn};
 ghost use Rattle.ring_confession.specs.Inner.{ownReply, replied, linksWith, rowsWith, heardOn, Heard, Received, RowsKept, givenAlike, Untold, ListFits, ListsFit, OwnLinks, ConfessedAll, ConfessesAll};
 ghost use Rattle.ring_shared.specs.Planted.{givenTo, settledFrom};
@@ -21,6 +21,7 @@ use settle_midpoint::Settled;
 use settle_trust::Links;
 use terms::Lists;
 use terms::Numbers;
+use terms::Positions;
 use terms::Table;
 use terms::Words;
 
@@ -124,15 +125,15 @@ fn links_of(s: Stage, marks: &Words) -> Links
     }
 }
 
-// Settles all heads from the lists as they are. Answers no, and leaves the positions as they were, if no head is struck, if a list is none that a frame can say, or
-// if what all heads hear does not decide.
+// Settles all receivers from the lists as they are. Answers no, and leaves the positions as they were, if no head is struck, if a list is none that a frame can say,
+// or if what all hear does not decide.
 fn confess_own(
     s: Stage,
     marks: &Words,
     lists: &Lists,
     planted: &[u8],
     lengths: &[u8],
-    positions: &mut Numbers,
+    positions: &mut Positions,
 ) -> bool
     ensures { λ r. ⌜ ConfessesAll r s (now (marks .entry)) (now (lists .entry)) (plantedIn (now (planted .entry)) (now (lengths .entry))) (now (positions .entry)) (now (positions .exit)) ⌝ }
 {
@@ -188,7 +189,7 @@ fn own_reply(s: Stage, k: usize) -> Said
     Said::Confession
 }
 
-// Hears what head k replies to each unstruck head, if it is not struck either.
+// Hears what head k replies to each receiver, if it is not struck.
 fn hear_reply(
     s: Stage,
     marks: &Words,
@@ -289,7 +290,7 @@ fn hear_after(
     hear_reply(s, marks, lists, k, links, rows)
 }
 
-// Hears what the unstruck heads reply to each of them.
+// Hears what the unstruck heads reply to each receiver.
 fn hear_replies(s: Stage, marks: &Words, lists: &Lists, rows: &mut Lists) -> Links
     requires { ⌜ length (now rows) ≡ 32 ⌝ }
     ensures { λ r. ⌜ Received r (now (rows .exit)) (givenAlike s (now (marks .entry)) (now (lists .entry))) ⌝ }
@@ -313,7 +314,7 @@ fn hear_replies(s: Stage, marks: &Words, lists: &Lists, rows: &mut Lists) -> Lin
     links
 }
 
-// Hears what is planted from the struck heads to head i, on links that gave nothing. Their rows may hold what was planted to another head: no one reads them.
+// Hears what is planted from the struck heads to receiver i, on links that gave nothing. Their rows may hold what was planted to another: no one reads them.
 fn hear_planted(
     s: Stage,
     planted: &[u8],
@@ -322,7 +323,7 @@ fn hear_planted(
     base: Links,
     rows: &mut Lists,
 ) -> Links
-    requires { ⌜ (i < 32) × Untold s base (now rows) ⌝ }
+    requires { ⌜ (i < 48) × Untold s base (now rows) ⌝ }
     ensures given { λ r. ⌜ Received r (now (rows .exit)) (givenTo s (givenBy base (now (rows .entry))) (plantedIn (now (planted .entry)) (now (lengths .entry))) i) ⌝ }
     ensures kept { λ r. ⌜ RowsKept base (now (rows .entry)) (now (rows .exit)) ⌝ }
 {
@@ -348,7 +349,7 @@ fn first_listed(m: u32) -> usize
     if k < 32 { k as usize } else { 0 }
 }
 
-// The position that a head settles from what its links gave; 0 if it is refused.
+// The position that a receiver settles from what its links gave; 0 if it is refused.
 fn settled(s: Stage, rows: &Lists, links: Links, reference: usize) -> i32
     requires { ⌜ reference < 32 ⌝ }
     ensures { λ r. ⌜ r ≡ settledFrom s (givenBy links (now (rows .entry))) ⌝ }
@@ -361,7 +362,7 @@ fn settled(s: Stage, rows: &Lists, links: Links, reference: usize) -> i32
     }
 }
 
-// The new position of head i.
+// The new position of receiver i.
 fn position_for(
     s: Stage,
     planted: &[u8],
@@ -371,7 +372,7 @@ fn position_for(
     rows: &mut Lists,
     reference: usize,
 ) -> i32
-    requires { ⌜ (i < 32) × Untold s base (now rows) × (reference < 32) ⌝ }
+    requires { ⌜ (i < 48) × Untold s base (now rows) × (reference < 32) ⌝ }
     ensures position { λ r. ⌜ r ≡ settledFrom s (givenTo s (givenBy base (now (rows .entry))) (plantedIn (now (planted .entry)) (now (lengths .entry))) i) ⌝ }
     ensures kept { λ r. ⌜ RowsKept base (now (rows .entry)) (now (rows .exit)) ⌝ }
 {
@@ -379,7 +380,7 @@ fn position_for(
     settled(s, rows, links, reference)
 }
 
-// The same, after another head settled the position `told`: if both are told alike, both settle it. `last` is that head, or 32 before the first.
+// The same, after another receiver settled the position `told`: if both are told alike, both settle it. `last` is that receiver, or 48 before the first.
 fn position_after(
     s: Stage,
     planted: &[u8],
@@ -391,12 +392,12 @@ fn position_after(
     last: usize,
     told: i32,
 ) -> i32
-    requires { ⌜ (i < 32) × Untold s base (now rows) × (reference < 32)
-        × (last < 32 → told ≡ settledFrom s (givenTo s (givenBy base (now rows)) (plantedIn (now planted) (now lengths)) last)) ⌝ }
+    requires { ⌜ (i < 48) × Untold s base (now rows) × (reference < 32)
+        × (last < 48 → told ≡ settledFrom s (givenTo s (givenBy base (now rows)) (plantedIn (now planted) (now lengths)) last)) ⌝ }
     ensures position { λ r. ⌜ r ≡ settledFrom s (givenTo s (givenBy base (now (rows .entry))) (plantedIn (now (planted .entry)) (now (lengths .entry))) i) ⌝ }
     ensures kept { λ r. ⌜ RowsKept base (now (rows .entry)) (now (rows .exit)) ⌝ }
 {
-    if last < 32 {
+    if last < 48 {
         if ring_round::is_told_alike(s, planted, lengths, i, last) {
             return told;
         }
@@ -404,7 +405,7 @@ fn position_after(
     position_for(s, planted, lengths, i, base, rows, reference)
 }
 
-// Stores the new position of each unstruck head.
+// Stores the new position of each unstruck receiver.
 fn fill_positions(
     s: Stage,
     planted: &[u8],
@@ -413,19 +414,19 @@ fn fill_positions(
     rows: &mut Lists,
     positions: &mut [i32],
 )
-    requires { ⌜ Untold s base (now rows) × (length (now positions) ≡ 32) ⌝ }
+    requires { ⌜ Untold s base (now rows) × (length (now positions) ≡ 48) ⌝ }
     ensures { λ _. ⌜ ((i : ℕ) → getD (now (positions .exit)) i (pos 0)
-        ≡ cond (hears s i)
+        ≡ cond (settles s i)
         (settledFrom s (givenTo s (givenBy base (now (rows .entry))) (plantedIn (now (planted .entry)) (now (lengths .entry))) i))
         (getD (now (positions .entry)) i (pos 0))) ⌝ }
 {
-    let n = ring_round::head_count(s) as usize;
+    let end = ring_round::receiver_end(s);
     let reference = first_listed(base.listed);
-    let mut last: usize = 32;
+    let mut last: usize = 48;
     let mut told: i32 = 0;
     let mut i: usize = 0;
-    while i < n {
-        if !marks::marked(s.struck, i) {
+    while i < end {
+        if ring_round::settles(s, i) {
             told = position_after(s, planted, lengths, i, base, rows, reference, last, told);
             last = i;
             positions[i] = told;
@@ -434,14 +435,14 @@ fn fill_positions(
     }
 }
 
-// Settles all heads from what they hear in frames.
+// Settles all receivers from what they hear in frames.
 fn confess_heard(
     s: Stage,
     marks: &Words,
     lists: &Lists,
     planted: &[u8],
     lengths: &[u8],
-    positions: &mut Numbers,
+    positions: &mut Positions,
 )
     ensures { λ _. ⌜ ConfessedAll s (now (marks .entry)) (now (lists .entry)) (plantedIn (now (planted .entry)) (now (lengths .entry))) (now (positions .entry)) (now (positions .exit)) ⌝ }
 {
@@ -454,17 +455,17 @@ fn confess_heard(
     fill_positions(s, planted, lengths, links, &mut rows, positions);
 }
 
-// A confession round: the new position of each head that is not struck, from the lists and what is planted. The other positions stay as they were.
+// A confession round: the new position of each receiver that is not struck, from the lists and what is planted. The other positions stay as they were.
 pub fn confess(
     s: Stage,
     marks: &Words,
     lists: &Lists,
     planted: &[u8],
     lengths: &[u8],
-    positions: &mut Numbers,
+    positions: &mut Positions,
 )
     ensures { λ _. ⌜ ((i : ℕ) → getD (now (positions .exit)) i (pos 0)
-        ≡ cond (hears s i)
+        ≡ cond (settles s i)
         (newPosition s (now (marks .entry)) (now (lists .entry)) (plantedIn (now (planted .entry)) (now (lengths .entry))) i)
         (getD (now (positions .entry)) i (pos 0))) ⌝ }
 {

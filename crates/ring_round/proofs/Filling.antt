@@ -51,3 +51,11 @@ module _ {A : Type 0} (picked : ℕ → Bool) (new old : ℕ → A) where
   pub filled-set : (l : List A) (d : A) (i : ℕ) {v : A} → Filled i (λ j. getD l j d) → i < length l → picked i ≡ true → v ≡ new i
       → Filled (i + 1) (λ j. getD (set l i v) j d)
   filled-set l d i {v} h below e q = filled-stored i h e (getD-set-same l i v d below ∙ q) (λ j r. getD-set-other l i j v d r)
+
+  -- all that are picked lie below e
+  pub filled-all : (e : ℕ) {held : ℕ → A} → ((j : ℕ) → picked j ≡ true → j < e) → Filled e held → (j : ℕ) → held j ≡ cond (picked j) (new j) (old j)
+  filled-all e below h j = h j ∙ go (picked j) (below j)
+    where
+      go : (b : Bool) → (b ≡ true → j < e) → cond (ltb j e && b) (new j) (old j) ≡ cond b (new j) (old j)
+      go true l = rw (lt-ltb j e (l refl)) refl
+      go false l = rw (and-false (ltb j e)) refl

@@ -3,8 +3,8 @@
 use mathlib.Core.Path.{_≡_}
 use mathlib.Core.Bool.{Bool, true, not, cond, _&&_}
 use mathlib.Core.List.{List, []}
-use Prim.Native.Nat.{ℕ, _<_, min}
-use lib.Dec.{ltb}
+use Prim.Native.Nat.{ℕ, _+_, _-_, _<_, min}
+use lib.Dec.{eqb, ltb}
 use lib.ListN.{getD}
 use lib.IntN.{ℤ, pos}
 use Rattle.terms.specs.declared.Entry.{Entry}
@@ -19,21 +19,38 @@ use Rattle.settle_midpoint.specs.Answers.{settling}
 use Rattle.settle_midpoint.specs.declared.Settled.{Settled}
 use Rattle.settle_midpoint.specs.declared.Settled.the-variants.{Refused, New}
 use Rattle.head_spec.specs.Record.{heardEntry, givenOf}
+use Rattle.ring_spec.specs.Rounds.{isReceiver}
 use Rattle.ring_round.specs.declared.Stage.{Stage}
 
 -- the heads that are played: 32 at most
 abbrev pub heads : Stage → ℕ
 heads s = min (s .n) 32
 
+-- the listeners that are played: 16 at most
+abbrev pub listeners : Stage → ℕ
+listeners s = min (s .listeners) 16
+
 -- whether head i is played and not struck in this round
 abbrev pub hears : Stage → ℕ → Bool
 hears s i = ltb i (heads s) && not (bitOf (s .struck) i)
 
--- What link k carries to head i in round r: what is planted there, or the frame that says m, what head k has to say.
+-- whether receiver i is struck in this round
+abbrev pub isAway : Stage → ℕ → Bool
+isAway s i = cond (ltb i 32) (bitOf (s .struck) i) (bitOf (s .away) (i - 32))
+
+-- whether receiver i, a head or a listener, is played and not struck in this round
+abbrev pub settles : Stage → ℕ → Bool
+settles s i = isReceiver (heads s) (listeners s) i && not (isAway s i)
+
+-- the number after the last receiver that is played
+abbrev pub receiverEnd : Stage → ℕ
+receiverEnd s = cond (eqb (listeners s) 0) (heads s) (32 + listeners s)
+
+-- What link k carries to receiver i in round r: what is planted there, or the frame that says m, what head k has to say.
 abbrev pub carries : Stage → (ℕ → ℕ → List ℕ) → ℕ → ℕ → Meaning → List ℕ
 carries s plant i k m = cond (bitOf (s .struck) k) (plant k i) (frameOf (heads s) k (s .phase) m)
 
--- the same is planted from each struck head to heads i and m
+-- the same is planted from each struck head to receivers i and m
 abbrev pub ToldAlike : Stage → (ℕ → ℕ → List ℕ) → ℕ → ℕ → Type 0
 ToldAlike s plant i m = (k : ℕ) → k < heads s → bitOf (s .struck) k ≡ true → plant k i ≡ plant k m
 
@@ -57,7 +74,7 @@ rowIn marks lists k = record { marks = getD marks k 0; entries = getD lists k []
 abbrev pub replies : Stage → List ℕ → List (List ℤ) → ℕ → Meaning
 replies s marks lists k = cond (bitOf (s .before) k) confessed (listed (rowIn marks lists k))
 
--- what link k gives head i
+-- what link k gives receiver i
 unfoldable pub givenEntry : Stage → List ℕ → List (List ℤ) → (ℕ → ℕ → List ℕ) → ℕ → ℕ → Given
 givenEntry s marks lists plant i k =
     givenOf (said (heads s) (s .phase) 1 k (carries s plant i k (replies s marks lists k)))
@@ -67,7 +84,7 @@ abbrev pub positionOf : Settled → ℤ
 positionOf (Refused c) = pos 0
 positionOf (New k) = k .position
 
--- the new position of head i
+-- the new position of receiver i
 unfoldable pub newPosition : Stage → List ℕ → List (List ℤ) → (ℕ → ℕ → List ℕ) → ℕ → ℤ
 newPosition s marks lists plant i =
     positionOf (settling (rounding (s .phase)) (heads s) (twoRounds (s .f)) (trusted (heads s) (s .f) (givenEntry s marks lists plant i)))

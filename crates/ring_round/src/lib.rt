@@ -6,19 +6,22 @@ ghost use Prim.Native.Nat.{_<_};
 ghost use Rattle.frame_slots.specs.Slots.{plantedIn};
 ghost use Rattle.frame_spec.specs.Said.{meant};
 ghost use Rattle.frame_spec.specs.Written.{frameOf};
-ghost use Rattle.ring_round.specs.Memory.{heads, ToldAlike};
+ghost use Rattle.ring_round.specs.Memory.{heads, listeners, receiverEnd, settles, ToldAlike};
 ghost use Rattle.ring_round.specs.Frames.{Front};
 use frame_spec::Said;
 use frame_spec::Written;
 use terms::Table;
 
-// The ring in a round: its size, the phase, the heads struck in the round before and those struck in this one.
+// The ring in a round: its size, the phase, the heads struck in the round before and those struck in this one; how many listeners there are, and those struck in
+// this round, bit j for listener 32 + j.
 pub struct Stage {
     pub n: u8,
     pub f: u8,
     pub phase: u16,
     pub before: u32,
     pub struck: u32,
+    pub listeners: u8,
+    pub away: u32,
 }
 
 // How many heads are played.
@@ -26,6 +29,41 @@ pub fn head_count(s: Stage) -> u8
     ensures { λ r. ⌜ r ≡ heads s ⌝ }
 {
     terms::at_most_32(s.n as usize) as u8
+}
+
+// How many listeners are played.
+pub fn listener_count(s: Stage) -> u8
+    ensures { λ r. ⌜ r ≡ listeners s ⌝ }
+{
+    if s.listeners < 16 { s.listeners } else { 16 }
+}
+
+// The number after the last receiver that is played: without listeners, how many heads are.
+pub fn receiver_end(s: Stage) -> usize
+    ensures { λ r. ⌜ r ≡ receiverEnd s ⌝ }
+{
+    let m = listener_count(s) as usize;
+    if m == 0 {
+        return head_count(s) as usize;
+    }
+    32 + m
+}
+
+// Whether receiver i is played and not struck.
+pub fn settles(s: Stage, i: usize) -> bool
+    ensures { λ r. ⌜ r ≡ settles s i ⌝ }
+{
+    if i < 32 {
+        if i < head_count(s) as usize {
+            return !marks::marked(s.struck, i);
+        }
+        return false;
+    }
+    let j = i - 32;
+    if j < listener_count(s) as usize {
+        return !marks::marked(s.away, j);
+    }
+    false
 }
 
 // Writes the frame in which head k says `what` (a list with `table`) at the front of the buffer, and answers its length.
@@ -38,9 +76,9 @@ pub fn write_frame(what: Said, table: Table, s: Stage, k: u8, buffer: &mut [u8; 
     }
 }
 
-// Whether the same is planted from each struck head to heads i and m: what the one hears of them, the other does too.
+// Whether the same is planted from each struck head to receivers i and m: what the one hears of them, the other does too.
 fn hears_alike(s: Stage, planted: &[u8], lengths: &[u8], i: usize, m: usize) -> bool
-    requires { ⌜ (i < 32) × (m < 32) ⌝ }
+    requires { ⌜ (i < 48) × (m < 48) ⌝ }
     ensures { λ r. ⌜ (r ≡ true → ToldAlike s (plantedIn (now (planted .entry)) (now (lengths .entry))) i m) ⌝ }
 {
     if s.struck == 0 {
@@ -59,11 +97,11 @@ fn hears_alike(s: Stage, planted: &[u8], lengths: &[u8], i: usize, m: usize) -> 
     true
 }
 
-// The same of any two numbers: from 32 on there is no head, and the answer is no.
+// The same of any two numbers: from 48 on there is no receiver, and the answer is no.
 pub fn is_told_alike(s: Stage, planted: &[u8], lengths: &[u8], i: usize, m: usize) -> bool
     ensures { λ r. ⌜ (r ≡ true → ToldAlike s (plantedIn (now (planted .entry)) (now (lengths .entry))) i m) ⌝ }
 {
-    if i < 32 && m < 32 {
+    if i < 48 && m < 48 {
         return hears_alike(s, planted, lengths, i, m);
     }
     false

@@ -41,7 +41,7 @@ module _ (n : ℕ) (codes : List ℤ) (k : ℕ) (same : List ℕ) (marked : ℕ)
           let c = getD codes j (pos 0) in
           omega (arith, T .counts j l, ap (λ (v : ℤ). bit (eqZ v c)) (code-entry (t .marks) (t .entries) j), bit-le (eqZ (codeAt (t .marks) (t .entries) j) c))
 
--- ---- what is planted to head i, link by link
+-- ---- what is planted to receiver i, link by link
 
 -- n: the heads played; bytes: what is planted
 pub counted-planted : (s : Stage) (plant : ℕ → ℕ → List ℕ) (i : ℕ) (codes : List ℤ) (k : ℕ) {same : List ℕ} {marked : ℕ} {same′ : List ℕ} {marked′ : ℕ} {n : ℕ} {bytes : List ℕ} → n ≡ heads s

@@ -1,4 +1,4 @@
--- Laws of the crate: what heads settle, and the trusted entries of a head from what is given all alike and what is planted to it.
+-- Laws of the crate: what receivers settle, and the trusted entries of one from what is given all alike and what is planted to it.
 pub mod Settling
 pub mod Counting
 pub mod Told

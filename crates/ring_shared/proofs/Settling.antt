@@ -1,5 +1,5 @@
--- What a head settles in a confession round depends on what links 0 .. n - 1 give alone, and on that by its trusted entries. So heads to which the same is planted
--- settle the same, and so do heads with the same codes.
+-- What a receiver settles in a confession round depends on what links 0 .. n - 1 give alone, and on that by its trusted entries. So receivers to which the same is
+-- planted settle the same, and so do receivers with the same codes.
 use mathlib.Core.Path.{_≡_, refl, ap, sym, _∙_}
 use mathlib.Core.Bool.{Bool, true, false, cond}
 use mathlib.Core.List.{List}
@@ -42,7 +42,7 @@ pub codes-alike : (s : Stage) (a b : List ℤ) → Each (heads s) (λ j. getD a 
 unfolding settledAt
 codes-alike s a b h = ap positionOf (settling-same (rounding (s .phase)) (heads s) (twoRounds (s .f)) _ _ (λ j l. ap entryOf (h j l)))
 
--- heads told alike settle the same
+-- receivers told alike settle the same
 pub told-settled : (s : Stage) (G : ℕ → Given) (plant : ℕ → ℕ → List ℕ) (i m : ℕ) → ToldAlike s plant i m
     → settledFrom s (givenTo s G plant m) ≡ settledFrom s (givenTo s G plant i)
 unfolding givenTo

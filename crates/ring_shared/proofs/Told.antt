@@ -1,4 +1,4 @@
--- The trusted entries of a head, from what is given all alike and what is planted to it. The struck links give nothing alike, so each of them adds what is planted: to the
+-- The trusted entries of a receiver, from what is given all alike and what is planted to it. The struck links give nothing alike, so each of them adds what is planted: to the
 -- lists that have a code, or to the confessions.
 use mathlib.Core.Path.{_≡_, refl, ap, sym, _∙_}
 use mathlib.Core.Bool.{Bool, true, false, cond, _&&_}

@@ -28,7 +28,7 @@ pub record Counted (n : ℕ) (codes : List ℤ) (k : ℕ) (g : Given) (same : Li
   pub counts : Each n (λ j. getD same j 0 < 4294967295 → getD same′ j 0 ≡ getD same j 0 + holds j (getD codes j (pos 0)) g)
   pub confesses : confessed′ ≡ cond (hasConfessed g) (withMark confessed k) confessed
 
--- the struck links gave head i what is planted
+-- the struck links gave receiver i what is planted
 pub record Told (s : Stage) (plant : ℕ → ℕ → List ℕ) (i : ℕ) (codes : List ℤ) (same same′ : List ℕ) (confessed : ℕ) : Type 0 where
   pub counts : Each (heads s) (λ j. getD same′ j 0
       ≡ getD same j 0 + sum (heads s) (λ k. cond (bitOf (s .struck) k) (holds j (getD codes j (pos 0)) (plantedGiven s plant i k)) 0))
@@ -40,15 +40,15 @@ pub record SharedBy (s : Stage) (need : ℕ) (codes : List ℤ) (counts : List �
   pub needed : need ≡ heads s - s .f - confessions (heads s) G
   pub alike : Alike s G
 
--- the codes are those of the trusted entries of a head to which its links give G
+-- the codes are those of the trusted entries of a receiver to which its links give G
 abbrev pub CodesOf : Stage → (ℕ → Given) → List ℤ → Type 0
 CodesOf s G codes = Each (heads s) (λ j. entryOf (getD codes j (pos 0)) ≡ trusted (heads s) (s .f) G j)
 
--- the position that a head settles, from the codes of its trusted entries
+-- the position that a receiver settles, from the codes of its trusted entries
 unfoldable pub settledAt : Stage → List ℤ → ℤ
 settledAt s codes = positionOf (settling (rounding (s .phase)) (heads s) (twoRounds (s .f)) (λ j. entryOf (getD codes j (pos 0))))
 
--- a head to which its links give G settled this position, from these codes
+-- a receiver to which its links give G settled this position, from these codes
 pub record SettledLast (s : Stage) (G : ℕ → Given) (codes : List ℤ) (position : ℤ) : Type 0 where
   pub from : position ≡ settledFrom s G
   pub by : position ≡ settledAt s codes

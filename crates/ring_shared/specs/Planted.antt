@@ -1,4 +1,4 @@
--- What a head settles in a confession round, from what the links give all unstruck heads alike and what is planted to it.
+-- What a receiver settles in a confession round, from what the links give all unstruck receivers alike and what is planted to it.
 use mathlib.Core.Path.{_≡_}
 use mathlib.Core.Bool.{Bool, true, false, cond, _&&_}
 use mathlib.Core.List.{List}
@@ -17,17 +17,17 @@ use Rattle.frame_spec.specs.Said.{said}
 use Rattle.settle_midpoint.specs.Answers.{settling}
 use Rattle.head_spec.specs.Record.{givenOf}
 use Rattle.ring_round.specs.declared.Stage.{Stage}
-use Rattle.ring_round.specs.Memory.{heads, hears, positionOf}
+use Rattle.ring_round.specs.Memory.{heads, settles, positionOf}
 
 -- whether head k is played and struck in this round
 abbrev pub isStruck : Stage → ℕ → Bool
 isStruck s k = ltb k (heads s) && bitOf (s .struck) k
 
--- what link k gives head i: what is planted, or what it gives all alike
+-- what link k gives receiver i: what is planted, or what it gives all alike
 unfoldable pub givenTo : Stage → (ℕ → Given) → (ℕ → ℕ → List ℕ) → ℕ → ℕ → Given
 givenTo s G plant i k = cond (isStruck s k) (givenOf (said (heads s) (s .phase) 1 k (plant k i))) (G k)
 
--- the position that a head settles, from what its links give
+-- the position that a receiver settles, from what its links give
 unfoldable pub settledFrom : Stage → (ℕ → Given) → ℤ
 settledFrom s G = positionOf (settling (rounding (s .phase)) (heads s) (twoRounds (s .f)) (trusted (heads s) (s .f) G))
 
@@ -36,10 +36,10 @@ pub record Alike (s : Stage) (G : ℕ → Given) : Type 0 where
   pub untold : (k : ℕ) → isStruck s k ≡ true → G k ≡ nothing
   pub ranged : Each (heads s) (λ k. Each (heads s) (λ j. (u : ℤ) → saysOf j (G k) ≡ Position u → isPosition u ≡ true))
 
--- each unstruck head has settled, and the other positions are as they were
+-- each unstruck receiver has settled, and the other positions are as they were
 abbrev pub AllSettled : Stage → (ℕ → Given) → (ℕ → ℕ → List ℕ) → List ℤ → List ℤ → Type 0
 AllSettled s G plant before after =
-    (i : ℕ) → getD after i (pos 0) ≡ cond (hears s i) (settledFrom s (givenTo s G plant i)) (getD before i (pos 0))
+    (i : ℕ) → getD after i (pos 0) ≡ cond (settles s i) (settledFrom s (givenTo s G plant i)) (getD before i (pos 0))
 
 -- the answer is yes if all have settled
 pub record SettlesAll (answer : Bool) (s : Stage) (G : ℕ → Given) (plant : ℕ → ℕ → List ℕ) (before after : List ℤ) : Type 0 where

@@ -1,5 +1,5 @@
-// A confession round of a whole ring, from what the unstruck heads give all of them alike: their lists are compared once, and each head adds what is planted to it
-// alone.
+// A confession round of a whole ring, from what the unstruck heads give all receivers alike: their lists are compared once, and each receiver adds what is planted to
+// it alone.
 ghost use mathlib.Core.Bool.{true, false};
 ghost use mathlib.Core.Path.{_≡_};
 ghost use Prim.Native.Nat.{ℕ, _-_, _≤_, _<_};
@@ -21,6 +21,7 @@ use settle_midpoint::Settled;
 use settle_trust::Links;
 use terms::Lists;
 use terms::Numbers;
+use terms::Positions;
 use terms::Words;
 
 // Hears a confession frame on link k: a list counts for each entry at which it has the code, a confession is marked.
@@ -49,7 +50,7 @@ fn count_frame(
     }
 }
 
-// Hears what is planted from the struck heads to head i. Answers which of them confessed.
+// Hears what is planted from the struck heads to receiver i. Answers which of them confessed.
 fn count_planted(
     s: Stage,
     planted: &[u8],
@@ -58,7 +59,7 @@ fn count_planted(
     codes: &Numbers,
     same: &mut Words,
 ) -> u32
-    requires { ⌜ (i < 32) × Each (heads s) (λ j. getD (now same) j 0 ≤ 32) ⌝ }
+    requires { ⌜ (i < 48) × Each (heads s) (λ j. getD (now same) j 0 ≤ 32) ⌝ }
     ensures { λ r. ⌜ Told s (plantedIn (now (planted .entry)) (now (lengths .entry))) i (now (codes .entry)) (now (same .entry)) (now (same .exit)) r ⌝ }
 {
     let n = ring_round::head_count(s);
@@ -83,7 +84,7 @@ fn need_after(need: usize, confessed: u32, n: usize) -> usize
     if need <= c { 0 } else { need - c }
 }
 
-// The codes of the trusted entries of head i.
+// The codes of the trusted entries of receiver i.
 fn codes_for(
     s: Stage,
     planted: &[u8],
@@ -94,7 +95,7 @@ fn codes_for(
     counts: &Words,
     out: &mut Numbers,
 )
-    requires { ⌜ (i < 32) × Each (heads s) (λ j. getD (now counts) j 0 ≤ 32) ⌝ }
+    requires { ⌜ (i < 48) × Each (heads s) (λ j. getD (now counts) j 0 ≤ 32) ⌝ }
     ensures { λ _. ⌜ ((G : ℕ → Given) → SharedBy s need (now (codes .entry)) (now (counts .entry)) G
         → CodesOf s (givenTo s G (plantedIn (now (planted .entry)) (now (lengths .entry))) i) (now (out .exit))) ⌝ }
 {
@@ -105,7 +106,7 @@ fn codes_for(
     settle_shared::trust_codes(codes, &same, left, confessed, n, out);
 }
 
-// The position that a head settles from the codes of its trusted entries; 0 if it is refused.
+// The position that a receiver settles from the codes of its trusted entries; 0 if it is refused.
 fn position_from(s: Stage, codes: &Numbers) -> i32
     ensures { λ r. ⌜ r ≡ settledAt s (now (codes .entry)) ⌝ }
 {
@@ -133,8 +134,8 @@ fn is_same_front(a: &Numbers, b: &Numbers, n: usize) -> bool
     same
 }
 
-// The new position of head i, after head `last` settled `told` from the codes `settled`, or first if that is 32. Heads that are told alike, or have the same trusted
-// entries, settle the same.
+// The new position of receiver i, after receiver `last` settled `told` from the codes `settled`, or first if that is 48. Receivers that are told alike, or have the
+// same trusted entries, settle the same.
 fn position_after(
     s: Stage,
     planted: &[u8],
@@ -147,19 +148,19 @@ fn position_after(
     last: usize,
     told: i32,
 ) -> i32
-    requires { ⌜ (i < 32) × Each (heads s) (λ j. getD (now counts) j 0 ≤ 32) ⌝ }
+    requires { ⌜ (i < 48) × Each (heads s) (λ j. getD (now counts) j 0 ≤ 32) ⌝ }
     ensures { λ r. ⌜ ((G : ℕ → Given) → SharedBy s need (now (codes .entry)) (now (counts .entry)) G
-        → (last < 32 → SettledLast s (givenTo s G (plantedIn (now (planted .entry)) (now (lengths .entry))) last) (now (settled .entry)) told)
+        → (last < 48 → SettledLast s (givenTo s G (plantedIn (now (planted .entry)) (now (lengths .entry))) last) (now (settled .entry)) told)
         → SettledLast s (givenTo s G (plantedIn (now (planted .entry)) (now (lengths .entry))) i) (now (settled .exit)) r) ⌝ }
 {
-    if last < 32 {
+    if last < 48 {
         if ring_round::is_told_alike(s, planted, lengths, i, last) {
             return told;
         }
     }
     let mut own = [0i32; 32];
     codes_for(s, planted, lengths, i, need, codes, counts, &mut own);
-    if last < 32 {
+    if last < 48 {
         if is_same_front(&own, settled, ring_round::head_count(s) as usize) {
             return told;
         }
@@ -168,7 +169,7 @@ fn position_after(
     position_from(s, &own)
 }
 
-// Stores the new position of each unstruck head.
+// Stores the new position of each unstruck receiver.
 fn fill_positions(
     s: Stage,
     planted: &[u8],
@@ -178,17 +179,17 @@ fn fill_positions(
     counts: &Words,
     positions: &mut [i32],
 )
-    requires { ⌜ (length (now positions) ≡ 32) × Each (heads s) (λ j. getD (now counts) j 0 ≤ 32) ⌝ }
+    requires { ⌜ (length (now positions) ≡ 48) × Each (heads s) (λ j. getD (now counts) j 0 ≤ 32) ⌝ }
     ensures { λ _. ⌜ ((G : ℕ → Given) → SharedBy s need (now (codes .entry)) (now (counts .entry)) G
         → AllSettled s G (plantedIn (now (planted .entry)) (now (lengths .entry))) (now (positions .entry)) (now (positions .exit))) ⌝ }
 {
-    let n = ring_round::head_count(s) as usize;
+    let end = ring_round::receiver_end(s);
     let mut settled = [0i32; 32];
-    let mut last: usize = 32;
+    let mut last: usize = 48;
     let mut told: i32 = 0;
     let mut i: usize = 0;
-    while i < n {
-        if !marks::marked(s.struck, i) {
+    while i < end {
+        if ring_round::settles(s, i) {
             told = position_after(
                 s,
                 planted,
@@ -208,7 +209,7 @@ fn fill_positions(
     }
 }
 
-// Stores the new position of each unstruck head, from what the links give all of them alike and from what is planted. Answers no, and leaves the positions as they
+// Stores the new position of each unstruck receiver, from what the links give all of them alike and from what is planted. Answers no, and leaves the positions as they
 // were, if no head is struck or if what is given alike does not decide which positions can be trusted.
 pub fn settle_all(
     s: Stage,
@@ -216,7 +217,7 @@ pub fn settle_all(
     links: Links,
     planted: &[u8],
     lengths: &[u8],
-    positions: &mut Numbers,
+    positions: &mut Positions,
 ) -> bool
     ensures { λ r. ⌜ SettlesAll r s (givenBy links (now (rows .entry))) (plantedIn (now (planted .entry)) (now (lengths .entry))) (now (positions .entry)) (now (positions .exit)) ⌝ }
 {

@@ -1,4 +1,4 @@
--- What an unstruck head's record is when the round is closed: after collection its list stands, and after confession, if enough entries are
+-- What an unstruck receiver's record is when the round is closed: after collection its list stands, and after confession, if enough entries are
 -- trusted, it holds the midpoint of what it trusts, with the range that was kept. Either way the next round can open, up to the last phase.
 use mathlib.Core.Path.{_≡_, refl, ap, sym, subst, _∙_}
 use mathlib.Core.Bool.{true, false}
@@ -7,7 +7,6 @@ use native.Mathlib.Omega.{arith}
 use borrow.Author.Tests.{lt-leb}
 use Rattle.terms.specs.declared.Entry.{Entry}
 use Rattle.marks.specs.Marks.{bitOf}
-use Rattle.convergence.specs.Counting.{Each}
 use Rattle.convergence.specs.Settling.{nulls, trim, twoRounds, ordered, midpoint, enough}
 use Rattle.convergence.specs.Trust.{trusted}
 use Rattle.convergence.specs.Phases.{rounding}
@@ -20,10 +19,11 @@ use Rattle.head_spec.specs.Record.{given}
 use Rattle.head_spec.specs.Calls.{closing, closedCollection, closedPhase, close}
 use Rattle.head_spec.proofs.RoundEnd.{settledBy, closes-collection, closes-phase, settled-midpoint, fresh-collection, fresh-phase}
 use Rattle.ring_spec.specs.Rounds.{Round, Ring, closedAt, phaseThen, roundThen, afterRound}
+use Rattle.ring_spec.proofs.Receivers.{Hears}
 use Rattle.ring_spec.proofs.OneRound.{SeatedAt, Ready, RingReady, heardAt, heard-proper, heard-at}
 
 module _ (n f : ℕ) (R : Ring) (w : Round) (S : RingReady n f R) where
-  module _ (i : ℕ) (l : i < n) (q : bitOf (w .struck) i ≡ false) where
+  module _ (i : ℕ) (l : Hears n i) (q : bitOf (w .struck) i ≡ false) where
     abbrev T : Head
     T = heardAt n f R w i
 
@@ -120,8 +120,8 @@ module _ (n f : ℕ) (R : Ring) (w : Round) (S : RingReady n f R) where
         heads = λ i l q. next-head i 0 c (collection-ready i l q c);
       }
 
-  pub confession-next : R .round ≡ 1 → Each n (λ i. bitOf (w .struck) i ≡ false → enough n (twoRounds f) (trusted n f (given (heardAt n f R w i))) ≡ true)
-      → R .phase < 65535 → RingReady n f next
+  pub confession-next : R .round ≡ 1
+      → ((i : ℕ) → Hears n i → bitOf (w .struck) i ≡ false → enough n (twoRounds f) (trusted n f (given (heardAt n f R w i))) ≡ true) → R .phase < 65535 → RingReady n f next
   unfolding afterRound
   confession-next c calm more =
       let (p, r) = after-confession c in

@@ -1,8 +1,8 @@
 -- A phase of a ring, played on records and frames, is a phase in the sense of `convergence`: planted bytes amount to faults, since a frame says
--- something or nothing, and from an end that agrees on the sound heads each unstruck record comes to hold what a head of `convergence` holds
--- (`phase-same`). So no closing is refused.
+-- something or nothing, and from an end that agrees on the sound heads each unstruck record, a listener's too, comes to hold what a receiver of `convergence`
+-- holds (`phase-same`). So no closing is refused.
 use mathlib.Core.Path.{_≡_, refl, ap, ap₂, sym, _∙_}
-use mathlib.Core.Logic.{_≢_}
+use mathlib.Core.Logic.{_≢_, inl}
 use mathlib.Core.Bool.{Bool, true, false, cond}
 use mathlib.Core.List.{List}
 use Prim.Native.Nat.{ℕ, _*_, _≤_, _<_}
@@ -11,6 +11,8 @@ use lib.IntN.{ℤ}
 use borrow.Author.Tests.{le-leb}
 use Rattle.terms.specs.declared.Entry.{Entry}
 use Rattle.terms.specs.declared.Entry.the-variants.{Null, Position}
+use Rattle.terms.specs.Sizes.{isListener}
+use Rattle.terms.proofs.Sizes.{member-not-listener}
 use Rattle.marks.specs.Marks.{bitOf}
 use Rattle.entries.specs.Tables.{tableAt}
 use Rattle.convergence.specs.Counting.{Each, AtMost}
@@ -28,17 +30,19 @@ use Rattle.head_spec.specs.declared.LastKept.{LastKept}
 use Rattle.head_spec.specs.declared.Head.{Head}
 use Rattle.head_spec.specs.Record.{given, heardEntry, givenOf}
 use Rattle.head_spec.specs.Calls.{closedCollection}
-use Rattle.ring_spec.specs.Rounds.{Round, planted, Ring, openedAt, afterRound}
+use Rattle.ring_spec.specs.Rounds.{Round, planted, Ring, openedAt, afterRound, phaseEnd, receivers, isOut, asEnd}
+use Rattle.ring_spec.proofs.Receivers.{Hears, head-out, few-out, hears}
 use Rattle.ring_spec.proofs.OneRound.{RingReady, says-entry, says-list, saidIn, heardAt, said-planted, opened-same, opened-in, said-spoken, heard-given, heard-list}
 use Rattle.ring_spec.proofs.Closings.{collection-closed, confession-settles, confession-keeps, after-collection, collection-next}
 
--- the faults that the planted bytes of phase p amount to, whatever they are: a in its collection round, b in its confession round
-unfoldable pub faultsIn : ℕ → ℕ → Round → Round → Faults
-faultsIn n p a b =
+-- the faults that the planted bytes of phase p amount to, whatever they are: a in its collection round, b in its confession round. A listener that is not there
+-- counts as struck.
+unfoldable pub faultsIn : ℕ → ℕ → ℕ → Round → Round → Faults
+faultsIn n m p a b =
     record {
       collect = bitOf (a .struck);
       told = λ k i. heardEntry (said n p 0 k (planted (a .plants) k i));
-      confess = bitOf (b .struck);
+      confess = isOut n m (b .struck);
       replied = λ k i. givenOf (said n p 1 k (planted (b .plants) k i));
     }
 
@@ -55,19 +59,20 @@ same-given : {j : ℕ} {g g₁ g₂ : Given} → g ≡ g₁ → SameOf j g₁ g�
 same-given {j} e s = record { confesses = ap hasConfessed e ∙ s .confesses; says = ap (saysOf j) e ∙ s .says }
 
 -- e: the end that the phase starts from, in the sense of `convergence`
-module _ (n f : ℕ) (R : Ring) (a b : Round) (S : RingReady n f R) (collection : R .round ≡ 0) (e : End) (same : SameEnd n (endAt R) e) where
+module _ (n m f : ℕ) (R : Ring) (a b : Round) (S : RingReady n f R) (collection : R .round ≡ 0) (e : End) (same : SameEnd n (endAt R) e) where
   abbrev R₁ : Ring
   R₁ = afterRound n f R a
 
   abbrev F : Faults
-  F = faultsIn n (R .phase) a b
+  F = faultsIn n m (R .phase) a b
 
   -- each sound head holds a position
   holds : AllHold n e
   holds i l q =
       let p = same .struck i l ∙ q in
-      let H = S .heads i l p in
-      held (e .at i) (λ z. H .fresh .proper .seat .holds (H .seat .round ∙ collection) (H .seat .healed) (same .at i l p ∙ z))
+      let H = S .heads i (inl l) p in
+      let sends = ap isListener (H .seat .number) ∙ member-not-listener i n l (S .size .most) in
+      held (e .at i) (λ z. H .fresh .proper .seat .holds sends (H .seat .round ∙ collection) (H .seat .healed) (same .at i l p ∙ z))
 
   -- ---- the collection round
 
@@ -80,7 +85,7 @@ module _ (n f : ℕ) (R : Ring) (a b : Round) (S : RingReady n f R) (collection 
       told = heardEntry (said n (R .phase) 0 j (planted (a .plants) j i))
 
       spoke : bitOf (a .struck) j ≡ false → saidIn n f R a i j ≡ collected (cond (bitOf (R .before) j) Null (openedAt n f R a j .seat .position))
-      spoke q = said-spoken n f R a S i j l q ∙ says-entry (opened-in n f R a S j l q collection)
+      spoke q = said-spoken n f R a S i j l q ∙ says-entry (opened-in n f R a S j (inl l) q collection)
 
       go : (c p : Bool) → bitOf (a .struck) j ≡ c → bitOf (R .before) j ≡ p
           → heardEntry (saidIn n f R a i j) ≡ gives c p told Null (e .at j)
@@ -90,10 +95,10 @@ module _ (n f : ℕ) (R : Ring) (a b : Round) (S : RingReady n f R) (collection 
 
   list-same : (i : ℕ) → i < n → bitOf (a .struck) i ≡ false → Each n (λ j. tableAt (R₁ .heads i .list) j ≡ listOf e F i j)
   unfolding afterRound closedCollection
-  list-same i l q j m =
-      ap (λ (h : Head). tableAt (h .list) j) (collection-closed n f R a S i l q collection)
-      ∙ heard-list n f R a S i l q collection j m
-      ∙ said-entry i j m
+  list-same i l q j t =
+      ap (λ (h : Head). tableAt (h .list) j) (collection-closed n f R a S i (inl l) q collection)
+      ∙ heard-list n f R a S i (inl l) q collection j t
+      ∙ said-entry i j t
 
   -- ---- the confession round
 
@@ -103,11 +108,11 @@ module _ (n f : ℕ) (R : Ring) (a b : Round) (S : RingReady n f R) (collection 
   confession : R₁ .round ≡ 1
   confession = after-collection n f R a S collection .1
 
-  -- what link k gave head i, as far as head j goes
-  given-same : (i j k : ℕ) → i < n → bitOf (b .struck) i ≡ false → j < n → k < n → SameOf j (given (heardAt n f R₁ b i) k) (givenTo e F i k)
+  -- what link k gave receiver i, as far as head j goes
+  given-same : (i j k : ℕ) → Hears n i → bitOf (b .struck) i ≡ false → j < n → k < n → SameOf j (given (heardAt n f R₁ b i) k) (givenTo e F i k)
   unfolding givenTo faultsIn afterRound
-  given-same i j k l q m t =
-      same-given (heard-given n f R₁ b S₁ i l q k t) (go (bitOf (b .struck) k) (bitOf (a .struck) k) refl refl)
+  given-same i j k l q u t =
+      rw (head-out n m (b .struck) k t) (same-given (heard-given n f R₁ b S₁ i l q k t) (go (bitOf (b .struck) k) (bitOf (a .struck) k) refl refl))
     where
       replied : Given
       replied = givenOf (said n (R .phase) 1 k (planted (b .plants) k i))
@@ -115,7 +120,7 @@ module _ (n f : ℕ) (R : Ring) (a b : Round) (S : RingReady n f R) (collection 
       spoke : (c : Bool) → bitOf (b .struck) k ≡ false → bitOf (a .struck) k ≡ c → saidIn n f R₁ b i k ≡ cond c confessed (listed (openedAt n f R₁ b k .list))
       spoke c d s =
           said-spoken n f R₁ b S₁ i k t d
-          ∙ says-list (opened-in n f R₁ b S₁ k t d confession)
+          ∙ says-list (opened-in n f R₁ b S₁ k (inl t) d confession)
           ∙ ap (λ (x : Bool). cond x confessed (listed (openedAt n f R₁ b k .list))) s
 
       go : (d c : Bool) → bitOf (b .struck) k ≡ d → bitOf (a .struck) k ≡ c
@@ -127,19 +132,19 @@ module _ (n f : ℕ) (R : Ring) (a b : Round) (S : RingReady n f R) (collection 
       go false true d s = same-given (ap givenOf (spoke true d s)) (record { confesses = refl; says = refl })
       go false false d s =
           same-given (ap givenOf (spoke false d s ∙ ap (λ (h : Head). listed (h .list)) (opened-same n f R₁ b k d s)))
-          (record { confesses = refl; says = list-same k t s j m })
+          (record { confesses = refl; says = list-same k t s j u })
 
   -- ---- within the limits
 
   module _ (few-e : AtMost f n (e .struck)) (few-a : AtMost f n (bitOf (a .struck))) (few-b : AtMost f n (bitOf (b .struck))) where
     limits : Limits n f (F .collect) (F .confess) (e .struck)
     unfolding faultsIn
-    limits = record { size = S .size .limit; few-c = few-a; few-d = few-b; few-p = few-e }
+    limits = record { size = S .size .limit; few-c = few-a; few-d = few-out n m (b .struck) f few-b; few-p = few-e }
 
-    module _ (i : ℕ) (l : i < n) (q : bitOf (b .struck) i ≡ false) where
-      -- the trusted entries of head i are those of `convergence`
+    module _ (i : ℕ) (l : Hears n i) (q : bitOf (b .struck) i ≡ false) where
+      -- the trusted entries of receiver i are those of `convergence`
       trusted-same : Each n (λ j. trusted n f (given (heardAt n f R₁ b i)) j ≡ trusted n f (givenTo e F i) j)
-      trusted-same j m = trusted-same-of n f _ _ j (λ k t. given-same i j k l q m t) m
+      trusted-same j u = trusted-same-of n f _ _ j (λ k t. given-same i j k l q u t) u
 
       few : nulls n (trusted n f (givenTo e F i)) ≤ 3 * f
       few = few-nulls-in-phase n f e F limits holds i
@@ -166,6 +171,7 @@ module _ (n f : ℕ) (R : Ring) (a b : Round) (S : RingReady n f R) (collection 
           confession-keeps n f R₁ b S₁ i l q confession calm
           ∙ ap₂ (λ (z : ℕ) (o : List ℤ). LastKept.Range (kept (rounding (R₁ .phase)) (trim f z) o)) (nulls-same n _ _ trusted-same) (ordered-same n _ _ trusted-same)
 
-    pub phase-same : SameEnd n (endAt (afterRound n f R₁ b)) (after (rounding (R .phase)) n f e F)
-    unfolding afterRound after faultsIn
-    phase-same = record { struck = λ i l. refl; at = settles-as }
+    -- the end of the phase, with the listeners
+    pub phase-same : SameEnd receivers (asEnd n m (phaseEnd 0 (b .struck) (afterRound n f R₁ b .heads))) (after (rounding (R .phase)) n f e F)
+    unfolding after faultsIn
+    phase-same = record { struck = λ i l. refl; at = λ i l q. let (h, u) = hears n m (b .struck) i l q in settles-as i h u }

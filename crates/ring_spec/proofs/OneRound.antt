@@ -1,8 +1,9 @@
--- One round of a ring. Every unstruck head opens it with nothing heard and says what its record has to say, and every other hears it say so; a struck
--- head says what is planted, if anything. So these alone tell what an unstruck record holds when all is heard.
+-- One round of a ring. Every unstruck head opens it with nothing heard and says what its record has to say, and every receiver, head or listener, hears it say
+-- so; a struck head says what is planted, if anything. So these alone tell what an unstruck record holds when all is heard.
 use mathlib.Core.Path.{_≡_, refl, sym, subst, _∙_}
 use mathlib.Core.Bool.{Bool, true, false, cond}
 use mathlib.Core.List.{List}
+use mathlib.Core.Logic.{inl, inr}
 use Prim.Native.Nat.{ℕ, _≤_, _<_}
 use Rattle.terms.specs.declared.Entry.{Entry}
 use Rattle.marks.specs.Marks.{bitOf}
@@ -13,12 +14,13 @@ use Rattle.head_spec.specs.declared.Seat.{Seat}
 use Rattle.head_spec.specs.declared.Head.{Head}
 use Rattle.head_spec.specs.Record.{given, heardEntry, givenOf}
 use Rattle.head_spec.specs.Calls.{restarted, saidTo, hearAll, spoken, frameFor}
-use Rattle.head_spec.proofs.Proper.{Sized, ProperHead, restart-accepted}
-use Rattle.head_spec.proofs.Hearing.{all-keep, proper-all, Fresh, fresh-restarted, gave-as-said, listed-as-said}
+use Rattle.head_spec.proofs.Proper.{Sized, ProperHead, restart-accepted, restart-listener-accepted}
+use Rattle.head_spec.proofs.Hearing.{all-keep, proper-all, Fresh, fresh-restarted, fresh-restarted-listener, gave-as-said, listed-as-said}
 use Rattle.head_spec.proofs.Speaking.{spoken-reads-back}
 use Rattle.ring_spec.specs.Rounds.{Round, planted, Ring, openedAt, carried}
+use Rattle.ring_spec.proofs.Receivers.{Hears}
 
--- the seat of head i in round r of phase p; b: it is healed
+-- the seat of receiver i in round r of phase p; b: it is healed
 pub record SeatedAt (n f i p r : ℕ) (b : Bool) (s : Seat) : Type 0 where
   pub count : s .n ≡ n
   pub limit : s .f ≡ f
@@ -28,18 +30,18 @@ pub record SeatedAt (n f i p r : ℕ) (b : Bool) (s : Seat) : Type 0 where
   pub healed : s .healed ≡ b
   pub runs : s .ended ≡ false
 
--- the record of head i as round r of phase p opens
+-- the record of receiver i as round r of phase p opens
 pub record Ready (n f i p r : ℕ) (b : Bool) (h : Head) : Type 0 where
   pub fresh : Fresh h
   pub seat : SeatedAt n f i p r b (h .seat)
 
--- a ring as the next round finds it: every head whose record is not lost can open it
+-- a ring as the next round finds it: every receiver whose record is not lost can open it
 pub record RingReady (n f : ℕ) (R : Ring) : Type 0 where
   pub size : Sized n f
   pub from-first : 1 ≤ R .phase
   pub to-last : R .phase ≤ 65535
   pub round : R .round < 2
-  pub heads : Each n (λ i. bitOf (R .before) i ≡ false → Ready n f i (R .phase) (R .round) false (R .heads i))
+  pub heads : (i : ℕ) → Hears n i → bitOf (R .before) i ≡ false → Ready n f i (R .phase) (R .round) false (R .heads i)
 
 -- what a record says, by its round
 module _ {n f i p : ℕ} {b : Bool} {h : Head} where
@@ -51,7 +53,7 @@ module _ {n f i p : ℕ} {b : Bool} {h : Head} where
   unfolding spoken
   says-list H = rw (H .seat .round, H .seat .healed)
 
-  -- its frame says that to every head in this round
+  -- its frame says that to every receiver in this round
   frame-says : {r : ℕ} → Ready n f i p r b h → said n p r i (frameFor h) ≡ spoken h
   frame-says {r} H = sym same ∙ spoken-reads-back h (H .fresh .proper)
     where
@@ -59,11 +61,11 @@ module _ {n f i p : ℕ} {b : Bool} {h : Head} where
       same = let A = H .seat in λ t. said (A .count t) (A .phase t) (A .round t) (A .number t) (frameFor h)
 
 module _ (n f : ℕ) (R : Ring) (w : Round) where
-  -- what head i hears on link k
+  -- what receiver i hears on link k
   abbrev pub saidIn : ℕ → ℕ → Meaning
   saidIn i k = said n (R .phase) (R .round) k (carried n f R w i k)
 
-  -- the record of head i when it has heard all links
+  -- the record of receiver i when it has heard all links
   abbrev pub heardAt : ℕ → Head
   heardAt i = hearAll (openedAt n f R w i) (carried n f R w i) n
 
@@ -77,16 +79,22 @@ module _ (n f : ℕ) (R : Ring) (w : Round) where
   opened-same i q e = rw (q, e)
 
   module _ (S : RingReady n f R) where
-    restarted-ready : (i : ℕ) → i < n → Ready n f i (R .phase) (R .round) true (restarted n f i (R .phase) (R .round))
+    restarted-fresh : (i : ℕ) → Hears n i → Fresh (restarted n f i (R .phase) (R .round))
+    restarted-fresh i (inl l) =
+        fresh-restarted n f i (R .phase) (R .round) (restart-accepted n f i (S .size) l (R .phase) (R .round) (S .from-first) (S .to-last) (S .round))
+    restarted-fresh i (inr e) =
+        fresh-restarted-listener n f i (R .phase) (R .round)
+        (restart-listener-accepted n f i (S .size) e (R .phase) (R .round) (S .from-first) (S .to-last) (S .round))
+
+    restarted-ready : (i : ℕ) → Hears n i → Ready n f i (R .phase) (R .round) true (restarted n f i (R .phase) (R .round))
     unfolding restarted
     restarted-ready i l =
-        let accepted = restart-accepted n f i (S .size) l (R .phase) (R .round) (S .from-first) (S .to-last) (S .round) in
         record {
-          fresh = fresh-restarted n f i (R .phase) (R .round) accepted;
+          fresh = restarted-fresh i l;
           seat = record { count = refl; limit = refl; number = refl; phase = refl; round = refl; healed = refl; runs = refl };
         }
 
-    module _ (i : ℕ) (l : i < n) (q : bitOf (w .struck) i ≡ false) where
+    module _ (i : ℕ) (l : Hears n i) (q : bitOf (w .struck) i ≡ false) where
       pub opened-ready : Ready n f i (R .phase) (R .round) (bitOf (R .before) i) (openedAt n f R w i)
       unfolding openedAt
       opened-ready = rw q (go (bitOf (R .before) i) refl)
@@ -99,14 +107,14 @@ module _ (n f : ℕ) (R : Ring) (w : Round) where
       pub opened-in : {r : ℕ} → R .round ≡ r → Ready n f i (R .phase) r (bitOf (R .before) i) (openedAt n f R w i)
       opened-in c = subst (λ (r : ℕ). Ready n f i (R .phase) r (bitOf (R .before) i) (openedAt n f R w i)) c opened-ready
 
-    -- every head hears an unstruck one say what its record has to say
+    -- every receiver hears an unstruck head say what its record has to say
     pub said-spoken : (i k : ℕ) → k < n → bitOf (w .struck) k ≡ false → saidIn i k ≡ spoken (openedAt n f R w k)
     unfolding carried
-    said-spoken i k l q = rw q (frame-says (opened-ready k l q))
+    said-spoken i k l q = rw q (frame-says (opened-ready k (inl l) q))
 
     -- ---- when all is heard
 
-    module _ (i : ℕ) (l : i < n) (q : bitOf (w .struck) i ≡ false) where
+    module _ (i : ℕ) (l : Hears n i) (q : bitOf (w .struck) i ≡ false) where
       abbrev h : Head
       h = openedAt n f R w i
 

@@ -1,5 +1,5 @@
--- In a ring within the limits no call of an unstruck head is refused: not a healed head's restart, not a frame from an unstruck head, and no closing,
--- neither 25 nor 26. And each sound head holds a position at each phase end.
+-- In a ring within the limits no call of an unstruck head or listener is refused: not the restart of a healed one, not a frame from an unstruck head, and no
+-- closing, neither 25 nor 26. And each that is sound holds a position at each phase end, listeners from phase 1 on.
 use mathlib.Core.Path.{_≡_, refl, ap}
 use mathlib.Core.Logic.{_≢_}
 use mathlib.Core.Bool.{true, false}
@@ -9,6 +9,7 @@ use native.Mathlib.Omega.{arith}
 use lib.ListN.{length, getD}
 use lib.IntN.{ℤ}
 use Rattle.terms.specs.Refusals as refusal
+use Rattle.terms.specs.Sizes.{isListener}
 use Rattle.terms.specs.Positions.{isPosition}
 use Rattle.marks.specs.Marks.{bitOf}
 use Rattle.convergence.specs.Counting.{Each, AtMost}
@@ -17,10 +18,11 @@ use Rattle.convergence.proofs.Ends.{AllHold, held-position}
 use Rattle.frame_spec.specs.Said.{said}
 use Rattle.head_spec.specs.declared.Closed.{Closed}
 use Rattle.head_spec.specs.declared.Closing.{Closing}
-use Rattle.head_spec.specs.Calls.{restartRefusal, spoken, close}
-use Rattle.head_spec.proofs.Proper.{Sized, restart-accepted}
-use Rattle.ring_spec.specs.Rounds.{Round, Ring, openedAt, carried, asEnd, ringAfter, endsAfter, mostRounds}
+use Rattle.head_spec.specs.Calls.{restartRefusal, restartListenerRefusal, spoken, close}
+use Rattle.head_spec.proofs.Proper.{Sized, restart-accepted, restart-listener-accepted}
+use Rattle.ring_spec.specs.Rounds.{Round, Ring, openedAt, carried, receivers, asEnd, ringAfter, endsAfter, mostRounds}
 use Rattle.ring_spec.specs.Converges.{FewStruckIn, noEnd}
+use Rattle.ring_spec.proofs.Receivers.{Hears}
 use Rattle.ring_spec.proofs.OneRound.{heardAt, said-spoken}
 use Rattle.ring_spec.proofs.Closings.{collection-closes, confession-closes}
 use Rattle.ring_spec.proofs.Demand3.{Playable, playable, ring-converges}
@@ -41,14 +43,17 @@ module _ (n f : ℕ) (v : ℕ → ℤ) (ws : List Round) (most : n ≤ 32) (limi
     pub restarts : Each n (λ i. restartRefusal n f i (R .phase) (R .round) ≡ 0)
     restarts i m = let A = P .ready in restart-accepted n f i S m (R .phase) (R .round) (A .from-first) (A .to-last) (A .round)
 
+    pub listener-restarts : (i : ℕ) → isListener i ≡ true → restartListenerRefusal n f i (R .phase) (R .round) ≡ 0
+    listener-restarts i e = let A = P .ready in restart-listener-accepted n f i S e (R .phase) (R .round) (A .from-first) (A .to-last) (A .round)
+
     module _ (w : Round) where
-      -- the same to every head
+      -- the same to every receiver
       pub heard-as-spoken : (i k : ℕ) → k < n → bitOf (w .struck) k ≡ false
           → said n (R .phase) (R .round) k (carried n f R w i k) ≡ spoken (openedAt n f R w k)
       heard-as-spoken = said-spoken n f R w (P .ready)
 
-      module _ (few : AtMost f n (bitOf (w .struck))) (i : ℕ) (m : i < n) (q : bitOf (w .struck) i ≡ false) where
-        -- the closing of head i, when it has heard all links
+      module _ (few : AtMost f n (bitOf (w .struck))) (i : ℕ) (m : Hears n i) (q : bitOf (w .struck) i ≡ false) where
+        -- the closing of receiver i, when it has heard all links
         abbrev closes : Closing
         closes = close (heardAt n f R w i)
 
@@ -69,5 +74,6 @@ module _ (n f : ℕ) (v : ℕ → ℤ) (ws : List Round) (most : n ≤ 32) (limi
         pub never-25 : closes .closed ≢ Closed.Refused refusal.trusted
         never-25 = never-refused refusal.trusted
 
-  pub sound-holds : length ws ≤ mostRounds → (i : ℕ) → i < length (endsAfter n f v ws) → AllHold n (asEnd (getD (endsAfter n f v ws) i noEnd))
-  sound-holds l i m j b q = held-position _ _ _ (ring-converges n f v ws most limit range W l i 0 (omega arith) .range j b q)
+  pub sound-holds : (m : ℕ) → m ≤ 16 → length ws ≤ mostRounds → (i : ℕ) → i < length (endsAfter n f v ws)
+      → AllHold receivers (asEnd n m (getD (endsAfter n f v ws) i noEnd))
+  sound-holds m few l i h j b q = held-position _ _ _ (ring-converges n m f v ws most few limit range W l i 0 (omega arith) .range j b q)

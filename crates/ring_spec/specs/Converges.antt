@@ -12,9 +12,9 @@ use Rattle.convergence.specs.Counting.{Each, AtMost}
 use Rattle.convergence.specs.Phases.{lowest, highest}
 use Rattle.convergence.specs.Demand3.{KeptBetween, Demand3, AcceptedSize, Halves}
 use Rattle.head_spec.specs.declared.LastKept.{LastKept}
-use Rattle.ring_spec.specs.Rounds.{Round, lost, mostRounds, PhaseEnd, phaseEnd, asEnd, endsAfter}
+use Rattle.ring_spec.specs.Rounds.{Round, lost, mostRounds, PhaseEnd, phaseEnd, receivers, asEnd, endsAfter}
 
--- at most f heads are struck in each round
+-- at most f heads are struck in each round; listeners do not count
 abbrev pub FewStruckIn : ℕ → ℕ → List Round → Type 0
 FewStruckIn n f [] = Unit {0}
 FewStruckIn n f (w ∷ ws) = AtMost f n (bitOf (w .struck)) × FewStruckIn n f ws
@@ -24,15 +24,15 @@ abbrev pub noEnd : PhaseEnd
 noEnd = phaseEnd 0 0 (λ i. lost)
 
 -- any two of a list of ends, which has the latest first, k apart
-abbrev pub AnyTwo : ℕ → ℕ → List PhaseEnd → Type 0
-AnyTwo n f es =
-    (i k : ℕ) → i + k < length es → Demand3 n (Halves n f) k (asEnd (getD es (i + k) noEnd)) (asEnd (getD es i noEnd))
+abbrev pub AnyTwo : ℕ → ℕ → ℕ → List PhaseEnd → Type 0
+AnyTwo n m f es =
+    (i k : ℕ) → i + k < length es → Demand3 receivers (Halves n f) k (asEnd n m (getD es (i + k) noEnd)) (asEnd n m (getD es i noEnd))
 
 -- up to the last round of phase 65,535
 abbrev pub RingConverges : Type 0
 RingConverges =
-    (n f : ℕ) (v : ℕ → ℤ) (ws : List Round) → n ≤ 32 → AcceptedSize n f → Each n (λ i. isPosition (v i) ≡ true) → FewStruckIn n f ws → length ws ≤ mostRounds
-    → AnyTwo n f (endsAfter n f v ws)
+    (n m f : ℕ) (v : ℕ → ℤ) (ws : List Round) → n ≤ 32 → m ≤ 16 → AcceptedSize n f → Each n (λ i. isPosition (v i) ≡ true) → FewStruckIn n f ws
+    → length ws ≤ mostRounds → AnyTwo n m f (endsAfter n f v ws)
 
 -- ---- the kept range (document 02, A2)
 
@@ -41,10 +41,10 @@ abbrev pub HoldsBetween : Entry → Entry → LastKept → Type 0
 HoldsBetween low high LastKept.Nothing = ⊥
 HoldsBetween low high (LastKept.Range k) = KeptBetween low high (k .low) (k .high)
 
--- at each phase end, for each head that is sound there: between the sound positions that the phase started from
+-- at each phase end, for each head and listener that is sound there: between the sound positions that the phase started from
 abbrev pub RingKeepsBetween : Type 0
 RingKeepsBetween =
-    (n f : ℕ) (v : ℕ → ℤ) (ws : List Round) → n ≤ 32 → AcceptedSize n f → Each n (λ i. isPosition (v i) ≡ true) → FewStruckIn n f ws → length ws ≤ mostRounds
+    (n m f : ℕ) (v : ℕ → ℤ) (ws : List Round) → n ≤ 32 → m ≤ 16 → AcceptedSize n f → Each n (λ i. isPosition (v i) ≡ true) → FewStruckIn n f ws → length ws ≤ mostRounds
     → let es = endsAfter n f v ws in
-    (i : ℕ) → i + 1 < length es → let e = asEnd (getD es (i + 1) noEnd) in let e′ = getD es i noEnd in
-    Each n (λ j. bitOf (e′ .struck) j ≡ false → HoldsBetween (lowest n e) (highest n e) (e′ .heads j .seat .last))
+    (i : ℕ) → i + 1 < length es → let e = asEnd n m (getD es (i + 1) noEnd) in let e′ = getD es i noEnd in
+    Each receivers (λ j. asEnd n m e′ .struck j ≡ false → HoldsBetween (lowest receivers e) (highest receivers e) (e′ .heads j .seat .last))

@@ -1,14 +1,14 @@
 -- Document 01, "Strikes", for the records of a whole ring: memory lost, healed heads restarted, frames sent and delivered, rounds closed.
-use mathlib.Core.Bool.{Bool, false, cond, _&&_}
+use mathlib.Core.Bool.{Bool, false, not, cond, _&&_, _||_}
 use mathlib.Core.List.{List, [], _∷_}
-use Prim.Native.Nat.{ℕ, zero, suc, _+_, _/_, _%_}
-use lib.Dec.{eqb}
+use Prim.Native.Nat.{ℕ, zero, suc, _+_, _*_, _/_, _%_}
+use lib.Dec.{eqb, ltb, leb}
 use lib.IntN.{ℤ}
 use Rattle.terms.specs.declared.Entry.{Entry}
 use Rattle.marks.specs.Marks.{bitOf}
 use Rattle.convergence.specs.Phases.{End}
 use Rattle.head_spec.specs.Record.{noEntries, opened}
-use Rattle.head_spec.specs.Calls.{started, restarted, hearAll, frameFor, close}
+use Rattle.head_spec.specs.Calls.{started, startedListener, restarted, hearAll, frameFor, close}
 use Rattle.head_spec.specs.declared.LastKept.{LastKept}
 use Rattle.head_spec.specs.declared.Seat.{Seat}
 use Rattle.head_spec.specs.declared.Head.{Head}
@@ -19,9 +19,11 @@ pub record Plant : Type 0 where
   pub to : ℕ
   pub bytes : List ℕ
 
--- a round: the mark word of the struck heads, and what is planted
+-- A round: who is struck, and what is planted. Bits 0 to 31 of the mark word stand for heads, bits 32 to 47 for the listeners of these numbers (document 02,
+-- A6). told: a record gave the listeners' marks.
 pub record Round : Type 0 where
   pub struck : ℕ
+  pub told : Bool
   pub plants : List Plant
 
 -- what is planted from k to i. Nothing planted is the empty frame, which its receiver refuses.
@@ -47,7 +49,8 @@ noSeat =
 unfoldable pub lost : Head
 lost = opened noSeat noEntries
 
--- the ring as the next round finds it: that round's phase and number (0 collection, 1 confession), the heads struck in the round before, and the records
+-- the ring as the next round finds it: that round's phase and number (0 collection, 1 confession), who was struck in the round before, and the records of heads
+-- and listeners by their numbers
 pub record Ring : Type 0 where
   pub phase : ℕ
   pub round : ℕ
@@ -57,17 +60,17 @@ pub record Ring : Type 0 where
 -- ---- a round w of n heads
 
 module _ (n f : ℕ) (R : Ring) (w : Round) where
-  -- record i as the round opens: a struck head's is lost, a healed head is restarted
+  -- record i as the round opens: a struck one's is lost, a healed one is restarted
   unfoldable pub openedAt : ℕ → Head
   openedAt i =
       cond (bitOf (w .struck) i) lost
       (cond (bitOf (R .before) i) (restarted n f i (R .phase) (R .round)) (R .heads i))
 
-  -- what link k carries to head i: what is planted there, or the frame that head k writes, the same to all
+  -- what link k carries to receiver i: what is planted there, or the frame that head k writes, the same to all
   unfoldable pub carried : ℕ → ℕ → List ℕ
   carried i k = cond (bitOf (w .struck) k) (planted (w .plants) k i) (frameFor (openedAt k))
 
-  -- record i as the round is closed: every unstruck head has heard all links, its own too
+  -- record i as the round is closed: every unstruck receiver has heard all n links, a head its own too
   unfoldable pub closedAt : ℕ → Head
   closedAt i = cond (bitOf (w .struck) i) lost (close (hearAll (openedAt i) (carried i) n) .head)
 
@@ -102,7 +105,7 @@ afterRound n f R w =
 
 -- ---- a run: positions v at the start, then rounds; a list of rounds or of ends has the latest first
 
--- a phase end: the mark words of its two rounds, as the listing prints them; that of the round that ended the phase; and the records
+-- a phase end: the mark words of its two rounds, of which the listing prints the heads' bits; that of the round that ended the phase; and the records
 pub record PhaseEnd : Type 0 where
   pub collect : ℕ
   pub confess : ℕ
@@ -113,9 +116,24 @@ pub record PhaseEnd : Type 0 where
 abbrev pub phaseEnd : ℕ → ℕ → (ℕ → Head) → PhaseEnd
 phaseEnd collect confess heads = record { collect = collect; confess = confess; struck = confess; heads = heads }
 
--- what is compared: who was struck in the round that ended the phase, and the position that each record holds
-abbrev pub asEnd : PhaseEnd → End
-asEnd e = record { struck = bitOf (e .struck); at = λ i. e .heads i .seat .position }
+-- The receivers of n heads and m listeners: heads 0 .. n - 1, and listeners 32 .. 32 + m - 1; all are below 48.
+abbrev pub receivers : ℕ
+receivers = 48
+
+abbrev pub isReceiver : ℕ → ℕ → ℕ → Bool
+isReceiver n m i = ltb i n || (leb 32 i && ltb i (32 + m))
+
+-- struck by a mark word, or not there
+abbrev pub isOut : ℕ → ℕ → ℕ → ℕ → Bool
+isOut n m marks i = not (isReceiver n m i) || bitOf marks i
+
+-- what is compared: who was struck in the round that ended the phase, or is not there, and the position that each record holds
+abbrev pub asEnd : ℕ → ℕ → PhaseEnd → End
+asEnd n m e = record { struck = isOut n m (e .struck); at = λ i. e .heads i .seat .position }
+
+-- the marks of all listeners
+abbrev pub allListeners : ℕ
+allListeners = 65535 * 4294967296
 
 -- a confession round ends a phase
 abbrev pub withEnd : ℕ → PhaseEnd → List PhaseEnd → List PhaseEnd
@@ -124,13 +142,17 @@ withEnd (suc r) e es = e ∷ es
 
 module _ (n f : ℕ) (v : ℕ → ℤ) where
   unfoldable pub firstHeads : ℕ → Head
-  firstHeads i = started n f i (v i)
+  firstHeads i = cond (ltb i 32) (started n f i (v i)) (startedListener n f i)
+
+  -- the start, as an end: each listener counts as struck, since it holds no position yet
+  abbrev pub firstEnd : PhaseEnd
+  firstEnd = record { collect = 0; confess = 0; struck = allListeners; heads = firstHeads }
 
   unfoldable pub ringAfter : List Round → Ring
   ringAfter [] = record { phase = 1; round = 0; before = 0; heads = firstHeads }
   ringAfter (w ∷ ws) = afterRound n f (ringAfter ws) w
 
   unfoldable pub endsAfter : List Round → List PhaseEnd
-  endsAfter [] = phaseEnd 0 0 firstHeads ∷ []
+  endsAfter [] = firstEnd ∷ []
   endsAfter (w ∷ ws) =
       withEnd (ringAfter ws .round) (phaseEnd (ringAfter ws .before) (w .struck) (ringAfter (w ∷ ws) .heads)) (endsAfter ws)

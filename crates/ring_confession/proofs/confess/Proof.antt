@@ -1,4 +1,4 @@
--- `ring_confession::confess` meets its contract: all heads settle from the lists as they are, or else from what they hear in frames.
+-- `ring_confession::confess` meets its contract: all receivers settle from the lists as they are, or else from what they hear in frames.
 use mathlib.Core.Path.{refl, _∙_}
 use borrow.Author.Needs.{needs}
 use Rattle.ring_confession.proofs.confess.Statement.{statement}

@@ -1,4 +1,4 @@
--- `ring_confession::confess_heard` meets its contract: what the unstruck heads reply is heard once, and each head that is not struck settles from it and from what is planted
+-- `ring_confession::confess_heard` meets its contract: what the unstruck heads reply is heard once, and each receiver that is not struck settles from it and from what is planted
 -- to it.
 use mathlib.Core.Path.{_≡_, _∙_, ap}
 use mathlib.Core.Bool.{cond}
@@ -8,7 +8,7 @@ use denote.Ref.{now}
 use borrow.Author.Needs.{needs}
 use lib.ListN.{getD}
 use lib.IntN.{ℤ, pos}
-use Rattle.ring_round.specs.Memory.{hears, newPosition}
+use Rattle.ring_round.specs.Memory.{settles, newPosition}
 use Rattle.settle_trust.specs.Received.{givenBy}
 use Rattle.ring_shared.specs.Planted.{givenTo, settledFrom}
 use Rattle.frame_slots.specs.Slots.{plantedIn}
@@ -16,7 +16,7 @@ use Rattle.ring_confession.proofs.Settling.{alike-untold, alike-given, 
 use Rattle.ring_confession.proofs.confess_heard.Statement.{statement}
 use Rattle.ring_confession.proofs.confess_heard.Tie as tie
 
--- what the unstruck heads reply was heard, and all heads may settle from it
+-- what the unstruck heads reply was heard, and all receivers may settle from it
 module _ (c : tie.After-settle-all) where
   abbrev heard : tie.After-hear-replies
   heard = c .before .before .before
@@ -27,15 +27,15 @@ module _ (c : tie.After-settle-all) where
   abbrev rows : List (List ℤ)
   rows = heard .hear-replies .last .1 .1 .1 .0
 
-  -- what head i settles is its new position; v: the position that it had
+  -- what receiver i settles is its new position; v: the position that it had
   new-is : (i : ℕ) (v : ℤ) →
       let a = start .args in
       let plant = plantedIn (now (a .planted)) (now (a .lengths)) in
-      cond (hears (a .s) i) (settledFrom (a .s) (givenTo (a .s) (givenBy (heard .hear-replies .result) rows) plant i)) v
-      ≡ cond (hears (a .s) i) (newPosition (a .s) (now (a .marks)) (now (a .lists)) plant i) v
+      cond (settles (a .s) i) (settledFrom (a .s) (givenTo (a .s) (givenBy (heard .hear-replies .result) rows) plant i)) v
+      ≡ cond (settles (a .s) i) (newPosition (a .s) (now (a .marks)) (now (a .lists)) plant i) v
   new-is i v =
       let a = start .args in
-      ap (λ (x : ℤ). cond (hears (a .s) i) x v)
+      ap (λ (x : ℤ). cond (settles (a .s) i) x v)
       (new-settled (a .s) (now (a .marks)) (now (a .lists)) (heard .hear-replies .result) rows (heard .hear-replies .ensures .gives) (plantedIn (now (a .planted)) (now (a .lengths))) i)
 
 returns : tie.Need-returns

@@ -8,7 +8,7 @@ use borrow.Author.Tests.{not-false}
 use lib.ListN.{getD}
 use lib.IntN.{ℤ, pos}
 use Rattle.frame_slots.specs.Slots.{plantedIn}
-use Rattle.ring_round.specs.Memory.{hears, newPosition}
+use Rattle.ring_round.specs.Memory.{settles, newPosition}
 use Rattle.ring_round.proofs.Frames.{phase-small}
 use Rattle.settle_trust.specs.declared.Links.{Links}
 use Rattle.settle_trust.specs.Received.{givenBy}
@@ -25,7 +25,7 @@ returns c = record { settles = λ e. absurd (true≢false (sym e)); stays = λ e
 returns-2 : tie.Need-returns-2
 returns-2 c = record { settles = λ e. absurd (true≢false (sym e)); stays = λ e. refl }
 
--- all lists fit, and all heads may settle
+-- all lists fit, and all receivers may settle
 module _ (c : tie.After-all-fit) (fit : c .all-fit .result ≡ true) where
   abbrev told : tie.After-links-of
   told = c .before .before
@@ -44,15 +44,15 @@ module _ (c : tie.After-all-fit) (fit : c .all-fit .result ≡ true) where
   alike : let a = start .args in Alike (a .s) (givenBy links (now (a .lists)))
   alike = let a = start .args in alike-given (a .s) (now (a .marks)) (now (a .lists)) links (now (a .lists)) own
 
-  -- what head i settles is its new position; v: the position that it had
+  -- what receiver i settles is its new position; v: the position that it had
   new-is : (i : ℕ) (v : ℤ) →
       let a = start .args in
       let plant = plantedIn (now (a .planted)) (now (a .lengths)) in
-      cond (hears (a .s) i) (settledFrom (a .s) (givenTo (a .s) (givenBy links (now (a .lists))) plant i)) v
-      ≡ cond (hears (a .s) i) (newPosition (a .s) (now (a .marks)) (now (a .lists)) plant i) v
+      cond (settles (a .s) i) (settledFrom (a .s) (givenTo (a .s) (givenBy links (now (a .lists))) plant i)) v
+      ≡ cond (settles (a .s) i) (newPosition (a .s) (now (a .marks)) (now (a .lists)) plant i) v
   new-is i v =
       let a = start .args in
-      ap (λ (x : ℤ). cond (hears (a .s) i) x v)
+      ap (λ (x : ℤ). cond (settles (a .s) i) x v)
       (new-settled (a .s) (now (a .marks)) (now (a .lists)) links (now (a .lists)) own (plantedIn (now (a .planted)) (now (a .lengths))) i)
 
 returns-3 : tie.Need-returns-3

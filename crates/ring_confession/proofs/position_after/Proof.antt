@@ -1,4 +1,4 @@
--- `ring_confession::position_after` meets its contract: a head that is told what the last one was told settles what that one did.
+-- `ring_confession::position_after` meets its contract: a receiver that is told what the last one was told settles what that one did.
 use mathlib.Core.Path.{refl, _∙_}
 use mir.Facts.{toZ-ofZ}
 use denote.Ref.{now}

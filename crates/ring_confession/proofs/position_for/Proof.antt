@@ -1,4 +1,4 @@
--- `ring_confession::position_for` meets its contract: the head settles from what it hears.
+-- `ring_confession::position_for` meets its contract: the receiver settles from what it hears.
 use mathlib.Core.Path.{_∙_}
 use mir.Facts.{toZ-ofZ}
 use denote.Ref.{now}

@@ -1,4 +1,4 @@
--- `ring_round::is_told_alike` meets its contract: if it answers yes, both are heads.
+-- `ring_round::is_told_alike` meets its contract: if it answers yes, both are receivers.
 use mathlib.Core.Path.{sym}
 use mathlib.Core.Bool.{true≢false}
 use borrow.Author.Needs.{needs}

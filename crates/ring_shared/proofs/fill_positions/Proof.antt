@@ -1,7 +1,6 @@
--- `ring_shared::fill_positions` meets its contract: before head i, each unstruck head below i has its new position, and `last` is the last of them, if any.
-use mathlib.Core.Path.{_≡_, ap, sym, _∙_}
+-- `ring_shared::fill_positions` meets its contract: before receiver i, each unstruck one below i has its new position, and `last` is the last of them, if any.
+use mathlib.Core.Path.{_≡_, sym, _∙_}
 use mathlib.Core.Logic.{⊎-elim}
-use mathlib.Core.Bool.{not}
 use Prim.Native.Nat.{ℕ, _-_, _≤_, _<_}
 use native.Mathlib.Omega.{arith}
 use mir.Syntax.{w32}
@@ -10,46 +9,47 @@ use mir.Facts.{toZ-ofZ}
 use borrow.Author.Needs.{needs}
 use lib.ListN.{length, getD, length-set}
 use lib.IntN.{pos}
-use Rattle.marks.specs.Marks.{bitOf}
 use Rattle.convergence.specs.Trust.{Given}
 use Rattle.frame_slots.specs.Slots.{plantedIn}
-use Rattle.ring_round.specs.Memory.{heads}
-use Rattle.ring_round.proofs.Filling.{Filled, filled-none, filled-passed, filled-set}
+use Rattle.ring_round.specs.Memory.{settles}
+use Rattle.ring_round.proofs.Filling.{Filled, filled-none, filled-passed, filled-set, filled-all}
+use Rattle.ring_round.proofs.Receivers.{end-small, settles-below}
 use Rattle.ring_shared.specs.Planted.{givenTo, settledFrom}
 use Rattle.ring_shared.specs.Inner.{SharedBy, SettledLast}
 use Rattle.ring_shared.proofs.fill_positions.Statement.{statement}
 use Rattle.ring_shared.proofs.fill_positions.Tie as tie
 
 abbrev Inv-loop : tie.InvT-loop
-Inv-loop s planted lengths need codes counts positions₀ n settled₀ last₀ told₀ i₀ positions settled last told i =
-    (i ≤ n) × (length positions ≡ 32)
+Inv-loop s planted lengths need codes counts positions₀ end settled₀ last₀ told₀ i₀ positions settled last told i =
+    (i ≤ end) × (end ≤ 48) × (length positions ≡ 48)
     × ((G : ℕ → Given) → SharedBy s need codes counts G
-    → Filled (λ j. not (bitOf (s .struck) j)) (λ j. settledFrom s (givenTo s G (plantedIn planted lengths) j)) (λ j. getD positions₀ j (pos 0)) i (λ j. getD positions j (pos 0))
-    × (last < 32 → SettledLast s (givenTo s G (plantedIn planted lengths) last) settled (toZ w32 told)))
+    → Filled (settles s) (λ j. settledFrom s (givenTo s G (plantedIn planted lengths) j)) (λ j. getD positions₀ j (pos 0)) i (λ j. getD positions j (pos 0))
+    × (last < 48 → SettledLast s (givenTo s G (plantedIn planted lengths) last) settled (toZ w32 told)))
 
 abbrev μ-loop : tie.MeasureT-loop
-μ-loop s planted lengths need codes counts positions₀ n settled₀ last₀ told₀ i₀ positions settled last told i = n - i
+μ-loop s planted lengths need codes counts positions₀ end settled₀ last₀ told₀ i₀ positions settled last told i = end - i
 
 loop-holds : tie.Need-loop-holds Inv-loop μ-loop
-loop-holds c = (search needs, search needs, λ G S. (filled-none _ _ _, λ l. absurd (omega arith)))
+loop-holds c =
+    (search needs, omega (arith, c .receiver-end .ensures, end-small (c .before .before .before .args .s)), search needs, λ G S. (filled-none _ _ _, λ l. absurd (omega arith)))
 
 position-after-requires : tie.Need-position-after-requires Inv-loop μ-loop
 position-after-requires c κs =
     let n = c .before .before .before .before .before in
-    (omega (arith, n .head-count .ensures), n .before .before .before .pre .1)
+    (search needs, n .before .before .before .pre .1)
 
 loop-again : tie.Need-loop-again Inv-loop μ-loop
 loop-again c =
     let m = c .before in
     let l = m .before .before .loop in
-    let b = ap not (sym (m .marked .ensures)) in
-    let h = m .before .before .before .head-count .ensures in
+    let b = sym (m .settles .ensures) in
     ⊎-elim
     (λ w. (
       search needs,
-      rw (w .3) (simp length-set (l .inv .1)),
+      l .inv .1,
+      rw (w .3) (simp length-set (l .inv .2)),
       λ G S.
-          let i = l .inv .2 G S in
+          let i = l .inv .3 G S in
           let r = w .2 .ensures G S (i .1) in
           let e = toZ-ofZ (record { sfits = w .2 .ok }) in (
             rw (w .3) (filled-set _ _ _ (l .positions) (pos 0) (l .i) (i .0) (omega arith) (b ∙ w .0 .taken) (e ∙ r .from)),
@@ -58,9 +58,10 @@ loop-again c =
     ))
     (λ w. (
       search needs,
-      rw (w .1) (l .inv .1),
+      l .inv .1,
+      rw (w .1) (l .inv .2),
       λ G S.
-          let i = l .inv .2 G S in
+          let i = l .inv .3 G S in
           (rw (w .1) (filled-passed _ _ _ (l .i) (i .0) (b ∙ w .0 .left)), rw (w .2, w .3, w .4) (i .1)),
     ))
     (c .if1 .came)
@@ -68,8 +69,9 @@ loop-again c =
 returns : tie.Need-returns Inv-loop μ-loop
 returns c G S =
     let l = c .before .loop in
-    let e : l .i ≡ heads (c .before .before .before .before .before .args .s) = omega (arith, c .before .before .head-count .ensures) in
-    rw e at (l .inv .2 G S .0)
+    let n = c .before .before in
+    let s = n .before .before .before .args .s in
+    filled-all _ _ _ (l .i) (λ j t. omega (arith, settles-below s j t, n .receiver-end .ensures)) (l .inv .3 G S .0)
 
 pub fill-positions-spec : {M : Type 1} → statement M
 fill-positions-spec =
@@ -78,7 +80,6 @@ fill-positions-spec =
     Inv-loop
     μ-loop
     (λ c κs. search needs)
-    (λ c. search needs)
     loop-holds
     (λ c κs. search needs)
     position-after-requires

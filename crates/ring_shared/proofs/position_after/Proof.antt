@@ -1,4 +1,4 @@
--- `ring_shared::position_after` meets its contract: a head that is told what the last one was told, or has the codes that it settled from, settles what that one did.
+-- `ring_shared::position_after` meets its contract: a receiver that is told what the last one was told, or has the codes that it settled from, settles what that one did.
 use mathlib.Core.Path.{sym, _∙_}
 use native.Mathlib.Omega.{arith}
 use mir.Facts.{toZ-ofZ}

@@ -1,4 +1,4 @@
--- `ring_shared::settle_all` meets its contract: what is given all alike shows the codes and counts, and from these all heads settle.
+-- `ring_shared::settle_all` meets its contract: what is given all alike shows the codes and counts, and from these all receivers settle.
 use mathlib.Core.Path.{refl, sym}
 use mathlib.Core.Bool.{true≢false}
 use native.Mathlib.Omega.{arith}
