@@ -15,7 +15,7 @@ use run_state::Carry;
 use run_state::Player;
 use run_stream::Page;
 use terms::Lists;
-use terms::Numbers;
+use terms::Positions;
 use terms::Words;
 
 // What comes of a piece: the player after it, and whether all that it shows is written.
@@ -48,7 +48,7 @@ fn play_piece(
     p: Player,
     bytes: &[u8],
     carry: &mut Carry,
-    positions: &mut Numbers,
+    positions: &mut Positions,
     marks: &mut Words,
     lists: &mut Lists,
     planted: &mut PlantedBytes,
@@ -86,7 +86,7 @@ fn play_some(
     p: Player,
     piece: &mut [u8],
     carry: &mut Carry,
-    positions: &mut Numbers,
+    positions: &mut Positions,
     marks: &mut Words,
     lists: &mut Lists,
     planted: &mut PlantedBytes,
@@ -125,7 +125,7 @@ fn play_all(
     p: Player,
     piece: &mut [u8],
     carry: &mut Carry,
-    positions: &mut Numbers,
+    positions: &mut Positions,
     marks: &mut Words,
     lists: &mut Lists,
     planted: &mut PlantedBytes,
@@ -156,7 +156,7 @@ fn play_all(
 fn main() {
     let mut piece = io::large_buffer();
     let mut carry = [0u8; run_state::CARRY];
-    let mut positions = [0i32; 32];
+    let mut positions = [0i32; 48];
     let mut marks = [0u32; 32];
     let none = [0i32; 32];
     let mut lists = [none; 32];

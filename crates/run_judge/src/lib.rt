@@ -5,7 +5,8 @@ ghost use Prim.Native.Nat.{ℕ, _<_};
 ghost use lib.Dec.{leb};
 ghost use lib.ListN.{getD, drop};
 ghost use lib.IntN.{pos};
-ghost use Rattle.run_spec.specs.RunFile.{recordKind, allowedWhen, positionIn, positionsFit, startFault, fewMarks, roundFault, rises, pairFits, plantFault};
+ghost use Rattle.ring_spec.specs.Rounds.{isReceiver};
+ghost use Rattle.run_spec.specs.RunFile.{recordKind, allowedWhen, positionIn, positionsFit, startFault, fewMarks, roundFault, listenersFault, strikesFault, rises, pairFits, plantFault};
 use run_spec::Pair;
 use terms::Numbers;
 use terms::refusal;
@@ -16,6 +17,11 @@ pub const START: u16 = 0x10;
 pub const ROUND: u16 = 0x11;
 
 pub const PLANT: u16 = 0x12;
+
+// Of document 02, A6: the number of listeners, and those struck in a round.
+pub const LISTENERS: u16 = 0x15;
+
+pub const STRIKES: u16 = 0x13;
 
 // Two rounds for each of 65,535 phases.
 pub const MOST_ROUNDS: u32 = 131070;
@@ -33,14 +39,17 @@ fn has_place(place: bool, len: u16, low: u16, high: u16) -> bool
     len <= high
 }
 
-// Whether a record of this kind and length is allowed; begun: a start was accepted; pending: a round is pending.
-pub fn is_allowed(kind: u16, len: u16, begun: bool, pending: bool) -> bool
-    ensures { λ r. ⌜ r ≡ allowedWhen (recordKind kind) begun pending len ⌝ }
+// Whether a record of this kind and length is allowed; begun: a start was accepted; first: nothing else was; pending: a round is pending; bare: nothing was
+// accepted after its record.
+pub fn is_allowed(kind: u16, len: u16, begun: bool, first: bool, pending: bool, bare: bool) -> bool
+    ensures { λ r. ⌜ r ≡ allowedWhen (recordKind kind) begun first pending bare len ⌝ }
 {
     match kind {
         START => has_place(!begun, len, 6, 1026),
         ROUND => begun && len == 8,
         PLANT => has_place(pending, len, 6, 146),
+        LISTENERS => first && len == 5,
+        STRIKES => bare && len == 6,
         _ => false,
     }
 }
@@ -110,6 +119,30 @@ pub fn round_fault(bytes: &[u8], n: u8, f: u8, rounds: u32) -> u8
     0
 }
 
+// A whole record with the number of listeners: 13.
+pub fn listeners_fault(bytes: &[u8]) -> u8
+    ensures { λ r. ⌜ r ≡ listenersFault (now (bytes .entry)) ⌝ }
+{
+    let number = fields::byte_at(bytes, 4);
+    if number < 1 {
+        return refusal::RUN_RECORD;
+    }
+    if 16 < number {
+        return refusal::RUN_RECORD;
+    }
+    0
+}
+
+// A whole record with the struck ones of m listeners: 13.
+pub fn strikes_fault(bytes: &[u8], m: u8) -> u8
+    ensures { λ r. ⌜ r ≡ strikesFault m (now (bytes .entry)) ⌝ }
+{
+    if marks::marks_below(fields::half_at(bytes, 4) as u32, m as usize) {
+        return 0;
+    }
+    refusal::RUN_RECORD
+}
+
 // Whether a pair comes after the last of its round: by sender, then by receiver.
 fn comes_after(last: Pair, from: u8, to: u8) -> bool
     ensures { λ r. ⌜ r ≡ rises last from to ⌝ }
@@ -123,32 +156,45 @@ fn comes_after(last: Pair, from: u8, to: u8) -> bool
     last.from < from
 }
 
-// Whether a pair may be planted: a struck sender, a receiver that is not, both among n heads, after the last pair.
-fn pair_fits(from: u8, to: u8, n: u8, struck: u32, last: Pair) -> bool
-    ensures { λ r. ⌜ r ≡ pairFits n struck last from to ⌝ }
+// Whether i is one of n heads or of m listeners.
+pub fn is_receiver(i: usize, n: u8, m: u8) -> bool
+    ensures { λ r. ⌜ r ≡ isReceiver n m i ⌝ }
+{
+    if i < n as usize {
+        return true;
+    }
+    if i < 32 {
+        return false;
+    }
+    i < 32 + (m as usize)
+}
+
+// Whether a pair may be planted: a sender among n heads that is struck, a receiver among them or m listeners that is not, after the last pair.
+fn pair_fits(from: u8, to: u8, n: u8, m: u8, struck: u64, last: Pair) -> bool
+    ensures { λ r. ⌜ r ≡ pairFits n m struck last from to ⌝ }
 {
     if n <= from {
         return false;
     }
-    if n <= to {
+    if !is_receiver(to as usize, n, m) {
         return false;
     }
-    if !marks::marked(struck, from as usize) {
+    if !marks::marked_wide(struck, from as usize) {
         return false;
     }
-    if marks::marked(struck, to as usize) {
+    if marks::marked_wide(struck, to as usize) {
         return false;
     }
     comes_after(last, from, to)
 }
 
 // A whole planted record, after the last pair of its round: 13.
-pub fn plant_fault(bytes: &[u8], n: u8, struck: u32, last: Pair) -> u8
-    ensures { λ r. ⌜ r ≡ plantFault n struck last (now (bytes .entry)) ⌝ }
+pub fn plant_fault(bytes: &[u8], n: u8, m: u8, struck: u64, last: Pair) -> u8
+    ensures { λ r. ⌜ r ≡ plantFault n m struck last (now (bytes .entry)) ⌝ }
 {
     let from = fields::byte_at(bytes, 4);
     let to = fields::byte_at(bytes, 5);
-    if pair_fits(from, to, n, struck, last) {
+    if pair_fits(from, to, n, m, struck, last) {
         return 0;
     }
     refusal::RUN_RECORD

@@ -1,16 +1,20 @@
--- The lowest and the highest position, found one head at a time. A struck head leaves both as they are, and any other is compared with each: which of
--- two positions lies further out is one test, whose answer is turned for the lowest.
+-- The lowest and the highest position, found one receiver at a time. One that is struck or not there leaves both as they are, and any other is compared
+-- with each: which of two positions lies further out is one test, whose answer is turned for the lowest.
 use mathlib.Core.Path.{_≡_, refl, ap, ap₂, sym, _∙_}
-use mathlib.Core.Bool.{Bool, true, false, cond, Bool·beq}
+use mathlib.Core.Bool.{Bool, true, false, not, cond, _&&_, _||_, or-false, Bool·beq}
 use mathlib.Core.List.{List}
-use Prim.Native.Nat.{ℕ, zero, suc, _+_}
+use Prim.Native.Nat.{ℕ, zero, suc, _+_, _≤_, _<_}
+use native.Mathlib.Omega.{arith}
+use native.Mathlib.Decide.{decLt, le-ind}
 use native.Mathlib.Numerals.{add-one}
+use lib.Dec.{ltb, leb}
 use lib.ListN.{getD}
 use lib.IntN.{ℤ, pos}
 use lib.Signed.{leZ}
 use mir.Syntax.{w32}
 use mir.Val.{SFits}
 use mir.Facts.{toZ-ofZ}
+use borrow.Author.Tests.{le-ltb, le-leb, lt-leb}
 use Rattle.terms.specs.declared.Entry.{Entry}
 use Rattle.terms.specs.declared.Entry.the-variants.{Null, Position}
 use Rattle.terms.proofs.Machine.{read}
@@ -18,8 +22,10 @@ use Rattle.marks.specs.Marks.{bitOf}
 use Rattle.convergence.specs.Counting.{Each}
 use Rattle.convergence.specs.Phases.{End, join, soundAt, lowest, highest}
 use Rattle.convergence.proofs.Sums.{each-last, each-less}
+use Rattle.ring_spec.specs.Rounds.{receivers, isReceiver, isOut}
 use Rattle.run_listing.specs.Held.{endIn}
 use Rattle.run_listing.specs.Heights.{outward, Found}
+use Rattle.run_listing.specs.Inner.{Reaches}
 
 outward-is : (high : Bool) (v w : ℤ) → outward high v w ≡ cond (Bool·beq (leZ v w) high) w v
 outward-is true v w = go (leZ v w)
@@ -39,38 +45,71 @@ pub outward-test : {v w : ℤ} {t : Bool} (high : Bool) → SFits w32 v → SFit
 outward-test {v} {w} high f g e =
     outward-is high v w ∙ ap (λ (t : Bool). cond t w v) (sym (ap₂ (λ (x y : ℤ). Bool·beq (leZ x y) high) (toZ-ofZ f) (toZ-ofZ g)) ∙ e)
 
--- ---- one head more
+-- ---- without listeners the heads alone are receivers
+
+pub no-listener : (n i : ℕ) → isReceiver n 0 i ≡ ltb i n
+no-listener n i = ap (λ (b : Bool). ltb i n || b) (go (decLt i 32)) ∙ or-false (ltb i n)
+  where
+    go : Dec (i < 32) → (leb 32 i && ltb i 32) ≡ false
+    go (yes l) = rw (lt-leb 32 i l)
+    go (no l) = rw (le-ltb i 32 (omega arith), le-leb 32 i (omega arith))
+
+-- ---- one receiver more
 
 pub found-none : (e : End) → Found 0 e Null Null
 unfolding lowest highest
 found-none e = record { is-low = refl; is-high = refl }
 
-module _ (struck : ℕ) (ps : List ℤ) {j : ℕ} {low high : Entry} (f : Found j (endIn struck ps) low high) where
-  pub found-struck : bitOf struck j ≡ true → Found (j + 1) (endIn struck ps) low high
+found-out : {e : End} {low high : Entry} (j : ℕ) → e .struck j ≡ true → Found j e low high → Found (suc j) e low high
+unfolding lowest highest
+found-out j o f = record { is-low = rw o (f .is-low); is-high = rw o (f .is-high) }
+
+-- from k on none is sound
+pub found-past : {e : End} {low high : Entry} (k N : ℕ) → k ≤ N → Each N (λ i. k ≤ i → e .struck i ≡ true) → Found k e low high → Found N e low high
+found-past {e} {low} {high} k N l h f =
+    le-ind (λ j. j ≤ N → Found j e low high) (λ i. f) (λ j i more less. found-out j (h j less i) (more (omega arith))) N l (omega arith)
+
+module _ (n m struck : ℕ) (ps : List ℤ) {j : ℕ} {low high : Entry} (f : Found j (endIn n m struck ps) low high) where
+  pub found-struck : isOut n m struck j ≡ true → Found (j + 1) (endIn n m struck ps) low high
+  unfolding endIn
+  found-struck o = rw (add-one j) (found-out j o f)
+
+  pub found-sound : {v : ℤ} {x y : Entry} → isOut n m struck j ≡ false → v ≡ getD ps j (pos 0)
+      → x ≡ join (outward false) (Position v) low → y ≡ join (outward true) (Position v) high → Found (j + 1) (endIn n m struck ps) x y
   unfolding lowest highest endIn
-  found-struck m = rw (add-one j) record { is-low = rw m (f .is-low); is-high = rw m (f .is-high) }
+  found-sound o e p q = rw (add-one j) record { is-low = p ∙ rw (o, e, f .is-low); is-high = q ∙ rw (o, e, f .is-high) }
 
-  pub found-sound : {v : ℤ} {x y : Entry} → bitOf struck j ≡ false → v ≡ getD ps j (pos 0)
-      → x ≡ join (outward false) (Position v) low → y ≡ join (outward true) (Position v) high → Found (j + 1) (endIn struck ps) x y
-  unfolding lowest highest endIn
-  found-sound m e p q = rw (add-one j) record { is-low = p ∙ rw (m, e, f .is-low); is-high = q ∙ rw (m, e, f .is-high) }
+  -- from k on there is no receiver
+  pub found-all : Reaches n m j → Found receivers (endIn n m struck ps) low high
+  unfolding endIn
+  found-all R = found-past j receivers (R .most) (λ i l h. rw (R .none i l h)) f
 
--- ---- of two phase ends that say the same of each head
+-- ---- of two phase ends that say the same of each receiver
 
-found-same : (e e′ : End) (n : ℕ) → Each n (λ j. soundAt e j ≡ soundAt e′ j) → Found n e′ (lowest n e) (highest n e)
+pub found-same : (e e′ : End) (n : ℕ) → Each n (λ j. soundAt e j ≡ soundAt e′ j) → Found n e′ (lowest n e) (highest n e)
 unfolding lowest highest
 found-same e e′ zero h = record { is-low = refl; is-high = refl }
 found-same e e′ (suc n) h =
     let f = found-same e e′ n (each-less h) in
     record { is-low = cc (each-last h); is-high = cc (each-last h) }
 
-sound-same : (b : Bool) (x y : Entry) → (b ≡ false → x ≡ y) → cond b Null x ≡ cond b Null y
-sound-same true x y h = refl
-sound-same false x y h = h refl
+-- b: the receiver is there; c: it is struck
+sound-same : (b c : Bool) {o : Bool} {x y : Entry} → (not b || c) ≡ o → (b ≡ true → c ≡ false → x ≡ y) → cond (not b || c) Null x ≡ cond o Null y
+sound-same true true e h = rw (← e) refl
+sound-same true false e h = rw (← e) (h refl refl)
+sound-same false c e h = rw (← e) refl
 
--- an array that holds the positions of the heads that are not struck
-pub found-held : (n struck : ℕ) (at : ℕ → Entry) (positions : List ℤ)
-    → Each n (λ i. bitOf struck i ≡ false → at i ≡ Position (getD positions i (pos 0)))
-    → let e : End = record { struck = bitOf struck; at = at } in Found n (endIn struck positions) (lowest n e) (highest n e)
-unfolding endIn
-found-held n struck at positions h = found-same _ (endIn struck positions) n (λ i l. sound-same (bitOf struck i) _ _ (h i l))
+module _ (n m struck : ℕ) (at : ℕ → Entry) (positions : List ℤ)
+    (h : Each receivers (λ i. isReceiver n m i ≡ true → bitOf struck i ≡ false → at i ≡ Position (getD positions i (pos 0)))) where
+  abbrev whole : End
+  whole = record { struck = isOut n m struck; at = at }
+
+  -- an array that holds the positions of those that are not struck, with marks that leave the same out
+  pub found-held-as : (marks k : ℕ) → Each receivers (λ i. isOut n m struck i ≡ isOut n k marks i)
+      → Found receivers (endIn n k marks positions) (lowest receivers whole) (highest receivers whole)
+  unfolding endIn
+  found-held-as marks k same =
+      found-same whole (endIn n k marks positions) receivers (λ i l. sound-same (isReceiver n m i) (bitOf struck i) (same i l) (h i l))
+
+  pub found-held : Found receivers (endIn n m struck positions) (lowest receivers whole) (highest receivers whole)
+  found-held = found-held-as struck m (λ i l. refl)

@@ -16,7 +16,7 @@ abbrev pub outward : Bool → ℤ → ℤ → ℤ
 outward true = greater
 outward false = lesser
 
--- the lowest and the highest position of the first n heads
+-- the lowest and the highest position of the first n receivers
 pub record Found (n : ℕ) (e : End) (low high : Entry) : Type 0 where
   pub is-low : low ≡ lowest n e
   pub is-high : high ≡ highest n e

@@ -6,6 +6,7 @@ use lib.IntN.{ℤ}
 use Rattle.terms.specs.declared.Entry.{Entry}
 use Rattle.convergence.specs.Phases.{lowest, highest, spread}
 use Rattle.run_spec.specs.Listing.{decimal, textOf, hex, spaced}
+use Rattle.ring_spec.specs.Rounds.{receivers}
 use Rattle.run_listing.specs.declared.Text.{Text}
 use Rattle.run_listing.specs.Held.{endIn}
 
@@ -24,6 +25,7 @@ fields p low high wide collect confess =
     (hex 8 confess ++ (10 ∷ []))))))
 
 -- the line of a phase end as the player holds it
-unfoldable pub endLine : ℕ → ℕ → List ℤ → ℕ → ℕ → List ℕ
-endLine n p positions collect confess =
-    fields p (lowest n (endIn confess positions)) (highest n (endIn confess positions)) (spread n (endIn confess positions)) collect confess
+unfoldable pub endLine : ℕ → ℕ → ℕ → List ℤ → ℕ → ℕ → List ℕ
+endLine n m p positions collect confess =
+    let e = endIn n m confess positions in
+    fields p (lowest receivers e) (highest receivers e) (spread receivers e) collect confess

@@ -1,17 +1,20 @@
 // The lowest and the highest position of a phase end, and how far they lie apart.
 ghost use mathlib.Core.Path.{_≡_};
-ghost use Prim.Native.Nat.{_+_, _<_, _≤_};
+ghost use mathlib.Core.Bool.{not};
+ghost use Prim.Native.Nat.{_+_, _%_, _<_, _≤_};
 ghost use lib.ListN.{getD, length};
 ghost use lib.IntN.{pos};
 ghost use Rattle.convergence.specs.Phases.{join, apart};
+ghost use Rattle.ring_spec.specs.Rounds.{receivers, isOut};
 ghost use Rattle.run_listing.specs.Held.{endIn};
 ghost use Rattle.run_listing.specs.Heights.{heightOf, outward, Found};
-ghost use Rattle.run_listing.specs.Inner.{Longer, spelled};
+ghost use Rattle.run_listing.specs.Inner.{Reaches, Longer, spelled};
 ghost use mathlib.Core.List.{_∷_, [], _++_};
 ghost use Rattle.run_spec.specs.Listing.{size, decimal, whole, textOf, hexDigit, title, verdict};
 ghost use Rattle.run_listing.specs.Texts.{bytesOf, endLine};
 use terms::Entry;
-use terms::Numbers;
+use terms::Positions;
+use terms::RECEIVERS;
 
 // The lowest and the highest position.
 pub struct Ends {
@@ -31,7 +34,7 @@ fn height(v: i32) -> u32
     }
 }
 
-// The position of head j; 0 past the last.
+// The position of receiver j; 0 past the last.
 pub fn position_at(positions: &[i32], j: usize) -> i32
     ensures { λ r. ⌜ r ≡ getD (now (positions .entry)) j (pos 0) ⌝ }
 {
@@ -52,16 +55,36 @@ fn outer(v: i32, e: Entry, high: bool) -> Entry
     }
 }
 
-// The lowest and the highest position of the first n heads that the mark word leaves.
-fn ends_of(positions: &Numbers, struck: u32, n: u8) -> Ends
-    ensures { λ r. ⌜ Found n (endIn struck (now (positions .entry))) (r .low) (r .high) ⌝ }
+// How many receivers are looked at: without listeners the heads, else all.
+fn reach(n: u8, m: u8) -> usize
+    ensures { λ r. ⌜ Reaches n m r ⌝ }
 {
-    let count = n as usize;
+    if 0 < m {
+        return RECEIVERS;
+    }
+    if n < 48 { n as usize } else { RECEIVERS }
+}
+
+// Whether receiver j is there, and the mark word leaves it.
+fn is_sound(struck: u64, n: u8, m: u8, j: usize) -> bool
+    ensures { λ r. ⌜ r ≡ not (isOut n m struck j) ⌝ }
+{
+    if run_judge::is_receiver(j, n, m) {
+        return !marks::marked_wide(struck, j);
+    }
+    false
+}
+
+// The lowest and the highest position of the heads and listeners that the mark word leaves.
+fn ends_of(positions: &Positions, struck: u64, n: u8, m: u8) -> Ends
+    ensures { λ r. ⌜ Found receivers (endIn n m struck (now (positions .entry))) (r .low) (r .high) ⌝ }
+{
+    let count = reach(n, m);
     let mut low = Entry::Null;
     let mut high = Entry::Null;
     let mut j: usize = 0;
     while j < count {
-        if !marks::marked(struck, j) {
+        if is_sound(struck, n, m, j) {
             let v = position_at(positions, j);
             low = outer(v, low, false);
             high = outer(v, high, true);
@@ -215,17 +238,24 @@ pub fn verdict_line(number: u8) -> Text
     }
 }
 
-// The line of a phase end: the positions of n heads, and the mark words of its two rounds.
-pub fn end_line(phase: u16, positions: &Numbers, n: u8, collect: u32, confess: u32) -> Text
-    ensures { λ r. ⌜ bytesOf r ≡ endLine n phase (now (positions .entry)) collect confess ⌝ }
+// The marks of the heads in a mark word for heads and listeners.
+fn heads_of(marks: u64) -> u32
+    ensures { λ r. ⌜ r ≡ marks % 4294967296 ⌝ }
+{
+    (marks % 4294967296) as u32
+}
+
+// The line of a phase end: the positions of n heads and m listeners, and the mark words of its two rounds, of which it prints the heads' bits.
+pub fn end_line(phase: u16, positions: &Positions, n: u8, m: u8, collect: u64, confess: u64) -> Text
+    ensures { λ r. ⌜ bytesOf r ≡ endLine n m phase (now (positions .entry)) collect confess ⌝ }
     ensures { λ r. ⌜ r .len ≤ 64 ⌝ }
 {
-    let e = ends_of(positions, confess, n);
+    let e = ends_of(positions, confess, n, m);
     let low = e.low;
     let high = e.high;
     let t = put_number(empty(), phase as u32, b' ');
     let t = put_entry(put_entry(t, low), high);
     let t = put_number(t, spread_of(low, high), b' ');
-    let t = put_digits(t, 16, 8, collect, b' ');
-    put_digits(t, 16, 8, confess, b'\n')
+    let t = put_digits(t, 16, 8, heads_of(collect), b' ');
+    put_digits(t, 16, 8, heads_of(confess), b'\n')
 }

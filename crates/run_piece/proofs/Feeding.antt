@@ -12,7 +12,7 @@ use Rattle.terms.specs.Refusals as refusal
 use Rattle.run_spec.specs.RunFile.{File, unread, plant, lengthOf, kindOf, judged, stopped, withPart, feed, readFile, accepted}
 use Rattle.run_spec.specs.Listing.{shown}
 use Rattle.run_spec.proofs.Streaming.{feed-append, part-shows, stop-shows}
-use Rattle.run_spec.proofs.Whole.{stands, Cut, Heads, heads-take, heads-stand, stands-long, feed-cut, feed-refused, feed-whole, feed-stopped, judged-empty, kept, kept-on}
+use Rattle.run_spec.proofs.Whole.{stands, Cut, Heads, heads-take, heads-stand, stands-long, feed-cut, feed-refused, feed-whole, feed-stopped, judged-empty, kept, kept-on, plant-long as plant-lengths}
 use Rattle.run_spec.proofs.Bytes.{cost, none-accepted}
 use Rattle.run_spec.specs.declared.Pair.{Pair}
 use Rattle.run_listing.specs.declared.Text.{Text}
@@ -110,12 +110,12 @@ uses-all Q = record { within = omega (arith, Q .used); some = λ h. omega (arith
 -- a planted record that stands in the piece
 module _ {rest : List ℕ} {used : ℕ} (P : Plants rest used) where
   plant-long : 6 ≤ used
-  plant-long = stands-long plant true true used (P .allowed) .0
+  plant-long = plant-lengths true false true false used (P .allowed) .0
 
   plant-short : {b : List ℕ} → b ≡ take used rest → length b ≤ 146
-  plant-short e = omega (arith, ap length e, length-take-le used rest (P .within), plant-place true true used (P .allowed))
+  plant-short e = omega (arith, ap length e, length-take-le used rest (P .within), plant-place true false true false used (P .allowed))
 
-  plant-whole : {p : Player} {count marks : ℕ} {pair : Pair} → Waits p count marks pair → Whole p rest
+  plant-whole : {p : Player} {count number marks : ℕ} {pair : Pair} → Waits p count number marks pair → Whole p rest
   plant-whole W =
       record {
         fresh = W .fresh;
@@ -136,7 +136,7 @@ module _ {a : List ℕ} {p : Player} {before : List ℕ} {M : Memory} (L : State
   pub overfull : 1026 ≤ p .have → ⊥
   overfull h =
       let (may, few) = kept a (omega (arith, L .have)) in
-      omega (arith, L .have, stands-long (kindOf (F .part)) (F .setup .begun) (F .rounds .pending) (lengthOf (F .part)) may .1)
+      omega (arith, L .have, stands-long (kindOf (F .part)) _ _ _ _ (lengthOf (F .part)) may .1)
 
   -- after a fault nothing is read
   pub rests : {xs : List ℕ} {n : ℕ} {r : FeedResult} → (p .fault ≡ 0 → ⊥) → Quiet p n r → AdvancesOnce a xs p M (r .player) (bytesOf (r .text)) before M
@@ -174,7 +174,7 @@ module _ {a : List ℕ} {p : Player} {before : List ℕ} {M : Memory} (L : State
         (heads-stand F same ∙ allowed-as (L .player) (kindOf rest) (lengthOf rest) ∙ W .allowed)
         (ap length e ∙ long ∙ u ∙ sym (same .long))
 
-  module _ {count marks : ℕ} {pair : Pair} (W : Waits p count marks pair) where
+  module _ {count number marks : ℕ} {pair : Pair} (W : Waits p count number marks pair) where
     -- nothing is taken
     pub none-passed : AdvancesOnce a [] p M (withLast p pair) [] before M
     none-passed = rw (← W .last) (none-there L)
@@ -256,7 +256,7 @@ module _ {a : List ℕ} {p : Player} {before : List ℕ} {M : Memory} (L : State
 
         go : (b : Bool) → stands F s ≡ b → q ≡ headedTo p b → AdvancesOnce a (take (r .used) rest) p M (r .player) (bytesOf (r .text)) carry M
         go true may is =
-            let long = stands-long (kindOf s) (F .setup .begun) (F .rounds .pending) (lengthOf s) may .0 in
+            let long = stands-long (kindOf s) _ _ _ _ (lengthOf s) may .0 in
             stays 4 (λ k. (may, omega (arith, s-long, four))) (omega (arith, s-long, four)) is Q
         go false no-place is =
             let some : 0 < length (take used rest) = omega (arith, four, length-take-le used rest (G .within)) in

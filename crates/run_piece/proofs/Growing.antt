@@ -9,29 +9,36 @@ use lib.ListN.{length, drop, length-append}
 use lib.Seq.{drop-at}
 use lib.IntN.{ℤ}
 use Rattle.terms.specs.Refusals.{unlessRefused}
-use Rattle.ring_spec.specs.Rounds.{Round, Ring, roundThen, afterRound, PhaseEnd, phaseEnd, withEnd, firstHeads, ringAfter, endsAfter}
-use Rattle.run_spec.specs.RunFile.{File, between, RecordKind, start, round, plant, other, isAllowed, countIn, limitIn, positionIn, struckIn, recordFault, thenPlayed, withRecord, stopped, judged, endsSoFar}
+use Rattle.ring_spec.specs.Rounds.{Round, Ring, roundThen, afterRound, PhaseEnd, phaseEnd, withEnd, firstEnd, ringAfter, endsAfter}
+use Rattle.ring_spec.proofs.Counts.{counted}
+use Rattle.run_spec.specs.RunFile.{File, between, RecordKind, start, round, plant, listeners, strikes, other, isAllowed, countIn, limitIn, positionIn, struckIn, recordFault, thenPlayed, withRecord, stopped, judged, endsSoFar}
 use Rattle.run_spec.specs.Listing.{title, line, lines, shown}
-use Rattle.run_spec.proofs.Streaming.{start-shows, plant-shows, stop-shows}
-use Rattle.run_record.proofs.Records.{start-place, round-place}
-use Rattle.run_piece.specs.Advances.{endHere, Grown, none, one, GrownTo}
+use Rattle.run_spec.proofs.Streaming.{start-shows, plant-shows, listeners-shows, strikes-shows, stop-shows}
+use Rattle.run_state.specs.State.{ringBefore}
+use Rattle.run_record.proofs.Records.{start-place, round-place, listeners-place}
+use Rattle.run_piece.specs.Advances.{struckHere, endHere, Grown, none, one, GrownTo}
 
 same-after : (x : List ℕ) {y z : List ℕ} → x ++ y ≡ x ++ z → y ≡ z
 same-after x {y} {z} e = sym (drop-at x y (length x) refl) ∙ ap (drop (length x)) e ∙ drop-at x z (length x) refl
 
 -- a line has one byte at least
-pub line-some : (n p : ℕ) (e : PhaseEnd) → 0 < length (line n p e)
+pub line-some : (n m p : ℕ) (e : PhaseEnd) → 0 < length (line n m p e)
 unfolding line
-line-some n p e = simp length-append (omega arith)
+line-some n m p e = simp length-append (omega arith)
 
 pub grown-none : (F G : File) {text : List ℕ} → endsSoFar G ≡ endsSoFar F → shown G ≡ shown F → shown G ≡ shown F ++ text → GrownTo F G text
 grown-none F G e s t = none e (same-after (shown F) (sym t ∙ s ∙ sym (append-nil (shown F))))
 
 -- ---- one round more, with what it shows
 
-module _ (n f : ℕ) (v : ℕ → ℤ) (ws : List Round) (w : Round) {text : List ℕ} where
-  pub next-grown : lines n (endsAfter n f v (w ∷ ws)) ≡ lines n (endsAfter n f v ws) ++ text
-      → Grown n (endsAfter n f v ws) (endsAfter n f v (w ∷ ws)) (ringAfter n f v (w ∷ ws)) text
+-- after the start the marks of the last round count
+struck-later : (es : List PhaseEnd) (R : Ring) → 0 < length es → struckHere es R ≡ R .before
+struck-later [] R l = absurd (omega arith)
+struck-later (e ∷ es) R l = refl
+
+module _ (n m f : ℕ) (v : ℕ → ℤ) (ws : List Round) (w : Round) {text : List ℕ} where
+  pub next-grown : lines n m (endsAfter n f v (w ∷ ws)) ≡ lines n m (endsAfter n f v ws) ++ text
+      → Grown n m (endsAfter n f v ws) (endsAfter n f v (w ∷ ws)) (ringAfter n f v (w ∷ ws)) text
   unfolding endsAfter ringAfter afterRound lines
   next-grown t = go (ringAfter n f v ws .round) refl t
     where
@@ -42,26 +49,33 @@ module _ (n f : ℕ) (v : ℕ → ℤ) (ws : List Round) (w : Round) {text : Lis
       next = ringAfter n f v (w ∷ ws)
 
       e : PhaseEnd
-      e = endHere (ringAfter n f v ws .before) next
+      e = phaseEnd (ringAfter n f v ws .before) (next .before) (next .heads)
 
-      go : (r : ℕ) → ringAfter n f v ws .round ≡ r → lines n (withEnd r e es) ≡ lines n es ++ text → Grown n es (withEnd r e es) next text
-      go zero c t = none refl (same-after (lines n es) (sym t ∙ sym (append-nil (lines n es))))
-      go (suc r) c t = one (ringAfter n f v ws .before) (ap roundThen c) refl (same-after (lines n es) (sym t))
+      same : endHere (ringAfter n f v ws .before) es next ≡ e
+      same = rw (struck-later es next (let C = counted n f v ws in omega (arith, C .counts, C .played, C .small))) refl
+
+      go : (r : ℕ) → ringAfter n f v ws .round ≡ r → lines n m (withEnd r e es) ≡ lines n m es ++ text → Grown n m es (withEnd r e es) next text
+      go zero c t = none refl (same-after (lines n m es) (sym t ∙ sym (append-nil (lines n m es))))
+      go (suc r) c t =
+          one (ringAfter n f v ws .before) (ap roundThen c) (ap (λ (x : PhaseEnd). x ∷ es) (sym same))
+          (same-after (lines n m es) (sym t) ∙ ap (line n m (length es)) (sym same))
 
 -- ---- each record
 
 -- the file after an accepted round record s, with the rounds ws played
 abbrev with-rounds : File → List ℕ → List Round → File
-with-rounds F s ws = between (F .setup) (record { played = ws; pending = true; last = record { struck = struckIn s; plants = [] } })
+with-rounds F s ws = between (F .setup) (record { played = ws; pending = true; last = record { struck = struckIn s; told = false; plants = [] } })
 
 module _ (F : File) (s : List ℕ) {text : List ℕ} where
   start-grown : F .setup .begun ≡ false → shown (withRecord start F s) ≡ shown F ++ text → GrownTo F (withRecord start F s) text
   unfolding ringAfter endsAfter
   start-grown begun t =
       let empty : [] ≡ endsSoFar F = rw begun in
-      let first : PhaseEnd = phaseEnd 0 0 (firstHeads (countIn s) (limitIn s) (positionIn s)) in
-      one 0 refl (ap (λ (es : List PhaseEnd). first ∷ es) empty)
-      (same-after (shown F) (sym t ∙ start-shows F s begun) ∙ ap (λ (es : List PhaseEnd). line (countIn s) (length es) first) empty)
+      let first : PhaseEnd = firstEnd (countIn s) (limitIn s) (positionIn s) in
+      let same : first ≡ endHere 0 (endsSoFar F) (ringBefore (withRecord start F s)) = rw begun refl in
+      one 0 refl (ap (λ (es : List PhaseEnd). first ∷ es) empty ∙ ap (λ (x : PhaseEnd). x ∷ endsSoFar F) same)
+      (same-after (shown F) (sym t ∙ start-shows F s begun) ∙ ap (λ (es : List PhaseEnd). line (countIn s) 0 (length es) first) empty
+      ∙ ap (line (countIn s) 0 (length (endsSoFar F))) same)
 
   round-grown : (b : Bool) → F .setup .begun ≡ true → let G = with-rounds F s (thenPlayed b (F .rounds .played) (F .rounds .last)) in
       shown G ≡ shown F ++ text → GrownTo F G text
@@ -70,12 +84,14 @@ module _ (F : File) (s : List ℕ) {text : List ℕ} where
   round-grown true begun t =
       let t′ = rw begun at t in
       rw begun
-      (next-grown (F .setup .n) (F .setup .f) (F .setup .first) (F .rounds .played) (F .rounds .last) (same-after title (t′ ∙ append-assoc title _ text)))
+      (next-grown (F .setup .n) (F .setup .listeners) (F .setup .f) (F .setup .first) (F .rounds .played) (F .rounds .last) (same-after title (t′ ∙ append-assoc title _ text)))
 
   taken-grown : (K : RecordKind) (len : ℕ) → isAllowed K F len ≡ true → shown (withRecord K F s) ≡ shown F ++ text → GrownTo F (withRecord K F s) text
   taken-grown start len may t = start-grown (start-place F len may) t
   taken-grown round len may t = round-grown (F .rounds .pending) (round-place F len may) t
   taken-grown plant len may t = grown-none F (withRecord plant F s) refl (plant-shows F s) t
+  taken-grown listeners len may t = grown-none F (withRecord listeners F s) refl (listeners-shows F s (listeners-place F len may)) t
+  taken-grown strikes len may t = grown-none F (withRecord strikes F s) refl (strikes-shows F s) t
   taken-grown other len may t = grown-none F F refl refl t
 
   pub judged-grown : (K : RecordKind) (len : ℕ) → isAllowed K F len ≡ true → shown (judged K F s) ≡ shown F ++ text → GrownTo F (judged K F s) text

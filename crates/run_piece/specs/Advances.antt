@@ -5,7 +5,7 @@ use mathlib.Core.List.{List, [], _∷_, _++_}
 use mathlib.Core.Path.{_≡_}
 use Prim.Native.Nat.{ℕ}
 use lib.ListN.{length, take}
-use Rattle.ring_spec.specs.Rounds.{Ring, PhaseEnd, phaseEnd}
+use Rattle.ring_spec.specs.Rounds.{Ring, PhaseEnd, allListeners}
 use Rattle.run_spec.specs.RunFile.{File, readFile, accepted, endsSoFar}
 use Rattle.run_spec.specs.Listing.{line, shown}
 use Rattle.run_state.specs.declared.Player.{Player}
@@ -28,18 +28,24 @@ pub record Advances (a b : List ℕ) (p : Player) (M : Memory) (q : Player) (tex
   pub idle : accepted (readFile (a ++ b)) ≡ accepted (readFile a) → (M′ ≡ M) × (q ≡ halted p (q .have) (q .fault))
   pub demand3 : ConvergedIn (readFile (a ++ b)) (readFile (a ++ b) .rounds .played) (M′ .positions)
 
--- the phase end at which a ring stands after a confession round; collect: the heads struck in the round before that
-abbrev pub endHere : ℕ → Ring → PhaseEnd
-endHere collect R = phaseEnd collect (R .before) (R .heads)
+-- who counts as struck at the phase end at which a ring stands, after the ends es: with none before it is the start, and every listener does
+abbrev pub struckHere : List PhaseEnd → Ring → ℕ
+struckHere [] R = allListeners
+struckHere (e ∷ es) R = R .before
 
--- the phase ends es of n heads become es′: no end more was played, and nothing is shown; or one, at which the ring R then stands, and its line is shown
-pub data Grown (n : ℕ) (es es′ : List PhaseEnd) (R : Ring) (text : List ℕ) : Type 0 where
-  none : es′ ≡ es → text ≡ [] → Grown n es es′ R text
-  one : (collect : ℕ) → R .round ≡ 0 → es′ ≡ endHere collect R ∷ es → text ≡ line n (length es) (endHere collect R) → Grown n es es′ R text
+-- that phase end; collect: who was struck in the round before the last
+abbrev pub endHere : ℕ → List PhaseEnd → Ring → PhaseEnd
+endHere collect es R = record { collect = collect; confess = R .before; struck = struckHere es R; heads = R .heads }
+
+-- the phase ends es of n heads and m listeners become es′: no end more was played, and nothing is shown; or one, at which the ring R then stands, and its line is
+-- shown
+pub data Grown (n m : ℕ) (es es′ : List PhaseEnd) (R : Ring) (text : List ℕ) : Type 0 where
+  none : es′ ≡ es → text ≡ [] → Grown n m es es′ R text
+  one : (collect : ℕ) → R .round ≡ 0 → es′ ≡ endHere collect es R ∷ es → text ≡ line n m (length es) (endHere collect es R) → Grown n m es es′ R text
 
 -- as the file F becomes G
 abbrev pub GrownTo : File → File → List ℕ → Type 0
-GrownTo F G text = Grown (G .setup .n) (endsSoFar F) (endsSoFar G) (ringBefore G) text
+GrownTo F G text = Grown (G .setup .n) (G .setup .listeners) (endsSoFar F) (endsSoFar G) (ringBefore G) text
 
 -- and one phase end was played at most
 pub record AdvancesOnce (a b : List ℕ) (p : Player) (M : Memory) (q : Player) (text carry : List ℕ) (M′ : Memory) : Type 0 where

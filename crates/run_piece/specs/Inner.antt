@@ -12,6 +12,7 @@ use Rattle.run_state.specs.declared.Player.{Player}
 use Rattle.run_record.specs.declared.RecordResult.{RecordResult}
 use Rattle.run_state.specs.Memory.{Memory, withSlots}
 use Rattle.run_state.specs.Changes.{halted}
+use Rattle.run_state.specs.Places.{firstOf, bareOf}
 use Rattle.run_piece.specs.declared.FeedResult.{FeedResult}
 use Rattle.run_piece.specs.declared.PassResult.{PassResult}
 use Rattle.run_piece.specs.Advances.{StateAt, AdvancesOnce}
@@ -24,13 +25,13 @@ pub record Missing (have : ℕ) (carry : List ℕ) (r : ℕ) : Type 0 where
 
 -- whether the record that s begins is allowed, by the player's numbers
 abbrev pub allowedTo : Player → List ℕ → Bool
-allowedTo p s = allowedWhen (kindOf s) (p .begun) (p .pending) (lengthOf s)
+allowedTo p s = allowedWhen (kindOf s) (p .begun) (firstOf p) (p .pending) (bareOf p) (lengthOf s)
 
 -- a piece begins with a whole record that is allowed
 pub record Whole (p : Player) (s : List ℕ) : Type 0 where
   pub fresh : p .have ≡ 0
   pub within : lengthOf s ≤ length s
-  pub long : 6 ≤ lengthOf s
+  pub long : 5 ≤ lengthOf s
   pub allowed : allowedTo p s ≡ true
 
 -- a piece begins with a whole planted record of this size
@@ -38,14 +39,15 @@ pub record Plants (s : List ℕ) (size : ℕ) : Type 0 where
   pub kind : kindOf s ≡ plant
   pub long : size ≡ lengthOf s
   pub within : size ≤ length s
-  pub allowed : allowedWhen plant true true size ≡ true
+  pub allowed : allowedWhen plant true false true false size ≡ true
 
--- a planted record may come next: the player has no fault and no bytes of a record, and a round is pending, with these struck heads and this last pair
-pub record Waits (p : Player) (count marks : ℕ) (pair : Pair) : Type 0 where
+-- a planted record may come next: the player has no fault and no bytes of a record, and a round is pending, with these marks and this last pair
+pub record Waits (p : Player) (count number marks : ℕ) (pair : Pair) : Type 0 where
   pub sound : p .fault ≡ 0
   pub fresh : p .have ≡ 0
   pub pending : p .pending ≡ true
   pub n : p .n ≡ count
+  pub listeners : p .listeners ≡ number
   pub struck : p .struck ≡ marks
   pub last : p .last ≡ pair
 
@@ -56,10 +58,12 @@ withLast p last =
       begun = p .begun;
       n = p .n;
       f = p .f;
+      listeners = p .listeners;
       given = p .given;
       pending = p .pending;
       before = p .before;
       struck = p .struck;
+      told = p .told;
       last = last;
       have = p .have;
       fault = p .fault;

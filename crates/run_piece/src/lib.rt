@@ -16,7 +16,7 @@ use run_spec::Pair;
 use run_state::Carry;
 use run_state::Player;
 use terms::Lists;
-use terms::Numbers;
+use terms::Positions;
 use terms::Words;
 use terms::refusal;
 
@@ -63,7 +63,9 @@ fn stands(p: Player, bytes: &[u8]) -> bool
         fields::half_at(bytes, 2),
         fields::half_at(bytes, 0),
         p.begun,
+        run_state::is_first(p),
         p.pending,
+        run_state::is_bare(p),
     )
 }
 
@@ -132,7 +134,7 @@ fn take_part(
     p: Player,
     rest: &[u8],
     carry: &mut Carry,
-    positions: &mut Numbers,
+    positions: &mut Positions,
     marks: &mut Words,
     lists: &mut Lists,
     planted: &mut PlantedBytes,
@@ -190,7 +192,7 @@ fn plant_size(bytes: &[u8]) -> usize
     if len < size as usize {
         return 0;
     }
-    if !run_judge::is_allowed(run_judge::PLANT, size, true, true) {
+    if !run_judge::is_allowed(run_judge::PLANT, size, true, false, true, false) {
         return 0;
     }
     size as usize
@@ -199,14 +201,15 @@ fn plant_size(bytes: &[u8]) -> usize
 // Takes the planted record at the front of a piece, if a whole one stands there that has no fault. It shows nothing.
 pub fn pass_plant(
     n: u8,
-    struck: u32,
+    m: u8,
+    struck: u64,
     last: Pair,
     rest: &[u8],
     planted: &mut PlantedBytes,
     lengths: &mut PlantedLengths,
 ) -> PlantResult
     ensures { λ r. ⌜ r .used ≤ length (now (rest .entry)) ⌝ }
-    ensures { λ r. ⌜ ((p : Player) → Waits p n struck last → Passes p (now (rest .entry)) (record { player = withLast p (r .last); used = r .used })
+    ensures { λ r. ⌜ ((p : Player) → Waits p n m struck last → Passes p (now (rest .entry)) (record { player = withLast p (r .last); used = r .used })
         (now (planted .entry)) (now (lengths .entry)) (now (planted .exit)) (now (lengths .exit))) ⌝ }
 {
     let used = plant_size(rest);
@@ -214,7 +217,7 @@ pub fn pass_plant(
         return PlantResult { used: 0, last };
     }
     let whole = front(rest, used);
-    if run_record::plant_record(whole, n, struck, last, planted, lengths) != 0 {
+    if run_record::plant_record(whole, n, m, struck, last, planted, lengths) != 0 {
         return PlantResult { used: 0, last };
     }
     let from = fields::byte_at(rest, 4);
@@ -232,7 +235,7 @@ pub fn advance(
     p: Player,
     rest: &[u8],
     carry: &mut Carry,
-    positions: &mut Numbers,
+    positions: &mut Positions,
     marks: &mut Words,
     lists: &mut Lists,
     planted: &mut PlantedBytes,

@@ -1,7 +1,7 @@
 -- What a record changes: what is told of the file, what the memory holds of it, and what is shown. A record with a fault changes the fault alone.
 use mathlib.Core.Path.{_≡_, refl, ap, sym, _∙_}
 use mathlib.Core.Bool.{Bool, true, false, not, cond, _&&_, true≢false}
-use mathlib.Core.List.{List, [], _++_, append-assoc, append-nil}
+use mathlib.Core.List.{List, [], _∷_, _++_, append-assoc, append-nil}
 use Prim.Native.Nat.{ℕ, zero, suc, _+_, _*_, _≤_, _<_}
 use native.Mathlib.Omega.{arith}
 use lib.Dec.{eqb, leb}
@@ -12,27 +12,28 @@ use Rattle.terms.specs.Sizes.{isCount}
 use Rattle.convergence.specs.Counting.{Each}
 use Rattle.terms.proofs.Booleans.{and-both}
 use Rattle.head_spec.proofs.Proper.{both-passed}
-use Rattle.ring_spec.specs.Rounds.{Ring, ringAfter, mostRounds}
-use Rattle.run_spec.specs.RunFile.{File, given, RecordKind, start, round, plant, allowedWhen, isAllowed, countIn, limitIn, positionIn, struckIn, fewMarks, senderIn, receiverIn, plantFault, recordFault, withRecord, stopped, judged}
+use Rattle.ring_spec.specs.Rounds.{Round, Ring, ringAfter, mostRounds}
+use Rattle.run_spec.specs.RunFile.{File, given, RecordKind, start, round, plant, listeners, strikes, allowedWhen, isAllowed, isFirst, isBare, numberIn, listenersIn, countIn, limitIn, positionIn, struckIn, fewMarks, senderIn, receiverIn, plantFault, recordFault, withRecord, stopped, judged, ringFrom}
 use Rattle.run_spec.specs.declared.Pair.{Pair}
 use Rattle.run_spec.specs.Listing.{title, shown}
-use Rattle.run_spec.proofs.Streaming.{start-shows, plant-shows, stop-shows}
+use Rattle.run_spec.proofs.Bytes.{first-begun}
+use Rattle.run_spec.proofs.Streaming.{start-shows, plant-shows, listeners-shows, strikes-shows, stop-shows}
 use Rattle.frame_slots.specs.Slots.{plantedIn}
 use Rattle.run_listing.specs.declared.Text.{Text}
 use Rattle.run_listing.specs.Texts.{bytesOf, endLine}
-use Rattle.run_listing.proofs.Lines.{line-is}
+use Rattle.run_listing.proofs.Lines.{first-line-is}
 use Rattle.run_record.specs.declared.RecordResult.{RecordResult}
 use Rattle.run_state.specs.declared.Player.{Player}
 use Rattle.run_state.specs.Memory.{Memory, withSlots}
 use Rattle.run_state.specs.Heads.{HeadsOf}
-use Rattle.run_state.specs.Changes.{freshPlayer, halted, withRoundGiven, withPairPlanted}
+use Rattle.run_state.specs.Changes.{freshPlayer, halted, withRoundGiven, withPairPlanted, withListenersGiven, withStrikesGiven}
 use Rattle.run_state.specs.State.{ringBefore, PlayerOf, MemoryOf}
 use Rattle.run_round.specs.Played.{Played}
 use Rattle.run_record.specs.Next.{Next, afterPlant}
 use Rattle.run_record.specs.Inner.{Turned}
-use Rattle.run_round.proofs.Keeping.{start-positions, start-keeps}
+use Rattle.run_round.proofs.Keeping.{start-positions, start-keeps, start-keeps-any}
 use Rattle.run_listing.proofs.Writing.{empty-text}
-use Rattle.run_state.proofs.Told.{start-tells, stop-tells, round-tells, plant-tells, plant-fault-as}
+use Rattle.run_state.proofs.Told.{start-tells, stop-tells, round-tells, plant-tells, listeners-tells, strikes-tells, plant-fault-as}
 
 shows-none : (l : List ℕ) (t : Text) → t .len ≡ 0 → l ≡ l ++ bytesOf t
 shows-none l t e = rw (empty-text t e) (sym (append-nil l))
@@ -58,8 +59,14 @@ module _ (F : File) (len : ℕ) where
   pub round-place : isAllowed round F len ≡ true → F .setup .begun ≡ true
   round-place e = and-both (F .setup .begun) _ e .0
 
-pub plant-place : (begun pending : Bool) (len : ℕ) → allowedWhen plant begun pending len ≡ true → len ≤ 146
-plant-place begun pending len e = leb-true len 146 (and-both (pending && leb 6 len) _ e .1)
+  pub listeners-place : isAllowed listeners F len ≡ true → isFirst F ≡ true
+  listeners-place e = and-both (isFirst F) _ e .0
+
+  pub strikes-place : isAllowed strikes F len ≡ true → isBare (F .rounds) ≡ true
+  strikes-place e = and-both (isBare (F .rounds)) _ e .0
+
+pub plant-place : (begun first pending bare : Bool) (len : ℕ) → allowedWhen plant begun first pending bare len ≡ true → len ≤ 146
+plant-place begun first pending bare len e = leb-true len 146 (and-both (pending && leb 6 len) _ e .1)
 
 start-small : (F : File) (s : List ℕ) → recordFault start F s ≡ 0 → countIn s ≤ 32
 unfolding isCount
@@ -73,9 +80,9 @@ round-room F s sound = ltb-true (given F) _ (both-passed (fewMarks (F .setup .n)
 -- ---- a planted record
 
 -- its fault, by the player's numbers
-pub plant-told : {F : File} {p : Player} {n struck : ℕ} {last : Pair} → PlayerOf p F → p .n ≡ n → p .struck ≡ struck → p .last ≡ last
-    → (s : List ℕ) → plantFault n struck last s ≡ recordFault plant F s
-plant-told T a b c s = sym (plant-fault-as T s ∙ rw (a, b, c))
+pub plant-told : {F : File} {p : Player} {n m struck : ℕ} {last : Pair} → PlayerOf p F → p .n ≡ n → p .listeners ≡ m → p .struck ≡ struck → p .last ≡ last
+    → (s : List ℕ) → plantFault n m struck last s ≡ recordFault plant F s
+plant-told T a b c d s = sym (plant-fault-as T s ∙ rw (a, b, c, d))
 
 pub after-stopped : (p : Player) (c : ℕ) (s : List ℕ) → (c ≡ 0 → ⊥) → afterPlant p c s ≡ halted p 0 c
 after-stopped p zero s h = absurd (h refl)
@@ -92,14 +99,14 @@ module _ {F : File} {t : Text} {M : Memory} (s : List ℕ) where
         shows = rw (pending, begun, P .shows) (sym (append-assoc title _ _));
       }
 
-  pub none-turns : F .rounds .pending ≡ false → HeadsOf (F .setup .n) (ringBefore F) M → t .len ≡ 0 → Turned F s t M
+  pub none-turns : F .rounds .pending ≡ false → HeadsOf (F .setup .n) (F .setup .listeners) (ringBefore F) M → t .len ≡ 0 → Turned F s t M
   unfolding shown
   none-turns pending K none = record { keeps = rw pending K; shows = rw (pending, empty-text t none) (sym (append-nil _)) }
 
 -- ---- what comes of a record
 
 -- which records the memory stands for is not settled by what is planted
-same-keeps : {n : ℕ} {R : Ring} {M : Memory} {bytes lengths : List ℕ} → HeadsOf n R M → HeadsOf n R (withSlots M bytes lengths)
+same-keeps : {n m : ℕ} {R : Ring} {M : Memory} {bytes lengths : List ℕ} → HeadsOf n m R M → HeadsOf n m R (withSlots M bytes lengths)
 same-keeps K = record { collection = K .collection; confession = K .confession; always = K .always }
 
 either-short : (b : Bool) (x y : List ℕ) → length x ≤ 140 → length y ≤ 140 → length (cond b x y) ≤ 140
@@ -136,7 +143,7 @@ module _ {F : File} {p : Player} {M : Memory} {r : RecordResult} where
 
     -- a planted record: what it plants is added
     pub plant-next : {bytes lengths : List ℕ} → MemoryOf F M → length (drop 6 s) ≤ 140
-        → ((k i : ℕ) → k < 32 → i < 32 → length (plantedIn (M .planted) (M .lengths) k i) ≤ 140
+        → ((k i : ℕ) → k < 32 → i < 48 → length (plantedIn (M .planted) (M .lengths) k i) ≤ 140
         → plantedIn bytes lengths k i ≡ cond (eqb (senderIn s) k && eqb (receiverIn s) i) (drop 6 s) (plantedIn (M .planted) (M .lengths) k i))
         → PlayerOf p F → r .player ≡ withPairPlanted p (senderIn s) (receiverIn s) → r .text .len ≡ 0
         → Next F (withRecord plant F s) p M r (withSlots M bytes lengths)
@@ -158,22 +165,55 @@ module _ {F : File} {p : Player} {M : Memory} {r : RecordResult} where
     -- a start: the first positions
     pub start-next : {M′ : Memory} → F .setup .begun ≡ false → recordFault start F s ≡ 0
         → ((j : ℕ) → j < 32 → getD (M′ .positions) j (pos 0) ≡ positionIn s j)
-        → r .player ≡ freshPlayer true (countIn s) (limitIn s) → bytesOf (r .text) ≡ endLine (countIn s) 0 (M′ .positions) 0 0 → r .text .len ≤ 64
+        → r .player ≡ freshPlayer true (countIn s) (limitIn s) → bytesOf (r .text) ≡ endLine (countIn s) 0 0 (M′ .positions) 0 0 → r .text .len ≤ 64
         → Next F (withRecord start F s) p M r M′
     start-next {M′} begun sound first is text room =
-        let same : Each (countIn s) (λ i. getD (M′ .positions) i (pos 0) ≡ positionIn s i) = λ i l. first i (omega (arith, start-small F s sound)) in
-        let held = start-positions (countIn s) (limitIn s) (positionIn s) M′ same in
+        let most = start-small F s sound in
+        let same : Each (countIn s) (λ i. getD (M′ .positions) i (pos 0) ≡ positionIn s i) = λ i l. first i (omega arith) in
+        let held = start-positions (countIn s) 0 (limitIn s) most (positionIn s) M′ same in
         record {
           player = rw is (start-tells F s);
           whole = rw is refl;
           memory =
               record {
-                keeps = λ b. start-keeps (countIn s) (limitIn s) (positionIn s) M′ same;
+                keeps = λ b. start-keeps (countIn s) 0 (limitIn s) most (positionIn s) M′ same;
                 slots = λ w. absurd (true≢false (sym w));
                 short = λ w. absurd (true≢false (sym w));
               };
           refused = λ h. absurd (h refl);
           shows =
-              start-shows F s begun ∙ ap (λ (l : List ℕ). shown F ++ l) (line-is (countIn s) 0 _ (M′ .positions) refl (λ i l q. held i l) ∙ sym text);
+              start-shows F s begun
+              ∙ ap (λ (l : List ℕ). shown F ++ l) (first-line-is (countIn s) (limitIn s) (positionIn s) 0 0 (M′ .positions) most held ∙ sym text);
           room = room;
+        }
+
+    -- the number of listeners, just after the start: none of them holds a position
+    pub listeners-next : isFirst F ≡ true → MemoryOf F M → PlayerOf p F → r .player ≡ withListenersGiven p (numberIn s) → r .text .len ≡ 0
+        → Next F (withRecord listeners F s) p M r M
+    listeners-next may H T is none =
+        record {
+          player = rw is (listeners-tells T s);
+          whole = rw is refl;
+          memory = record { keeps = λ b. recounted (F .rounds .played) (omega (arith, first-begun F may .1)) (H .keeps b); slots = H .slots; short = H .short };
+          refused = λ h. absurd (h refl);
+          shows = listeners-shows F s may ∙ shows-none (shown F) (r .text) none;
+          room = omega arith;
+        }
+      where
+        recounted : (ws : List Round) → length ws ≡ 0 → HeadsOf (F .setup .n) (F .setup .listeners) (ringFrom (F .setup) ws) M
+            → HeadsOf (F .setup .n) (numberIn s) (ringFrom (F .setup) ws) M
+        recounted [] z K = start-keeps-any (F .setup .n) (F .setup .listeners) (numberIn s) (F .setup .f) (F .setup .first) K
+        recounted (w ∷ ws) z K = absurd (omega arith)
+
+    -- the struck listeners of a round whose marks are those of heads so far
+    pub strikes-next : F .rounds .last .struck < 4294967296 → MemoryOf F M → PlayerOf p F → r .player ≡ withStrikesGiven p (listenersIn s) → r .text .len ≡ 0
+        → Next F (withRecord strikes F s) p M r M
+    strikes-next small H T is none =
+        record {
+          player = rw is (strikes-tells T s small);
+          whole = rw is refl;
+          memory = record { keeps = H .keeps; slots = H .slots; short = H .short };
+          refused = λ h. absurd (h refl);
+          shows = strikes-shows F s ∙ shows-none (shown F) (r .text) none;
+          room = omega arith;
         }

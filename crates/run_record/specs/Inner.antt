@@ -12,5 +12,5 @@ use Rattle.run_state.specs.State.{ringBefore}
 
 -- as a round record s of the file F is taken, the pending round, if there is one, is played
 pub record Turned (F : File) (s : List ℕ) (text : Text) (M : Memory) : Type 0 where
-  pub keeps : HeadsOf (F .setup .n) (ringBefore (withRecord round F s)) M
+  pub keeps : HeadsOf (F .setup .n) (F .setup .listeners) (ringBefore (withRecord round F s)) M
   pub shows : shown (withRecord round F s) ≡ shown F ++ bytesOf text

@@ -3,8 +3,9 @@ ghost use mathlib.Core.Bool.{true, false};
 ghost use mathlib.Core.List.{List};
 ghost use mathlib.Core.Path.{_≡_};
 ghost use Prim.Native.Nat.{ℕ, _≤_, _<_};
-ghost use lib.ListN.{length, drop};
-ghost use Rattle.run_spec.specs.RunFile.{File, given, readFile, start, round, plant, kindOf, lengthOf, isAllowed, judged, stopped};
+ghost use lib.ListN.{length, getD};
+ghost use lib.IntN.{pos};
+ghost use Rattle.run_spec.specs.RunFile.{File, given, readFile, start, round, plant, listeners, strikes, isFirst, isBare, kindOf, lengthOf, isAllowed, judged, stopped};
 ghost use Rattle.run_state.specs.Memory.{Memory, before, after, withPositions, withSlots};
 ghost use Rattle.run_state.specs.State.{PlayerOf, MemoryOf};
 ghost use Rattle.run_record.specs.Next.{Next, NextQuiet, afterPlant};
@@ -16,6 +17,7 @@ use run_spec::Pair;
 use run_state::Player;
 use terms::Lists;
 use terms::Numbers;
+use terms::Positions;
 use terms::Words;
 use terms::refusal;
 
@@ -36,8 +38,20 @@ fn refuse(p: Player, number: u8) -> RecordResult
     }
 }
 
+// Stores the positions of the heads; those of listeners stay as they were.
+fn store_heads(first: &Numbers, positions: &mut [i32])
+    requires { ⌜ 32 ≤ length (now positions) ⌝ }
+    ensures { λ _. ⌜ ((j : ℕ) → j < 32 → getD (now (positions .exit)) j (pos 0) ≡ getD (now (first .entry)) j (pos 0)) ⌝ }
+{
+    let mut j: usize = 0;
+    while j < 32 {
+        positions[j] = first[j];
+        j += 1;
+    }
+}
+
 // A start record.
-fn take_start(p: Player, bytes: &[u8], positions: &mut Numbers) -> RecordResult
+fn take_start(p: Player, bytes: &[u8], positions: &mut Positions) -> RecordResult
     ensures { λ r. ⌜ ((F : File) (M : Memory) → F .setup .begun ≡ false → PlayerOf p F → MemoryOf F (withPositions M (now (positions .entry)))
         → Next F (judged start F (now (bytes .entry))) p (withPositions M (now (positions .entry))) r (withPositions M (now (positions .exit)))) ⌝ }
     ensures { λ r. ⌜ r .text .len ≤ 64 ⌝ }
@@ -47,17 +61,49 @@ fn take_start(p: Player, bytes: &[u8], positions: &mut Numbers) -> RecordResult
         return refuse(p, number);
     }
     let n = fields::byte_at(bytes, 4);
-    *positions = run_judge::first_positions(bytes);
+    let first = run_judge::first_positions(bytes);
+    store_heads(&first, positions);
     RecordResult {
         player: run_state::fresh(true, n, fields::byte_at(bytes, 5)),
-        text: run_listing::end_line(0, positions, n, 0, 0),
+        text: run_listing::end_line(0, positions, n, 0, 0, 0),
+    }
+}
+
+// A record with the number of listeners. The line of the start is the same however many there are, so nothing is shown.
+fn take_listeners(p: Player, bytes: &[u8]) -> RecordResult
+    ensures { λ r. ⌜ ((F : File) (M : Memory) → isFirst F ≡ true → PlayerOf p F → MemoryOf F M → Next F (judged listeners F (now (bytes .entry))) p M r M) ⌝ }
+    ensures { λ r. ⌜ r .text .len ≤ 64 ⌝ }
+{
+    let fault = run_judge::listeners_fault(bytes);
+    if fault != 0 {
+        return refuse(p, fault);
+    }
+    RecordResult {
+        player: run_state::given_listeners(p, fields::byte_at(bytes, 4)),
+        text: run_listing::empty(),
+    }
+}
+
+// A record with the struck listeners of the pending round.
+fn take_strikes(p: Player, bytes: &[u8]) -> RecordResult
+    ensures { λ r. ⌜ ((a : List ℕ) (M : Memory) → isBare (readFile a .rounds) ≡ true → PlayerOf p (readFile a) → MemoryOf (readFile a) M
+        → Next (readFile a) (judged strikes (readFile a) (now (bytes .entry))) p M r M) ⌝ }
+    ensures { λ r. ⌜ r .text .len ≤ 64 ⌝ }
+{
+    let fault = run_judge::strikes_fault(bytes, p.listeners);
+    if fault != 0 {
+        return refuse(p, fault);
+    }
+    RecordResult {
+        player: run_state::given_strikes(p, fields::half_at(bytes, 4)),
+        text: run_listing::empty(),
     }
 }
 
 // Plays the pending round, if there is one, and answers the line of the phase that it ends, if it ends one.
 fn play_waiting(
     p: Player,
-    positions: &mut Numbers,
+    positions: &mut Positions,
     marks: &mut Words,
     lists: &mut Lists,
     planted: &PlantedBytes,
@@ -78,7 +124,7 @@ fn play_waiting(
 fn take_round(
     p: Player,
     bytes: &[u8],
-    positions: &mut Numbers,
+    positions: &mut Positions,
     marks: &mut Words,
     lists: &mut Lists,
     planted: &PlantedBytes,
@@ -105,17 +151,18 @@ fn take_round(
 pub fn plant_record(
     bytes: &[u8],
     n: u8,
-    struck: u32,
+    m: u8,
+    struck: u64,
     last: Pair,
     planted: &mut PlantedBytes,
     lengths: &mut PlantedLengths,
 ) -> u8
-    ensures { λ r. ⌜ ((F : File) (M : Memory) (p : Player) → p .n ≡ n → p .struck ≡ struck → p .last ≡ last → length (now (bytes .entry)) ≤ 146 → PlayerOf p F
+    ensures { λ r. ⌜ ((F : File) (M : Memory) (p : Player) → p .n ≡ n → p .listeners ≡ m → p .struck ≡ struck → p .last ≡ last → length (now (bytes .entry)) ≤ 146 → PlayerOf p F
         → MemoryOf F (withSlots M (now (planted .entry)) (now (lengths .entry)))
         → NextQuiet F (judged plant F (now (bytes .entry))) p (withSlots M (now (planted .entry)) (now (lengths .entry)))
         (afterPlant p r (now (bytes .entry))) (withSlots M (now (planted .exit)) (now (lengths .exit)))) ⌝ }
 {
-    let fault = run_judge::plant_fault(bytes, n, struck, last);
+    let fault = run_judge::plant_fault(bytes, n, m, struck, last);
     if fault != 0 {
         return fault;
     }
@@ -148,7 +195,7 @@ fn take_plant(
         → Next F (judged plant F (now (bytes .entry))) p (withSlots M (now (planted .entry)) (now (lengths .entry))) r (withSlots M (now (planted .exit)) (now (lengths .exit)))) ⌝ }
     ensures { λ r. ⌜ r .text .len ≤ 64 ⌝ }
 {
-    let fault = plant_record(bytes, p.n, p.struck, p.last, planted, lengths);
+    let fault = plant_record(bytes, p.n, p.listeners, p.struck, p.last, planted, lengths);
     RecordResult {
         player: after_plant(p, fault, bytes),
         text: run_listing::empty(),
@@ -159,7 +206,7 @@ fn take_plant(
 pub fn take_record(
     p: Player,
     bytes: &[u8],
-    positions: &mut Numbers,
+    positions: &mut Positions,
     marks: &mut Words,
     lists: &mut Lists,
     planted: &mut PlantedBytes,
@@ -177,6 +224,8 @@ pub fn take_record(
         run_judge::START => take_start(p, bytes, positions),
         run_judge::ROUND => take_round(p, bytes, positions, marks, lists, planted, lengths),
         run_judge::PLANT => take_plant(p, bytes, planted, lengths),
+        run_judge::LISTENERS => take_listeners(p, bytes),
+        run_judge::STRIKES => take_strikes(p, bytes),
         _ => refuse(p, refusal::RUN_RECORD),
     }
 }

@@ -1,52 +1,112 @@
--- Demand 3 of the positions in memory. Before a collection round the ring stands at the latest phase end, and the memory holds the position of each of its heads that
--- is not struck, so it keeps demand 3 with each end as the latest end does.
-use mathlib.Core.Path.{_≡_, refl}
-use mathlib.Core.Bool.{Bool, true}
+-- Demand 3 of the positions in memory. Before a collection round the ring stands at the latest phase end, and the memory holds the position of each receiver that
+-- is not out there, so it keeps demand 3 with each end as the latest end does.
+use mathlib.Core.Path.{_≡_, refl, ap}
+use mathlib.Core.Bool.{Bool, true, false, not, _||_, true≢false}
 use mathlib.Core.List.{List, [], _∷_}
-use Prim.Native.Nat.{ℕ, zero, suc}
+use Prim.Native.Nat.{ℕ, zero, suc, _<_}
 use native.Mathlib.Omega.{arith}
 use native.Mathlib.Nat.{zero-add}
-use lib.ListN.{getD}
-use lib.IntN.{ℤ}
-use Rattle.convergence.specs.Phases.{spread}
-use Rattle.ring_spec.specs.Rounds.{Round, roundThen, afterRound, PhaseEnd, phaseEnd, asEnd, withEnd, ringAfter, endsAfter}
+use lib.ListN.{length, getD}
+use lib.IntN.{ℤ, pos}
+use Rattle.terms.specs.declared.Entry.{Entry}
+use Rattle.terms.specs.declared.Entry.the-variants.{Null, Position}
+use Rattle.marks.specs.Marks.{bitOf}
+use Rattle.marks.proofs.Marks.{bit-none}
+use Rattle.convergence.specs.Phases.{lowest, highest, spread}
+use Rattle.convergence.specs.Counting.{Each}
+use Rattle.convergence.specs.Demand3.{HeldBetween, Demand3, Halves}
+use Rattle.ring_spec.specs.Rounds.{Round, roundThen, afterRound, PhaseEnd, phaseEnd, receivers, isReceiver, isOut, asEnd, withEnd, ringAfter, endsAfter}
 use Rattle.ring_spec.specs.Converges.{noEnd, AnyTwo}
-use Rattle.ring_spec.proofs.OnePhase.{endAt}
-use Rattle.run_spec.specs.RunFile.{readFile, ringFrom}
+use Rattle.run_spec.specs.RunFile.{File, readFile, ringFrom, endsFrom}
 use Rattle.run_spec.proofs.Reached.{taken}
 use Rattle.run_spec.proofs.Demand3.{playedWith, played-converges}
 use Rattle.run_listing.specs.Held.{endIn}
 use Rattle.run_listing.proofs.Lowest.{found-held}
 use Rattle.run_state.specs.Memory.{Memory}
 use Rattle.run_state.specs.Heads.{HeadsOf}
-use Rattle.run_round.specs.Converged.{Converged, ConvergedIn}
+use Rattle.run_round.specs.Converged.{ConvergedIn}
 
-module _ (n f : ℕ) (v : ℕ → ℤ) where
+-- what lies between is a position
+held-at : (low high : Entry) {u : ℤ} (x : Entry) → HeldBetween low high x → ((v : ℤ) → x ≡ Entry.Position v → u ≡ v) → x ≡ Entry.Position u
+held-at low high Null b same = absurd (none low high b)
+  where
+    none : (low high : Entry) → HeldBetween low high Entry.Null → ⊥
+    none Null Null b = b
+    none Null (Position h) b = b
+    none (Position l) Null b = b
+    none (Position l) (Position h) b = b
+held-at low high (Position v) b same = rw (same v refl)
+
+-- neither missing nor struck
+not-out : (r c : Bool) → (not r || c) ≡ false → (r ≡ true) × (c ≡ false)
+not-out true true e = absurd (true≢false e)
+not-out true false e = (refl, refl)
+not-out false c e = absurd (true≢false e)
+
+module _ (n m f : ℕ) (v : ℕ → ℤ) where
   -- before a collection round the ring stands at the latest end
-  latest : (ws : List Round) → ringAfter n f v ws .round ≡ 0 → asEnd (getD (endsAfter n f v ws) 0 noEnd) ≡ endAt (ringAfter n f v ws)
+  record Stands (ws : List Round) : Type 0 where
+    heads : getD (endsAfter n f v ws) 0 noEnd .heads ≡ ringAfter n f v ws .heads
+    struck : (i : ℕ) → bitOf (getD (endsAfter n f v ws) 0 noEnd .struck) i ≡ false → bitOf (ringAfter n f v ws .before) i ≡ false
+
+  latest : (ws : List Round) → ringAfter n f v ws .round ≡ 0 → Stands ws
   unfolding ringAfter endsAfter afterRound
-  latest [] c = refl
-  latest (w ∷ ws) c = go (ringAfter n f v ws .round) c
+  latest [] c = record { heads = refl; struck = λ i q. bit-none i }
+  latest (w ∷ ws) c = let (h, s) = go (ringAfter n f v ws .round) c in record { heads = h; struck = s }
     where
       e : PhaseEnd
       e = phaseEnd (ringAfter n f v ws .before) (w .struck) (ringAfter n f v (w ∷ ws) .heads)
 
-      go : (r : ℕ) → roundThen r ≡ 0 → asEnd (getD (withEnd r e (endsAfter n f v ws)) 0 noEnd) ≡ asEnd e
-      go zero c = absurd (omega arith)
-      go (suc r) c = refl
+      last : ℕ → PhaseEnd
+      last r = getD (withEnd r e (endsAfter n f v ws)) 0 noEnd
 
-  -- any two ends of the ring keep demand 3, and the memory keeps step with it
-  pub converged : (ws : List Round) {M : Memory} → AnyTwo n f (endsAfter n f v ws) → HeadsOf n (ringAfter n f v ws) M → Converged n f v ws (M .positions)
-  unfolding endIn spread
-  converged ws {M} A K c k l =
-      let R = ringAfter n f v ws in
-      let D = rw (zero-add, latest ws c) at (A 0 k (rw zero-add l)) in
-      let same = found-held n (R .before) (λ i. R .heads i .seat .position) (M .positions) (K .collection c) in
-      record { range = λ i l q. rw (← K .collection c i l q) (D .range i l q); halving = λ h. rw (← same .is-low, ← same .is-high) (D .halving h) }
+      go : (r : ℕ) → roundThen r ≡ 0 → (last r .heads ≡ e .heads) × ((i : ℕ) → bitOf (last r .struck) i ≡ false → bitOf (w .struck) i ≡ false)
+      go zero c = absurd (omega arith)
+      go (suc r) c = (refl, λ i q. q)
+
+  module _ (ws : List Round) {M : Memory} (A : AnyTwo n m f (endsAfter n f v ws)) (K : HeadsOf n m (ringAfter n f v ws) M)
+      (c : ringAfter n f v ws .round ≡ 0) where
+    abbrev e : PhaseEnd
+    e = getD (endsAfter n f v ws) 0 noEnd
+
+    -- whoever is not out at the latest end holds a position, and the memory holds it
+    pub held-here : 0 < length (endsAfter n f v ws)
+        → Each receivers (λ i. isOut n m (e .struck) i ≡ false → e .heads i .seat .position ≡ Entry.Position (getD (M .positions) i (pos 0)))
+    held-here some i h o =
+        let S = latest ws c in
+        let (r, q) = not-out (isReceiver n m i) _ o in
+        held-at (lowest receivers (asEnd n m e)) (highest receivers (asEnd n m e)) _ (A 0 0 (omega arith) .range i h o)
+        (λ u z. K .always i h r (S .struck i q) u (rw (S .heads) at z))
+
+    -- any two ends of the ring keep demand 3, and the memory keeps step with it
+    converged : (k : ℕ) → k < length (endsAfter n f v ws)
+        → Demand3 receivers (Halves n f) k (asEnd n m (getD (endsAfter n f v ws) k noEnd)) (endIn n m (e .struck) (M .positions))
+    unfolding endIn spread
+    converged k l =
+        let D = rw zero-add at (A 0 k (rw zero-add l)) in
+        let held = held-here (omega arith) in
+        let same = found-held n m (e .struck) (λ i. e .heads i .seat .position) (M .positions) (λ i h r q. held i h (rw (r, q) refl)) in
+        record {
+          range = λ i h o. rw (← held i h o) (D .range i h o);
+          halving = λ h. rw (← same .is-low, ← same .is-high) (D .halving h);
+        }
 
 -- of the file read, when its rounds are played, with the pending one or without it
-pub held-converges : (b : Bool) (a : List ℕ) {M : Memory} → let F = readFile a in
-    (F .setup .begun ≡ true → HeadsOf (F .setup .n) (ringFrom (F .setup) (playedWith b F)) M) → ConvergedIn F (playedWith b F) (M .positions)
-held-converges b a K begun =
-    let F = readFile a in
-    converged (F .setup .n) (F .setup .f) (F .setup .first) (playedWith b F) (played-converges F (taken a begun) b) (K begun)
+module _ (b : Bool) (a : List ℕ) where
+  abbrev F : File
+  F = readFile a
+
+  pub held-converges : {M : Memory} → (F .setup .begun ≡ true → HeadsOf (F .setup .n) (F .setup .listeners) (ringFrom (F .setup) (playedWith b F)) M)
+      → ConvergedIn F (playedWith b F) (M .positions)
+  held-converges K begun c =
+      converged (F .setup .n) (F .setup .listeners) (F .setup .f) (F .setup .first) (playedWith b F) (played-converges F (taken a begun) b) (K begun) c
+
+  -- x: the latest end
+  pub held-at-end : {M : Memory} → F .setup .begun ≡ true → HeadsOf (F .setup .n) (F .setup .listeners) (ringFrom (F .setup) (playedWith b F)) M
+      → ringFrom (F .setup) (playedWith b F) .round ≡ 0 → (x : PhaseEnd) {es : List PhaseEnd} → endsFrom (F .setup) (playedWith b F) ≡ x ∷ es
+      → Each receivers (λ i. isOut (F .setup .n) (F .setup .listeners) (x .struck) i ≡ false
+      → x .heads i .seat .position ≡ Entry.Position (getD (M .positions) i (pos 0)))
+  held-at-end begun K c x e =
+      rw e at
+      (held-here (F .setup .n) (F .setup .listeners) (F .setup .f) (F .setup .first) (playedWith b F) (played-converges F (taken a begun) b) K c
+      (omega (arith, ap length e)))

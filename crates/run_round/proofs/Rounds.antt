@@ -4,10 +4,11 @@
 use mathlib.Core.Path.{_≡_, refl, ap, sym, _∙_}
 use mathlib.Core.Bool.{true, false, cond}
 use mathlib.Core.List.{List, _∷_, _++_}
-use Prim.Native.Nat.{ℕ, _+_, _≤_}
+use Prim.Native.Nat.{ℕ, _+_, _-_, _/_, _≤_}
 use native.Mathlib.Omega.{arith}
 use lib.ListN.{length, getD}
 use lib.IntN.{pos}
+use Rattle.marks.proofs.Words.{word-low, word-high}
 use Rattle.entries.specs.Tables.{tableOf}
 use Rattle.ring_spec.specs.Rounds.{Round, Ring, endsPhase}
 use Rattle.ring_spec.proofs.Counts.{next-phase, next-ends, next-opens}
@@ -16,7 +17,7 @@ use Rattle.run_spec.specs.Listing.{lines}
 use Rattle.run_spec.proofs.Reached.{Reached}
 use Rattle.run_spec.proofs.Streaming.{roundLine, lines-next}
 use Rattle.ring_round.specs.declared.Stage.{Stage}
-use Rattle.ring_round.specs.Memory.{heads, hears, listEntry, rowIn, newPosition}
+use Rattle.ring_round.specs.Memory.{heads, hears, settles, listEntry, rowIn, newPosition}
 use Rattle.frame_slots.specs.Slots.{plantedIn}
 use Rattle.run_listing.specs.declared.Text.{Text}
 use Rattle.run_listing.specs.Texts.{bytesOf, endLine}
@@ -45,7 +46,7 @@ module _ {F : File} {p : Player} {s : Stage} {M : Memory}
   abbrev plant : ℕ → ℕ → List ℕ
   plant = plantedIn (M .planted) (M .lengths)
 
-  plays : Plays (F .setup .n) (F .setup .f) R (F .rounds .last) s plant
+  plays : Plays (F .setup .n) (F .setup .listeners) (F .setup .f) R (F .rounds .last) s plant
   plays =
       rw is
       record {
@@ -54,18 +55,21 @@ module _ {F : File} {p : Player} {s : Stage} {M : Memory}
         phase =
             let next = next-phase (F .setup .n) (F .setup .f) (F .setup .first) (F .rounds .played) in
             omega (arith, next, number, I .count);
-        before = sym (T .before);
-        struck = sym (T .struck);
-        plants = λ k i k-below i-below sent heard. H .slots pending k i (omega (arith, I .size .most)) (omega (arith, I .size .most));
+        listeners = sym (T .listeners);
+        few = I .listeners;
+        before = λ k l. rw (T .before) (sym (word-low (p .before) 32 k l));
+        struck = λ k l. rw (T .struck) (sym (word-low (p .struck) 32 k l));
+        away = λ i h l. rw (T .struck) (sym (word-high (p .struck) 32 i h ∙ word-low (p .struck / 4294967296) 32 (i - 32) (omega arith)));
+        plants = H .slots pending;
       }
 
   abbrev linesOf : List Round → List ℕ
-  linesOf ws = lines (F .setup .n) (endsFrom (F .setup) ws)
+  linesOf ws = lines (F .setup .n) (F .setup .listeners) (endsFrom (F .setup) ws)
 
-  shows : {text : List ℕ} → roundLine (F .setup .n) (F .setup .f) R (F .rounds .last) ≡ text
+  shows : {text : List ℕ} → roundLine (F .setup .n) (F .setup .listeners) (F .setup .f) R (F .rounds .last) ≡ text
       → linesOf (F .rounds .last ∷ F .rounds .played) ≡ linesOf (F .rounds .played) ++ text
   shows e =
-      lines-next (F .setup .n) (F .setup .f) (F .setup .first) (F .rounds .played) (F .rounds .last)
+      lines-next (F .setup .n) (F .setup .listeners) (F .setup .f) (F .setup .first) (F .rounds .played) (F .rounds .last)
       ∙ ap (λ (l : List ℕ). linesOf (F .rounds .played) ++ l) e
 
   module _ (opens : endsPhase (p .given) ≡ false) where
@@ -80,7 +84,7 @@ module _ {F : File} {p : Player} {s : Stage} {M : Memory}
     collection-played {t} same new none =
         record {
           keeps = collect-keeps plays (H .keeps begun) (waiting-playable F I pending .ready) collection same new;
-          shows = shows (collection-line (F .setup .n) (F .setup .f) R (F .rounds .last) collection ∙ sym (empty-text t none));
+          shows = shows (collection-line (F .setup .n) (F .setup .listeners) (F .setup .f) R (F .rounds .last) collection ∙ sym (empty-text t none));
           room = omega arith;
         }
 
@@ -90,16 +94,17 @@ module _ {F : File} {p : Player} {s : Stage} {M : Memory}
 
     pub confession-played : {t : Text} {M′ : Memory}
         → ((i : ℕ) → getD (M′ .positions) i (pos 0)
-        ≡ cond (hears s i) (newPosition s (M .marks) (M .lists) plant i) (getD (M .positions) i (pos 0)))
-        → bytesOf t ≡ endLine (p .n) (s .phase) (M′ .positions) (p .before) (p .struck)
+        ≡ cond (settles s i) (newPosition s (M .marks) (M .lists) plant i) (getD (M .positions) i (pos 0)))
+        → bytesOf t ≡ endLine (p .n) (p .listeners) (s .phase) (M′ .positions) (p .before) (p .struck)
         → t .len ≤ 64
         → Played F t M′
     confession-played {t} {M′} new text room =
         let A = waiting-playable F I pending in
-        let held = confess-positions plays (H .keeps begun) A (I .waiting) confession M′ new in
-        let is-line = line-is (F .setup .n) (R .phase) (madeBy (F .setup .n) (F .setup .f) R (F .rounds .last) R) (M′ .positions) refl held in
+        let few = I .waiting pending .few in
+        let held = confess-positions plays (H .keeps begun) A few confession M′ new in
+        let is-line = line-is (F .setup .n) (F .setup .listeners) (R .phase) (madeBy (F .setup .n) (F .setup .listeners) (F .setup .f) R (F .rounds .last) R) (M′ .positions) refl held in
         record {
-          keeps = confess-keeps plays (H .keeps begun) A (I .waiting) confession M′ new;
-          shows = shows (confession-line (F .setup .n) (F .setup .f) R (F .rounds .last) confession ∙ is-line ∙ cc (plays .phase));
+          keeps = confess-keeps plays (H .keeps begun) A few confession M′ new;
+          shows = shows (confession-line (F .setup .n) (F .setup .listeners) (F .setup .f) R (F .rounds .last) confession ∙ is-line ∙ cc (plays .phase));
           room = room;
         }

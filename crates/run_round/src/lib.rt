@@ -14,7 +14,7 @@ use ring_round::Stage;
 use run_listing::Text;
 use run_state::Player;
 use terms::Lists;
-use terms::Numbers;
+use terms::Positions;
 use terms::Words;
 
 // The ring in the pending round.
@@ -25,15 +25,17 @@ fn stage_of(p: Player) -> Stage
         n: p.n,
         f: p.f,
         phase: run_state::phase_of(p.given),
-        before: p.before,
-        struck: p.struck,
+        before: (p.before % 4294967296) as u32,
+        struck: (p.struck % 4294967296) as u32,
+        listeners: p.listeners,
+        away: (p.struck / 4294967296 % 4294967296) as u32,
     }
 }
 
 // Plays the pending round, and answers the line of the phase that it ends, if it ends one.
 pub fn play_round(
     p: Player,
-    positions: &mut Numbers,
+    positions: &mut Positions,
     marks: &mut Words,
     lists: &mut Lists,
     planted: &PlantedBytes,
@@ -50,5 +52,5 @@ pub fn play_round(
         return run_listing::empty();
     }
     ring_confession::confess(s, marks, lists, planted, lengths, positions);
-    run_listing::end_line(s.phase, positions, p.n, p.before, p.struck)
+    run_listing::end_line(s.phase, positions, p.n, p.listeners, p.before, p.struck)
 }

@@ -9,16 +9,16 @@ use native.Mathlib.Decide.{decLe}
 use native.Mathlib.Nat.{add-zero, zero-add}
 use lib.Dec.{ltb, leb, eqb}
 use lib.ListN.{length, length-append}
-use borrow.Author.Tests.{leb-true, eqb-true, ltb-false, eq-eqb, not-true, not-false}
+use borrow.Author.Tests.{leb-true, eqb-true, ltb-false, eq-eqb, ne-eqb, not-true, not-false}
 use Rattle.terms.specs.Refusals.{leaves, unlessRefused}
 use Rattle.terms.specs.Refusals as refusal
 use Rattle.terms.specs.Sizes.{isCount}
 use Rattle.terms.proofs.Booleans.{and-both}
+use Rattle.convergence.specs.Counting.{bit}
 use Rattle.head_spec.proofs.Proper.{both-passed}
-use Rattle.ring_spec.specs.Rounds.{Round}
+use Rattle.ring_spec.specs.Rounds.{Plant, Round}
 use Rattle.ring_spec.proofs.Counts.{counted}
-use Rattle.run_spec.specs.RunFile.{File, unread, given, RecordKind, start, round, plant, other, lengthOf, kindOf, isAllowed, countIn, recordFault, withRecord, stopped, judged, withPart, readOn, step, feed, readFile, recordsOf, accepted, ending, roundsPlayed, endsPlayed, endsFrom, allRounds}
-use Rattle.run_spec.proofs.Reached.{length-then}
+use Rattle.run_spec.specs.RunFile.{File, unread, Rounds, given, listenersFault, RecordKind, start, round, plant, listeners, strikes, other, lengthOf, kindOf, isAllowed, isFirst, isBare, countIn, numberIn, lastPair, thenPlayed, recordFault, withRecord, stopped, judged, withPart, readOn, step, feed, readFile, recordsOf, accepted, ending, roundsPlayed, endsPlayed, endsFrom, allRounds}
 use Rattle.run_spec.proofs.Whole.{stands, RoundsFit, kept-on, kept-read, kept}
 use Rattle.run_spec.proofs.Streaming.{feed-append}
 
@@ -81,6 +81,10 @@ module _ (P : File → ℕ → Type 0)
 
 -- ---- the bytes that the records took
 
+pub length-then : (b : Bool) (ws : List Round) (w : Round) → length (thenPlayed b ws w) ≡ length ws + bit b
+length-then true ws w = omega arith
+length-then false ws w = omega arith
+
 pub record Cost (F : File) (k : ℕ) : Type 0 where
   pub begun : F .rounds .pending ≡ true → F .setup .begun ≡ true
   pub part : length (F .part) ≤ k
@@ -92,6 +96,12 @@ start-long F s sound =
     let (whole, count, rest) = both-passed (eqb (length s) (6 + 4 * countIn s)) (isCount (countIn s)) 12 0 sound in
     let some = leb-true 1 (countIn s) (and-both (leb 1 (countIn s)) _ count .0) in
     omega (arith, eqb-true (length s) (6 + 4 * countIn s) whole)
+
+pub number-some : (s : List ℕ) → listenersFault s ≡ 0 → (1 ≤ numberIn s) × (numberIn s ≤ 16)
+number-some s sound =
+    let (fits, none, done) = both-passed (leb 1 (numberIn s) && leb (numberIn s) 16) true 12 0 sound in
+    let (some, most) = and-both (leb 1 (numberIn s)) _ fits in
+    (leb-true 1 (numberIn s) some, leb-true (numberIn s) 16 most)
 
 costs-more : (K : RecordKind) (F : File) (s : List ℕ) (k : ℕ) → length s ≡ suc (length (F .part)) → isAllowed K F (lengthOf s) ≡ true → length s ≡ lengthOf s
     → recordFault K F s ≡ 0 → Cost F k → Cost (withRecord K F s) (suc k)
@@ -105,6 +115,10 @@ costs-more round F s k one may all sound C =
       records = λ b. omega (arith, C .records begun, eqb-true (lengthOf s) 8 eight, length-then (F .rounds .pending) (F .rounds .played) (F .rounds .last));
     }
 costs-more plant F s k one may all sound C =
+    record { begun = C .begun; part = omega arith; records = λ b. omega (arith, C .records b) }
+costs-more listeners F s k one may all sound C =
+    record { begun = C .begun; part = omega arith; records = λ b. omega (arith, C .records b) }
+costs-more strikes F s k one may all sound C =
     record { begun = C .begun; part = omega arith; records = λ b. omega (arith, C .records b) }
 costs-more other F s k one may all sound C = absurd (true≢false (sym may))
 
@@ -148,40 +162,73 @@ few-ends s = go (F .setup .begun) (eqb (ending F) 0) refl
 
 -- ---- the records accepted
 
+-- just after the start, and just after a round record
+pub first-begun : (F : File) → isFirst F ≡ true → (F .setup .begun ≡ true) × (given F ≡ 0) × (F .setup .listeners ≡ 0)
+first-begun F e =
+    let (front, none) = and-both (F .setup .begun && eqb (given F) 0) _ e in
+    let (begun, first) = and-both (F .setup .begun) _ front in
+    (begun, eqb-true (given F) 0 first, eqb-true (F .setup .listeners) 0 none)
+
+pub bare-pending : (R : Rounds) → isBare R ≡ true → (R .pending ≡ true) × (R .last .told ≡ false) × (length (R .last .plants) ≡ 0)
+bare-pending R e =
+    let (front, none) = and-both (R .pending && not (R .last .told)) _ e in
+    let (pending, untold) = and-both (R .pending) _ front in
+    (pending, not-true (R .last .told) untold, eqb-true (length (R .last .plants)) 0 none)
+
+-- nothing is planted, by the pair that was last
+pub none-planted : (xs : List Plant) → eqb (length xs) 0 ≡ not (lastPair xs .some)
+none-planted [] = refl
+none-planted (x ∷ xs) = ne-eqb (length (x ∷ xs)) 0 (omega arith)
+
 -- each is one more
-pub one-accepted : (K : RecordKind) (F : File) (s : List ℕ) (len : ℕ) → isAllowed K F len ≡ true → (F .rounds .pending ≡ true → F .setup .begun ≡ true)
-    → accepted (withRecord K F s) ≡ suc (accepted F)
+pub one-accepted : (K : RecordKind) (F : File) (s : List ℕ) (len : ℕ) → isAllowed K F len ≡ true → recordFault K F s ≡ 0
+    → (F .rounds .pending ≡ true → F .setup .begun ≡ true) → accepted (withRecord K F s) ≡ suc (accepted F)
 unfolding accepted recordsOf
-one-accepted start F s len may W =
+one-accepted start F s len may sound W =
     let none = not-true (F .setup .begun) (and-both (not (F .setup .begun)) _ (and-both (not (F .setup .begun) && leb 6 len) _ may .0) .0) in
     rw none refl
-one-accepted round F s len may W = rw (and-both (F .setup .begun) _ may .0) (omega arith)
-one-accepted plant F s len may W =
+one-accepted round F s len may sound W = rw (and-both (F .setup .begun) _ may .0) (omega arith)
+one-accepted plant F s len may sound W =
     let pending = and-both (F .rounds .pending) _ (and-both (F .rounds .pending && leb 6 len) _ may .0) .0 in
     rw (W pending, pending) (omega arith)
-one-accepted other F s len may W = absurd (true≢false (sym may))
+one-accepted listeners F s len may sound W =
+    let (begun, given, none) = first-begun F (and-both (isFirst F) _ may .0) in
+    let some = number-some s sound in
+    rw (begun, none, ne-eqb (numberIn s) 0 (omega arith)) (omega arith)
+one-accepted strikes F s len may sound W =
+    let (pending, untold, none) = bare-pending (F .rounds) (and-both (isBare (F .rounds)) _ may .0) in
+    rw (W pending, pending, untold) (omega arith)
+one-accepted other F s len may sound W = absurd (true≢false (sym may))
 
 -- and if none is, a record that was judged has a fault
 pub none-accepted : (K : RecordKind) (F : File) (s : List ℕ) (len : ℕ) → isAllowed K F len ≡ true → (F .rounds .pending ≡ true → F .setup .begun ≡ true)
     → accepted (judged K F s) ≡ accepted F → judged K F s .fault ≡ 0 → ⊥
 unfolding judged
-none-accepted K F s len may W = go (recordFault K F s)
+none-accepted K F s len may W = go (recordFault K F s) refl
   where
-    go : (c : ℕ) → accepted (unlessRefused (stopped F) c (withRecord K F s)) ≡ accepted F → unlessRefused (stopped F) c (withRecord K F s) .fault ≡ 0 → ⊥
-    go zero e z = omega (arith, one-accepted K F s len may W)
-    go (suc c) e z = omega arith
+    go : (c : ℕ) → recordFault K F s ≡ c → accepted (unlessRefused (stopped F) c (withRecord K F s)) ≡ accepted F
+        → unlessRefused (stopped F) c (withRecord K F s) .fault ≡ 0 → ⊥
+    go zero sound e z = omega (arith, one-accepted K F s len may sound W)
+    go (suc c) sound e z = omega arith
 
 -- at least m, and no round is pending before a start
 record Least (m : ℕ) (F : File) (k : ℕ) : Type 0 where
   begun : F .rounds .pending ≡ true → F .setup .begun ≡ true
   least : m ≤ accepted F
 
-least-more : (m : ℕ) (K : RecordKind) (F : File) (s : List ℕ) (k : ℕ) → isAllowed K F (lengthOf s) ≡ true → Least m F k → Least m (withRecord K F s) (suc k)
-least-more m start F s k may L = record { begun = λ w. refl; least = omega (arith, one-accepted start F s (lengthOf s) may (L .begun), L .least) }
-least-more m round F s k may L =
-    record { begun = λ w. and-both (F .setup .begun) _ may .0; least = omega (arith, one-accepted round F s (lengthOf s) may (L .begun), L .least) }
-least-more m plant F s k may L = record { begun = L .begun; least = omega (arith, one-accepted plant F s (lengthOf s) may (L .begun), L .least) }
-least-more m other F s k may L = absurd (true≢false (sym may))
+begun-more : (K : RecordKind) (F : File) (s : List ℕ) → isAllowed K F (lengthOf s) ≡ true → (F .rounds .pending ≡ true → F .setup .begun ≡ true)
+    → withRecord K F s .rounds .pending ≡ true → withRecord K F s .setup .begun ≡ true
+begun-more start F s may W w = refl
+begun-more round F s may W w = and-both (F .setup .begun) _ may .0
+begun-more plant F s may W w = W w
+begun-more listeners F s may W w = W w
+begun-more strikes F s may W w = W w
+begun-more other F s may W w = W w
+
+least-more : (m : ℕ) (K : RecordKind) (F : File) (s : List ℕ) (k : ℕ) → isAllowed K F (lengthOf s) ≡ true → recordFault K F s ≡ 0 → Least m F k
+    → Least m (withRecord K F s) (suc k)
+least-more m K F s k may sound L =
+    record { begun = begun-more K F s may (L .begun); least = omega (arith, one-accepted K F s (lengthOf s) may sound (L .begun), L .least) }
 
 -- by more bytes they do not become fewer
 pub more-accepted : (a b : List ℕ) → accepted (readFile a) ≤ accepted (readFile (a ++ b))
@@ -193,5 +240,5 @@ more-accepted a b =
     (λ F k L. record { begun = L .begun; least = L .least })
     (λ F s k one L. record { begun = L .begun; least = L .least })
     (λ F c k L. record { begun = L .begun; least = L .least })
-    (λ F s k one may all sound L. least-more m (kindOf s) F s k may L)
+    (λ F s k one may all sound L. least-more m (kindOf s) F s k may sound L)
     (readFile a) b (length a) (kept a) (record { begun = cost a .begun; least = omega arith }) .least)

@@ -2,7 +2,7 @@
 use mathlib.Core.Path.{_≡_, refl}
 use mathlib.Core.Bool.{Bool, true, false, cond}
 use mathlib.Core.List.{List, []}
-use Prim.Native.Nat.{_≤_}
+use Prim.Native.Nat.{ℕ, _≤_}
 use native.Mathlib.Omega.{arith}
 use lib.Dec.{eqb}
 use lib.ListN.{length}
@@ -11,24 +11,33 @@ use Rattle.ring_spec.specs.Converges.{FewStruckIn, AnyTwo}
 use Rattle.ring_spec.proofs.Demand3.{ring-converges}
 use Rattle.run_spec.specs.RunFile.{File, readFile, ending, roundsPlayed, endsPlayed, endsFrom, allRounds}
 use Rattle.run_spec.specs.EveryFile.{EveryFile}
-use Rattle.run_spec.proofs.Reached.{Reached, taken, within-then, length-then}
+use Rattle.run_spec.proofs.Reached.{Reached, taken, few-struck-in, within-then, length-then}
 
 -- the rounds played, with the pending one or without it
 abbrev pub playedWith : Bool → File → List Round
 playedWith b F = cond b (allRounds (F .rounds)) (F .rounds .played)
 
 module _ (F : File) (I : Reached F) where
-  played-within : (b : Bool) → FewStruckIn (F .setup .n) (F .setup .f) (playedWith b F) × (length (playedWith b F) ≤ mostRounds)
+  abbrev n : ℕ
+  n = F .setup .n
+
+  abbrev m : ℕ
+  m = F .setup .listeners
+
+  abbrev f : ℕ
+  f = F .setup .f
+
+  played-within : (b : Bool) → FewStruckIn n f (playedWith b F) × (length (playedWith b F) ≤ mostRounds)
   played-within true = (
-    within-then (F .setup .n) (F .setup .f) (F .rounds .pending) (F .rounds .played) (F .rounds .last) (I .rounds) (I .waiting),
+    few-struck-in n m f (allRounds (F .rounds)) (within-then n m f (F .rounds .pending) (F .rounds .played) (F .rounds .last) (I .rounds) (I .waiting)),
     omega (arith, length-then (F .rounds .pending) (F .rounds .played) (F .rounds .last), I .count),
   )
-  played-within false = (I .rounds, omega (arith, I .count))
+  played-within false = (few-struck-in n m f (F .rounds .played) (I .rounds), omega (arith, I .count))
 
-  pub played-converges : (b : Bool) → AnyTwo (F .setup .n) (F .setup .f) (endsFrom (F .setup) (playedWith b F))
+  pub played-converges : (b : Bool) → AnyTwo n m f (endsFrom (F .setup) (playedWith b F))
   played-converges b =
       let (within, most) = played-within b in
-      ring-converges (F .setup .n) (F .setup .f) (F .setup .first) (playedWith b F) (I .size .most) (I .size .limit) (I .ranges) within most
+      ring-converges n m f (F .setup .first) (playedWith b F) (I .size .most) (I .listeners) (I .size .limit) (I .ranges) within most
 
 pub every-file : EveryFile
 unfolding endsPlayed roundsPlayed
@@ -37,6 +46,6 @@ every-file s = go (readFile s .setup .begun) refl
     F : File
     F = readFile s
 
-    go : (b : Bool) → F .setup .begun ≡ b → AnyTwo (F .setup .n) (F .setup .f) (cond b (endsFrom (F .setup) (roundsPlayed F)) [])
+    go : (b : Bool) → F .setup .begun ≡ b → AnyTwo (F .setup .n) (F .setup .listeners) (F .setup .f) (cond b (endsFrom (F .setup) (roundsPlayed F)) [])
     go true e = played-converges F (taken s e) (eqb (ending F) 0)
     go false e = λ i k l. absurd (omega arith)

@@ -1,121 +1,257 @@
--- What holds of every file read, wherever it stops: the size is accepted, the first positions are in range, at most f heads are struck in each round,
--- and no round is given after the last of phase 65,535. Each record is checked for that before it changes anything.
-use mathlib.Core.Path.{_≡_, refl, sym}
-use mathlib.Core.Bool.{Bool, true, false, not, cond, _&&_, true≢false}
-use mathlib.Core.List.{List, [], _∷_, _++_}
-use Prim.Native.Nat.{ℕ, zero, suc, _+_, _*_, _≤_, _<_}
+-- What holds of every file read, wherever it stops: the size is accepted, the first positions are in range, at most f heads are struck in each round, no head
+-- and no listener is marked that does not exist, bytes are planted from struck heads to receivers that are not struck, and no round is given after the last of
+-- phase 65,535. Each record is checked for that before it changes anything.
+use mathlib.Core.Path.{_≡_, refl, ap, sym, _∙_}
+use mathlib.Core.Bool.{Bool, true, false, not, _&&_, _||_, true≢false}
+use mathlib.Core.List.{List, [], _∷_}
+use Prim.Native.Nat.{ℕ, zero, suc, _+_, _*_, _/_, _%_, _-_, _^_, _≤_, _<_}
 use native.Mathlib.Omega.{arith}
-use lib.Dec.{ltb, eqb}
+use native.Mathlib.Nat.{pow-le-pow-right}
+use lib.Dec.{ltb, leb, eqb}
+use lib.Pow.{pow-pos}
 use lib.ListN.{length}
 use lib.IntN.{ℤ}
-use borrow.Author.Tests.{leb-true, ltb-true}
-use Rattle.terms.specs.Refusals.{leaves, unlessRefused}
-use Rattle.terms.specs.Refusals as refusal
+use borrow.Author.Tests.{leb-true, ltb-true, ltb-false, leb-false, not-true}
 use Rattle.terms.specs.Sizes.{isCount, isLimit}
 use Rattle.terms.specs.Positions.{isPosition}
 use Rattle.marks.specs.Marks.{bitOf, marksBelow}
+use Rattle.marks.proofs.Marks.{bit-above}
+use Rattle.marks.proofs.Words.{bit-low, word-low, word-high}
 use Rattle.convergence.specs.Counting.{Each, bit, AtMost}
-use Rattle.convergence.proofs.Sums.{each-more}
+use Rattle.convergence.proofs.Sums.{each-more, sum-same}
 use Rattle.terms.proofs.Booleans.{and-both}
 use Rattle.head_spec.proofs.Proper.{Sized, both-passed, sized-by}
-use Rattle.ring_spec.specs.Rounds.{Round, mostRounds}
+use Rattle.ring_spec.specs.Rounds.{Plant, Round, isReceiver, mostRounds}
 use Rattle.ring_spec.specs.Converges.{FewStruckIn}
-use Rattle.ring_spec.proofs.Demand3.{none-struck}
-use Rattle.run_spec.specs.RunFile.{File, unread, given, RecordKind, start, round, plant, other, lengthOf, kindOf, isAllowed, countIn, limitIn, positionIn, positionsFit, struckIn, fewMarks, recordFault, thenPlayed, withRecord, stopped, judged, withPart, readOn, step, feed, readFile}
+use Rattle.run_spec.specs.RunFile.{File, given, RecordKind, start, round, plant, listeners, strikes, other, lengthOf, kindOf, isAllowed, isFirst, isBare, countIn, limitIn, positionIn, positionsFit, struckIn, fewMarks, numberIn, listenersIn, senderIn, receiverIn, lastPair, pairFits, recordFault, thenPlayed, plantIn, withRecord, unread, readFile}
+pub use Rattle.run_spec.proofs.Bytes.{length-then}
+use Rattle.run_spec.proofs.Bytes.{byte-by-byte, number-some, first-begun, bare-pending}
 
--- of a start that was accepted, and the rounds after it
-pub record TakenSo (n f : ℕ) (first : ℕ → ℤ) (played : List Round) (pending : Bool) (struck : ℕ) : Type 0 where
+-- ---- a round of n heads and m listeners
+
+-- no head's mark at n or above, and no mark for a listener that does not exist
+pub record MarksFit (n m struck : ℕ) : Type 0 where
+  pub heads : struck % 4294967296 < 2 ^ n
+  pub listeners : struck / 4294967296 < 2 ^ m
+
+-- bytes planted from a struck head to a head or a listener that is not struck
+pub record PlantFits (n m struck : ℕ) (x : Plant) : Type 0 where
+  pub sends : x .from < n
+  pub hears : isReceiver n m (x .to) ≡ true
+  pub from-struck : bitOf struck (x .from) ≡ true
+  pub to-unstruck : bitOf struck (x .to) ≡ false
+
+abbrev pub PlantsFit : ℕ → ℕ → ℕ → List Plant → Type 0
+PlantsFit n m struck [] = Unit {0}
+PlantsFit n m struck (x ∷ xs) = PlantFits n m struck x × PlantsFit n m struck xs
+
+-- the marks of listeners are told, if there are any
+pub record RoundFits (n m f : ℕ) (w : Round) : Type 0 where
+  pub few : AtMost f n (bitOf (w .struck))
+  pub marks : MarksFit n m (w .struck)
+  pub untold : w .told ≡ false → w .struck < 4294967296
+  pub plants : PlantsFit n m (w .struck) (w .plants)
+
+abbrev pub AllFit : ℕ → ℕ → ℕ → List Round → Type 0
+AllFit n m f [] = Unit {0}
+AllFit n m f (w ∷ ws) = RoundFits n m f w × AllFit n m f ws
+
+pub few-struck-in : (n m f : ℕ) (ws : List Round) → AllFit n m f ws → FewStruckIn n f ws
+few-struck-in n m f [] A = tt
+few-struck-in n m f (w ∷ ws) A = (A .0 .few, few-struck-in n m f ws (A .1))
+
+-- ---- of a start that was accepted, and the rounds after it
+
+pub record TakenSo (n m f : ℕ) (first : ℕ → ℤ) (played : List Round) (pending : Bool) (last : Round) : Type 0 where
   pub size : Sized n f
+  pub listeners : m ≤ 16
   pub ranges : Each n (λ i. isPosition (first i) ≡ true)
-  pub rounds : FewStruckIn n f played
-  pub waiting : AtMost f n (bitOf struck)
+  pub rounds : AllFit n m f played
+  pub waiting : pending ≡ true → RoundFits n m f last
   pub count : length played + bit pending ≤ mostRounds
 
 abbrev pub Reached : File → Type 0
-Reached F = TakenSo (F .setup .n) (F .setup .f) (F .setup .first) (F .rounds .played) (F .rounds .pending) (F .rounds .last .struck)
+Reached F = TakenSo (F .setup .n) (F .setup .listeners) (F .setup .f) (F .setup .first) (F .rounds .played) (F .rounds .pending) (F .rounds .last)
 
 -- before a start there is nothing to hold
-abbrev Good : File → Type 0
-Good F = F .setup .begun ≡ true → Reached F
+abbrev Good : File → ℕ → Type 0
+Good F k = F .setup .begun ≡ true → Reached F
 
--- ---- the rounds, with the pending one played
+-- the rounds, with the pending one played
+pub within-then : (n m f : ℕ) (b : Bool) (ws : List Round) (w : Round) → AllFit n m f ws → (b ≡ true → RoundFits n m f w) → AllFit n m f (thenPlayed b ws w)
+within-then n m f true ws w h k = (k refl, h)
+within-then n m f false ws w h k = h
 
-pub within-then : (n f : ℕ) (b : Bool) (ws : List Round) (w : Round) → FewStruckIn n f ws → AtMost f n (bitOf (w .struck))
-    → FewStruckIn n f (thenPlayed b ws w)
-within-then n f true ws w h k = (k, h)
-within-then n f false ws w h k = h
-
-pub length-then : (b : Bool) (ws : List Round) (w : Round) → length (thenPlayed b ws w) ≡ length ws + bit b
-length-then true ws w = omega arith
-length-then false ws w = omega arith
-
--- ---- each record, and each byte
+-- ---- each record
 
 positions-fit : (s : List ℕ) (n : ℕ) → positionsFit s n ≡ true → Each n (λ i. isPosition (positionIn s i) ≡ true)
 unfolding positionsFit
 positions-fit s zero h = λ i l. absurd (omega arith)
 positions-fit s (suc n) h = let (before, now) = and-both (positionsFit s n) (isPosition (positionIn s n)) h in each-more (positions-fit s n before) now
 
-module _ (F : File) (G : Good F) where
-  good-start : (s : List ℕ) → recordFault start F s ≡ 0 → Good (withRecord start F s)
-  good-start s e b =
+-- a word of heads alone
+head-marks : (n m a : ℕ) → n ≤ 32 → a < 2 ^ n → MarksFit n m a
+head-marks n m a most l =
+    let h : a < 4294967296 = omega (arith, pow-le-pow-right {n = 2} (omega arith) {i = n} {j = 32} most) in
+    let low : a % 4294967296 ≡ a = omega arith in
+    let high : a / 4294967296 ≡ 0 = omega arith in
+    record { heads = rw low l; listeners = rw high (pow-pos m) }
+
+-- with those of listeners
+module _ (n m f a b : ℕ) (most : n ≤ 32) (small : a < 4294967296) where
+  abbrev both : ℕ
+  both = a + 4294967296 * b
+
+  both-marks : MarksFit n m a → b < 2 ^ m → MarksFit n m both
+  both-marks M l =
+      let low : both % 4294967296 ≡ a % 4294967296 = omega arith in
+      let high : both / 4294967296 ≡ b = omega arith in
+      record { heads = rw low (M .heads); listeners = rw high l }
+
+  both-few : AtMost f n (bitOf a) → AtMost f n (bitOf both)
+  both-few few = omega (arith, sum-same n (λ j. bit (bitOf both j)) (λ j. bit (bitOf a j)) (λ j l. ap bit (bit-low a b 32 j (omega arith))))
+
+module _ (F : File) (G : F .setup .begun ≡ true → Reached F) where
+  abbrev n : ℕ
+  n = F .setup .n
+
+  abbrev m : ℕ
+  m = F .setup .listeners
+
+  good-start : (s : List ℕ) → recordFault start F s ≡ 0 → Reached (withRecord start F s)
+  good-start s e =
       let n = countIn s in
       let f = limitIn s in
       let (whole, count, rest) = both-passed (eqb (length s) (6 + 4 * n)) (isCount n) 12 0 e in
       let (limit, fit, done) = both-passed (isLimit n f) (positionsFit s n) 1 3 rest in
-      record { size = sized-by n f count limit; ranges = positions-fit s n fit; rounds = tt; waiting = none-struck n f; count = omega arith }
+      record {
+        size = sized-by n f count limit;
+        listeners = omega arith;
+        ranges = positions-fit s n fit;
+        rounds = tt;
+        waiting = λ w. absurd (true≢false (sym w));
+        count = omega arith;
+      }
 
-  good-round : (s : List ℕ) → recordFault round F s ≡ 0 → Good (withRecord round F s)
-  unfolding fewMarks
-  good-round s e b =
-      let (few, more, done) = both-passed (fewMarks (F .setup .n) (F .setup .f) (struckIn s)) _ 13 25 e in
+  good-round : (s : List ℕ) → recordFault round F s ≡ 0 → Reached F → Reached (withRecord round F s)
+  unfolding fewMarks marksBelow
+  good-round s e I =
+      let (fits, more, done) = both-passed (fewMarks (F .setup .n) (F .setup .f) (struckIn s)) _ 13 25 e in
       let k : given F < mostRounds = ltb-true (given F) _ more in
-      let I = G b in
+      let (below, few) = and-both (marksBelow (struckIn s) n) _ fits in
+      let l : struckIn s < 2 ^ n = ltb-true (struckIn s) (2 ^ n) below in
       record {
         size = I .size;
+        listeners = I .listeners;
         ranges = I .ranges;
-        rounds = within-then (F .setup .n) (F .setup .f) (F .rounds .pending) (F .rounds .played) (F .rounds .last) (I .rounds) (I .waiting);
-        waiting = leb-true _ (F .setup .f) (and-both (marksBelow (struckIn s) (F .setup .n)) _ few .1);
+        rounds = within-then n m (F .setup .f) (F .rounds .pending) (F .rounds .played) (F .rounds .last) (I .rounds) (I .waiting);
+        waiting =
+            λ w. record {
+              few = leb-true _ (F .setup .f) few;
+              marks = head-marks n m (struckIn s) (I .size .most) l;
+              untold = λ t. omega (arith, pow-le-pow-right {n = 2} (omega arith) {i = n} {j = 32} (I .size .most));
+              plants = tt;
+            };
         count = omega (arith, length-then (F .rounds .pending) (F .rounds .played) (F .rounds .last));
       }
 
-  good-record : (K : RecordKind) (s : List ℕ) → recordFault K F s ≡ 0 → Good (withRecord K F s)
-  good-record start s e = good-start s e
-  good-record round s e = good-round s e
-  good-record plant s e = G
-  good-record other s e = G
+  -- another pending round in place of the last
+  with-last : (w : Round) → Reached F → RoundFits n m (F .setup .f) w
+      → TakenSo n m (F .setup .f) (F .setup .first) (F .rounds .played) (F .rounds .pending) w
+  with-last w I fits =
+      record { size = I .size; listeners = I .listeners; ranges = I .ranges; rounds = I .rounds; waiting = λ p. fits; count = I .count }
 
-  good-judged : (K : RecordKind) (s : List ℕ) → Good (judged K F s)
-  unfolding judged
-  good-judged K s = go (recordFault K F s) refl
+  good-plant : (s : List ℕ) → F .rounds .pending ≡ true → recordFault plant F s ≡ 0 → Reached F → Reached (withRecord plant F s)
+  unfolding pairFits
+  good-plant s pending e I =
+      let struck = F .rounds .last .struck in
+      let k = senderIn s in
+      let i = receiverIn s in
+      let (fits, none, done) = both-passed (pairFits n m struck (lastPair (F .rounds .last .plants)) k i) true 12 0 e in
+      let (four, order) = and-both (ltb k n && isReceiver n m i && bitOf struck k && not (bitOf struck i)) _ fits in
+      let (three, unstruck) = and-both (ltb k n && isReceiver n m i && bitOf struck k) _ four in
+      let (two, is-struck) = and-both (ltb k n && isReceiver n m i) _ three in
+      let (sends, hears) = and-both (ltb k n) _ two in
+      let A = I .waiting pending in
+      let x : PlantFits n m struck (plantIn s) =
+      record { sends = ltb-true k n sends; hears = hears; from-struck = is-struck; to-unstruck = not-true (bitOf struck i) unstruck }
+      in
+      with-last _ I (record { few = A .few; marks = A .marks; untold = A .untold; plants = (x, A .plants) })
+
+  good-listeners : (s : List ℕ) → isFirst F ≡ true → recordFault listeners F s ≡ 0 → Reached F → Reached (withRecord listeners F s)
+  good-listeners s may e I =
+      let (begun, none, zero-before) = first-begun F may in
+      record {
+        size = I .size;
+        listeners = number-some s e .1;
+        ranges = I .ranges;
+        rounds = none-fit (F .rounds .played) (omega arith);
+        waiting = λ w. absurd (no-round (F .rounds .pending) w (omega arith));
+        count = I .count;
+      }
     where
-      go : (c : ℕ) → recordFault K F s ≡ c → Good (unlessRefused (stopped F) c (withRecord K F s))
-      go zero e = good-record K s e
-      go (suc c) e = G
+      none-fit : (ws : List Round) → length ws ≡ 0 → AllFit n (numberIn s) (F .setup .f) ws
+      none-fit [] z = tt
+      none-fit (w ∷ ws) z = absurd (omega arith)
 
-  good-read : (s : List ℕ) → Good (readOn F s)
-  unfolding readOn
-  good-read s = go (ltb (length s) 4) (eqb (length s) 4 && not (isAllowed (kindOf s) F (lengthOf s))) (eqb (length s) (lengthOf s))
+      no-round : (b : Bool) → b ≡ true → bit b ≡ 0 → ⊥
+      no-round true w z = omega arith
+      no-round false w z = true≢false (sym w)
+
+  good-strikes : (s : List ℕ) → isBare (F .rounds) ≡ true → recordFault strikes F s ≡ 0 → Reached F → Reached (withRecord strikes F s)
+  unfolding marksBelow
+  good-strikes s may e I =
+      let (pending, untold, none) = bare-pending (F .rounds) may in
+      let (below, more, done) = both-passed (marksBelow (listenersIn s) m) true 12 0 e in
+      let A = I .waiting pending in
+      let a = F .rounds .last .struck in
+      let b = listenersIn s in
+      let small = A .untold untold in
+      with-last _ I
+      (record {
+        few = both-few n m (F .setup .f) a b (I .size .most) small (A .few);
+        marks = both-marks n m (F .setup .f) a b (I .size .most) small (A .marks) (ltb-true b (2 ^ m) below);
+        untold = λ t. absurd (true≢false t);
+        plants = no-plants _ (F .rounds .last .plants) none;
+      })
     where
-      go : (a b c : Bool) → Good (cond a (withPart F s) (cond b (stopped F refusal.run-record) (cond c (judged (kindOf s) F s) (withPart F s))))
-      go true b c = G
-      go false true c = G
-      go false false true = good-judged (kindOf s) s
-      go false false false = G
+      no-plants : (struck : ℕ) (xs : List Plant) → length xs ≡ 0 → PlantsFit n m struck xs
+      no-plants struck [] z = tt
+      no-plants struck (x ∷ xs) z = absurd (omega arith)
 
-  good-step : (x : ℕ) → Good (step F x)
-  unfolding step
-  good-step x = go (F .fault)
-    where
-      go : (c : ℕ) → Good (leaves c (readOn F (F .part ++ (x ∷ []))) F)
-      go zero = good-read (F .part ++ (x ∷ []))
-      go (suc c) = G
-
-good-feed : (F : File) (s : List ℕ) → Good F → Good (feed F s)
-unfolding feed
-good-feed F [] G = G
-good-feed F (x ∷ s) G = good-feed (step F x) s (good-step F G x)
+  good-record : (K : RecordKind) (s : List ℕ) → isAllowed K F (lengthOf s) ≡ true → recordFault K F s ≡ 0 → withRecord K F s .setup .begun ≡ true
+      → Reached (withRecord K F s)
+  good-record start s may e b = good-start s e
+  good-record round s may e b = good-round s e (G b)
+  good-record plant s may e b = good-plant s (and-both (F .rounds .pending) _ (and-both (F .rounds .pending && leb 6 (lengthOf s)) _ may .0) .0) e (G b)
+  good-record listeners s may e b = good-listeners s (and-both (isFirst F) _ may .0) e (G b)
+  good-record strikes s may e b = good-strikes s (and-both (isBare (F .rounds)) _ may .0) e (G b)
+  good-record other s may e b = absurd (true≢false (sym may))
 
 pub taken : (s : List ℕ) → readFile s .setup .begun ≡ true → Reached (readFile s)
 unfolding unread
-taken s = good-feed unread s (λ b. absurd (true≢false (sym b)))
+taken s =
+    byte-by-byte Good
+    (λ F k G. G)
+    (λ F s k one G. G)
+    (λ F c k G. G)
+    (λ F s k one may all sound G. good-record F G (kindOf s) s may sound)
+    (λ b. absurd (true≢false (sym b)))
+    s
+
+-- ---- what the marks mean
+
+-- only receivers are marked
+pub only-receivers : (n m struck : ℕ) → MarksFit n m struck → (j : ℕ) → isReceiver n m j ≡ false → bitOf struck j ≡ false
+only-receivers n m struck M j = go (ltb j n) (leb 32 j) (ltb j (32 + m)) refl refl refl
+  where
+    go : (h a b : Bool) → ltb j n ≡ h → leb 32 j ≡ a → ltb j (32 + m) ≡ b → (h || (a && b)) ≡ false → bitOf struck j ≡ false
+    go true a b p q r e = absurd (true≢false e)
+    go false true true p q r e = absurd (true≢false e)
+    go false true false p q r e =
+        let l = ltb-false j (32 + m) r in
+        word-high struck 32 j (leb-true 32 j q) ∙ bit-above (struck / 4294967296) m (j - 32) (M .listeners) (omega arith)
+    go false false b p q r e = word-low struck 32 j (leb-false 32 j q) ∙ bit-above (struck % 4294967296) n j (M .heads) (ltb-false j n p)
+
+pub marks-small : (n m struck : ℕ) → MarksFit n m struck → m ≤ 16 → struck < 281474976710656
+marks-small n m struck M few = omega (arith, M .listeners, pow-le-pow-right {n = 2} (omega arith) {i = m} {j = 16} few)

@@ -1,15 +1,23 @@
 -- The listing as it comes. However the bytes are cut, the file read is the same; a start shows line 0, a round record shows the line of the round
 -- that waited, if that ended a phase, and no other record shows anything. At the end the last round's line and the verdict are left.
 use mathlib.Core.Path.{_≡_, refl, ap, sym}
-use mathlib.Core.Bool.{Bool, true, false, cond}
+use mathlib.Core.Bool.{Bool, true, false, cond, _&&_}
 use mathlib.Core.List.{List, [], _∷_, _++_, append-assoc, append-nil}
-use Prim.Native.Nat.{ℕ, zero, suc}
+use Prim.Native.Nat.{ℕ, zero, suc, _+_, _*_, _/_, _%_, _^_}
+use native.Mathlib.Omega.{arith}
+use native.Mathlib.Nat.{pow-succ', mul-assoc}
 use lib.Dec.{eqb}
+use lib.ListN.{length}
 use lib.IntN.{ℤ}
-use Rattle.ring_spec.specs.Rounds.{Round, Ring, afterRound, PhaseEnd, phaseEnd, withEnd, firstHeads, ringAfter, endsAfter}
+use borrow.Author.Tests.{eqb-true}
+use Rattle.terms.proofs.Booleans.{and-both}
+use Rattle.convergence.specs.Phases.{spread}
+use Rattle.convergence.proofs.Same.{SameEnd, same-bounds}
+use Rattle.ring_spec.specs.Rounds.{Round, Ring, afterRound, PhaseEnd, phaseEnd, withEnd, receivers, asEnd, firstEnd, ringAfter, endsAfter}
+use Rattle.ring_spec.proofs.Receivers.{first-out-as}
 use Rattle.ring_spec.proofs.Counts.{counted}
-use Rattle.run_spec.specs.RunFile.{File, start, round, plant, countIn, limitIn, positionIn, thenPlayed, withRecord, stopped, withPart, step, feed, ending, roundsPlayed, endsPlayed, ringFrom, endsFrom, allRounds}
-use Rattle.run_spec.specs.Listing.{title, line, lines, verdict, shown, listingOf}
+use Rattle.run_spec.specs.RunFile.{File, given, start, round, plant, listeners, strikes, isFirst, numberIn, countIn, limitIn, positionIn, thenPlayed, withRecord, stopped, withPart, step, feed, ending, roundsPlayed, endsPlayed, ringFrom, endsFrom, allRounds}
+use Rattle.run_spec.specs.Listing.{hex, title, line, lines, verdict, shown, listingOf}
 
 -- ---- bytes in pieces
 
@@ -21,23 +29,47 @@ feed-append F (x ∷ a) b = feed-append (step F x) a b
 -- ---- the line that a round brings
 
 -- of a confession round, that of its phase end
-abbrev lineIn : ℕ → ℕ → ℕ → PhaseEnd → List ℕ
-lineIn zero n p e = []
-lineIn (suc r) n p e = line n p e
+abbrev lineIn : ℕ → ℕ → ℕ → ℕ → PhaseEnd → List ℕ
+lineIn zero n m p e = []
+lineIn (suc r) n m p e = line n m p e
 
--- round w of a ring R
-abbrev pub roundLine : ℕ → ℕ → Ring → Round → List ℕ
-roundLine n f R w = lineIn (R .round) n (R .phase) (phaseEnd (R .before) (w .struck) (afterRound n f R w .heads))
+-- round w of a ring R with m listeners
+abbrev pub roundLine : ℕ → ℕ → ℕ → Ring → Round → List ℕ
+roundLine n m f R w = lineIn (R .round) n m (R .phase) (phaseEnd (R .before) (w .struck) (afterRound n f R w .heads))
 
-pub lines-next : (n f : ℕ) (v : ℕ → ℤ) (ws : List Round) (w : Round)
-    → lines n (endsAfter n f v (w ∷ ws)) ≡ lines n (endsAfter n f v ws) ++ roundLine n f (ringAfter n f v ws) w
+pub lines-next : (n m f : ℕ) (v : ℕ → ℤ) (ws : List Round) (w : Round)
+    → lines n m (endsAfter n f v (w ∷ ws)) ≡ lines n m (endsAfter n f v ws) ++ roundLine n m f (ringAfter n f v ws) w
 unfolding endsAfter ringAfter lines
-lines-next n f v ws w = go (ringAfter n f v ws .round) _
+lines-next n m f v ws w = go (ringAfter n f v ws .round) _
   where
     go : (r : ℕ) (e : PhaseEnd)
-        → lines n (withEnd r e (endsAfter n f v ws)) ≡ lines n (endsAfter n f v ws) ++ lineIn r n (ringAfter n f v ws .phase) e
+        → lines n m (withEnd r e (endsAfter n f v ws)) ≡ lines n m (endsAfter n f v ws) ++ lineIn r n m (ringAfter n f v ws .phase) e
     go zero e = sym (append-nil _)
-    go (suc r) e = ap (λ (p : ℕ). lines n (endsAfter n f v ws) ++ line n p e) (counted n f v ws .counts)
+    go (suc r) e = ap (λ (p : ℕ). lines n m (endsAfter n f v ws) ++ line n m p e) (counted n f v ws .counts)
+
+-- the line of the start is the same however many listeners there are
+pub first-line : (n m k f : ℕ) (v : ℕ → ℤ) → line n m 0 (firstEnd n f v) ≡ line n k 0 (firstEnd n f v)
+unfolding line spread
+first-line n m k f v =
+    let (low, high) = same-bounds (same n m k f v) in
+    rw (low, high)
+  where
+    same : (n m k f : ℕ) (v : ℕ → ℤ) → SameEnd receivers (asEnd n m (firstEnd n f v)) (asEnd n k (firstEnd n f v))
+    same n m k f v = record { struck = first-out-as n m k; at = λ i l q. refl }
+
+-- the last k digits of a number
+last-digits : (k a b : ℕ) → hex k (a + 16 ^ k * b) ≡ hex k a
+unfolding hex
+last-digits zero a b = refl
+last-digits (suc k) a b =
+    let up : 16 ^ suc k * b ≡ 16 * (16 ^ k * b) = rw (pow-succ' 16 k) (mul-assoc 16 (16 ^ k) b) in
+    let low : (a + 16 ^ suc k * b) % 16 ≡ a % 16 = rw up (omega arith) in
+    let rest : (a + 16 ^ suc k * b) / 16 ≡ a / 16 + 16 ^ k * b = rw up (omega arith) in
+    rw (low, rest, last-digits k (a / 16) b)
+
+-- a column shows the marks of heads alone: b stands for those of listeners
+pub column-heads : (a b : ℕ) → hex 8 (a + 4294967296 * b) ≡ hex 8 a
+column-heads a b = last-digits 8 a b
 
 -- ---- the file so far
 
@@ -47,21 +79,24 @@ ringOf F = ringFrom (F .setup) (F .rounds .played)
 
 -- what the pending round will show
 abbrev pub waitingLine : File → List ℕ
-waitingLine F = cond (F .setup .begun) (cond (F .rounds .pending) (roundLine (F .setup .n) (F .setup .f) (ringOf F) (F .rounds .last)) []) []
+waitingLine F = cond (F .setup .begun) (cond (F .rounds .pending) (roundLine (F .setup .n) (F .setup .listeners) (F .setup .f) (ringOf F) (F .rounds .last)) []) []
 
 module _ (F : File) where
+  abbrev shownLines : List PhaseEnd → List ℕ
+  shownLines es = lines (F .setup .n) (F .setup .listeners) es
+
   -- with the pending round played
   with-last : (b : Bool)
-      → lines (F .setup .n) (endsFrom (F .setup) (thenPlayed b (F .rounds .played) (F .rounds .last)))
-      ≡ lines (F .setup .n) (endsFrom (F .setup) (F .rounds .played)) ++ cond b (roundLine (F .setup .n) (F .setup .f) (ringOf F) (F .rounds .last)) []
-  with-last true = lines-next (F .setup .n) (F .setup .f) (F .setup .first) (F .rounds .played) (F .rounds .last)
+      → shownLines (endsFrom (F .setup) (thenPlayed b (F .rounds .played) (F .rounds .last)))
+      ≡ shownLines (endsFrom (F .setup) (F .rounds .played)) ++ cond b (roundLine (F .setup .n) (F .setup .listeners) (F .setup .f) (ringOf F) (F .rounds .last)) []
+  with-last true = lines-next (F .setup .n) (F .setup .listeners) (F .setup .f) (F .setup .first) (F .rounds .played) (F .rounds .last)
   with-last false = sym (append-nil _)
 
   -- the text after a start or not, then a line more
-  shown-more : (b : Bool) (es es′ : List PhaseEnd) (more : List ℕ) → lines (F .setup .n) es′ ≡ lines (F .setup .n) es ++ more
-      → title ++ lines (F .setup .n) (cond b es′ []) ≡ title ++ lines (F .setup .n) (cond b es []) ++ cond b more []
+  shown-more : (b : Bool) (es es′ : List PhaseEnd) (more : List ℕ) → shownLines es′ ≡ shownLines es ++ more
+      → title ++ shownLines (cond b es′ []) ≡ title ++ shownLines (cond b es []) ++ cond b more []
   unfolding lines
-  shown-more true es es′ more e = rw e (sym (append-assoc title (lines (F .setup .n) es) more))
+  shown-more true es es′ more e = rw e (sym (append-assoc title (shownLines es) more))
   shown-more false es es′ more e = sym (append-nil _)
 
   -- ---- what each record shows
@@ -72,9 +107,29 @@ module _ (F : File) where
 
   pub start-shows : (s : List ℕ) → F .setup .begun ≡ false
       → shown (withRecord start F s)
-      ≡ shown F ++ line (countIn s) 0 (phaseEnd 0 0 (firstHeads (countIn s) (limitIn s) (positionIn s)))
+      ≡ shown F ++ line (countIn s) 0 0 (firstEnd (countIn s) (limitIn s) (positionIn s))
   unfolding shown lines endsAfter
   start-shows s e = rw (e, append-nil)
+
+  -- the number of listeners changes no line: it comes just after the start
+  pub listeners-shows : (s : List ℕ) → isFirst F ≡ true → shown (withRecord listeners F s) ≡ shown F
+  unfolding shown lines endsAfter
+  listeners-shows s e =
+      let (front, none) = and-both (F .setup .begun && eqb (given F) 0) _ e in
+      let (begun, first) = and-both (F .setup .begun) _ front in
+      rw (
+        begun,
+        none-played (F .rounds .played) (omega (arith, eqb-true (given F) 0 first)),
+        first-line (F .setup .n) (numberIn s) (F .setup .listeners) (F .setup .f) (F .setup .first),
+      )
+    where
+      none-played : (ws : List Round) → length ws ≡ 0 → ws ≡ []
+      none-played [] e = refl
+      none-played (w ∷ ws) e = absurd (omega arith)
+
+  pub strikes-shows : (s : List ℕ) → shown (withRecord strikes F s) ≡ shown F
+  unfolding shown
+  strikes-shows s = refl
 
   pub plant-shows : (s : List ℕ) → shown (withRecord plant F s) ≡ shown F
   unfolding shown
@@ -114,7 +169,7 @@ module _ (F : File) where
       ends ws = cond (F .setup .begun) (endsFrom (F .setup) ws) []
 
       go : (b : Bool)
-          → title ++ lines (F .setup .n) (ends (cond b (allRounds (F .rounds)) (F .rounds .played)))
-          ≡ title ++ lines (F .setup .n) (ends (F .rounds .played)) ++ cond b (waitingLine F) []
+          → title ++ shownLines (ends (cond b (allRounds (F .rounds)) (F .rounds .played)))
+          ≡ title ++ shownLines (ends (F .rounds .played)) ++ cond b (waitingLine F) []
       go true = shown-more (F .setup .begun) _ _ _ (with-last (F .rounds .pending))
       go false = sym (append-nil _)

@@ -15,7 +15,7 @@ use Rattle.terms.proofs.Refusals.{unchanged, changed}
 use Rattle.terms.specs.Refusals as refusal
 use Rattle.fields.specs.Bytes.{at2}
 use Rattle.terms.proofs.Booleans.{and-both}
-use Rattle.run_spec.specs.RunFile.{File, unread, RecordKind, start, round, plant, other, lengthOf, kindOf, allowedWhen, isAllowed, recordFault, stopped, judged, withPart, readOn, step, feed, readFile}
+use Rattle.run_spec.specs.RunFile.{File, unread, RecordKind, start, round, plant, listeners, strikes, other, lengthOf, kindOf, allowedWhen, isAllowed, recordFault, stopped, judged, withPart, readOn, step, feed, readFile}
 
 -- ---- the header: four bytes
 
@@ -47,11 +47,20 @@ within place low high len e =
     (leb-true low len (and-both place (leb low len) front .1), leb-true len high most)
 
 -- the lengths that some record has
-pub stands-long : (K : RecordKind) (begun pending : Bool) (len : ℕ) → allowedWhen K begun pending len ≡ true → (6 ≤ len) × (len ≤ 1026)
-stands-long start begun pending len e = within (not begun) 6 1026 len e
-stands-long round begun pending len e = let is = eqb-true len 8 (and-both begun (eqb len 8) e .1) in (omega arith, omega arith)
-stands-long plant begun pending len e = let (least, most) = within pending 6 146 len e in (least, omega arith)
-stands-long other begun pending len e = absurd (true≢false (sym e))
+pub stands-long : (K : RecordKind) (begun first pending bare : Bool) (len : ℕ) → allowedWhen K begun first pending bare len ≡ true → (5 ≤ len) × (len ≤ 1026)
+stands-long start begun first pending bare len e = let (least, most) = within (not begun) 6 1026 len e in (omega arith, most)
+stands-long round begun first pending bare len e = let is = eqb-true len 8 (and-both begun (eqb len 8) e .1) in (omega arith, omega arith)
+stands-long plant begun first pending bare len e = let (least, most) = within pending 6 146 len e in (omega arith, omega arith)
+stands-long listeners begun first pending bare len e = let is = eqb-true len 5 (and-both first (eqb len 5) e .1) in (omega arith, omega arith)
+stands-long strikes begun first pending bare len e = let is = eqb-true len 6 (and-both bare (eqb len 6) e .1) in (omega arith, omega arith)
+stands-long other begun first pending bare len e = absurd (true≢false (sym e))
+
+-- of planted records: the bytes planted are at most 140
+pub plant-long : (begun first pending bare : Bool) (len : ℕ) → allowedWhen plant begun first pending bare len ≡ true → (6 ≤ len) × (len ≤ 146)
+plant-long begun first pending bare len e = within pending 6 146 len e
+
+pub allowed-long : (F : File) (s : List ℕ) → stands F s ≡ true → (5 ≤ lengthOf s) × (lengthOf s ≤ 1026)
+allowed-long F s may = stands-long (kindOf s) _ _ _ _ (lengthOf s) may
 
 -- ---- a front of a record
 
@@ -85,7 +94,7 @@ module _ (F : File) (s : List ℕ) where
   read-whole : stands F s ≡ true → length s ≡ lengthOf s → readOn F s ≡ judged (kindOf s) F s
   unfolding readOn
   read-whole may all =
-      let long = stands-long (kindOf s) (F .setup .begun) (F .rounds .pending) (lengthOf s) may in
+      let long = allowed-long F s may in
       rw (may, and-false (eqb (length s) 4), le-ltb (length s) 4 (omega arith), eq-eqb (length s) (lengthOf s) all)
 
 -- ---- the bytes kept so far are not looked at
@@ -99,6 +108,8 @@ unfolding judged
 judged-over start F q s = unless-over (recordFault start F s) _ F q
 judged-over round F q s = unless-over (recordFault round F s) _ F q
 judged-over plant F q s = unless-over (recordFault plant F s) _ F q
+judged-over listeners F q s = unless-over (recordFault listeners F s) _ F q
+judged-over strikes F q s = unless-over (recordFault strikes F s) _ F q
 judged-over other F q s = refl
 
 read-over : (F : File) (q s : List ℕ) → readOn (withPart F q) s ≡ readOn F s
@@ -158,6 +169,8 @@ unfolding judged
 judged-empty start F s = unless-empty (recordFault start F s) _ F refl
 judged-empty round F s = unless-empty (recordFault round F s) _ F refl
 judged-empty plant F s = unless-empty (recordFault plant F s) _ F refl
+judged-empty listeners F s = unless-empty (recordFault listeners F s) _ F refl
+judged-empty strikes F s = unless-empty (recordFault strikes F s) _ F refl
 judged-empty other F s = refl
 
 -- ---- what is kept of every file read is cut
@@ -188,7 +201,7 @@ module _ (F : File) (kept : RoundsFit F) (x : ℕ) where
       go (yes k) = let (may, same, few) = kept-on F kept (x ∷ []) k in (may, omega (arith, one))
       go (no k) =
           let may : stands F s ≡ true = not-false (stands F s) (rw (eq-eqb (length s) 4 (omega (arith, one))) at place) in
-          (may, omega (arith, one, stands-long (kindOf s) (F .setup .begun) (F .rounds .pending) (lengthOf s) may .0))
+          (may, omega (arith, one, allowed-long F s may .0))
 
   pub kept-read : RoundsFit (readOn F (F .part ++ (x ∷ [])))
   unfolding readOn

@@ -4,9 +4,9 @@ use Prim.Native.Nat.{ℕ}
 use Rattle.ring_spec.specs.Converges.{AnyTwo}
 use Rattle.run_spec.specs.RunFile.{File, readFile, endsPlayed}
 
--- any two phase ends that were played, the start among them
+-- any two phase ends that were played, the start among them, of the heads and, from phase 1 on, the listeners
 abbrev pub Demand3Of : File → Type 0
-Demand3Of F = AnyTwo (F .setup .n) (F .setup .f) (endsPlayed F)
+Demand3Of F = AnyTwo (F .setup .n) (F .setup .listeners) (F .setup .f) (endsPlayed F)
 
 abbrev pub EveryFile : Type 0
 EveryFile = (s : List ℕ) → Demand3Of (readFile s)

@@ -7,7 +7,7 @@ use lib.ListN.{length}
 use lib.IntN.{ℤ, pos, negsuc}
 use Rattle.terms.specs.declared.Entry.{Entry}
 use Rattle.convergence.specs.Phases.{lowest, highest, spread}
-use Rattle.ring_spec.specs.Rounds.{PhaseEnd, asEnd}
+use Rattle.ring_spec.specs.Rounds.{PhaseEnd, receivers, asEnd}
 use Rattle.run_spec.specs.RunFile.{File, readFile, endsSoFar, ending, endsPlayed}
 
 -- ---- numbers
@@ -55,20 +55,20 @@ title =
     112 ∷ 104 ∷ 97 ∷ 115 ∷ 101 ∷ 32 ∷ 108 ∷ 111 ∷ 119 ∷ 32 ∷ 104 ∷ 105 ∷ 103 ∷ 104 ∷ 32 ∷ 115 ∷ 112 ∷ 114 ∷ 101 ∷ 97 ∷ 100 ∷ 32
     ∷ 99 ∷ 111 ∷ 108 ∷ 108 ∷ 101 ∷ 99 ∷ 116 ∷ 32 ∷ 99 ∷ 111 ∷ 110 ∷ 102 ∷ 101 ∷ 115 ∷ 115 ∷ 10 ∷ []
 
--- phase, lowest, highest and spread of the sound heads, the two mark words as eight hexadecimal digits
-unfoldable pub line : ℕ → ℕ → PhaseEnd → List ℕ
-line n p e =
+-- of n heads and m listeners: phase, lowest, highest and spread of the sound ones, the heads' mark words of the two rounds as eight hexadecimal digits
+unfoldable pub line : ℕ → ℕ → ℕ → PhaseEnd → List ℕ
+line n m p e =
     spaced (decimal p)
-    (spaced (textOf (lowest n (asEnd e)))
-    (spaced (textOf (highest n (asEnd e)))
-    (spaced (decimal (spread n (asEnd e)))
+    (spaced (textOf (lowest receivers (asEnd n m e)))
+    (spaced (textOf (highest receivers (asEnd n m e)))
+    (spaced (decimal (spread receivers (asEnd n m e)))
     (spaced (hex 8 (e .collect))
     (hex 8 (e .confess) ++ (10 ∷ []))))))
 
 -- a line for each end, the earliest first: the list has the latest first, and the start is end 0
-unfoldable pub lines : ℕ → List PhaseEnd → List ℕ
-lines n [] = []
-lines n (e ∷ es) = lines n es ++ line n (length es) e
+unfoldable pub lines : ℕ → ℕ → List PhaseEnd → List ℕ
+lines n m [] = []
+lines n m (e ∷ es) = lines n m es ++ line n m (length es) e
 
 -- "end", or "refused" and the number
 abbrev pub verdict : ℕ → List ℕ
@@ -77,11 +77,11 @@ verdict (suc c) = 114 ∷ 101 ∷ 102 ∷ 117 ∷ 115 ∷ 101 ∷ 100 ∷ 32 ∷
 
 -- what has been printed when the bytes so far are read: the lines of the rounds that were played, the pending round not
 unfoldable pub shown : File → List ℕ
-shown F = title ++ lines (F .setup .n) (endsSoFar F)
+shown F = title ++ lines (F .setup .n) (F .setup .listeners) (endsSoFar F)
 
 -- what is printed in all
 unfoldable pub listingOf : File → List ℕ
-listingOf F = title ++ lines (F .setup .n) (endsPlayed F) ++ verdict (ending F)
+listingOf F = title ++ lines (F .setup .n) (F .setup .listeners) (endsPlayed F) ++ verdict (ending F)
 
 abbrev pub listing : List ℕ → List ℕ
 listing s = listingOf (readFile s)

@@ -12,15 +12,16 @@ use Rattle.terms.specs.Positions.{isPosition}
 use Rattle.fields.specs.Bytes.{at2, at4, signedAt}
 use Rattle.marks.specs.Marks.{bitOf, marksBelow}
 use Rattle.convergence.specs.Counting.{sum, bit}
-use Rattle.ring_spec.specs.Rounds.{Plant, Round, Ring, endsPhase, mostRounds, PhaseEnd, ringAfter, endsAfter}
+use Rattle.ring_spec.specs.Rounds.{Plant, Round, Ring, isReceiver, endsPhase, mostRounds, PhaseEnd, ringAfter, endsAfter}
 use Rattle.run_spec.specs.declared.Pair.{Pair}
 
--- what the start record gives
+-- what the start record gives, and the number of listeners (document 02, A6)
 pub record Setup : Type 0 where
   pub begun : Bool  -- a start was accepted
   pub n : ℕ
   pub f : ℕ
   pub first : ℕ → ℤ  -- the positions of the start record
+  pub listeners : ℕ  -- 0 if no record gave them
 
 -- the rounds given: those played, the latest first, and the last one, if it is pending
 pub record Rounds : Type 0 where
@@ -36,10 +37,10 @@ pub record File : Type 0 where
   pub rounds : Rounds
 
 abbrev pub noSetup : Setup
-noSetup = record { begun = false; n = 0; f = 0; first = λ i. pos 0 }
+noSetup = record { begun = false; n = 0; f = 0; first = λ i. pos 0; listeners = 0 }
 
 abbrev pub noRound : Round
-noRound = record { struck = 0; plants = [] }
+noRound = record { struck = 0; told = false; plants = [] }
 
 abbrev pub noRounds : Rounds
 noRounds = record { played = []; pending = false; last = noRound }
@@ -61,10 +62,13 @@ pub data RecordKind : Type 0 where
   start : RecordKind
   round : RecordKind
   plant : RecordKind
+  listeners : RecordKind
+  strikes : RecordKind
   other : RecordKind
 
 abbrev pub recordKind : ℕ → RecordKind
-recordKind k = cond (eqb k 0x10) start (cond (eqb k 0x11) round (cond (eqb k 0x12) plant other))
+recordKind k =
+    cond (eqb k 0x10) start (cond (eqb k 0x11) round (cond (eqb k 0x12) plant (cond (eqb k 0x15) listeners (cond (eqb k 0x13) strikes other))))
 
 -- two bytes length (of the whole record), two bytes kind
 abbrev pub lengthOf : List ℕ → ℕ
@@ -73,16 +77,27 @@ lengthOf s = at2 s 0
 abbrev pub kindOf : List ℕ → RecordKind
 kindOf s = recordKind (at2 s 2)
 
--- By its first four bytes: a start first and once, a round after it, a planted record after a round; the lengths that some record of that kind has. begun: a
--- start was accepted; pending: a round is pending.
-abbrev pub allowedWhen : RecordKind → Bool → Bool → ℕ → Bool
-allowedWhen start begun pending len = not begun && leb 6 len && leb len 1026
-allowedWhen round begun pending len = begun && eqb len 8
-allowedWhen plant begun pending len = pending && leb 6 len && leb len 146
-allowedWhen other begun pending len = false
+-- By its first four bytes: a start first and once, a round after it, a planted record after a round; the number of listeners just after the start, and a round's
+-- struck listeners just after its record; the lengths that some record of that kind has. begun: a start was accepted; first: nothing else was; pending: a round
+-- is pending; bare: nothing was accepted after its record.
+abbrev pub allowedWhen : RecordKind → Bool → Bool → Bool → Bool → ℕ → Bool
+allowedWhen start begun first pending bare len = not begun && leb 6 len && leb len 1026
+allowedWhen round begun first pending bare len = begun && eqb len 8
+allowedWhen plant begun first pending bare len = pending && leb 6 len && leb len 146
+allowedWhen listeners begun first pending bare len = first && eqb len 5
+allowedWhen strikes begun first pending bare len = bare && eqb len 6
+allowedWhen other begun first pending bare len = false
+
+-- nothing but the start was accepted
+abbrev pub isFirst : File → Bool
+isFirst F = F .setup .begun && eqb (given F) 0 && eqb (F .setup .listeners) 0
+
+-- nothing was accepted after the record of the pending round
+abbrev pub isBare : Rounds → Bool
+isBare R = R .pending && not (R .last .told) && eqb (length (R .last .plants)) 0
 
 abbrev pub isAllowed : RecordKind → File → ℕ → Bool
-isAllowed K F len = allowedWhen K (F .setup .begun) (F .rounds .pending) len
+isAllowed K F len = allowedWhen K (F .setup .begun) (isFirst F) (F .rounds .pending) (isBare (F .rounds)) len
 
 -- ---- a start: n, f (a byte each), n positions
 
@@ -117,7 +132,24 @@ fewMarks n f m = marksBelow m n && leb (sum n (λ j. bit (bitOf m j))) f
 abbrev pub roundFault : ℕ → ℕ → ℕ → List ℕ → ℕ
 roundFault n f rounds s = check (fewMarks n f (struckIn s)) refusal.struck (check (ltb rounds mostRounds) refusal.ended 0)
 
--- ---- a planted record: sender, receiver, bytes; the sender struck, the receiver not, pairs rising by sender, then receiver
+-- ---- the number of listeners, from 1 to 16 (document 02, A6)
+
+abbrev pub numberIn : List ℕ → ℕ
+numberIn s = getD s 4 0
+
+abbrev pub listenersFault : List ℕ → ℕ
+listenersFault s = check (leb 1 (numberIn s) && leb (numberIn s) 16) refusal.run-record 0
+
+-- ---- a round's struck listeners: a mark word, bit j for listener 32 + j, with no mark for one that does not exist
+
+abbrev pub listenersIn : List ℕ → ℕ
+listenersIn s = at2 s 4
+
+-- of m listeners
+abbrev pub strikesFault : ℕ → List ℕ → ℕ
+strikesFault m s = check (marksBelow (listenersIn s) m) refusal.run-record 0
+
+-- ---- a planted record: sender, receiver, bytes; the sender a struck head, the receiver a head or listener that is not struck, pairs rising by sender, then receiver
 
 abbrev pub senderIn : List ℕ → ℕ
 senderIn s = getD s 4 0
@@ -134,24 +166,30 @@ lastPair (x ∷ xs) = record { some = true; from = x .from; to = x .to }
 abbrev pub rises : Pair → ℕ → ℕ → Bool
 rises last k i = not (last .some) || (ltb (last .from) k || eqb (last .from) k && ltb (last .to) i)
 
-unfoldable pub pairFits : ℕ → ℕ → Pair → ℕ → ℕ → Bool
-pairFits n struck last k i = ltb k n && ltb i n && bitOf struck k && not (bitOf struck i) && rises last k i
+unfoldable pub pairFits : ℕ → ℕ → ℕ → Pair → ℕ → ℕ → Bool
+pairFits n m struck last k i = ltb k n && isReceiver n m i && bitOf struck k && not (bitOf struck i) && rises last k i
 
--- of n heads, in a round with the mark word struck, after the pair last
-abbrev pub plantFault : ℕ → ℕ → Pair → List ℕ → ℕ
-plantFault n struck last s = check (pairFits n struck last (senderIn s) (receiverIn s)) refusal.run-record 0
+-- of n heads and m listeners, in a round with the mark word struck, after the pair last
+abbrev pub plantFault : ℕ → ℕ → ℕ → Pair → List ℕ → ℕ
+plantFault n m struck last s = check (pairFits n m struck last (senderIn s) (receiverIn s)) refusal.run-record 0
 
 -- ---- a whole record: the number of its fault, 0 for none; 13, then 1, 2, 4, 14, 26
 
 abbrev pub recordFault : RecordKind → File → List ℕ → ℕ
 recordFault start F s = startFault s
 recordFault round F s = roundFault (F .setup .n) (F .setup .f) (given F) s
-recordFault plant F s = plantFault (F .setup .n) (F .rounds .last .struck) (lastPair (F .rounds .last .plants)) s
+recordFault plant F s = plantFault (F .setup .n) (F .setup .listeners) (F .rounds .last .struck) (lastPair (F .rounds .last .plants)) s
+recordFault listeners F s = listenersFault s
+recordFault strikes F s = strikesFault (F .setup .listeners) s
 recordFault other F s = refusal.run-record
 
 -- the setup that a start record gives
 abbrev pub setupIn : List ℕ → Setup
-setupIn s = record { begun = true; n = countIn s; f = limitIn s; first = positionIn s }
+setupIn s = record { begun = true; n = countIn s; f = limitIn s; first = positionIn s; listeners = 0 }
+
+-- with listeners
+abbrev pub withListeners : Setup → ℕ → Setup
+withListeners S m = record { begun = S .begun; n = S .n; f = S .f; first = S .first; listeners = m }
 
 -- the rounds played, with the last one if it is pending
 abbrev pub thenPlayed : Bool → List Round → Round → List Round
@@ -164,11 +202,20 @@ allRounds R = thenPlayed (R .pending) (R .played) (R .last)
 
 -- a round more, which has the pending one played
 abbrev pub withRound : Rounds → ℕ → Rounds
-withRound R struck = record { played = allRounds R; pending = true; last = record { struck = struck; plants = [] } }
+withRound R struck = record { played = allRounds R; pending = true; last = record { struck = struck; told = false; plants = [] } }
+
+-- its struck listeners
+abbrev pub withStrikes : Rounds → ℕ → Rounds
+withStrikes R marks =
+    record {
+      played = R .played;
+      pending = R .pending;
+      last = record { struck = R .last .struck + 4294967296 * marks; told = true; plants = R .last .plants };
+    }
 
 -- bytes planted in the last round
 abbrev pub withPlant : Rounds → Plant → Rounds
-withPlant R x = record { played = R .played; pending = R .pending; last = record { struck = R .last .struck; plants = x ∷ R .last .plants } }
+withPlant R x = record { played = R .played; pending = R .pending; last = record { struck = R .last .struck; told = R .last .told; plants = x ∷ R .last .plants } }
 
 -- what a planted record plants
 abbrev pub plantIn : List ℕ → Plant
@@ -179,6 +226,8 @@ abbrev pub withRecord : RecordKind → File → List ℕ → File
 withRecord start F s = between (setupIn s) noRounds
 withRecord round F s = between (F .setup) (withRound (F .rounds) (struckIn s))
 withRecord plant F s = between (F .setup) (withPlant (F .rounds) (plantIn s))
+withRecord listeners F s = between (withListeners (F .setup) (numberIn s)) (F .rounds)
+withRecord strikes F s = between (F .setup) (withStrikes (F .rounds) (listenersIn s))
 withRecord other F s = F
 
 -- a fault ends the file: nothing after it is read
@@ -212,13 +261,13 @@ feed F (x ∷ xs) = feed (step F x) xs
 abbrev pub readFile : List ℕ → File
 readFile s = feed unread s
 
--- how many records were accepted: the start, and of each round its own and what is planted in it
+-- how many records were accepted: the start, the number of listeners, and of each round its own, its struck listeners and what is planted in it
 unfoldable pub recordsOf : List Round → ℕ
 recordsOf [] = 0
-recordsOf (w ∷ ws) = suc (length (w .plants) + recordsOf ws)
+recordsOf (w ∷ ws) = suc (bit (w .told) + length (w .plants) + recordsOf ws)
 
 unfoldable pub accepted : File → ℕ
-accepted F = cond (F .setup .begun) (suc (recordsOf (allRounds (F .rounds)))) 0
+accepted F = cond (F .setup .begun) (suc (bit (not (eqb (F .setup .listeners) 0)) + recordsOf (allRounds (F .rounds)))) 0
 
 -- ---- the end
 

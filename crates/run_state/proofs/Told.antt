@@ -1,15 +1,19 @@
 -- What the player tells of the file: before the first record, as bytes and records come, and whether a record is allowed or has a fault.
 use mathlib.Core.Path.{_≡_, refl}
-use mathlib.Core.Bool.{Bool, true, false, cond}
-use mathlib.Core.List.{List, []}
+use mathlib.Core.Bool.{Bool, true, false, not, cond}
+use mathlib.Core.List.{List, [], _∷_}
 use Prim.Native.Nat.{ℕ, _<_}
 use native.Mathlib.Omega.{arith}
+use lib.Dec.{eqb}
+use lib.ListN.{length}
 use borrow.Author.Needs.{needs}
-use Rattle.ring_spec.specs.Rounds.{mostRounds, afterRound, ringAfter}
-use Rattle.run_spec.specs.RunFile.{File, unread, given, RecordKind, start, round, plant, allowedWhen, isAllowed, countIn, limitIn, struckIn, roundFault, senderIn, receiverIn, plantFault, recordFault, thenPlayed, withRecord, stopped, withPart, feed, readFile, ringFrom}
+use borrow.Author.Tests.{ne-eqb}
+use Rattle.ring_spec.specs.Rounds.{Plant, mostRounds, afterRound, ringAfter}
+use Rattle.run_spec.specs.RunFile.{File, unread, given, RecordKind, start, round, plant, listeners, strikes, allowedWhen, isFirst, isBare, isAllowed, countIn, limitIn, struckIn, roundFault, numberIn, listenersIn, strikesFault, senderIn, receiverIn, lastPair, plantFault, recordFault, thenPlayed, withRecord, stopped, withPart, feed, readFile, ringFrom}
 use Rattle.run_spec.proofs.Reached.{length-then}
 use Rattle.run_state.specs.declared.Player.{Player}
-use Rattle.run_state.specs.Changes.{freshPlayer, halted, withRoundGiven, withPairPlanted}
+use Rattle.run_state.specs.Changes.{freshPlayer, halted, withRoundGiven, withPairPlanted, withListenersGiven, withStrikesGiven}
+use Rattle.run_state.specs.Places.{firstOf, bareOf}
 use Rattle.run_state.specs.State.{ringBefore, PlayerOf}
 
 pub unread-tells : PlayerOf (freshPlayer false 0 0) (readFile [])
@@ -29,7 +33,7 @@ module _ {F : File} {p : Player} (T : PlayerOf p F) where
   pub stop-tells : (c : ℕ) → PlayerOf (halted p 0 c) (stopped F c)
   stop-tells c = search needs
 
-  -- the heads struck before the round that a record gives
+  -- who was struck before the round that a record gives
   round-before : (s : List ℕ) → ringBefore (withRecord round F s) .before ≡ cond (p .pending) (p .struck) (p .before)
   unfolding ringAfter afterRound
   round-before s = rw (← T .pending, ← T .struck, ← T .before) (go (F .rounds .pending))
@@ -44,10 +48,12 @@ module _ {F : File} {p : Player} (T : PlayerOf p F) where
         begun = T .begun;
         n = T .n;
         f = T .f;
+        listeners = T .listeners;
         given = omega (arith, length-then (F .rounds .pending) (F .rounds .played) (F .rounds .last), T .given);
         pending = refl;
         before = round-before s;
         struck = refl;
+        told = refl;
         last = refl;
         fault = refl;
       }
@@ -55,13 +61,46 @@ module _ {F : File} {p : Player} (T : PlayerOf p F) where
   pub plant-tells : (s : List ℕ) → PlayerOf (withPairPlanted p (senderIn s) (receiverIn s)) (withRecord plant F s)
   plant-tells s = search needs
 
+  pub listeners-tells : (s : List ℕ) → PlayerOf (withListenersGiven p (numberIn s)) (withRecord listeners F s)
+  listeners-tells s = search needs
+
+  -- of a round whose struck listeners were not told, the marks are those of heads
+  pub strikes-tells : (s : List ℕ) → F .rounds .last .struck < 4294967296 → PlayerOf (withStrikesGiven p (listenersIn s)) (withRecord strikes F s)
+  strikes-tells s small =
+      record {
+        begun = T .begun;
+        n = T .n;
+        f = T .f;
+        listeners = T .listeners;
+        given = T .given;
+        pending = T .pending;
+        before = T .before;
+        struck = omega (arith, T .struck);
+        told = refl;
+        last = T .last;
+        fault = refl;
+      }
+
   -- ---- what it tells of a record
 
-  pub allowed-as : (K : RecordKind) (len : ℕ) → isAllowed K F len ≡ allowedWhen K (p .begun) (p .pending) len
-  allowed-as K len = rw (T .begun, T .pending)
+  pub first-as : isFirst F ≡ firstOf p
+  first-as = rw (T .begun, T .given, T .listeners)
+
+  pub bare-as : isBare (F .rounds) ≡ bareOf p
+  bare-as = rw (T .pending, T .told, ← T .last, no-plants (F .rounds .last .plants))
+    where
+      no-plants : (xs : List Plant) → eqb (length xs) 0 ≡ not (lastPair xs .some)
+      no-plants [] = refl
+      no-plants (x ∷ xs) = ne-eqb (length (x ∷ xs)) 0 (omega arith)
+
+  pub allowed-as : (K : RecordKind) (len : ℕ) → isAllowed K F len ≡ allowedWhen K (p .begun) (firstOf p) (p .pending) (bareOf p) len
+  allowed-as K len = rw (first-as, bare-as, T .begun, T .pending)
 
   pub round-fault-as : (s : List ℕ) → recordFault round F s ≡ roundFault (p .n) (p .f) (p .given) s
   round-fault-as s = rw (T .n, T .f, T .given)
 
-  pub plant-fault-as : (s : List ℕ) → recordFault plant F s ≡ plantFault (p .n) (p .struck) (p .last) s
-  plant-fault-as s = rw (T .n, T .struck, T .last)
+  pub plant-fault-as : (s : List ℕ) → recordFault plant F s ≡ plantFault (p .n) (p .listeners) (p .struck) (p .last) s
+  plant-fault-as s = rw (T .n, T .listeners, T .struck, T .last)
+
+  pub strikes-fault-as : (s : List ℕ) → recordFault strikes F s ≡ strikesFault (p .listeners) s
+  strikes-fault-as s = rw (T .listeners)

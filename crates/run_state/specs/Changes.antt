@@ -1,7 +1,8 @@
--- The player before the first round, and what changes of it: by a record that is not whole or has a fault, by a round, by a planted record.
+-- The player before the first round, and what changes of it: by a record that is not whole or has a fault, by a round, by a planted record, by the number of listeners,
+-- by a round's struck listeners.
 use mathlib.Core.Bool.{Bool, true, false, cond}
 use mathlib.Core.List.{[]}
-use Prim.Native.Nat.{ℕ, _+_, min}
+use Prim.Native.Nat.{ℕ, _+_, _*_, _%_, min}
 use Rattle.ring_spec.specs.Rounds.{mostRounds}
 use Rattle.run_spec.specs.RunFile.{lastPair}
 use Rattle.run_state.specs.declared.Player.{Player}
@@ -13,10 +14,12 @@ freshPlayer begun n f =
       begun = begun;
       n = n;
       f = f;
+      listeners = 0;
       given = 0;
       pending = false;
       before = 0;
       struck = 0;
+      told = false;
       last = lastPair [];
       have = 0;
       fault = 0;
@@ -29,10 +32,12 @@ halted p have fault =
       begun = p .begun;
       n = p .n;
       f = p .f;
+      listeners = p .listeners;
       given = p .given;
       pending = p .pending;
       before = p .before;
       struck = p .struck;
+      told = p .told;
       last = p .last;
       have = have;
       fault = fault;
@@ -45,10 +50,12 @@ withRoundGiven p struck =
       begun = p .begun;
       n = p .n;
       f = p .f;
+      listeners = p .listeners;
       given = min (p .given + 1) mostRounds;
       pending = true;
       before = cond (p .pending) (p .struck) (p .before);
       struck = struck;
+      told = false;
       last = lastPair [];
       have = 0;
       fault = 0;
@@ -61,11 +68,49 @@ withPairPlanted p from to =
       begun = p .begun;
       n = p .n;
       f = p .f;
+      listeners = p .listeners;
       given = p .given;
       pending = p .pending;
       before = p .before;
       struck = p .struck;
+      told = p .told;
       last = record { some = true; from = from; to = to };
+      have = 0;
+      fault = 0;
+    }
+
+-- the number of listeners (document 02, A6)
+abbrev pub withListenersGiven : Player → ℕ → Player
+withListenersGiven p m =
+    record {
+      begun = p .begun;
+      n = p .n;
+      f = p .f;
+      listeners = m;
+      given = p .given;
+      pending = p .pending;
+      before = p .before;
+      struck = p .struck;
+      told = p .told;
+      last = p .last;
+      have = 0;
+      fault = 0;
+    }
+
+-- the struck listeners of the last round: bit j of the marks for listener 32 + j
+abbrev pub withStrikesGiven : Player → ℕ → Player
+withStrikesGiven p marks =
+    record {
+      begun = p .begun;
+      n = p .n;
+      f = p .f;
+      listeners = p .listeners;
+      given = p .given;
+      pending = p .pending;
+      before = p .before;
+      struck = p .struck % 4294967296 + 4294967296 * marks;
+      told = true;
+      last = p .last;
       have = 0;
       fault = 0;
     }

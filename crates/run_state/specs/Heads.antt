@@ -1,6 +1,6 @@
--- Which records the player's memory stands for. Of an unstruck head it holds the position that its record holds, in every round, and in a confession round its
--- list; all else of the record is as `opened` makes it.
-use mathlib.Core.Bool.{false}
+-- Which records the player's memory stands for. Of an unstruck receiver, head or listener, it holds the position that its record holds, in every round, and in a
+-- confession round the list of each unstruck head; all else of a record is as `opened` makes it. A listener's list is never looked at.
+use mathlib.Core.Bool.{true, false}
 use mathlib.Core.Path.{_≡_}
 use Prim.Native.Nat.{ℕ}
 use lib.ListN.{getD}
@@ -8,13 +8,14 @@ use lib.IntN.{ℤ, pos}
 use Rattle.terms.specs.declared.Entry.{Entry}
 use Rattle.marks.specs.Marks.{bitOf}
 use Rattle.convergence.specs.Counting.{Each}
-use Rattle.ring_spec.specs.Rounds.{Ring}
+use Rattle.ring_spec.specs.Rounds.{Ring, receivers, isReceiver}
 use Rattle.ring_round.specs.Memory.{rowIn}
 use Rattle.run_state.specs.Memory.{Memory}
 
 -- of the heads that were not struck in the round before: a collection round finds each with a position; a head healed in it has none in the confession round
-pub record HeadsOf (n : ℕ) (R : Ring) (M : Memory) : Type 0 where
+pub record HeadsOf (n m : ℕ) (R : Ring) (M : Memory) : Type 0 where
   pub collection : R .round ≡ 0
       → Each n (λ i. bitOf (R .before) i ≡ false → R .heads i .seat .position ≡ Entry.Position (getD (M .positions) i (pos 0)))
   pub confession : R .round ≡ 1 → Each n (λ i. bitOf (R .before) i ≡ false → R .heads i .list ≡ rowIn (M .marks) (M .lists) i)
-  pub always : Each n (λ i. bitOf (R .before) i ≡ false → (v : ℤ) → R .heads i .seat .position ≡ Entry.Position v → getD (M .positions) i (pos 0) ≡ v)
+  pub always : Each receivers (λ i. isReceiver n m i ≡ true → bitOf (R .before) i ≡ false
+      → (v : ℤ) → R .heads i .seat .position ≡ Entry.Position v → getD (M .positions) i (pos 0) ≡ v)

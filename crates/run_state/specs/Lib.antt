@@ -1,4 +1,5 @@
 pub mod Changes
+pub mod Places
 pub mod Memory
 pub mod Heads
 pub mod State

@@ -19,16 +19,18 @@ pub record PlayerOf (p : Player) (F : File) : Type 0 where
   pub begun : F .setup .begun ≡ p .begun
   pub n : F .setup .n ≡ p .n
   pub f : F .setup .f ≡ p .f
+  pub listeners : F .setup .listeners ≡ p .listeners
   pub given : given F ≡ p .given
   pub pending : F .rounds .pending ≡ p .pending
   pub before : ringBefore F .before ≡ p .before
   pub struck : F .rounds .last .struck ≡ p .struck
+  pub told : F .rounds .last .told ≡ p .told
   pub last : lastPair (F .rounds .last .plants) ≡ p .last
   pub fault : F .fault ≡ p .fault
 
--- The memory holds what the records of the heads hold, and what is planted in the pending round. Free, since nothing reads it: the numbers of heads that were
--- struck or that the ring does not have, the lists in a collection round, the slots if no round is pending, and the bytes of a slot past its length.
+-- The memory holds what the records of the heads hold, and what is planted in the pending round. Free, since nothing reads it: the numbers of receivers that
+-- were struck or that the ring does not have, the lists in a collection round, the slots if no round is pending, and the bytes of a slot past its length.
 pub record MemoryOf (F : File) (M : Memory) : Type 0 where
-  pub keeps : F .setup .begun ≡ true → HeadsOf (F .setup .n) (ringBefore F) M
-  pub slots : F .rounds .pending ≡ true → (k i : ℕ) → k < 32 → i < 32 → plantedIn (M .planted) (M .lengths) k i ≡ planted (F .rounds .last .plants) k i
+  pub keeps : F .setup .begun ≡ true → HeadsOf (F .setup .n) (F .setup .listeners) (ringBefore F) M
+  pub slots : F .rounds .pending ≡ true → (k i : ℕ) → k < 32 → i < 48 → plantedIn (M .planted) (M .lengths) k i ≡ planted (F .rounds .last .plants) k i
   pub short : F .rounds .pending ≡ true → (k i : ℕ) → length (planted (F .rounds .last .plants) k i) ≤ 140

@@ -3,10 +3,11 @@
 ghost use mathlib.Core.Bool.{false, cond};
 ghost use mathlib.Core.List.{[]};
 ghost use mathlib.Core.Path.{_≡_};
-ghost use Prim.Native.Nat.{_+_, _%_, min};
+ghost use Prim.Native.Nat.{_+_, _*_, _%_, min};
 ghost use Rattle.ring_spec.specs.Rounds.{phaseOf, endsPhase, mostRounds};
 ghost use Rattle.run_spec.specs.RunFile.{lastPair};
-ghost use Rattle.run_state.specs.Changes.{freshPlayer, halted, withRoundGiven, withPairPlanted};
+ghost use Rattle.run_state.specs.Changes.{freshPlayer, halted, withRoundGiven, withPairPlanted, withListenersGiven, withStrikesGiven};
+ghost use Rattle.run_state.specs.Places.{firstOf, bareOf};
 use run_judge::MOST_ROUNDS;
 use run_spec::Pair;
 
@@ -20,10 +21,12 @@ pub struct Player {
     pub begun: bool, // a start was accepted
     pub n: u8,
     pub f: u8,
+    pub listeners: u8,
     pub given: u32, // rounds given
     pub pending: bool, // the last of them is not yet played
-    pub before: u32, // the heads struck in the round before it
-    pub struck: u32, // the heads struck in it
+    pub before: u64, // who was struck in the round before it: bits 0 to 31 heads, 32 to 47 listeners
+    pub struck: u64, // who is struck in it
+    pub told: bool, // its struck listeners were given
     pub last: Pair, // its last planted pair
     pub have: usize, // how many bytes of the record that is not yet whole
     pub fault: u8, // the number of the first fault, 0 for none
@@ -37,10 +40,12 @@ pub fn fresh(begun: bool, n: u8, f: u8) -> Player
         begun,
         n,
         f,
+        listeners: 0,
         given: 0,
         pending: false,
         before: 0,
         struck: 0,
+        told: false,
         last: no_pair(),
         have: 0,
         fault: 0,
@@ -99,8 +104,8 @@ fn one_more(given: u32) -> u32
     }
 }
 
-// The heads struck in the round before the next one.
-fn struck_before(p: Player) -> u32
+// Who was struck in the round before the next one.
+fn struck_before(p: Player) -> u64
     ensures { λ r. ⌜ r ≡ cond (p .pending) (p .struck) (p .before) ⌝ }
 {
     if p.pending { p.struck } else { p.before }
@@ -114,10 +119,12 @@ pub fn given_round(p: Player, struck: u32) -> Player
         begun: p.begun,
         n: p.n,
         f: p.f,
+        listeners: p.listeners,
         given: one_more(p.given),
         pending: true,
         before: struck_before(p),
-        struck,
+        struck: struck as u64,
+        told: false,
         last: no_pair(),
         have: 0,
         fault: 0,
@@ -135,6 +142,63 @@ pub fn planted_pair(p: Player, from: u8, to: u8) -> Player
     };
     let mut out = p;
     out.last = last;
+    out.have = 0;
+    out.fault = 0;
+    out
+}
+
+// Nothing but the start was accepted.
+pub fn is_first(p: Player) -> bool
+    ensures { λ r. ⌜ r ≡ firstOf p ⌝ }
+{
+    if !p.begun {
+        return false;
+    }
+    if p.given != 0 {
+        return false;
+    }
+    p.listeners == 0
+}
+
+// Nothing was accepted after the record of the pending round.
+pub fn is_bare(p: Player) -> bool
+    ensures { λ r. ⌜ r ≡ bareOf p ⌝ }
+{
+    if !p.pending {
+        return false;
+    }
+    if p.told {
+        return false;
+    }
+    !p.last.some
+}
+
+// The player after an accepted number of listeners.
+pub fn given_listeners(p: Player, m: u8) -> Player
+    ensures { λ r. ⌜ r ≡ withListenersGiven p m ⌝ }
+{
+    let mut out = p;
+    out.listeners = m;
+    out.have = 0;
+    out.fault = 0;
+    out
+}
+
+// The mark word of struck heads with that of struck listeners above it.
+fn with_listeners(struck: u64, marks: u16) -> u64
+    ensures { λ r. ⌜ r ≡ struck % 4294967296 + 4294967296 * marks ⌝ }
+{
+    struck % 4294967296 + 4294967296 * (marks as u64)
+}
+
+// The player after an accepted record of a round's struck listeners.
+pub fn given_strikes(p: Player, marks: u16) -> Player
+    ensures { λ r. ⌜ r ≡ withStrikesGiven p marks ⌝ }
+{
+    let struck = with_listeners(p.struck, marks);
+    let mut out = p;
+    out.struck = struck;
+    out.told = true;
     out.have = 0;
     out.fault = 0;
     out

@@ -57,11 +57,11 @@ module _ {a : List ℕ} {p : Player} {carry : List ℕ} {M : Memory} (L : StateA
 
   -- the rounds ws are played in all, and the memory holds what they leave
   ends : {n : ℕ} {line v : Text} {M′ : Memory} (ws : List Round) → roundsPlayed F ≡ ws
-      → title ++ lines (F .setup .n) (cond (F .setup .begun) (endsFrom (F .setup) ws) []) ≡ shown F ++ bytesOf line
+      → title ++ lines (F .setup .n) (F .setup .listeners) (cond (F .setup .begun) (endsFrom (F .setup) ws) []) ≡ shown F ++ bytesOf line
       → n ≡ endingOf p → bytesOf v ≡ verdict n
-      → (F .setup .begun ≡ true → HeadsOf (F .setup .n) (ringFrom (F .setup) ws) M′)
+      → (F .setup .begun ≡ true → HeadsOf (F .setup .n) (F .setup .listeners) (ringFrom (F .setup) ws) M′)
       → (ws ≡ F .rounds .played → M′ ≡ M)
-      → Grown (F .setup .n) (endsSoFar F) (cond (F .setup .begun) (endsFrom (F .setup) ws) []) (ringFrom (F .setup) ws) (bytesOf line)
+      → Grown (F .setup .n) (F .setup .listeners) (endsSoFar F) (cond (F .setup .begun) (endsFrom (F .setup) ws) []) (ringFrom (F .setup) ws) (bytesOf line)
       → EndsWith a M (record { number = n; line = line; verdict = v }) M′
   unfolding listingOf endsPlayed roundsPlayed
   ends {line} {v = t} ws e l i v K U G =
@@ -90,7 +90,7 @@ module _ {a : List ℕ} {p : Player} {carry : List ℕ} {M : Memory} (L : StateA
       ends (F .rounds .last ∷ F .rounds .played) (rw (eq-eqb (ending F) 0 (ends-by ∙ sym e ∙ z), pending))
       (rw (begun, played .shows) (sym (append-assoc title _ (bytesOf line))))
       e v (λ b. played .keeps) (λ same. absurd (omega (arith, ap length same)))
-      (rw begun (next-grown (F .setup .n) (F .setup .f) (F .setup .first) (F .rounds .played) (F .rounds .last) (played .shows)))
+      (rw begun (next-grown (F .setup .n) (F .setup .listeners) (F .setup .f) (F .setup .first) (F .rounds .played) (F .rounds .last) (played .shows)))
 
   -- no round is played
   pub ends-unplayed : {line v : Text} {n : ℕ} → n ≡ endingOf p → (n ≡ 0 → p .pending ≡ false) → bytesOf v ≡ verdict n → line .len ≡ 0

@@ -112,14 +112,14 @@ pub record Still (bytes : List ℕ) (p : Player) (carry₀ : List ℕ) (M₀ : M
   pub still : (a : List ℕ) → StateAt a p carry₀ M₀ → endsSoFar (readFile (a ++ take at bytes)) ≡ endsSoFar (readFile a)
 
 -- the same ends before
-grown-from : {n : ℕ} {es es′ es″ : List PhaseEnd} {R : Ring} {text : List ℕ} → es′ ≡ es → Grown n es′ es″ R text → Grown n es es″ R text
+grown-from : {n m : ℕ} {es es′ es″ : List PhaseEnd} {R : Ring} {text : List ℕ} → es′ ≡ es → Grown n m es′ es″ R text → Grown n m es es″ R text
 grown-from e g = rw e at g
 
 -- nothing shown, no end played
-grown-nothing : {n : ℕ} {es es′ : List PhaseEnd} {R : Ring} {text : List ℕ} → text ≡ [] → Grown n es es′ R text → es′ ≡ es
+grown-nothing : {n m : ℕ} {es es′ : List PhaseEnd} {R : Ring} {text : List ℕ} → text ≡ [] → Grown n m es es′ R text → es′ ≡ es
 grown-nothing z (none e t) = e
-grown-nothing {n} {es} {R} z (one collect r e t) =
-    absurd (omega (arith, line-some n (length es) (endHere collect R), ap length (sym t ∙ z)))
+grown-nothing {n} {m} {es} {R} z (one collect r e t) =
+    absurd (omega (arith, line-some n m (length es) (endHere collect es R), ap length (sym t ∙ z)))
 
 module _ {bytes : List ℕ} {p : Player} {carry₀ : List ℕ} {M₀ : Memory} where
   pub still-first : Still bytes p carry₀ M₀ p carry₀ M₀ 0

@@ -20,7 +20,7 @@ use run_spec::Pair;
 use run_state::Carry;
 use run_state::Player;
 use terms::Lists;
-use terms::Numbers;
+use terms::Positions;
 use terms::Words;
 use terms::refusal;
 
@@ -47,7 +47,7 @@ fn passed(p: Player, last: Pair, used: usize) -> PassResult
 
 // Whether a planted record may come next.
 fn awaits_plants(p: Player) -> bool
-    ensures { λ r. ⌜ (r ≡ true → Waits p (p .n) (p .struck) (p .last)) ⌝ }
+    ensures { λ r. ⌜ (r ≡ true → Waits p (p .n) (p .listeners) (p .struck) (p .last)) ⌝ }
 {
     if p.fault != 0 {
         return false;
@@ -74,9 +74,10 @@ fn pass_plants(
         return passed(p, last, used);
     }
     let n = p.n;
+    let m = p.listeners;
     let struck = p.struck;
     while used < bytes.len() {
-        let one = run_piece::pass_plant(n, struck, last, &bytes[used..], planted, lengths);
+        let one = run_piece::pass_plant(n, m, struck, last, &bytes[used..], planted, lengths);
         last = one.last;
         if one.used == 0 {
             return passed(p, last, used);
@@ -91,7 +92,7 @@ fn step(
     p: Player,
     bytes: &[u8],
     carry: &mut Carry,
-    positions: &mut Numbers,
+    positions: &mut Positions,
     marks: &mut Words,
     lists: &mut Lists,
     planted: &mut PlantedBytes,
@@ -125,7 +126,7 @@ pub fn feed(
     p: Player,
     bytes: &[u8],
     carry: &mut Carry,
-    positions: &mut Numbers,
+    positions: &mut Positions,
     marks: &mut Words,
     lists: &mut Lists,
     planted: &mut PlantedBytes,
@@ -176,7 +177,7 @@ fn ending(p: Player) -> u8
 // The end of the file: the pending round is played if it ends well.
 pub fn finish(
     p: Player,
-    positions: &mut Numbers,
+    positions: &mut Positions,
     marks: &mut Words,
     lists: &mut Lists,
     planted: &PlantedBytes,
@@ -237,7 +238,7 @@ pub fn fill(
     bytes: &[u8],
     page: &mut Page,
     carry: &mut Carry,
-    positions: &mut Numbers,
+    positions: &mut Positions,
     marks: &mut Words,
     lists: &mut Lists,
     planted: &mut PlantedBytes,
@@ -281,7 +282,7 @@ pub fn first_page(page: &mut Page) -> usize
 pub fn last_page(
     p: Player,
     page: &mut Page,
-    positions: &mut Numbers,
+    positions: &mut Positions,
     marks: &mut Words,
     lists: &mut Lists,
     planted: &PlantedBytes,

@@ -2,32 +2,36 @@
 -- its positions in memory, and these are kept. So at the end the buffers hold the listing and every phase end, and any two of these keep demand 3, since the
 -- ends of the file do.
 use mathlib.Core.Path.{_≡_, refl, ap, sym, _∙_}
-use mathlib.Core.Bool.{Bool, true, false, not, cond, true≢false}
+use mathlib.Core.Bool.{Bool, true, false, not, cond, _&&_, _||_, true≢false}
 use mathlib.Core.List.{List, [], _∷_, _++_, append-assoc}
 use Prim.Native.Nat.{ℕ, suc, _+_, _-_, _*_, _≤_, _<_}
 use native.Mathlib.Omega.{arith}
+use native.Mathlib.Decide.{decLt}
 use lib.Dec.{eqb}
 use lib.ListN.{length, getD, take}
 use lib.Seq.{length-take-le, take-all}
-use lib.IntN.{ℤ}
+use lib.IntN.{ℤ, pos}
+use Rattle.terms.specs.declared.Entry.{Entry}
+use Rattle.convergence.specs.Counting.{Each}
 use Rattle.convergence.specs.Phases.{spread}
 use Rattle.convergence.specs.Demand3.{Demand3}
 use Rattle.run_listing.specs.Held.{endIn}
 use Rattle.run_listing.proofs.Lowest.{found-held}
-use Rattle.ring_spec.specs.Rounds.{PhaseEnd, asEnd, ringAfter, afterRound}
+use Rattle.ring_spec.specs.Rounds.{PhaseEnd, receivers, isReceiver, isOut, asEnd, ringAfter, afterRound}
 use Rattle.ring_spec.proofs.Counts.{counted}
-use Rattle.run_spec.specs.RunFile.{File, unread, RecordKind, start, round, plant, other, kindOf, lengthOf, isAllowed, thenPlayed, withRecord, feed, readFile, endsSoFar, ending, roundsPlayed, endsPlayed, ringFrom, endsFrom}
+use Rattle.run_spec.specs.RunFile.{File, unread, given, RecordKind, start, round, plant, listeners, strikes, other, kindOf, lengthOf, isAllowed, thenPlayed, withRecord, feed, readFile, endsSoFar, ending, roundsPlayed, endsPlayed, ringFrom, endsFrom}
 use Rattle.run_spec.specs.Listing.{title, shown, listing}
 use Rattle.run_spec.proofs.Streaming.{feed-append}
-use Rattle.run_spec.proofs.Reached.{taken}
 use Rattle.run_spec.proofs.Demand3.{every-file}
 use Rattle.run_spec.proofs.Whole.{kept}
-use Rattle.run_spec.proofs.Bytes.{from, cost, few-ends}
-use Rattle.run_record.proofs.Records.{start-place}
+use Rattle.run_spec.proofs.Bytes.{length-then, first-begun, from, cost, few-ends}
+use Rattle.run_record.proofs.Records.{start-place, listeners-place}
+use Rattle.run_round.proofs.Converging.{held-at-end}
 use Rattle.run_listing.specs.declared.Text.{Text}
 use Rattle.run_listing.specs.Texts.{bytesOf}
 use Rattle.run_state.specs.declared.Player.{Player}
 use Rattle.run_state.specs.Memory.{Memory}
+use Rattle.run_state.specs.Heads.{HeadsOf}
 use Rattle.run_state.specs.State.{ringBefore}
 use Rattle.run_piece.specs.Advances.{StateAt, AdvancesOnce}
 use Rattle.run_stream.specs.declared.FinishResult.{FinishResult}
@@ -39,7 +43,7 @@ use Rattle.run_whole.specs.declared.PlayResult.{PlayResult}
 use Rattle.run_whole.specs.Buffers.{Buffers, mostEnds, hasRoom, row}
 use Rattle.run_whole.specs.Whole.{endNumber, HoldsEnd, Whole}
 use Rattle.run_whole.specs.Inner.{Put, EndKept, Rows, Told, Going}
-use Rattle.run_whole.proofs.Rows.{rows-at}
+use Rattle.run_whole.proofs.Rows.{rows-at, rows-recount}
 use Rattle.run_whole.proofs.Telling.{roomy, AtEnd, told-put, told-more, out-long}
 
 -- ---- the file so far
@@ -55,40 +59,72 @@ few-so-far s = go (F .setup .begun) refl
     go true e = let C = counted (F .setup .n) (F .setup .f) (F .setup .first) (F .rounds .played) in omega (arith, cost s .records e, C .played, C .counts)
     go false e = omega arith
 
--- a start gives the number of heads, and nothing after it another
-record Counts (m : ℕ) (F : File) (k : ℕ) : Type 0 where
+-- A start gives the number of heads, and nothing after it another; once a round was given, nothing gives another number of listeners. n, m and r: the heads, the
+-- listeners and the rounds given at first.
+record Counts (n m r : ℕ) (F : File) (k : ℕ) : Type 0 where
   begun : F .setup .begun ≡ true
-  same : F .setup .n ≡ m
+  heads : F .setup .n ≡ n
+  more : r ≤ given F
+  listeners : 0 < r → F .setup .listeners ≡ m
 
-counts-on : (m : ℕ) (K : RecordKind) (F : File) (s : List ℕ) (k : ℕ) → isAllowed K F (lengthOf s) ≡ true → Counts m F k → Counts m (withRecord K F s) (suc k)
-counts-on m start F s k may C = absurd (true≢false (sym (C .begun) ∙ start-place F (lengthOf s) may))
-counts-on m round F s k may C = record { begun = C .begun; same = C .same }
-counts-on m plant F s k may C = record { begun = C .begun; same = C .same }
-counts-on m other F s k may C = absurd (true≢false (sym may))
+module _ (n m r : ℕ) where
+  counts-on : (K : RecordKind) (F : File) (s : List ℕ) (k : ℕ) → isAllowed K F (lengthOf s) ≡ true → Counts n m r F k → Counts n m r (withRecord K F s) (suc k)
+  counts-on start F s k may C = absurd (true≢false (sym (C .begun) ∙ start-place F (lengthOf s) may))
+  counts-on round F s k may C =
+      record {
+        begun = C .begun;
+        heads = C .heads;
+        more = omega (arith, C .more, length-then (F .rounds .pending) (F .rounds .played) (F .rounds .last));
+        listeners = C .listeners;
+      }
+  counts-on plant F s k may C = record { begun = C .begun; heads = C .heads; more = C .more; listeners = C .listeners }
+  counts-on listeners F s k may C =
+      record {
+        begun = C .begun;
+        heads = C .heads;
+        more = C .more;
+        listeners = λ some. absurd (omega (arith, C .more, first-begun F (listeners-place F (lengthOf s) may) .1));
+      }
+  counts-on strikes F s k may C = record { begun = C .begun; heads = C .heads; more = C .more; listeners = C .listeners }
+  counts-on other F s k may C = absurd (true≢false (sym may))
 
-same-heads : (a b : List ℕ) → readFile a .setup .begun ≡ true → readFile (a ++ b) .setup .n ≡ readFile a .setup .n
-same-heads a b begun =
-    let m = readFile a .setup .n in
+same-counts : (a b : List ℕ) → readFile a .setup .begun ≡ true → let F = readFile a in
+    Counts (F .setup .n) (F .setup .listeners) (given F) (readFile (a ++ b)) (length a + length b)
+same-counts a b begun =
+    let F = readFile a in
+    let n = F .setup .n in
+    let m = F .setup .listeners in
+    let r = given F in
     rw (feed-append unread a b)
-    (from (Counts m)
-    (λ F k C. record { begun = C .begun; same = C .same })
-    (λ F s k one C. record { begun = C .begun; same = C .same })
-    (λ F c k C. record { begun = C .begun; same = C .same })
-    (λ F s k one may all sound C. counts-on m (kindOf s) F s k may C)
-    (readFile a) b (length a) (kept a) (record { begun = begun; same = refl }) .same)
+    (from (Counts n m r)
+    (λ F k C. record { begun = C .begun; heads = C .heads; more = C .more; listeners = C .listeners })
+    (λ F s k one C. record { begun = C .begun; heads = C .heads; more = C .more; listeners = C .listeners })
+    (λ F c k C. record { begun = C .begun; heads = C .heads; more = C .more; listeners = C .listeners })
+    (λ F s k one may all sound C. counts-on n m r (kindOf s) F s k may C)
+    F b (length a) (kept a) (record { begun = begun; heads = refl; more = omega arith; listeners = λ some. refl }))
 
--- before a start there is no row
-rows-then : (a b : List ℕ) (ends : List ℤ) (words : List ℕ) → Rows (readFile a .setup .n) (endsSoFar (readFile a)) ends words
-    → Rows (readFile (a ++ b) .setup .n) (endsSoFar (readFile a)) ends words
+-- before a start there is no row, and before the first round that of the start alone
+rows-then : (a b : List ℕ) (ends : List ℤ) (words : List ℕ) → Rows (readFile a .setup .n) (readFile a .setup .listeners) (endsSoFar (readFile a)) ends words
+    → Rows (readFile (a ++ b) .setup .n) (readFile (a ++ b) .setup .listeners) (endsSoFar (readFile a)) ends words
 unfolding Rows
 rows-then a b ends words = go (F .setup .begun) refl
   where
     F : File
     F = readFile a
 
+    G : File
+    G = readFile (a ++ b)
+
+    counted-on : F .setup .begun ≡ true → Dec (0 < given F) → let es = endsFrom (F .setup) (F .rounds .played) in
+        Rows (F .setup .n) (F .setup .listeners) es ends words → Rows (G .setup .n) (G .setup .listeners) es ends words
+    counted-on e (yes some) R = let C = same-counts a b e in rw (C .heads, C .listeners some) R
+    counted-on e (no none) R =
+        rw (same-counts a b e .heads)
+        (rows-recount (F .setup .n) (F .setup .listeners) (G .setup .listeners) (F .setup .f) (F .setup .first) (F .rounds .played) ends words (omega arith) R)
+
     go : (c : Bool) → F .setup .begun ≡ c → let es = cond c (endsFrom (F .setup) (F .rounds .played)) [] in
-        Rows (F .setup .n) es ends words → Rows (readFile (a ++ b) .setup .n) es ends words
-    go true e R = rw (same-heads a b e) R
+        Rows (F .setup .n) (F .setup .listeners) es ends words → Rows (G .setup .n) (G .setup .listeners) es ends words
+    go true e R = counted-on e (decLt 0 (given F)) R
     go false e R = tt
 
 -- if there is a phase end, there was a start
@@ -101,9 +137,9 @@ begun-so F x es = go (F .setup .begun)
 
 -- ---- before the first byte
 
-none-told : (n : ℕ) (B : Buffers) → Told n [] [] 0 0 B B
+none-told : (n m : ℕ) (B : Buffers) → Told n m [] [] 0 0 B B
 unfolding Rows
-none-told n B = record { len = refl; out = refl; count = refl; rows = tt; more-rows = refl; more-words = refl; long = refl; wide = refl }
+none-told n m B = record { len = refl; out = refl; count = refl; rows = tt; more-rows = refl; more-words = refl; long = refl; wide = refl }
 
 pub going-first : {file : List ℕ} {p : Player} {carry : List ℕ} {M : Memory} {t : Text} {l : ℕ} {out : List ℕ} (B : Buffers)
     → hasRoom (length file) (length (B .out)) (length (B .ends)) (length (B .words)) ≡ true → StateAt [] p carry M → bytesOf t ≡ title → t .len ≤ 64
@@ -113,7 +149,7 @@ unfolding unread feed
 going-first {file} {t} B room L text short P =
     let R = roomy (length file) B room in
     let (is, put) = P .puts short (omega (arith, R .out)) in
-    let told = told-put (none-told (readFile [] .setup .n) B) (bytesOf t) (t .len) (P .long short) put in
+    let told = told-put (none-told (readFile [] .setup .n) (readFile [] .setup .listeners) B) (bytesOf t) (t .len) (P .long short) put in
     record {
       room = room;
       within = omega arith;
@@ -128,8 +164,8 @@ module _ {file : List ℕ} {at : Place} {carry : List ℕ} {M : Memory} {B₀ B 
   abbrev a : List ℕ
   a = take (at .used) file
 
-  -- the number of heads as it is after more bytes
-  told-then : (b : List ℕ) → Told (readFile (a ++ b) .setup .n) (shown (readFile a)) (endsSoFar (readFile a)) (at .len) (at .count) B₀ B
+  -- the numbers of heads and listeners as they are after more bytes
+  told-then : (b : List ℕ) → Told (readFile (a ++ b) .setup .n) (readFile (a ++ b) .setup .listeners) (shown (readFile a)) (endsSoFar (readFile a)) (at .len) (at .count) B₀ B
   told-then b =
       let T = G .told in
       record {
@@ -146,7 +182,7 @@ module _ {file : List ℕ} {at : Place} {carry : List ℕ} {M : Memory} {B₀ B 
   pub going-on : (used : ℕ) {t : Text} {q : Player} {carry′ : List ℕ} {M′ : Memory} {l c : ℕ} {out : List ℕ} {ends : List ℤ} {words : List ℕ} {some : Bool}
       → at .used + used ≤ length file → t .len ≤ 64 → AdvancesOnce a (take used (rest (at .used) file)) (at .player) M q (bytesOf t) carry′ M′
       → Put t (at .len) l (B .out) out → some ≡ not (eqb (t .len) 0)
-      → EndKept some (q .n) (q .before) (M′ .positions) (at .count) c (B .ends) (B .words) ends words
+      → EndKept some (q .n) (q .listeners) (q .before) (M′ .positions) (at .count) c (B .ends) (B .words) ends words
       → Going file (record { player = q; used = at .used + used; len = l; count = c }) carry′ M′ B₀ (record { out = out; ends = ends; words = words })
   going-on used {t} {q} {M′} within short S P flag K =
       let b = take used (rest (at .used) file) in
@@ -156,12 +192,12 @@ module _ {file : List ℕ} {at : Place} {carry : List ℕ} {M : Memory} {B₀ B 
       let long = ap length is ∙ length-take-le (at .used + used) file within in
       let few : length (endsSoFar F) ≤ mostEnds (length file) = omega (arith, few-so-far (a ++ b)) in
       let ended : (x : PhaseEnd) → endsSoFar F ≡ x ∷ endsSoFar (readFile a) → ringBefore F .round ≡ 0
-      → AtEnd (F .setup .n) (ringBefore F) (q .before) (M′ .positions) =
+      → AtEnd (F .setup .n) (F .setup .listeners) x (ringBefore F) (q .before) (M′ .positions) =
       λ x e r.
       let begun = begun-so F x _ e in
-      record { is = sym (L .player .before); most = taken (a ++ b) begun .size .most; held = L .memory .keeps begun .collection r } in
+      record { is = sym (L .player .before); held = held-at-end false (a ++ b) begun (L .memory .keeps begun) r x (rw begun at e) } in
       let (told, small) =
-      told-more (told-then b) (roomy (length file) B₀ (G .room)) (G .small) short few {R = ringBefore F} ended P flag (rw (← L .player .n) at K) (S .grown) in
+      told-more (told-then b) (roomy (length file) B₀ (G .room)) (G .small) short few {R = ringBefore F} ended P flag (rw (← L .player .n, ← L .player .listeners) at K) (S .grown) in
       record {
         room = G .room;
         within = within;
@@ -181,6 +217,18 @@ begun-at F x es = go (F .setup .begun)
     go true e = refl
     go false e = absurd (omega (arith, ap length e))
 
+started : {b : Bool} (es : List PhaseEnd) → b ≡ true → es ≡ cond b es []
+started es e = rw e refl
+
+-- the positions of the last phase end, as the memory then holds them
+last-held : (s : List ℕ) {M : Memory} {es : List PhaseEnd} → let F = readFile s in
+    F .setup .begun ≡ true → HeadsOf (F .setup .n) (F .setup .listeners) (ringAtEnd F) M → ringAtEnd F .round ≡ 0 → (x : PhaseEnd)
+    → endsPlayed F ≡ x ∷ es
+    → Each receivers (λ i. isOut (F .setup .n) (F .setup .listeners) (x .struck) i ≡ false
+    → x .heads i .seat .position ≡ Entry.Position (getD (M .positions) i (pos 0)))
+unfolding endsPlayed roundsPlayed
+last-held s begun K z x e = held-at-end (eqb (ending (readFile s)) 0) s begun K z x (started (endsFrom (readFile s .setup) (roundsPlayed (readFile s))) begun ∙ e)
+
 -- if the end of the file plays a round, its mark word is that of the pending round
 last-struck : (F : File) (x : PhaseEnd) → endsPlayed F ≡ x ∷ endsSoFar F → ringAtEnd F .before ≡ F .rounds .last .struck
 unfolding endsPlayed roundsPlayed ringAfter afterRound
@@ -195,27 +243,33 @@ last-struck F x = go (eqb (ending F) 0) (F .rounds .pending)
     go true false e = absurd (more (endsSoFar F) e)
     go false w e = absurd (more (endsSoFar F) e)
 
+-- neither missing nor struck
+sound-in : (b c : Bool) → (not b || c) ≡ false → (b && not c) ≡ true
+sound-in true true o = absurd (true≢false o)
+sound-in true false o = refl
+sound-in false c o = absurd (true≢false o)
+
 -- demand 3 of two phase ends, of the rows and words that hold them
-rows-converge : {n k : ℕ} {halves : Type 0} (x y : PhaseEnd) {ps qs : List ℤ} {v w : ℕ} → HoldsEnd n x ps v → HoldsEnd n y qs w → Demand3 n halves k (asEnd x) (asEnd y)
-    → Demand3 n halves k (endIn v ps) (endIn w qs)
+rows-converge : {n m k : ℕ} {halves : Type 0} (x y : PhaseEnd) {ps qs : List ℤ} {v w : ℕ} → HoldsEnd n m x ps v → HoldsEnd n m y qs w
+    → Demand3 receivers halves k (asEnd n m x) (asEnd n m y) → Demand3 receivers halves k (endIn n m v ps) (endIn n m w qs)
 unfolding endIn spread
-rows-converge {n} x y {ps} {qs} H I D =
-    let X = found-held n (x .struck) (λ i. x .heads i .seat .position) ps (H .held) in
-    let Y = found-held n (y .struck) (λ i. y .heads i .seat .position) qs (I .held) in
+rows-converge {n} {m} x y {ps} {qs} H I D =
+    let X = found-held n m (x .struck) (λ i. x .heads i .seat .position) ps (λ i l r q. H .held i l (rw (r, q) refl)) in
+    let Y = found-held n m (y .struck) (λ i. y .heads i .seat .position) qs (λ i l r q. I .held i l (rw (r, q) refl)) in
     rw (H .marks, I .marks)
     record {
-      range = λ i l q. rw (← X .is-low, ← X .is-high, ← I .held i l q) (D .range i l q);
+      range = λ i l o. rw (← X .is-low, ← X .is-high, ← I .held i l (sound-in (isReceiver n m i) _ o)) (D .range i l o);
       halving = λ h. rw (← X .is-low, ← X .is-high, ← Y .is-low, ← Y .is-high) (D .halving h);
     }
 
 module _ (s : List ℕ) {r : PlayResult} {B₀ B : Buffers} (number : r .number ≡ ending (readFile s))
-    (T : Told (readFile s .setup .n) (listing s) (endsPlayed (readFile s)) (r .len) (r .ends) B₀ B) where
+    (T : Told (readFile s .setup .n) (readFile s .setup .listeners) (listing s) (endsPlayed (readFile s)) (r .len) (r .ends) B₀ B) where
   whole-told : Whole s r B₀ B
   whole-told =
       let F = readFile s in
       let es = endsPlayed F in
-      let at : (e : ℕ) → e < r .ends → HoldsEnd (F .setup .n) (endNumber es e) (row e (B .ends)) (getD (B .words) e 0) =
-      λ e l. rows-at (F .setup .n) es (B .ends) (B .words) (T .rows) e (omega (arith, T .count)) in
+      let at : (e : ℕ) → e < r .ends → HoldsEnd (F .setup .n) (F .setup .listeners) (endNumber es e) (row e (B .ends)) (getD (B .words) e 0) =
+      λ e l. rows-at (F .setup .n) (F .setup .listeners) es (B .ends) (B .words) (T .rows) e (omega (arith, T .count)) in
       record {
         number = number;
         len = T .len;
@@ -237,7 +291,7 @@ module _ {file : List ℕ} {at : Place} {carry : List ℕ} {M : Memory} {B₀ B 
   pub closes : {r : FinishResult} {M′ : Memory} {l l′ c : ℕ} {out out′ : List ℕ} {ends : List ℤ} {words : List ℕ} {some : Bool}
       → EndsWith (take (at .used) file) M r M′ → r .line .len ≤ 64 → r .verdict .len ≤ 64
       → Put (r .line) (at .len) l (B .out) out → some ≡ not (eqb (r .line .len) 0)
-      → EndKept some (at .player .n) (at .player .struck) (M′ .positions) (at .count) c (B .ends) (B .words) ends words
+      → EndKept some (at .player .n) (at .player .listeners) (at .player .struck) (M′ .positions) (at .count) c (B .ends) (B .words) ends words
       → Put (r .verdict) l l′ out out′
       → Whole file (record { number = r .number; len = l′; ends = c }) B₀ (record { out = out′; ends = ends; words = words })
   closes {r} {M′} {l′} {c} {out′} {ends} {words} E short short′ P flag K Q =
@@ -249,11 +303,11 @@ module _ {file : List ℕ} {at : Place} {carry : List ℕ} {M : Memory} {B₀ B 
       let n-s = ap length is in
       let few : length (endsPlayed F) ≤ mostEnds (length file) = omega (arith, few-ends s) in
       let ended : (x : PhaseEnd) → endsPlayed F ≡ x ∷ endsSoFar F → ringAtEnd F .round ≡ 0
-      → AtEnd (F .setup .n) (ringAtEnd F) (at .player .struck) (M′ .positions) =
+      → AtEnd (F .setup .n) (F .setup .listeners) x (ringAtEnd F) (at .player .struck) (M′ .positions) =
       λ x e z.
       let begun = begun-at F x _ e in
-      record { is = sym (last-struck F x e ∙ L .player .struck); most = taken s begun .size .most; held = E .ends .held begun .collection z } in
-      let (told, small) = told-more (G .told) room (G .small) short few {R = ringAtEnd F} ended P flag (rw (← L .player .n) at K) (E .grown) in
+      record { is = sym (last-struck F x e ∙ L .player .struck); held = last-held s begun (E .ends .held begun) z x e } in
+      let (told, small) = told-more (G .told) room (G .small) short few {R = ringAtEnd F} ended P flag (rw (← L .player .n, ← L .player .listeners) at K) (E .grown) in
       let (len, put) = Q .puts short′ (omega (arith, out-long told (omega (arith, told .count, room .out)), told .count, room .out)) in
       let whole =
       whole-told s {r = record { number = r .number; len = l′; ends = c }} {B₀ = B₀} {B = record { out = out′; ends = ends; words = words }} (E .number)

@@ -1,4 +1,4 @@
--- The buffers that a whole file is played into: its listing, and a row of 32 numbers and a mark word for each phase end.
+-- The buffers that a whole file is played into: its listing, and a row of 48 numbers, one for each head and listener, and a mark word for each phase end.
 use mathlib.Core.Bool.{Bool, _&&_}
 use mathlib.Core.List.{List}
 use Prim.Native.Nat.{ℕ, _+_, _*_, _/_}
@@ -25,10 +25,10 @@ left out ends words = record { out = now (out .exit); ends = now (ends .exit); w
 abbrev pub mostEnds : ℕ → ℕ
 mostEnds len = len / 16 + 1
 
--- whether buffers of these lengths have room for a file of so many bytes: 64 bytes for each line, 32 numbers and a word for each phase end
+-- whether buffers of these lengths have room for a file of so many bytes: 64 bytes for each line, 48 numbers and a word for each phase end
 unfoldable pub hasRoom : ℕ → ℕ → ℕ → ℕ → Bool
-hasRoom len out ends words = leb (64 * (mostEnds len + 2)) out && leb (32 * mostEnds len) ends && leb (mostEnds len) words
+hasRoom len out ends words = leb (64 * (mostEnds len + 2)) out && leb (48 * mostEnds len) ends && leb (mostEnds len) words
 
--- row e of a table with 32 numbers to a row
+-- row e of a table with 48 numbers to a row
 abbrev pub row : ℕ → List ℤ → List ℤ
-row e ends = take 32 (drop (32 * e) ends)
+row e ends = take 48 (drop (48 * e) ends)

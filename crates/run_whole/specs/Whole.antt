@@ -3,7 +3,6 @@ use mathlib.Core.Bool.{Bool, true, false, not, _&&_}
 use mathlib.Core.List.{List, _++_}
 use mathlib.Core.Path.{_≡_}
 use Prim.Native.Nat.{ℕ, _+_, _-_, _*_, _<_}
-use lib.Dec.{ltb}
 use lib.ListN.{length, getD, drop}
 use lib.IntN.{ℤ, pos}
 use Rattle.terms.specs.Refusals as refusal
@@ -13,7 +12,7 @@ use Rattle.convergence.specs.Counting.{Each}
 use Rattle.convergence.specs.Phases.{End}
 use Rattle.convergence.specs.Demand3.{Demand3, Halves}
 use Rattle.run_listing.specs.Held.{endIn}
-use Rattle.ring_spec.specs.Rounds.{PhaseEnd}
+use Rattle.ring_spec.specs.Rounds.{PhaseEnd, receivers, isReceiver}
 use Rattle.ring_spec.specs.Converges.{noEnd}
 use Rattle.run_spec.specs.RunFile.{readFile, ending, endsPlayed}
 use Rattle.run_spec.specs.Listing.{listing}
@@ -24,20 +23,20 @@ use Rattle.run_whole.specs.Buffers.{Buffers, row}
 abbrev pub endNumber : List PhaseEnd → ℕ → PhaseEnd
 endNumber es e = getD es (length es - 1 - e) noEnd
 
--- whether head i of n is sound, by the mark word of the round that ended the phase
-abbrev pub isSound : ℕ → ℕ → ℕ → Bool
-isSound n word i = ltb i n && not (bitOf word i)
+-- whether receiver i of n heads and m listeners is sound, by the mark word of a phase end
+abbrev pub isSound : ℕ → ℕ → ℕ → ℕ → Bool
+isSound n m word i = isReceiver n m i && not (bitOf word i)
 
--- a row and a mark word hold a phase end of n heads: the word is that of the round that ended it; the row has for each sound head the position that its record
--- holds, and 0 elsewhere
-pub record HoldsEnd (n : ℕ) (x : PhaseEnd) (row : List ℤ) (word : ℕ) : Type 0 where
+-- A row and a mark word hold a phase end of n heads and m listeners: the word is that of the round that ended it, and at the start that of all listeners, which hold
+-- no position yet; the row has for each sound receiver the position that its record holds, and 0 elsewhere.
+pub record HoldsEnd (n m : ℕ) (x : PhaseEnd) (row : List ℤ) (word : ℕ) : Type 0 where
   pub marks : word ≡ x .struck
-  pub held : Each n (λ i. bitOf (x .struck) i ≡ false → x .heads i .seat .position ≡ Entry.Position (getD row i (pos 0)))
-  pub others : (i : ℕ) → isSound n (x .struck) i ≡ false → getD row i (pos 0) ≡ pos 0
+  pub held : Each receivers (λ i. isSound n m (x .struck) i ≡ true → x .heads i .seat .position ≡ Entry.Position (getD row i (pos 0)))
+  pub others : Each receivers (λ i. isSound n m (x .struck) i ≡ false → getD row i (pos 0) ≡ pos 0)
 
--- the phase end that row e and word e are
-abbrev pub endAt : Buffers → ℕ → End
-endAt B e = endIn (getD (B .words) e 0) (row e (B .ends))
+-- the phase end of n heads and m listeners that row e and word e are
+abbrev pub endAt : ℕ → ℕ → Buffers → ℕ → End
+endAt n m B e = endIn n m (getD (B .words) e 0) (row e (B .ends))
 
 -- the file s is played: how it ends; its listing, with what stands behind it as it was; its phase ends, with what stands behind them as it was; and any two of
 -- these, k phases apart, keep demand 3
@@ -46,11 +45,12 @@ pub record Whole (s : List ℕ) (r : PlayResult) (B B′ : Buffers) : Type 0 whe
   pub len : r .len ≡ length (listing s)
   pub out : B′ .out ≡ listing s ++ drop (r .len) (B .out)
   pub count : r .ends ≡ length (endsPlayed (readFile s))
-  pub rows : (e : ℕ) → e < r .ends → HoldsEnd (readFile s .setup .n) (endNumber (endsPlayed (readFile s)) e) (row e (B′ .ends)) (getD (B′ .words) e 0)
-  pub more-rows : drop (32 * r .ends) (B′ .ends) ≡ drop (32 * r .ends) (B .ends)
+  pub rows : let S = readFile s .setup in
+      (e : ℕ) → e < r .ends → HoldsEnd (S .n) (S .listeners) (endNumber (endsPlayed (readFile s)) e) (row e (B′ .ends)) (getD (B′ .words) e 0)
+  pub more-rows : drop (48 * r .ends) (B′ .ends) ≡ drop (48 * r .ends) (B .ends)
   pub more-words : drop (r .ends) (B′ .words) ≡ drop (r .ends) (B .words)
-  pub demand3 : (e k : ℕ) → e + k < r .ends
-      → Demand3 (readFile s .setup .n) (Halves (readFile s .setup .n) (readFile s .setup .f)) k (endAt B′ e) (endAt B′ (e + k))
+  pub demand3 : let S = readFile s .setup in
+      (e k : ℕ) → e + k < r .ends → Demand3 receivers (Halves (S .n) (S .f)) k (endAt (S .n) (S .listeners) B′ e) (endAt (S .n) (S .listeners) B′ (e + k))
 
 -- by whether the buffers have room: if not, 24, and they are as they were
 abbrev pub Plays : Bool → List ℕ → PlayResult → Buffers → Buffers → Type 0

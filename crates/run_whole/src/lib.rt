@@ -1,5 +1,5 @@
-// A whole run file in memory, played: its listing, and for each phase end the positions of the sound heads and the mark word of those struck. What a caller sees
-// of the file is one promise, about what these buffers hold.
+// A whole run file in memory, played: its listing, and for each phase end the positions of the sound heads and listeners and the mark word of those struck. What a
+// caller sees of the file is one promise, about what these buffers hold.
 ghost use mathlib.Core.Bool.{true};
 ghost use mathlib.Core.List.{List};
 ghost use mathlib.Core.Path.{_≡_};
@@ -9,14 +9,14 @@ ghost use lib.Seq.{paste};
 ghost use Rattle.run_state.specs.Memory.{before, after};
 ghost use Rattle.run_whole.specs.Buffers.{Buffers, lent, left, hasRoom};
 ghost use Rattle.run_whole.specs.Whole.{Whole, Plays, PlaysInto};
-ghost use Rattle.run_whole.specs.Inner.{Put, soundNumber, soundRow, EndKept, Going};
+ghost use Rattle.run_whole.specs.Inner.{Put, soundNumber, soundRow, wordAt, EndKept, Going};
 use frame_slots::PlantedBytes;
 use frame_slots::PlantedLengths;
 use run_listing::Text;
 use run_state::Carry;
 use run_state::Player;
 use terms::Lists;
-use terms::Numbers;
+use terms::Positions;
 use terms::Words;
 use terms::refusal;
 
@@ -43,7 +43,7 @@ fn has_room(len: usize, out: usize, ends: usize, words: usize) -> bool
     if out / 64 < most + 2 {
         return false;
     }
-    if ends / 32 < most {
+    if ends / 48 < most {
         return false;
     }
     most <= words
@@ -68,43 +68,54 @@ fn put(out: &mut [u8], len: usize, t: Text) -> usize
     len + count
 }
 
-// The number that a row has for head i: the position of a sound head, else 0.
-fn number_at(positions: &Numbers, n: u8, word: u32, i: usize) -> i32
-    ensures { λ r. ⌜ r ≡ soundNumber n word (now (positions .entry)) i ⌝ }
+// The number that a row has for receiver i: the position of a sound head or listener, else 0.
+fn number_at(positions: &Positions, n: u8, m: u8, word: u64, i: usize) -> i32
+    ensures { λ r. ⌜ r ≡ soundNumber n m word (now (positions .entry)) i ⌝ }
 {
-    if n as usize <= i {
+    if !run_judge::is_receiver(i, n, m) {
         return 0;
     }
-    if marks::marked(word, i) {
+    if marks::marked_wide(word, i) {
         return 0;
     }
     run_listing::position_at(positions, i)
 }
 
 // Writes a row.
-fn fill_row(ends: &mut [i32], base: usize, positions: &Numbers, n: u8, word: u32)
-    requires { ⌜ base + 32 ≤ length (now ends) ⌝ }
-    ensures { λ _. ⌜ now (ends .exit) ≡ paste (now (ends .entry)) base (soundRow n word (now (positions .entry)) 32) 32 ⌝ }
+fn fill_row(ends: &mut [i32], base: usize, positions: &Positions, n: u8, m: u8, word: u64)
+    requires { ⌜ base + 48 ≤ length (now ends) ⌝ }
+    ensures { λ _. ⌜ now (ends .exit) ≡ paste (now (ends .entry)) base (soundRow n m word (now (positions .entry)) 48) 48 ⌝ }
 {
     let mut i: usize = 0;
-    while i < 32 {
-        let v = number_at(positions, n, word, i);
+    while i < 48 {
+        let v = number_at(positions, n, m, word, i);
         ends[base + i] = v;
         i += 1;
     }
+}
+
+// The mark word of the phase end with this number: at the start, which is the first, every listener counts as struck.
+fn word_at(count: usize, struck: u64) -> u64
+    ensures { λ r. ⌜ r ≡ wordAt count struck ⌝ }
+{
+    if count == 0 {
+        return 281470681743360;
+    }
+    struck
 }
 
 // Keeps a phase end, if there is one and room for it, and answers how many there are then.
 fn keep(
     some: bool,
     ends: &mut [i32],
-    words: &mut [u32],
+    words: &mut [u64],
     count: usize,
-    positions: &Numbers,
+    positions: &Positions,
     n: u8,
-    word: u32,
+    m: u8,
+    struck: u64,
 ) -> usize
-    ensures { λ r. ⌜ EndKept some n word (now (positions .entry)) count r (now (ends .entry)) (now (words .entry)) (now (ends .exit)) (now (words .exit)) ⌝ }
+    ensures { λ r. ⌜ EndKept some n m struck (now (positions .entry)) count r (now (ends .entry)) (now (words .entry)) (now (ends .exit)) (now (words .exit)) ⌝ }
 {
     if !some {
         return count;
@@ -112,10 +123,11 @@ fn keep(
     if words.len() <= count {
         return count;
     }
-    if ends.len() / 32 <= count {
+    if ends.len() / 48 <= count {
         return count;
     }
-    fill_row(ends, 32 * count, positions, n, word);
+    let word = word_at(count, struck);
+    fill_row(ends, 48 * count, positions, n, m, word);
     words[count] = word;
     count + 1
 }
@@ -126,9 +138,9 @@ fn step(
     file: &[u8],
     out: &mut [u8],
     ends: &mut [i32],
-    words: &mut [u32],
+    words: &mut [u64],
     carry: &mut Carry,
-    positions: &mut Numbers,
+    positions: &mut Positions,
     marks: &mut Words,
     lists: &mut Lists,
     planted: &mut PlantedBytes,
@@ -161,6 +173,7 @@ fn step(
         at.count,
         positions,
         player.n,
+        player.listeners,
         player.before,
     );
     Place {
@@ -176,8 +189,8 @@ fn close(
     at: Place,
     out: &mut [u8],
     ends: &mut [i32],
-    words: &mut [u32],
-    positions: &mut Numbers,
+    words: &mut [u64],
+    positions: &mut Positions,
     marks: &mut Words,
     lists: &mut Lists,
     planted: &PlantedBytes,
@@ -198,6 +211,7 @@ fn close(
         at.count,
         positions,
         player.n,
+        player.listeners,
         player.struck,
     );
     PlayResult {
@@ -212,9 +226,9 @@ fn run(
     file: &[u8],
     out: &mut [u8],
     ends: &mut [i32],
-    words: &mut [u32],
+    words: &mut [u64],
     carry: &mut Carry,
-    positions: &mut Numbers,
+    positions: &mut Positions,
     marks: &mut Words,
     lists: &mut Lists,
     planted: &mut PlantedBytes,
@@ -260,7 +274,7 @@ fn run(
 
 // Plays a whole file: its listing at the front of out, and for each phase end a row of ends and a word of words. Refused 24 if one of the three is too
 // short for the most phase ends that a file of this length can have.
-pub fn play(file: &[u8], out: &mut [u8], ends: &mut [i32], words: &mut [u32]) -> PlayResult
+pub fn play(file: &[u8], out: &mut [u8], ends: &mut [i32], words: &mut [u64]) -> PlayResult
     ensures { λ r. ⌜ Plays (hasRoom (length (now (file .entry))) (length (now (out .entry))) (length (now (ends .entry))) (length (now (words .entry))))
         (now (file .entry)) r (lent out ends words) (left out ends words) ⌝ }
 {
@@ -272,7 +286,7 @@ pub fn play(file: &[u8], out: &mut [u8], ends: &mut [i32], words: &mut [u32]) ->
         };
     }
     let mut carry = [0u8; run_state::CARRY];
-    let mut positions = [0i32; 32];
+    let mut positions = [0i32; 48];
     let mut marks = [0u32; 32];
     let none = [0i32; 32];
     let mut lists = [none; 32];
@@ -299,7 +313,7 @@ pub extern "C" fn focus_play(
     file: &[u8],
     out: &mut [u8],
     ends: &mut [i32],
-    words: &mut [u32],
+    words: &mut [u64],
     size: &mut usize,
     count: &mut usize,
 ) -> u8

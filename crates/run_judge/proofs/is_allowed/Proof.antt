@@ -17,9 +17,21 @@ returns-4 : tie.Need-returns-4
 returns-4 c = rw (c .before .match .keys3) (c .has-place2 .ensures)
 
 returns-5 : tie.Need-returns-5
-returns-5 c =
+returns-5 c = rw (c .before .match .keys4, c .if2 .taken)
+
+returns-6 : tie.Need-returns-6
+returns-6 c = rw (c .before .match .keys4, c .if2 .left)
+
+returns-7 : tie.Need-returns-7
+returns-7 c = rw (c .before .match .keys5, c .if3 .taken)
+
+returns-8 : tie.Need-returns-8
+returns-8 c = rw (c .before .match .keys5, c .if3 .left)
+
+returns-9 : tie.Need-returns-9
+returns-9 c =
     let r = c .match .rest in
-    simp (ne-eqb _ _ (r .0 .0 .1), ne-eqb _ _ (r .0 .1), ne-eqb _ _ (r .1))
+    simp (ne-eqb _ _ (r .0 .0 .0 .0 .1), ne-eqb _ _ (r .0 .0 .0 .1), ne-eqb _ _ (r .0 .0 .1), ne-eqb _ _ (r .0 .1), ne-eqb _ _ (r .1))
 
 pub is-allowed-spec : {M : Type 1} → statement M
 is-allowed-spec =
@@ -31,4 +43,8 @@ is-allowed-spec =
     returns-2
     returns-3
     returns-4
-    returns-5)
+    returns-5
+    returns-6
+    returns-7
+    returns-8
+    returns-9)

@@ -9,8 +9,10 @@ use Rattle.run_listing.proofs.end_line.Tie as tie
 
 returns : tie.Need-returns
 returns c =
-    let t5 = c .before in
-    let t4 = t5 .before in
+    let h2 = c .before in
+    let t5 = h2 .before in
+    let h1 = t5 .before in
+    let t4 = h1 .before in
     let w = t4 .before in
     let t3 = w .before in
     let t2 = t3 .before in
@@ -23,7 +25,8 @@ returns c =
           (longer-then (t3 .put-entry2 .ensures)
           (longer-then (t4 .put-number2 .ensures)
           (longer-then (t5 .put-digits .ensures) (c .put-digits2 .ensures))))))
-          ∙ fields-are (a .phase) (a .collect) (a .confess) (now (a .positions)) (o .before .ends-of .ensures) (w .spread-of .ensures),
+          ∙ fields-are (a .n) (a .m) (a .phase) (a .collect) (a .confess) (now (a .positions)) (o .before .ends-of .ensures) (w .spread-of .ensures)
+          (h1 .heads-of .ensures) (h2 .heads-of2 .ensures),
       search needs,
     )
 
@@ -31,6 +34,8 @@ pub end-line-spec : {M : Type 1} → statement M
 end-line-spec =
     tie.close
     (tie.spec
+    (λ c κs. search needs)
+    (λ c κs. search needs)
     (λ c κs. search needs)
     (λ c κs. search needs)
     (λ c κs. search needs)

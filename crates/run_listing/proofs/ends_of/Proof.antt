@@ -1,4 +1,5 @@
--- `run_listing::ends_of` meets its contract: before head j the two entries are the lowest and the highest of the heads below j.
+-- `run_listing::ends_of` meets its contract: before receiver j the two entries are the lowest and the highest of those below j, and past the last turn there
+-- is no receiver.
 use mathlib.Core.Path.{_≡_, sym, _∙_}
 use mathlib.Core.Logic.{⊎-elim}
 use Prim.Native.Nat.{_-_, _≤_}
@@ -9,36 +10,38 @@ use borrow.Author.Tests.{not-true, not-false}
 use borrow.Author.Needs.{needs}
 use Rattle.run_listing.specs.Held.{endIn}
 use Rattle.run_listing.specs.Heights.{Found}
-use Rattle.run_listing.proofs.Lowest.{found-none, found-struck, found-sound}
+use Rattle.run_listing.proofs.Lowest.{found-none, found-struck, found-sound, found-all}
 use Rattle.run_listing.proofs.ends_of.Statement.{statement}
 use Rattle.run_listing.proofs.ends_of.Tie as tie
 
 abbrev Inv-loop : tie.InvT-loop
-Inv-loop positions struck n count low₀ high₀ j₀ low high j = (j ≤ count) × Found j (endIn struck positions) low high
+Inv-loop positions struck n m count low₀ high₀ j₀ low high j = (j ≤ count) × Found j (endIn n m struck positions) low high
 
 abbrev μ-loop : tie.MeasureT-loop
-μ-loop positions struck n count low₀ high₀ j₀ low high j = count - j
+μ-loop positions struck n m count low₀ high₀ j₀ low high j = count - j
 
 loop-holds : tie.Need-loop-holds Inv-loop μ-loop
 loop-holds c = (search needs, found-none _)
 
 loop-again : tie.Need-loop-again Inv-loop μ-loop
 loop-again c =
-    let a = c .before .before .before .before .args in
+    let a = c .before .before .before .before .before .args in
     let l = c .before .before .before .loop in
-    let m = sym (c .before .marked .ensures) in
+    let s = sym (c .before .is-sound .ensures) in
     ⊎-elim
     (λ w.
     let v = toZ-ofZ (record { sfits = w .2 .ok }) ∙ w .2 .ensures in
-    (search needs, found-sound (a .struck) (now (a .positions)) (l .inv .1) (m ∙ not-true _ (w .0 .taken)) v (w .5 ∙ w .3 .ensures) (w .6 ∙ w .4 .ensures)))
-    (λ w. (search needs, rw (w .1, w .2) (found-struck (a .struck) (now (a .positions)) (l .inv .1) (m ∙ not-false _ (w .0 .left)))))
+    (search needs, found-sound (a .n) (a .m) (a .struck) (now (a .positions)) (l .inv .1) (not-true _ (s ∙ w .0 .taken)) v (w .5 ∙ w .3 .ensures) (w .6 ∙ w .4 .ensures)))
+    (λ w. (search needs, rw (w .1, w .2) (found-struck (a .n) (a .m) (a .struck) (now (a .positions)) (l .inv .1) (not-false _ (s ∙ w .0 .left)))))
     (c .if1 .came)
 
 returns : tie.Need-returns Inv-loop μ-loop
 returns c =
     let l = c .before .loop in
-    let e : l .j ≡ c .before .before .args .n = omega arith in
-    rw e at (l .inv .1)
+    let r = c .before .before in
+    let a = r .before .args in
+    let e : l .j ≡ r .reach .result = omega arith in
+    found-all (a .n) (a .m) (a .struck) (now (a .positions)) (l .inv .1) (rw e (r .reach .ensures))
 
 pub ends-of-spec : {M : Type 1} → statement M
 ends-of-spec =
@@ -46,6 +49,7 @@ ends-of-spec =
     (tie.spec
     Inv-loop
     μ-loop
+    (λ c κs. search needs)
     loop-holds
     (λ c κs. search needs)
     (λ c κs. search needs)

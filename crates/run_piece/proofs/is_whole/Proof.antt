@@ -22,7 +22,7 @@ returns-3 c e =
     record {
       fresh = search needs;
       within = omega (arith, c .before .before .half-at .ensures);
-      long = stands-long (kindOf (now (a .bytes))) (a .p .begun) (a .p .pending) (lengthOf (now (a .bytes))) allowed .0;
+      long = stands-long (kindOf (now (a .bytes))) _ _ _ _ (lengthOf (now (a .bytes))) allowed .0;
       allowed = allowed;
     }
 

@@ -18,7 +18,7 @@ returns-2 c =
     let z = f .before .before in (
       omega arith,
       λ p W a carry M L. plant-left L W _ (z .plant-size .ensures (omega (arith, f .before .if1 .left))) (f .front .ensures) _ (c .if2 .taken)
-          (λ F. v .plant-record .ensures F M p (W .n) (W .struck) (W .last)),
+          (λ F. v .plant-record .ensures F M p (W .n) (W .listeners) (W .struck) (W .last)),
     )
 
 returns-3 : tie.Need-returns-3
@@ -29,7 +29,7 @@ returns-3 c =
     let P = f .before .before .plant-size .ensures (omega (arith, f .before .if1 .left)) in (
       P .within,
       λ p W a carry M L. plant-there L W _ P (f .front .ensures) (k .before .if2 .left)
-          (λ F. v .plant-record .ensures F M p (W .n) (W .struck) (W .last)) (k .byte-at .ensures) (c .byte-at2 .ensures),
+          (λ F. v .plant-record .ensures F M p (W .n) (W .listeners) (W .struck) (W .last)) (k .byte-at .ensures) (c .byte-at2 .ensures),
     )
 
 pub pass-plant-spec : {M : Type 1} → statement M

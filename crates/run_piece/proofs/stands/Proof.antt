@@ -4,7 +4,12 @@ use Rattle.run_piece.proofs.stands.Statement.{statement}
 use Rattle.run_piece.proofs.stands.Tie as tie
 
 returns : tie.Need-returns
-returns c = rw (← c .before .before .half-at .ensures, ← c .before .half-at2 .ensures) (c .is-allowed .ensures)
+returns c =
+    let b = c .before in
+    let f = b .before in
+    rw (← f .before .before .half-at .ensures, ← f .before .half-at2 .ensures, ← f .is-first .ensures, ← b .is-bare .ensures) (c .is-allowed .ensures)
 
 pub stands-spec : {M : Type 1} → statement M
-stands-spec = tie.close (tie.spec (λ c κs. search needs) (λ c κs. search needs) (λ c κs. search needs) returns)
+stands-spec =
+    tie.close
+    (tie.spec (λ c κs. search needs) (λ c κs. search needs) (λ c κs. search needs) (λ c κs. search needs) (λ c κs. search needs) returns)

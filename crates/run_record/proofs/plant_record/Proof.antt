@@ -14,8 +14,8 @@ returns : tie.Need-returns
 returns c =
     let t = c .before in
     let s = now (t .before .before .args .bytes) in
-    λ F M p a b d few T H x none.
-    rw (judged-stopped plant F s _ (t .plant-fault .ensures ∙ plant-told T a b d s) (c .if1 .taken))
+    λ F M p a b d e few T H x none.
+    rw (judged-stopped plant F s _ (t .plant-fault .ensures ∙ plant-told T a b d e s) (c .if1 .taken))
     (stopped-next T H (after-stopped p _ s (c .if1 .taken)) none)
 
 returns-2 : tie.Need-returns-2
@@ -25,9 +25,9 @@ returns-2 c =
     let k = i .before in
     let t = k .before in
     let s = now (t .before .before .before .args .bytes) in
-    λ F M p a b d few T H e none.
+    λ F M p a b d e few T H z none.
     let short : length (drop 6 s) ≤ 140 = omega (arith, length-drop 6 s) in
-    rw (judged-taken plant F s (t .before .plant-fault .ensures ∙ plant-told T a b d s) (t .if1 .left))
+    rw (judged-taken plant F s (t .before .plant-fault .ensures ∙ plant-told T a b d e s) (t .if1 .left))
     (plant-next s H short
     (λ m j m-below j-below fits. rw (← k .byte-at .ensures, ← i .byte-at2 .ensures, ← x .bytes-from .ensures)
     (c .plant .ensures .1 .1 (rw (x .bytes-from .ensures) short) m j m-below j-below fits))

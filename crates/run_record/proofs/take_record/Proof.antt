@@ -1,13 +1,13 @@
--- `run_record::take_record` meets its contract: the kind says which of the four takes the record, and that it is allowed says what that one needs to know.
+-- `run_record::take_record` meets its contract: the kind says which function takes the record, and that it is allowed says what that one needs to know.
 use mathlib.Core.Path.{_≡_, ap, sym, _∙_}
 use mathlib.Core.Bool.{true≢false}
 use native.Mathlib.Omega.{arith}
 use borrow.Author.Needs.{needs}
 use borrow.Author.Tests.{ne-eqb}
 use denote.Ref.{now}
-use Rattle.run_spec.specs.RunFile.{readFile, start, round, plant, other, recordKind, kindOf, lengthOf}
+use Rattle.run_spec.specs.RunFile.{readFile, isFirst, isBare, start, round, plant, listeners, strikes, other, recordKind, kindOf, lengthOf}
 use Rattle.run_state.specs.Memory.{Memory}
-use Rattle.run_record.proofs.Records.{start-place, round-place, plant-place}
+use Rattle.run_record.proofs.Records.{start-place, round-place, plant-place, listeners-place, strikes-place}
 use Rattle.run_record.proofs.take_record.Statement.{statement}
 use Rattle.run_record.proofs.take_record.Tie as tie
 
@@ -45,15 +45,31 @@ returns-3 c =
     let s = now (m .before .before .before .args .bytes) in
     let kind : kindOf s ≡ plant = ap recordKind (sym (m .before .half-at .ensures) ∙ m .match .keys3) in
     let (next, room) = c .take-plant .ensures in
-    (λ a T H may whole. rw kind (next (readFile a) (lent (m .before)) (omega (arith, plant-place (readFile a .setup .begun) (readFile a .rounds .pending) (lengthOf s) (rw kind at may))) T H), room)
+    (λ a T H may whole. rw kind (next (readFile a) (lent (m .before)) (omega (arith, plant-place (readFile a .setup .begun) (isFirst (readFile a)) (readFile a .rounds .pending) (isBare (readFile a .rounds)) (lengthOf s) (rw kind at may))) T H), room)
 
 returns-4 : tie.Need-returns-4
 returns-4 c =
     let m = c .before in
     let s = now (m .before .before .before .args .bytes) in
+    let kind : kindOf s ≡ listeners = ap recordKind (sym (m .before .half-at .ensures) ∙ m .match .keys4) in
+    let (next, room) = c .take-listeners .ensures in
+    (λ a T H may whole. rw kind (next (readFile a) _ (listeners-place (readFile a) (lengthOf s) (rw kind at may)) T H), room)
+
+returns-5 : tie.Need-returns-5
+returns-5 c =
+    let m = c .before in
+    let s = now (m .before .before .before .args .bytes) in
+    let kind : kindOf s ≡ strikes = ap recordKind (sym (m .before .half-at .ensures) ∙ m .match .keys5) in
+    let (next, room) = c .take-strikes .ensures in
+    (λ a T H may whole. rw kind (next a _ (strikes-place (readFile a) (lengthOf s) (rw kind at may)) T H), room)
+
+returns-6 : tie.Need-returns-6
+returns-6 c =
+    let m = c .before in
+    let s = now (m .before .before .before .args .bytes) in
     let r = m .match .rest in
     let kind : kindOf s ≡ other =
-    ap recordKind (sym (m .before .half-at .ensures)) ∙ simp (ne-eqb _ _ (r .0 .0 .1), ne-eqb _ _ (r .0 .1), ne-eqb _ _ (r .1)) in
+    ap recordKind (sym (m .before .half-at .ensures)) ∙ simp (ne-eqb _ _ (r .0 .0 .0 .0 .1), ne-eqb _ _ (r .0 .0 .0 .1), ne-eqb _ _ (r .0 .0 .1), ne-eqb _ _ (r .0 .1), ne-eqb _ _ (r .1)) in
     (λ a T H may whole. absurd (true≢false (sym (rw kind at may))), c .refuse .ensures .1)
 
 pub take-record-spec : {M : Type 1} → statement M
@@ -65,7 +81,11 @@ take-record-spec =
     (λ c κs. search needs)
     (λ c κs. search needs)
     (λ c κs. search needs)
+    (λ c κs. search needs)
+    (λ c κs. search needs)
     returns
     returns-2
     returns-3
-    returns-4)
+    returns-4
+    returns-5
+    returns-6)

@@ -24,7 +24,8 @@ returns-2 : tie.Need-returns-2
 returns-2 c =
     let f = c .before .before in
     let l = f .before in
-    let d = l .before in
+    let h = l .before in
+    let d = h .before .before .before in
     let n = d .before in
     let t = n .before in
     let s = now (t .before .before .before .args .bytes) in
@@ -32,9 +33,9 @@ returns-2 c =
       λ F M begun T H.
           let e = t .before .start-fault .ensures in
           rw (judged-taken start F s e (t .if1 .left))
-          (start-next s begun (sym e ∙ t .if1 .left) (d .first-positions .ensures)
+          (start-next s begun (sym e ∙ t .if1 .left) (λ j b. h .store-heads .ensures j b ∙ d .first-positions .ensures j b)
           (f .fresh .ensures ∙ ap₂ (freshPlayer true) (n .byte-at .ensures) (l .byte-at2 .ensures))
-          (text ∙ ap (λ (m : ℕ). endLine m 0 (d .first-positions .result) 0 0) (n .byte-at .ensures))
+          (text ∙ ap (λ (m : ℕ). endLine m 0 0 (h .store-heads .last .1 .0) 0 0) (n .byte-at .ensures))
           room),
       room,
     )
@@ -46,6 +47,7 @@ take-start-spec =
     (λ c κs. search needs)
     (λ c κs. search needs)
     returns
+    (λ c κs. search needs)
     (λ c κs. search needs)
     (λ c κs. search needs)
     (λ c κs. search needs)

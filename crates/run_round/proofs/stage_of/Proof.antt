@@ -4,7 +4,7 @@ use Rattle.run_round.proofs.stage_of.Statement.{statement}
 use Rattle.run_round.proofs.stage_of.Tie as tie
 
 returns : tie.Need-returns
-returns c = rw (c .phase-of .ensures)
+returns c = rw (c .before .before .before .phase-of .ensures)
 
 pub stage-of-spec : {M : Type 1} → statement M
-stage-of-spec = tie.close (tie.spec (λ c κs. search needs) returns)
+stage-of-spec = tie.close (tie.spec (λ c κs. search needs) (λ c. search needs) (λ c. search needs) (λ c. search needs) returns)

@@ -17,12 +17,12 @@ use Rattle.run_stream.proofs.pass_plants.Statement.{statement}
 use Rattle.run_stream.proofs.pass_plants.Tie as tie
 
 abbrev Inv-loop : tie.InvT-loop
-Inv-loop p bytes planted₀ lengths₀ last₀ used₀ n struck planted lengths last used =
+Inv-loop p bytes planted₀ lengths₀ last₀ used₀ n m struck planted lengths last used =
     (used ≤ length bytes)
     × ((carry : List ℕ) (M : Memory) → Still bytes p carry (withSlots M planted₀ lengths₀) (withLast p last) carry (withSlots M planted lengths) used)
 
 abbrev μ-loop : tie.MeasureT-loop
-μ-loop p bytes planted₀ lengths₀ last₀ used₀ n struck planted lengths last used = length bytes - used
+μ-loop p bytes planted₀ lengths₀ last₀ used₀ n m struck planted lengths last used = length bytes - used
 
 returns : tie.Need-returns Inv-loop μ-loop
 returns c = rw (c .passed .ensures) (omega arith, λ a carry M L. none-there L)
@@ -31,9 +31,9 @@ loop-holds : tie.Need-loop-holds Inv-loop μ-loop
 loop-holds c = (search needs, λ carry M. still-first)
 
 -- with another last pair it waits too
-waits : {p : Player} {n struck : ℕ} {last : Pair} → Waits p n struck last → (last′ : Pair) → Waits (withLast p last′) n struck last′
+waits : {p : Player} {n m struck : ℕ} {last : Pair} → Waits p n m struck last → (last′ : Pair) → Waits (withLast p last′) n m struck last′
 waits W last′ =
-    record { sound = W .sound; fresh = W .fresh; pending = W .pending; n = W .n; struck = W .struck; last = refl }
+    record { sound = W .sound; fresh = W .fresh; pending = W .pending; n = W .n; listeners = W .listeners; struck = W .struck; last = refl }
 
 module _ (v : tie.After-pass-plant Inv-loop μ-loop) where
   abbrev here : tie.At-loop Inv-loop μ-loop
@@ -49,7 +49,7 @@ module _ (v : tie.After-pass-plant Inv-loop μ-loop) where
   moves : here .loop .used + used ≤ length (now (start .args .bytes))
   moves = moved-within (here .loop .used) used (now (start .args .bytes)) (here .loop .inv .0) (v .pass-plant .ensures .0)
 
-  waiting : Waits (withLast (start .args .p) (here .loop .last)) (start .args .p .n) (start .args .p .struck) (here .loop .last)
+  waiting : Waits (withLast (start .args .p) (here .loop .last)) (start .args .p .n) (start .args .p .listeners) (start .args .p .struck) (here .loop .last)
   waiting = waits (here .before .before .awaits-plants .ensures (not-false _ (here .before .if1 .left))) (here .loop .last)
 
 returns-2 : tie.Need-returns-2 Inv-loop μ-loop

@@ -18,28 +18,28 @@ use Rattle.run_whole.proofs.fill_row.Statement.{statement}
 use Rattle.run_whole.proofs.fill_row.Tie as tie
 
 abbrev Inv-loop : tie.InvT-loop
-Inv-loop ends₀ base positions n word i₀ ends i = (i ≤ 32) × (ends ≡ paste ends₀ base (soundRow n word positions 32) i) × (length ends ≡ length ends₀)
+Inv-loop ends₀ base positions n m word i₀ ends i = (i ≤ 48) × (ends ≡ paste ends₀ base (soundRow n m word positions 48) i) × (length ends ≡ length ends₀)
 
 abbrev μ-loop : tie.MeasureT-loop
-μ-loop ends₀ base positions n word i₀ ends i = 32 - i
+μ-loop ends₀ base positions n m word i₀ ends i = 48 - i
 
 loop-holds : tie.Need-loop-holds Inv-loop μ-loop
 loop-holds c =
     let a = c .args in
-    (omega arith, paste-zero (now (a .ends)) (a .base) (soundRow (a .n) (a .word) (now (a .positions)) 32), refl)
+    (omega arith, paste-zero (now (a .ends)) (a .base) (soundRow (a .n) (a .m) (a .word) (now (a .positions)) 48), refl)
 
 loop-again : tie.Need-loop-again Inv-loop μ-loop
 loop-again c =
     let l = c .before .before .loop in
     let a = c .before .before .before .args in
-    let s = soundRow (a .n) (a .word) (now (a .positions)) 32 in
-    let i : l .i < 32 = c .before .loop-test .taken in
+    let s = soundRow (a .n) (a .m) (a .word) (now (a .positions)) 48 in
+    let i : l .i < 48 = c .before .loop-test .taken in
     let v : toZ w32 (ofZ w32 (c .number-at .result)) ≡ getD s (l .i) (pos 0) =
-    toZ-ofZ (record { sfits = c .number-at .ok }) ∙ c .number-at .ensures ∙ sym (row-at (a .n) (a .word) (now (a .positions)) 32 (l .i) i) in (
+    toZ-ofZ (record { sfits = c .number-at .ok }) ∙ c .number-at .ensures ∙ sym (row-at (a .n) (a .m) (a .word) (now (a .positions)) 48 (l .i) i) in (
       omega arith,
       rw (add-one (l .i))
           (ap (set (l .ends) (a .base + l .i)) v ∙ ap (λ (x : List ℤ). set x (a .base + l .i) (getD s (l .i) (pos 0))) (l .inv .1)
-          ∙ paste-suc (now (a .ends)) (a .base) s (l .i) (pos 0) (omega arith) (omega (arith, row-long (a .n) (a .word) (now (a .positions)) 32))),
+          ∙ paste-suc (now (a .ends)) (a .base) s (l .i) (pos 0) (omega arith) (omega (arith, row-long (a .n) (a .m) (a .word) (now (a .positions)) 48))),
       simp length-set (l .inv .2),
     )
 
@@ -47,8 +47,8 @@ returns : tie.Need-returns Inv-loop μ-loop
 returns c =
     let l = c .before .loop in
     let a = c .before .before .args in
-    let all : l .i ≡ 32 = omega arith in
-    l .inv .1 ∙ ap (paste (now (a .ends)) (a .base) (soundRow (a .n) (a .word) (now (a .positions)) 32)) all
+    let all : l .i ≡ 48 = omega arith in
+    l .inv .1 ∙ ap (paste (now (a .ends)) (a .base) (soundRow (a .n) (a .m) (a .word) (now (a .positions)) 48)) all
 
 pub fill-row-spec : {M : Type 1} → statement M
 fill-row-spec =

@@ -17,13 +17,13 @@ returns-2 : tie.Need-returns-2
 unfolding hasRoom
 returns-2 c =
     let a = c .before .before .args in
-    rw (le-leb (64 * (mostEnds (a .len) + 2)) (a .out) (omega arith), lt-leb (32 * mostEnds (a .len)) (a .ends) (omega arith))
+    rw (le-leb (64 * (mostEnds (a .len) + 2)) (a .out) (omega arith), lt-leb (48 * mostEnds (a .len)) (a .ends) (omega arith))
 
 returns-3 : tie.Need-returns-3
 unfolding hasRoom
 returns-3 c =
     let a = c .before .before .args in
-    rw (le-leb (64 * (mostEnds (a .len) + 2)) (a .out) (omega arith), le-leb (32 * mostEnds (a .len)) (a .ends) (omega arith))
+    rw (le-leb (64 * (mostEnds (a .len) + 2)) (a .out) (omega arith), le-leb (48 * mostEnds (a .len)) (a .ends) (omega arith))
 
 pub has-room-spec : {M : Type 1} → statement M
 has-room-spec = tie.close (tie.spec (λ c. search needs) (λ c. search needs) returns returns-2 returns-3)
