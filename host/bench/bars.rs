@@ -4,6 +4,9 @@
 pub const MARGIN: f64 = 1.5;
 /// The proved player's memory, in bytes.
 pub const MEMORY: u64 = 16_000_000;
+/// The proved player's time with 16 listeners at (32,8), in times of its own without: of 32 heads 24 hear in a round, of heads and listeners at
+/// most 48. Other sizes have no bar, and `--quick` leaves it out.
+pub const LISTENERS: (&str, f64) = ("(32,8) struck, other heads in each round, 16 listeners", 48.0 / 24.0);
 
 /// The name of a row, and its bar. A row that is not here has none.
 pub const BARS: [(&str, f64); 11] = [

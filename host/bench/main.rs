@@ -34,7 +34,7 @@ mod wire;
 
 use players::{failed, Players, Timed};
 use rules::head::LAST_PHASE;
-use runs::{runs, Run, Strikes};
+use runs::{runs, with_listeners, Run, Strikes};
 use std::io;
 use std::process::ExitCode;
 
@@ -74,7 +74,8 @@ fn print_players(players: &Players, missed: &mut bool) -> io::Result<()> {
         let (name, timed) = (run.name(), players.time(&run, TURNS)?);
         let bar = held(&name, timed.ratio(), missed);
         let (ours, others, ratio) = (timed.rigplay * 1e3, timed.plain * 1e3, bars::said(timed.ratio()));
-        let (growth, resident) = (players.growth(&run, 2 * TURNS)?, megabytes(timed.resident));
+        let twice = Run { phases: 2 * run.phases, ..run };
+        let (growth, resident) = (players.multiple(&run, &twice, 2 * TURNS)?, megabytes(timed.resident));
         println!("| {name} | {} | {} | {ours:.1} | {others:.1} | {ratio} | {bar} | {growth:.2} times | {resident} |", run.phases, timed.bytes);
         all.push((name, timed));
     }
@@ -91,10 +92,27 @@ fn print_speeds(all: &[(String, Timed)]) {
     }
 }
 
+fn print_listeners(players: &Players, missed: &mut bool) -> io::Result<()> {
+    println!("\n## Listeners\n\nThe same, and rigplay's time in times of that for the run without listeners.\n");
+    println!("| Run file | phases | bytes | rigplay | plain | ratio | without listeners | bar |\n|---|--:|--:|--:|--:|--:|--:|---|");
+    for run in with_listeners() {
+        let (name, timed) = (run.name(), players.time(&run, TURNS)?);
+        let times = players.multiple(&Run { listeners: 0, ..run }, &run, 2 * TURNS)?;
+        let mut bar = String::new();
+        if name == bars::LISTENERS.0 {
+            let (met, words) = bars::verdict(times, bars::LISTENERS.1, 1.0);
+            (*missed, bar) = (*missed | !met, words);
+        }
+        let (ours, others, ratio) = (timed.rigplay * 1e3, timed.plain * 1e3, bars::said(timed.ratio()));
+        println!("| {name} | {} | {} | {ours:.1} | {others:.1} | {ratio} | {times:.2} times | {bar} |", run.phases, timed.bytes);
+    }
+    Ok(())
+}
+
 fn print_memory(players: &Players, bytes: u64, missed: &mut bool) -> io::Result<()> {
     let phase = 2 * 8 + 8 * 24 * (17 + 146);
     let phases = (bytes / phase) as usize + 1;
-    let run = Run { n: 32, f: 8, strikes: Strikes::Others, phases: phases.min(LAST_PHASE) };
+    let run = Run { n: 32, f: 8, strikes: Strikes::Others, phases: phases.min(LAST_PHASE), listeners: 0 };
     let (bytes, used) = players.stream(&run)?;
     let met = used.resident < bars::MEMORY;
     *missed |= !met;
@@ -137,6 +155,7 @@ fn all(players: &Players, bytes: u64) -> io::Result<bool> {
     print_calls(&mut missed);
     print_players(players, &mut missed)?;
     print_memory(players, bytes, &mut missed)?;
+    print_listeners(players, &mut missed)?;
     Ok(missed)
 }
 

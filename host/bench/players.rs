@@ -123,16 +123,16 @@ impl Players {
         Ok(timed)
     }
 
-    /// The proved player's time for a run twice as long, as a multiple of that for the run, taken in turns.
-    pub fn growth(&self, run: &Run, turns: usize) -> io::Result<f64> {
+    /// The proved player's time for another run, as a multiple of that for the run, taken in turns.
+    pub fn multiple(&self, run: &Run, other: &Run, turns: usize) -> io::Result<f64> {
         self.store(run, "timed.run")?;
-        self.store(&Run { phases: 2 * run.phases, ..*run }, "twice.run")?;
-        let (mut once, mut twice) = (f64::MAX, f64::MAX);
+        self.store(other, "other.run")?;
+        let (mut one, mut two) = (f64::MAX, f64::MAX);
         for _ in 0..turns {
-            once = once.min(self.seconds(&self.rigplay, "timed.run")?);
-            twice = twice.min(self.seconds(&self.rigplay, "twice.run")?);
+            one = one.min(self.seconds(&self.rigplay, "timed.run")?);
+            two = two.min(self.seconds(&self.rigplay, "other.run")?);
         }
-        Ok(twice / once)
+        Ok(two / one)
     }
 
     /// Plays a run that is made as it is read: the file's length and what the proved player used. Its listing must have a line for every phase.

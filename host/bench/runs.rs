@@ -3,6 +3,7 @@
 use crate::random::Random;
 use crate::ring::{has, Ring};
 use crate::rules::frames::{self, Said};
+use crate::rules::head::{FIRST_LISTENER, MOST_LISTENERS};
 use crate::rules::midpoint::LIMIT;
 use crate::rules::records;
 use crate::run::{any, list, round_records, value, Lies};
@@ -30,18 +31,26 @@ pub struct Run {
     pub f: usize,
     pub strikes: Strikes,
     pub phases: usize,
+    /// How many listeners; none of them is struck.
+    pub listeners: usize,
 }
 
-/// All that are timed.
+/// All without listeners that are timed.
 pub fn runs() -> Vec<Run> {
     let mut runs = Vec::new();
     for (n, f, quiet, struck) in [(5, 1, 30_000, 30_000), (32, 8, 6_000, 1_000)] {
         for strikes in [Quiet, Others, Same, Alike, Lists, Mix] {
             let phases = if strikes == Quiet { quiet } else { struck };
-            runs.push(Run { n, f, strikes, phases });
+            runs.push(Run { n, f, strikes, phases, listeners: 0 });
         }
     }
     runs
+}
+
+/// Those with listeners, each timed beside the same run without.
+pub fn with_listeners() -> [Run; 2] {
+    let run = |n, f, phases| Run { n, f, strikes: Others, phases, listeners: MOST_LISTENERS };
+    [run(5, 1, 10_000), run(32, 8, 1_000)]
 }
 
 impl Run {
@@ -54,11 +63,12 @@ impl Run {
             Lists => "struck, other lists near the truth to each neighbour",
             Mix => "struck, anything to each neighbour",
         };
-        format!("({},{}) {strikes}", self.n, self.f)
+        let listeners = if self.listeners == 0 { String::new() } else { format!(", {} listeners", self.listeners) };
+        format!("({},{}) {strikes}{listeners}", self.n, self.f)
     }
 
     /// The mark word of the heads struck in a round, counted from 0.
-    fn struck(&self, round: usize) -> u32 {
+    fn struck(&self, round: usize) -> u64 {
         let first = if self.strikes == Same { 0 } else { round * self.f };
         let count = if self.strikes == Quiet { 0 } else { self.f };
         (0..count).map(|i| 1 << ((first + i) % self.n)).sum()
@@ -79,10 +89,10 @@ impl Run {
 
     fn wild_round(&self, random: &mut Random, round: usize, out: &mut Vec<u8>) {
         let struck = self.struck(round);
-        out.extend(records::round(struck));
+        out.extend(records::round(struck as u32));
         for from in (0..self.n).filter(|&head| has(struck, head)) {
             let mut frame = self.wild(random, round, from);
-            for to in (0..self.n).filter(|&head| !has(struck, head)) {
+            for to in (0..self.n).filter(|&head| !has(struck, head)).chain(FIRST_LISTENER..FIRST_LISTENER + self.listeners) {
                 out.extend(records::planted(from, to, &frame));
                 if self.strikes != Alike {
                     frame = self.wild(random, round, from);
@@ -92,10 +102,10 @@ impl Run {
     }
 
     /// A round with the model of host/compare beside it, which knows the true lists.
-    fn modelled_round(&self, random: &mut Random, ring: &mut Ring, struck: u32, out: &mut Vec<u8>) {
+    fn modelled_round(&self, random: &mut Random, ring: &mut Ring, struck: u64, out: &mut Vec<u8>) {
         let mut lies = Lies::of(ring);
         for from in ring.heads(|head| has(struck, head)) {
-            for to in ring.heads(|head| !has(struck, head)) {
+            for to in ring.receivers(|head| !has(struck, head)) {
                 match (self.strikes, ring.collecting()) {
                     (Mix, _) => lies.give(from, to, any(random, ring)),
                     (_, true) => lies.say(from, to, Said::Position(value(random, ring))),
@@ -104,7 +114,7 @@ impl Run {
             }
         }
         let round = lies.round(struck);
-        out.extend(round_records(&round).concat());
+        out.extend(round_records(&round, false).concat());
         ring.play(&round);
     }
 
@@ -112,8 +122,11 @@ impl Run {
     pub fn write(&self, out: &mut impl Write) -> io::Result<u64> {
         let mut random = Random::new(1);
         let positions = self.positions(&mut random);
-        let mut ring = Ring::start(self.f, &positions);
+        let mut ring = Ring::start(self.f, &positions, self.listeners);
         let mut piece = records::start(self.n, self.f, &positions);
+        if self.listeners > 0 {
+            piece.extend(records::listeners(self.listeners));
+        }
         let mut written = 0;
         for round in 0..2 * self.phases {
             if matches!(self.strikes, Lists | Mix) {

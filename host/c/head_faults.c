@@ -1,4 +1,4 @@
-/* The head's calls: every refusal alone, and every set of faults together, so each order of two among them: the first in the order of checks
+/* The calls of heads and listeners: every refusal alone, and every set of faults together, so each order of two among them: the first in the order of checks
  * decides. A refusal leaves the block, the buffer and the numbers lent as they were. The number of checks is printed; the first that fails stops
  * the program. */
 #include "check.h"
@@ -20,21 +20,37 @@ static size_t sevens(uint8_t *frame, unsigned sender, unsigned phase) {
     return put_list(frame, sender, phase, 5, 0x1f, entries);
 }
 
-/* a head of five, in phase p and round 1, with the first `lists` links heard */
-static focus_head in_confession(unsigned phase, unsigned lists) {
+/* a restart under a head's number, or under a listener's */
+static uint8_t restart(focus_head *head, uint32_t n, uint32_t f, uint32_t number, uint32_t phase, uint32_t round, int listens) {
+    return listens ? focus_listener_restart(head, n, f, number, phase, round) : focus_head_restart(head, n, f, number, phase, round);
+}
+
+/* a member of a ring of five under this number, in phase p and round 1, with the first `lists` links heard */
+static focus_head confessing(uint32_t number, unsigned phase, unsigned lists) {
     focus_head head = {{0}};
     uint8_t frame[FOCUS_FRAME_MAX];
-    same("restart", focus_head_restart(&head, 5, 1, 0, phase, 1), 0);
+    same("restart", restart(&head, 5, 1, number, phase, 1, number >= 32), 0);
     for (unsigned k = 0; k < lists; k++)
         same("hear", focus_head_hear(&head, k, frame, sevens(frame, k, phase)), 0);
     return head;
 }
 
-static focus_head ended(void) {
-    focus_head head = in_confession(65535, 5);
+static focus_head in_confession(unsigned phase, unsigned lists) {
+    return confessing(0, phase, lists);
+}
+
+static focus_head ended_under(uint32_t number) {
+    focus_head head = confessing(number, 65535, 5);
     same("close", focus_head_close(&head), 0);
     return head;
 }
+
+static focus_head ended(void) {
+    return ended_under(0);
+}
+
+/* numbers that are listeners', and numbers that are not */
+static const uint32_t listeners[6] = {32, 33, 40, 45, 46, 47}, no_listeners[6] = {0, 4, 31, 48, 256 + 32, UINT32_MAX};
 
 static void starts(void) {
     static const uint8_t order[] = {FOCUS_HEAD_COUNT, FOCUS_STRUCK_LIMIT, FOCUS_HEAD_NUMBER, FOCUS_POSITION};
@@ -47,19 +63,29 @@ static void starts(void) {
     }
 }
 
-static void restarts(void) {
+static void listener_starts(void) {
+    static const uint8_t order[] = {FOCUS_HEAD_COUNT, FOCUS_STRUCK_LIMIT, FOCUS_HEAD_NUMBER};
+    for (int faults = 0; faults < 8; faults++)
+        for (size_t t = 0; t < 6; t++) {
+            focus_head head = in_confession(9, 2), before = head;
+            uint32_t n = faults & 1 ? 33 : 5, f = faults & 2 ? 20 : 1, number = faults & 4 ? no_listeners[t] : listeners[t];
+            tried = faults;
+            answered("a listener's start", focus_listener_start(&head, n, f, number), first(faults, order, 3), &head, &before);
+        }
+}
+
+static void restarts(int listens) {
     static const uint8_t order[] = {FOCUS_HEAD_COUNT, FOCUS_STRUCK_LIMIT, FOCUS_HEAD_NUMBER, FOCUS_PHASE};
     static const uint32_t times[][2] = {{0, 0}, {65536, 1}, {1, 2}, {7, 255}, {0, 9}, {UINT32_MAX, UINT32_MAX}};
+    static const uint32_t heads[6] = {0, 1, 2, 3, 4, 4}, no_heads[6] = {5, 31, 32, 47, 256, UINT32_MAX};
     for (int faults = 0; faults < 16; faults++)
         for (size_t t = 0; t < 6; t++) {
             focus_head head = in_confession(9, 2), before = head;
-            uint32_t n = faults & 1 ? 0 : 5, f = faults & 2 ? UINT32_MAX : 1, number = faults & 4 ? 256 + n : n - 1;
+            const uint32_t *numbers = listens ? (faults & 4 ? no_listeners : listeners) : faults & 4 ? no_heads : heads;
+            uint32_t n = faults & 1 ? 0 : 5, f = faults & 2 ? UINT32_MAX : 1;
             uint32_t phase = faults & 8 ? times[t][0] : 65535, round = faults & 8 ? times[t][1] : t % 2;
-            if (n == 0 && !(faults & 4))
-                number = 0;
             tried = faults;
-            uint8_t got = focus_head_restart(&head, n, f, number, phase, round);
-            answered("restart", got, first(faults, order, 4), &head, &before);
+            answered("restart", restart(&head, n, f, numbers[t], phase, round, listens), first(faults, order, 4), &head, &before);
         }
 }
 
@@ -168,12 +194,13 @@ static void batch_cuts(void) {
 }
 
 static void writes(void) {
-    static const uint8_t order[] = {FOCUS_ENDED, FOCUS_BUFFER};
-    for (int faults = 0; faults < 4; faults++) {
-        uint8_t buffer[FOCUS_FRAME_MAX], copy[sizeof buffer], want = first(faults, order, 2);
-        size_t length = 99, room = faults & 2 ? 6 : 7, written = want ? 0 : 7;
+    static const uint8_t order[] = {FOCUS_ENDED, FOCUS_LISTENER, FOCUS_BUFFER};
+    for (int faults = 0; faults < 8; faults++) {
+        uint8_t buffer[FOCUS_FRAME_MAX], copy[sizeof buffer], want = first(faults, order, 3);
+        uint32_t number = faults & 2 ? 47 : 0;
+        size_t length = 99, room = faults & 4 ? 6 : 7, written = want ? 0 : 7;
         tried = faults;
-        focus_head head = faults & 1 ? ended() : in_confession(3, 0), before = head;
+        focus_head head = faults & 1 ? ended_under(number) : confessing(number, 3, 0), before = head;
         memset(buffer, 0xee, sizeof buffer);
         memcpy(copy, buffer, sizeof buffer);
         same("write", focus_head_write(&head, buffer, room, &length), want);
@@ -238,9 +265,44 @@ static void kept_ranges(void) {
     same("no range after a start", focus_head_kept(&head, &kept), 0);
 }
 
+/* A listener holds no position before its first phase end, and then the one that a head holds that heard the same. It has no link of its own. */
+static void listens(void) {
+    static const int32_t entries[5] = {10, 20, 30, 40, 50};
+    focus_head head = {{0}}, listener = {{0}};
+    tried = 0;
+    same("start", focus_head_start(&head, 5, 1, 4, 50), 0);
+    same("start a listener", focus_listener_start(&listener, 5, 1, 36), 0);
+    for (unsigned round = 0; round < 2; round++) {
+        int32_t at = -777;
+        for (unsigned k = 0; k < 5; k++) {
+            uint8_t frame[FOCUS_FRAME_MAX], rest[4];
+            put4(rest, entries[k]);
+            size_t length = round == 0 ? put_frame(frame, 1, k, 1, rest, 4) : put_list(frame, k, 1, 5, 0x1f, entries);
+            same("hear", focus_head_hear(&head, k, frame, length), 0);
+            same("a listener hears", focus_head_hear(&listener, k, frame, length), 0);
+            same("no link of its own", focus_head_hear(&listener, 36, frame, length), FOCUS_HEAD_NUMBER);
+        }
+        same("no position before the phase end", focus_head_position(&listener, &at), 0);
+        same("what is lent for it", at, -777);
+        same("close", focus_head_close(&head), 0);
+        same("a listener closes", focus_head_close(&listener), 0);
+    }
+    int32_t at = -777, heard = -777;
+    focus_kept kept, range;
+    same("a position", focus_head_position(&head, &at), 1);
+    same("a listener's position", focus_head_position(&listener, &heard), 1);
+    same("it is the head's", heard, at);
+    same("it is the midpoint", heard, 30);
+    same("a kept range", focus_head_kept(&head, &kept), 1);
+    same("a listener's kept range", focus_head_kept(&listener, &range), 1);
+    same("it is the head's", memcmp(&kept, &range, sizeof kept), 0);
+}
+
 int main(void) {
     starts();
-    restarts();
+    listener_starts();
+    restarts(0);
+    restarts(1);
     hears();
     batches();
     batch_cuts();
@@ -248,5 +310,6 @@ int main(void) {
     closes();
     positions();
     kept_ranges();
+    listens();
     return all_checked();
 }

@@ -1,43 +1,60 @@
-/* A ring of heads that C keeps, driven through phases: the paper's worked example, heads struck and healed, a liar who says something else to each
- * neighbour, the (8,2) case in which spread 2 stays 2, and the last phase. The number of checks is printed; the first that fails stops the program.
+/* A ring of heads that C keeps, with listeners, driven through phases: the paper's worked example, heads and listeners struck and healed, a liar who
+ * says something else to each neighbour, the (8,2) case in which spread 2 stays 2, and the last phase. The number of checks is printed; the first that fails stops the program.
  * Usage: head_ring [PHASES], so many in the last run; what is refused after phase 65,535 is tried if it comes to that. */
 #include "check.h"
 
+/* Heads are numbered 0 to n - 1, listeners from 32 on; bit i of a mark word is for number i. */
 struct ring {
-    uint32_t n, f, phase, round, before;
-    focus_head heads[32];
+    uint32_t n, f, listeners, phase, round;
+    uint64_t before;
+    focus_head heads[48];
 };
 
-static void start(struct ring *r, uint32_t n, uint32_t f, const int32_t *positions) {
+static int is_member(const struct ring *r, uint32_t i) {
+    return i < r->n || (32 <= i && i < 32 + r->listeners);
+}
+
+static void start(struct ring *r, uint32_t n, uint32_t f, const int32_t *positions, uint32_t listeners) {
     memset(r, 0, sizeof *r);
-    r->n = n, r->f = f, r->phase = 1;
+    r->n = n, r->f = f, r->listeners = listeners, r->phase = 1;
     for (uint32_t i = 0; i < n; i++)
         same("start", focus_head_start(&r->heads[i], n, f, i, positions[i]), 0);
+    for (uint32_t i = 32; i < 32 + listeners; i++)
+        same("start a listener", focus_listener_start(&r->heads[i], n, f, i), 0);
+}
+
+static void restart(struct ring *r, uint32_t i) {
+    if (i < 32)
+        same("restart", focus_head_restart(&r->heads[i], r->n, r->f, i, r->phase, r->round), 0);
+    else
+        same("restart a listener", focus_listener_restart(&r->heads[i], r->n, r->f, i, r->phase, r->round), 0);
 }
 
 /* What a struck head puts on a link: the frame's length, 0 for nothing. */
 typedef size_t (*liar)(const struct ring *r, uint32_t from, uint32_t to, uint8_t *frame);
 
-/* Memory of struck heads is lost, healed heads restart, and all that are not struck write. */
-static void speak(struct ring *r, uint32_t struck, uint8_t frames[][FOCUS_FRAME_MAX], size_t *lengths) {
-    for (uint32_t i = 0; i < r->n; i++) {
+/* Memory of the struck is lost, the healed restart, and all heads that are not struck write; a listener sends nothing. */
+static void speak(struct ring *r, uint64_t struck, uint8_t frames[][FOCUS_FRAME_MAX], size_t *lengths) {
+    for (uint32_t i = 0; i < 48; i++) {
+        if (!is_member(r, i))
+            continue;
         if (struck >> i & 1) {
             memset(&r->heads[i], 0xa5, sizeof r->heads[i]);
             continue;
         }
         if (r->before >> i & 1)
-            same("restart", focus_head_restart(&r->heads[i], r->n, r->f, i, r->phase, r->round), 0);
-        same("write", focus_head_write(&r->heads[i], frames[i], FOCUS_FRAME_MAX, &lengths[i]), 0);
+            restart(r, i);
+        same("write", focus_head_write(&r->heads[i], frames[i], FOCUS_FRAME_MAX, &lengths[i]), i < 32 ? 0 : FOCUS_LISTENER);
     }
 }
 
-/* One round: every head that is not struck hears every link and closes. */
-static void play(struct ring *r, uint32_t struck, liar lies) {
-    uint8_t frames[32][FOCUS_FRAME_MAX], planted[FOCUS_FRAME_MAX];
-    size_t lengths[32] = {0};
+/* One round: every head and listener that is not struck hears every link and closes. */
+static void play(struct ring *r, uint64_t struck, liar lies) {
+    uint8_t frames[48][FOCUS_FRAME_MAX], planted[FOCUS_FRAME_MAX];
+    size_t lengths[48] = {0};
     speak(r, struck, frames, lengths);
-    for (uint32_t i = 0; i < r->n; i++) {
-        if (struck >> i & 1)
+    for (uint32_t i = 0; i < 48; i++) {
+        if (!is_member(r, i) || struck >> i & 1)
             continue;
         for (uint32_t k = 0; k < r->n; k++) {
             if (!(struck >> k & 1))
@@ -60,9 +77,9 @@ static void at(const struct ring *r, uint32_t i, int32_t want) {
     same("position", position, want);
 }
 
-static void all_at(const struct ring *r, uint32_t struck, int32_t want) {
-    for (uint32_t i = 0; i < r->n; i++)
-        if (!(struck >> i & 1))
+static void all_at(const struct ring *r, uint64_t struck, int32_t want) {
+    for (uint32_t i = 0; i < 48; i++)
+        if (is_member(r, i) && !(struck >> i & 1))
             at(r, i, want);
 }
 
@@ -83,16 +100,21 @@ static size_t confess_to_one(const struct ring *r, uint32_t from, uint32_t to, u
     return put_list(frame, from, r->phase, 8, 0xf0, values);
 }
 
-/* the worked example: head 4 struck in collection, nothing sent; all five settle at 25; then a liar in each round of several phases moves nobody */
+/* the worked example with 16 listeners: head 4 struck in collection, nothing sent; all settle at 25; then a liar in each round of several phases moves nobody,
+ * and listeners that are struck, all but one of them, come back to 25 */
 static void five(struct ring *r) {
     static const int32_t paper[5] = {10, 20, 30, 40, 50};
-    start(r, 5, 1, paper);
+    start(r, 5, 1, paper, 16);
     play(r, 0x10, NULL);
+    for (uint32_t i = 32; i < 48; i++) {
+        int32_t none = -777;
+        same("no position before the first phase end", focus_head_position(&r->heads[i], &none), 0);
+    }
     play(r, 0, NULL);
     all_at(r, 0, 25);
     for (int i = 0; i < 6; i++) {
-        uint32_t struck = UINT32_C(1) << (i % 5);
-        play(r, struck, two_faced);
+        uint64_t struck = UINT64_C(1) << (i % 5), deaf = (UINT64_C(0xffff) ^ UINT64_C(1) << i) << 32;
+        play(r, struck | deaf, two_faced);
         play(r, struck, two_faced);
         all_at(r, struck, 25);
     }
@@ -102,7 +124,7 @@ static void five(struct ring *r) {
 /* spread 2 stays 2, with heads 0 and 1 struck in the confession round before */
 static void eight(struct ring *r) {
     static const int32_t positions[8] = {0, 0, 2, 2, 2, 0, 0, 2};
-    start(r, 8, 2, positions);
+    start(r, 8, 2, positions, 0);
     r->before = 0x03;
     play(r, 0x0c, NULL);
     play(r, 0x30, confess_to_one);
@@ -110,7 +132,7 @@ static void eight(struct ring *r) {
     at(r, 7, 2);
 }
 
-/* after the last phase only a start or a restart is taken */
+/* after the last phase only a start or a restart is taken; a listener's writing too is refused 26 */
 static void after_all(focus_head *head) {
     uint8_t buffer[FOCUS_FRAME_MAX];
     size_t length = 99;
@@ -128,15 +150,16 @@ int main(int argc, char **argv) {
     static struct ring r;
     five(&r);
     eight(&r);
-    start(&r, 1, 0, &one);
+    start(&r, 1, 0, &one, 1);
     for (long i = 0; i < phases; i++) {
         play(&r, 0, NULL);
         play(&r, 0, NULL);
     }
-    at(&r, 0, 7);
+    all_at(&r, 0, 7);
     if (phases == 65535) {
         after_all(&r.heads[0]);
-        at(&r, 0, 3);
+        after_all(&r.heads[32]);
+        all_at(&r, 0, 3);
     }
     return all_checked();
 }

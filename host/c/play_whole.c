@@ -6,7 +6,7 @@
 
 static uint8_t file[1 << 16], stored[1 << 16], out[FOCUS_PLAY_OUT(1 << 16)];
 static int32_t rows[FOCUS_PLAY_ROWS(1 << 16)];
-static uint32_t words[FOCUS_PLAY_ENDS(1 << 16)];
+static uint64_t words[FOCUS_PLAY_ENDS(1 << 16)];
 
 static size_t read_whole(const char *name, uint8_t *into) {
     FILE *from = fopen(name, "rb");
@@ -14,6 +14,7 @@ static size_t read_whole(const char *name, uint8_t *into) {
         printf("no file %s\n", name);
         exit(1);
     }
+    memset(into, 0, 1 << 16);
     size_t got = fread(into, 1, 1 << 16, from);
     fclose(from);
     return got;
@@ -51,15 +52,21 @@ static void too_short(size_t bytes, size_t less_out, size_t less_rows, size_t le
     all_untouched();
 }
 
-/* Line e of the listing is what row e and word e say, for the sound heads of n. */
-static void line_as_row(const char *line, size_t e, unsigned n) {
+/* How many listeners the file has: those of a record of kind 0015 just after the start. */
+static unsigned listeners(void) {
+    size_t at = file[0] + 256u * file[1];
+    return at + 5 <= sizeof file && file[at + 2] == 0x15 && file[at + 3] == 0 ? file[at + 4] : 0;
+}
+
+/* Line e of the listing is what row e and word e say, for the sound ones of n heads and m listeners. */
+static void line_as_row(const char *line, size_t e, unsigned n, unsigned m) {
     unsigned phase, collect, confess;
     long low, high, spread, least = 0, most = 0;
     same("line", sscanf(line, "%u %ld %ld %ld %x %x", &phase, &low, &high, &spread, &collect, &confess), 6);
     int some = 0;
-    for (unsigned i = 0; i < 32; i++) {
-        int32_t v = rows[32 * e + i];
-        if (i >= n || (words[e] >> i & 1)) {
+    for (unsigned i = 0; i < 48; i++) {
+        int32_t v = rows[48 * e + i];
+        if (!(i < n || (i >= 32 && i < 32 + m)) || (words[e] >> i & 1)) {
             same("not sound", v, 0);
             continue;
         }
@@ -68,7 +75,9 @@ static void line_as_row(const char *line, size_t e, unsigned n) {
         some = 1;
     }
     same("phase", phase, (long long)e);
-    same("word", confess, words[e]);
+    same("word", confess, (uint32_t)words[e]);
+    if (e == 0)
+        same("no listener at the start", (long long)(words[e] >> 32), 65535);
     same("low", low, least);
     same("high", high, most);
     same("spread", spread, most - least);
@@ -84,12 +93,12 @@ static void play_one(const char *run, const char *listing) {
     same("length", (long long)length, (long long)want);
     same("listing", memcmp(out, stored, want), 0);
     untouched("behind the listing", out, length, sizeof out);
-    untouched("behind the rows", rows, 32 * sizeof *rows * ends, sizeof rows);
+    untouched("behind the rows", rows, 48 * sizeof *rows * ends, sizeof rows);
     untouched("behind the words", words, sizeof *words * ends, sizeof words);
     stored[want] = 0;
     char *line = strchr((char *)stored, '\n') + 1;
     for (size_t e = 0; e < ends; e++, line = strchr(line, '\n') + 1)
-        line_as_row(line, e, file[4]);
+        line_as_row(line, e, file[4], listeners());
     unsigned told = 0;
     same("last line", number, strcmp(line, "end\n") == 0 ? 0 : sscanf(line, "refused %u\n", &told) == 1 ? (long long)told : -1);
 }

@@ -1,10 +1,11 @@
 //! Run files that are not right: with one fault whose number is known, or damaged in any way.
 
 use crate::random::Random;
-use crate::ring::{has, marks};
+use crate::ring::{has, marks, LISTENER};
 use crate::rules::frames::{half, word};
+use crate::rules::head::MOST_LISTENERS;
 use crate::rules::midpoint::highest_limit;
-use crate::rules::records::{self, fitted, PLANTED, ROUND, START};
+use crate::rules::records::{self, fitted, LISTENERS, PLANTED, ROUND, START, STRIKE};
 use crate::spoil::out_of_range;
 
 pub type Records = Vec<Vec<u8>>;
@@ -13,6 +14,7 @@ pub type Records = Vec<Vec<u8>>;
 pub struct Right {
     pub n: usize,
     pub f: usize,
+    pub listeners: usize,
     pub records: Records,
 }
 
@@ -42,6 +44,11 @@ impl Right {
         let sound = at + others.len().saturating_sub(1);
         let rest = self.records.get(rest..).unwrap_or_default();
         Faulty { records: [&self.records[..at], &others, rest].concat(), sound, number }
+    }
+
+    /// How many records stand before the first round.
+    fn front(&self) -> usize {
+        1 + (self.listeners > 0) as usize
     }
 
     pub fn start_fault(&self, random: &mut Random) -> Faulty {
@@ -82,7 +89,7 @@ impl Right {
     pub fn round_fault(&self, random: &mut Random) -> Faulty {
         let (at, end) = self.round(random);
         let count = self.f + 1 + random.below(self.n - self.f);
-        let many = marks(&random.some(&(0..self.n).collect::<Vec<_>>(), count));
+        let many = marks(&random.some(&(0..self.n).collect::<Vec<_>>(), count)) as u32;
         let (record, number) = match random.below(4) {
             0 => {
                 let length = random.pick(&[4, 5, 6, 7, 9, 10, 12, 40]);
@@ -90,11 +97,59 @@ impl Right {
                 record.resize(length, 0);
                 (fitted(record), 13)
             }
-            1 if self.n < 32 => (records::round(1 << (self.n + random.below(32 - self.n))), 14),
+            1 if self.n < 32 => (records::round(1 << (self.n + random.below(32 - self.n))), 14), // with listeners too
             2 if self.n < 32 => (records::round(u32::MAX << self.n), 14),
             _ => (records::round(many), 14),
         };
         self.with(at, vec![record], end, number)
+    }
+
+    /// A number of listeners that is wrong, of wrong length, or out of place.
+    pub fn listeners_fault(&self, random: &mut Random) -> Faulty {
+        let right = records::listeners(1 + random.below(MOST_LISTENERS));
+        let (front, end) = (self.front(), self.records.len());
+        match random.below(7) {
+            0 | 1 => self.with(1, vec![records::listeners(random.pick(&[0, 0, 17, 17, 18, 32, 64, 255]))], front, 13),
+            2 => {
+                let length = random.pick(&[0, 2, 2, 3, 4, 32]);
+                self.with(1, vec![records::record(LISTENERS, &vec![random.pick(&[0, 1, 16]); length])], front, 13)
+            }
+            3 => self.with(0, vec![right], random.below(2), 13),
+            4 | 5 if front < end => {
+                let at = front + 1 + random.below(end - front);
+                self.with(at, vec![right], at, 13)
+            }
+            _ => self.with(1, vec![records::listeners(self.listeners.max(1)), right], front, 13),
+        }
+    }
+
+    /// Struck listeners that are not there, or a record of them of wrong length or out of place.
+    pub fn strike_fault(&self, random: &mut Random) -> Faulty {
+        let (at, end) = self.round(random);
+        let there = (1u32 << self.listeners) - 1;
+        let (zeros, allowed) = (records::strike(0), records::strike(random.next() as u16 & there as u16));
+        let mut others = vec![records::round(0)];
+        match random.below(9) {
+            0 | 1 if self.listeners < MOST_LISTENERS => {
+                let next = random.chance(1, 2);
+                let absent = self.listeners + if next { 0 } else { random.below(MOST_LISTENERS - self.listeners) };
+                others.push(records::strike(1 << absent | random.pick(&[0, there as u16])));
+            }
+            2 if self.listeners < MOST_LISTENERS => others.push(records::strike(random.pick(&[u16::MAX, !there as u16, 1 << 15]))),
+            3 => others.push(records::record(STRIKE, &vec![0; random.pick(&[0, 1, 3, 3, 4, 4, 252])])),
+            4 => {
+                let place = random.pick(&[1, self.front()]);
+                return self.with(place, vec![random.pick(&[&zeros, &allowed]).clone()], place, 13);
+            }
+            5 => return self.with(0, vec![zeros], random.below(2), 13),
+            6 | 7 if self.f > 0 => {
+                others = vec![records::round(1)];
+                others.extend(random.chance(1, 2).then(|| allowed.clone()));
+                others.extend([records::planted(0, 1, &[]), random.pick(&[&zeros, &allowed]).clone()]);
+            }
+            _ => others.extend([allowed.clone(), random.pick(&[&zeros, &allowed]).clone()]),
+        }
+        self.with(at, others, end, 13)
     }
 
     /// It needs f of 1 or more.
@@ -106,19 +161,29 @@ impl Right {
         let mut free: Vec<usize> = all.into_iter().filter(|i| !struck.contains(i)).collect();
         let before = self.struck_before(at);
         free.sort_by_key(|&i| !has(before, i)); // first those that were struck in the round before
-        let planted = bad_pairs(random, self.n, &struck, &free);
+        let silent = random.below(self.listeners + 1);
+        let all = random.some(&(LISTENER..LISTENER + self.listeners).collect::<Vec<_>>(), self.listeners);
+        let (silenced, listening) = all.split_at(silent);
+        let planted = if self.listeners > 0 && random.chance(1, 2) {
+            bad_listener_pairs(random, &struck, &free, silenced, listening)
+        } else {
+            bad_pairs(random, (self.n, self.listeners), &struck, &free)
+        };
         if random.chance(1, 16) {
-            return self.with(1, vec![records::planted(struck[0], free[0], &[])], 1, 13);
+            let place = random.pick(&[1, self.front()]);
+            return self.with(place, vec![records::planted(struck[0], random.pick(&[free[0], LISTENER]), &[])], place, 13);
         }
-        let mut others = vec![records::round(marks(&struck))];
+        let mut others = vec![records::round(marks(&struck) as u32)];
+        let word = (marks(silenced) >> LISTENER) as u16;
+        others.extend((word != 0 || random.chance(1, 4)).then(|| records::strike(word)));
         others.extend(planted);
         self.with(at, others, end, 13)
     }
 
     /// The mark word of the last round record before `at`.
-    fn struck_before(&self, at: usize) -> u32 {
+    fn struck_before(&self, at: usize) -> u64 {
         let last = self.records[..at].iter().rev().find(|record| half(record, 2) == ROUND);
-        last.map_or(0, |record| word(record, 4))
+        last.map_or(0, |record| word(record, 4) as u64)
     }
 
     /// A record of no right form, anywhere.
@@ -171,8 +236,15 @@ impl Right {
     }
 }
 
+/// A number that no head and no listener has.
+fn absent(random: &mut Random, n: usize, listeners: usize, other: usize) -> usize {
+    let none = |number: &usize| *number >= n && !(LISTENER..LISTENER + listeners).contains(number);
+    let candidates = [n, n, 31, LISTENER + other, LISTENER + listeners, LISTENER + listeners, 47, 48, 64 + other, 255];
+    random.pick(&candidates.into_iter().filter(none).collect::<Vec<_>>())
+}
+
 /// Planted records, the last of which is against the rule.
-fn bad_pairs(random: &mut Random, n: usize, struck: &[usize], free: &[usize]) -> Records {
+fn bad_pairs(random: &mut Random, (n, listeners): (usize, usize), struck: &[usize], free: &[usize]) -> Records {
     let (from, to) = (random.pick(struck), random.pick(free));
     let (low, high) = (to.min(free[0]), to.max(free[0]));
     let count = random.below(12);
@@ -182,12 +254,30 @@ fn bad_pairs(random: &mut Random, n: usize, struck: &[usize], free: &[usize]) ->
         0 | 1 => vec![plant(free[0], free[1 + random.below(free.len() - 1)])],
         2 => vec![plant(from, random.pick(struck))],
         3 => vec![plant(random.pick(&[n, 255, 32 + from, 64 + from]), to)],
-        4 => vec![plant(from, random.pick(&[n, 255, 32 + to, 64 + to]))],
+        4 => vec![plant(from, absent(random, n, listeners, to))],
         5 => vec![plant(from, to), plant(from, to)],
         6 if low < high => vec![plant(from, high), plant(from, low)],
         7 if from != struck[0] => vec![plant(from.max(struck[0]), low), plant(from.min(struck[0]), high)],
         8 => vec![records::record(PLANTED, &[from as u8][..random.below(2)])],
         _ => vec![records::planted(from, to, &vec![random.below(256) as u8; random.pick(&[141, 142, 144, 256, 5000])])],
+    }
+}
+
+/// Planted records, the last of which is against the rule by a listener: `silenced` ones are struck, `listening` ones are not.
+fn bad_listener_pairs(random: &mut Random, struck: &[usize], free: &[usize], silenced: &[usize], listening: &[usize]) -> Records {
+    let (from, to) = (random.pick(struck), random.pick(free));
+    let plant = |from: usize, to: usize| records::planted(from, to, &[]);
+    let sender = random.pick(&[silenced, listening].concat());
+    let some = random.some(listening, 2);
+    let (low, high) = (struck.iter().min().copied().unwrap_or(from), struck.iter().max().copied().unwrap_or(from));
+    match random.below(7) {
+        0 | 1 if !silenced.is_empty() => vec![plant(from, random.pick(silenced))],
+        2 if !some.is_empty() => vec![plant(from, some[0]), plant(from, to)],
+        3 if !some.is_empty() => vec![plant(from, some[0]), plant(from, some[0])],
+        4 if some.len() == 2 => vec![plant(from, some[0].max(some[1])), plant(from, some[0].min(some[1]))],
+        5 if !some.is_empty() && low < high => vec![plant(high, to), plant(low, some[0])],
+        6 if !some.is_empty() => vec![plant(from, to), plant(sender, some[0])],
+        _ => vec![plant(from, to), plant(sender, to)],
     }
 }
 
@@ -204,9 +294,11 @@ pub fn damaged(random: &mut Random, mut records: Records) -> Vec<u8> {
         }
         4 => records.truncate(at + 1),
         5 => {
-            let kind = random.pick(&[START, ROUND, PLANTED]);
-            let length = random.below(20);
-            records.insert(at, records::record(kind, &random.bytes(length)));
+            let (kind, right) = random.pick(&[(START, 26), (ROUND, 4), (PLANTED, 2), (STRIKE, 2), (LISTENERS, 1)]);
+            let length = if random.chance(1, 2) { right } else { random.below(20) };
+            let mut body = random.bytes(length);
+            body.iter_mut().for_each(|byte| *byte &= random.pick(&[0, 1, 3, 0xff]));
+            records.insert(at, records::record(kind, &body));
         }
         _ => return shaken(random, records.concat()),
     }

@@ -4,7 +4,7 @@ use crate::faults::{damaged, Faulty, Right};
 use crate::phases::{edge, liars, quiet, stubborn, twofold, TWOFOLD};
 use crate::random::Random;
 use crate::rules::frames::half;
-use crate::rules::head::LAST_PHASE;
+use crate::rules::head::{LAST_PHASE, MOST_LISTENERS};
 use crate::rules::midpoint::{highest_limit, LIMIT};
 use crate::rules::records;
 use crate::run::Run;
@@ -22,6 +22,8 @@ pub enum Kind {
     StartFault,
     RoundFault,
     PlantedFault,
+    ListenersFault,
+    StrikeFault,
     FormFault,
     EndingFault,
     Damaged,
@@ -30,7 +32,7 @@ pub enum Kind {
 use Kind::*;
 
 /// How often each kind comes; every 500th file is a long one.
-const SHARES: [(Kind, usize); 12] = [
+const SHARES: [(Kind, usize); 14] = [
     (Quiet, 3),
     (Liars, 16),
     (Edge, 17),
@@ -39,7 +41,9 @@ const SHARES: [(Kind, usize); 12] = [
     (Mixed, 8),
     (StartFault, 8),
     (RoundFault, 5),
-    (PlantedFault, 8),
+    (PlantedFault, 9),
+    (ListenersFault, 6),
+    (StrikeFault, 7),
     (FormFault, 6),
     (EndingFault, 5),
     (Damaged, 13),
@@ -49,6 +53,7 @@ pub struct File {
     pub kind: Kind,
     pub n: usize,
     pub f: usize,
+    pub listeners: usize,
     pub bytes: Vec<u8>,
     /// The listing, or how it begins.
     pub listing: String,
@@ -63,11 +68,13 @@ pub fn file(seed: u64) -> File {
     let shares = SHARES.iter().flat_map(|&(kind, share)| vec![kind; share]);
     let kind = random.pick(&shares.collect::<Vec<_>>());
     let run = run(&mut random, kind);
-    let right = Right { n: run.ring.n, f: run.ring.f, records: run.records() };
+    let right = Right { n: run.ring.n, f: run.ring.f, listeners: run.ring.listeners.len(), records: run.records() };
     let faulty = match kind {
         StartFault => right.start_fault(&mut random),
         RoundFault => right.round_fault(&mut random),
         PlantedFault => right.planted_fault(&mut random),
+        ListenersFault => right.listeners_fault(&mut random),
+        StrikeFault => right.strike_fault(&mut random),
         FormFault => right.form_fault(&mut random),
         EndingFault => right.ending_fault(&mut random),
         Damaged => return begun(kind, &run, damaged(&mut random, right.records)),
@@ -78,12 +85,12 @@ pub fn file(seed: u64) -> File {
 
 fn played_out(kind: Kind, run: &Run) -> File {
     let listing = [TITLE, &run.ring.lines.concat(), "end\n"].concat();
-    File { kind, n: run.ring.n, f: run.ring.f, bytes: run.records().concat(), listing, whole: true }
+    made(kind, run, run.records().concat(), listing, true)
 }
 
 fn refused(kind: Kind, run: &Run, faulty: Faulty) -> File {
     let listing = format!("{}refused {}\n", standing(run, &faulty.records[..faulty.sound]), faulty.number);
-    File { kind, n: run.ring.n, f: run.ring.f, bytes: faulty.records.concat(), listing, whole: true }
+    made(kind, run, faulty.records.concat(), listing, true)
 }
 
 /// A file whose listing is known as far as its bytes are those of the run.
@@ -97,7 +104,11 @@ fn begun(kind: Kind, run: &Run, bytes: Vec<u8>) -> File {
     };
     let accepted = records.iter().take_while(whole).count();
     let listing = standing(run, &records[..accepted]);
-    File { kind, n: run.ring.n, f: run.ring.f, bytes, listing, whole: false }
+    made(kind, run, bytes, listing, false)
+}
+
+fn made(kind: Kind, run: &Run, bytes: Vec<u8>, listing: String, whole: bool) -> File {
+    File { kind, n: run.ring.n, f: run.ring.f, listeners: run.ring.listeners.len(), bytes, listing, whole }
 }
 
 /// The lines that stand when these records were accepted: the last round given is not played yet.
@@ -110,10 +121,11 @@ fn standing(run: &Run, accepted: &[Vec<u8>]) -> String {
 /// The right run from which a file of this kind is made.
 fn run(random: &mut Random, kind: Kind) -> Run {
     let (n, f) = size(random, kind);
-    let mut run = Run::new(f, &positions(random, n, kind));
+    let mut run = Run::new(f, &positions(random, n, kind), listeners(random));
+    run.zeros = random.chance(1, 4);
     for _ in 0..phases(random, n, kind) {
         match (kind, random.below(8)) {
-            (Quiet, _) => quiet(&mut run),
+            (Quiet, _) => quiet(random, &mut run),
             (Liars, _) => liars(random, &mut run),
             (Edge, _) => edge(random, &mut run),
             (Twofold, _) => twofold(random, &mut run),
@@ -122,7 +134,7 @@ fn run(random: &mut Random, kind: Kind) -> Run {
                 let (low, high) = run.ring.range();
                 assert!((n, f) != (8, 2) || high - low == 2, "document 01's case: spread 2 stays 2");
             }
-            (_, 0) => quiet(&mut run),
+            (_, 0) => quiet(random, &mut run),
             (_, 1 | 2) if f > 0 => edge(random, &mut run),
             (_, 3) => stubborn(random, &mut run),
             _ => liars(random, &mut run),
@@ -136,7 +148,7 @@ fn phases(random: &mut Random, n: usize, kind: Kind) -> usize {
     match kind {
         Stubborn if n == 8 && random.chance(1, 8) => 250 + random.below(20),
         Stubborn | Twofold => 1 + random.below(4),
-        StartFault | RoundFault | PlantedFault | FormFault | EndingFault | Damaged => random.below(5),
+        StartFault | RoundFault | PlantedFault | ListenersFault | StrikeFault | FormFault | EndingFault | Damaged => random.below(5),
         _ if n <= 12 => random.below(13),
         _ => random.below(60 / n + 1),
     }
@@ -159,6 +171,16 @@ fn size(random: &mut Random, kind: Kind) -> (usize, usize) {
     }
 }
 
+/// Half of the rings have listeners.
+fn listeners(random: &mut Random) -> usize {
+    match random.below(10) {
+        0..=4 => 0,
+        5 => 1,
+        6 => MOST_LISTENERS,
+        _ => 1 + random.below(MOST_LISTENERS),
+    }
+}
+
 fn positions(random: &mut Random, n: usize, kind: Kind) -> Vec<i32> {
     let base = random.between(-LIMIT, LIMIT - 40);
     let style = if kind == Stubborn { 0 } else { random.below(8) };
@@ -178,12 +200,12 @@ fn positions(random: &mut Random, n: usize, kind: Kind) -> Vec<i32> {
 /// All 65,535 phases, the last ones with strikes; then nothing, or a round record too many.
 fn long(random: &mut Random, turn: u64) -> File {
     let (n, f) = if turn % 5 == 2 { (5, 1) } else { random.pick(&[(1, 0), (3, 0)]) };
-    let mut run = Run::new(f, &positions(random, n, Long));
+    let mut run = Run::new(f, &positions(random, n, Long), if turn % 5 == 2 { 2 } else { random.below(2) });
     while run.ring.phase() <= LAST_PHASE {
         if f > 0 && (run.ring.phase() + 8 > LAST_PHASE || random.chance(1, 4096)) {
             stubborn(random, &mut run);
         } else {
-            quiet(&mut run);
+            quiet(random, &mut run);
         }
     }
     let (more, number) = match turn % 5 {

@@ -7,7 +7,7 @@ use crate::rules::midpoint::LIMIT;
 /// The numbers that a run file can be refused with.
 pub const NUMBERS: [u8; 6] = [1, 2, 4, 13, 14, 26];
 
-/// The sound heads at a phase end.
+/// The sound heads and listeners at a phase end; at the start the heads alone.
 #[derive(Clone, Copy)]
 pub struct End {
     pub low: i32,

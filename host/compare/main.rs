@@ -22,6 +22,7 @@ mod wire;
 
 use files::{File, Kind};
 use listing::{halving, End, Listing, NUMBERS};
+use rules::head::MOST_LISTENERS;
 use std::collections::BTreeMap;
 use std::io::{self, Write};
 use std::process::ExitCode;
@@ -38,6 +39,9 @@ struct Seen {
     phases: usize,
     unhalved: usize,
     largest: usize,
+    /// Files whose rings have listeners, and how many of these have the most.
+    listeners: u64,
+    sixteen: u64,
 }
 
 impl Seen {
@@ -49,11 +53,14 @@ impl Seen {
         let unhalved = |pair: &&[End]| pair[1].spread() > (pair[0].spread() + 1) / 2;
         self.unhalved += listing.ends.windows(2).filter(unhalved).count();
         self.largest = self.largest.max(file.n);
+        self.listeners += (file.listeners > 0) as u64;
+        self.sixteen += (file.listeners == MOST_LISTENERS) as u64;
     }
 
     fn print(&self) {
         let kinds: Vec<String> = self.kinds.iter().map(|(kind, count)| format!("{kind:?} {count}")).collect();
         println!("kinds: {}", kinds.join(", "));
+        println!("with listeners: {}, with {MOST_LISTENERS} of them: {}", self.listeners, self.sixteen);
         println!("phases in which the spread did not halve, at sizes without that promise: {}", self.unhalved);
         let of = |number: &u8| self.numbers.get(number).copied().unwrap_or(0);
         let refused: Vec<String> = NUMBERS.iter().map(|number| format!("{} by {number}", of(number))).collect();
@@ -112,7 +119,8 @@ fn about(seed: u64, file: &File) -> String {
     let halves = if halving(file.n, file.f) { "halving" } else { "not halving" };
     let lines = file.listing.lines().count();
     let known = if file.whole { "the listing" } else { "the beginning of the listing" };
-    format!("seed {seed}: {:?}, n {}, f {} ({halves}), {} bytes; {known} is known, {lines} lines", file.kind, file.n, file.f, file.bytes.len())
+    let size = format!("n {}, f {} ({halves}), {} listeners, {} bytes", file.n, file.f, file.listeners, file.bytes.len());
+    format!("seed {seed}: {:?}, {size}; {known} is known, {lines} lines", file.kind)
 }
 
 fn compare(ours: &str, other: &str, from: u64, count: u64) -> Result<Seen, String> {

@@ -17,12 +17,29 @@ fn strikes(random: &mut Random, ring: &Ring) -> Vec<usize> {
     }
 }
 
+/// The marks of the listeners that are struck: none, one, some, those of the round before or none of them, or all.
+fn silenced(random: &mut Random, ring: &Ring) -> u64 {
+    let all: Vec<usize> = ring.listening().collect();
+    if all.is_empty() {
+        return 0;
+    }
+    let count = random.below(all.len() + 1);
+    match random.below(8) {
+        0 | 1 => 0,
+        2 => marks(&all),
+        3 => ring.before & marks(&all),
+        4 => !ring.before & marks(&random.some(&all, count)),
+        5 => marks(&random.some(&all, 1)),
+        _ => marks(&random.some(&all, count)),
+    }
+}
+
 /// One struck head's lies to all others: none, the same to all, two faces, or one for each.
-fn tell(random: &mut Random, ring: &Ring, lies: &mut Lies, from: usize, struck: u32) {
+fn tell(random: &mut Random, ring: &Ring, lies: &mut Lies, from: usize, struck: u64) {
     let faces = random.pick(&[0, 1, 2, ring.n]);
     let spoils = random.pick(&[0, 2, 8]);
     let said: Vec<Given> = (0..faces).map(|_| any(random, ring)).collect();
-    for to in ring.heads(|i| faces > 0 && !has(struck, i)) {
+    for to in ring.receivers(|i| faces > 0 && !has(struck, i)) {
         let given = &said[random.below(faces)];
         if random.chance(spoils, 8) {
             lies.spoil(random, from, to, given);
@@ -36,7 +53,7 @@ fn tell(random: &mut Random, ring: &Ring, lies: &mut Lies, from: usize, struck: 
 pub fn liars(random: &mut Random, run: &mut Run) {
     for _ in 0..2 {
         let heads = strikes(random, &run.ring);
-        let struck = marks(&heads);
+        let struck = marks(&heads) | silenced(random, &run.ring);
         let mut lies = Lies::of(&run.ring);
         for from in heads {
             tell(random, &run.ring, &mut lies, from, struck);
@@ -45,11 +62,11 @@ pub fn liars(random: &mut Random, run: &mut Run) {
     }
 }
 
-/// A phase without a strike.
-pub fn quiet(run: &mut Run) {
+/// A phase without a strike on a head.
+pub fn quiet(random: &mut Random, run: &mut Run) {
     for _ in 0..2 {
-        let lies = Lies::of(&run.ring);
-        run.play(0, lies);
+        let (lies, struck) = (Lies::of(&run.ring), silenced(random, &run.ring));
+        run.play(struck, lies);
     }
 }
 
@@ -57,9 +74,9 @@ pub fn quiet(run: &mut Run) {
 struct Edge {
     /// The heads struck in both rounds, each with what it tells.
     told: Vec<(usize, i32)>,
-    /// The struck heads of either round.
-    first: u32,
-    second: u32,
+    /// The struck heads and listeners of either round.
+    first: u64,
+    second: u64,
     /// How many lies in confession reach the support.
     need: usize,
     /// How many of the heads that will give true lists were told something else.
@@ -76,8 +93,9 @@ impl Edge {
         let second = [both, &rest[..more]].concat();
         let need = 1 + random.below(second.len());
         let told = both.iter().map(|&head| (head, value(random, ring))).collect();
-        let first = marks(&[both, confessing].concat());
-        Edge { told, first, second: marks(&second), need, others: need + ring.f - second.len() }
+        let first = marks(&[both, confessing].concat()) | silenced(random, ring);
+        let others = need + ring.f - second.len();
+        Edge { told, first, second: marks(&second) | silenced(random, ring), need, others }
     }
 
     fn collect(&self, random: &mut Random, run: &mut Run) {
@@ -86,7 +104,7 @@ impl Edge {
         for &(from, position) in &self.told {
             let others = random.some(&listing, self.others);
             let another = value(random, &run.ring);
-            for to in run.ring.heads(|i| !has(self.first, i)) {
+            for to in run.ring.receivers(|i| !has(self.first, i)) {
                 match random.below(4) {
                     _ if !others.contains(&to) => lies.say(from, to, Said::Position(position)),
                     0 => lies.say(from, to, Said::Silence),
@@ -104,7 +122,7 @@ impl Edge {
         let liars = run.ring.heads(|i| has(self.second, i));
         let supporting = self.supporting(run);
         let short = random.below(3);
-        for to in run.ring.heads(|i| !has(self.second, i)) {
+        for to in run.ring.receivers(|i| !has(self.second, i)) {
             let short = if short < 2 { short } else { random.below(2) };
             for (at, from) in random.some(&liars, liars.len()).into_iter().enumerate() {
                 let edged = self.told.iter().any(|(head, _)| *head == from);
@@ -154,12 +172,13 @@ pub fn twofold(random: &mut Random, run: &mut Run) {
     for (at, &to) in listing.iter().enumerate() {
         lies.say(from, to, Said::Position(if at < most { one } else { other }));
     }
-    run.play(marks(healed) | 1 << from, lies);
+    let struck = marks(healed) | 1 << from | silenced(random, ring);
+    run.play(struck, lies);
 
     let mut lies = Lies::of(&run.ring);
-    let struck = marks(liars) | 1 << from;
+    let struck = marks(liars) | 1 << from | silenced(random, &run.ring);
     let mute = random.chance(1, 8) as usize;
-    for to in run.ring.heads(|i| !has(struck, i)) {
+    for to in run.ring.receivers(|i| !has(struck, i)) {
         for &liar in &liars[mute..] {
             lies.say(liar, to, Said::Confession);
         }
@@ -178,12 +197,14 @@ pub fn stubborn(random: &mut Random, run: &mut Run) {
     order.sort_by_key(|&i| ring.positions[i]);
     let first = ends(&mut order, ring.f);
     let lies = Lies::of(ring);
-    run.play(marks(&first), lies);
+    let struck = marks(&first) | silenced(random, ring);
+    run.play(struck, lies);
 
     let middle = run.ring.positions[order[order.len() / 2]];
     let second = ends(&mut order, run.ring.f);
-    let struck = marks(&second);
-    let hearers = random.some(&run.ring.heads(|i| !has(struck, i)), run.ring.n);
+    let struck = marks(&second) | silenced(random, &run.ring);
+    let mut hearers = random.some(&run.ring.heads(|i| !has(struck, i)), run.ring.n);
+    hearers.extend(run.ring.listening().filter(|&i| !has(struck, i)));
     let mut lies = Lies::of(&run.ring);
     for &from in &second {
         let low = run.ring.lists[from][from] < middle;

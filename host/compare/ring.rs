@@ -1,5 +1,5 @@
 //! The model: a ring as document 01 has it, without a byte. What a struck head does is, for each neighbour, what that neighbour makes of it. Of
-//! host/plain it shares what a frame can say, and no rule.
+//! host/plain it shares what a frame can say, and no rule. Listeners (document 02, A6) are numbered from 32; they settle as heads do and say nothing.
 
 use crate::rules::frames::Said;
 use crate::rules::midpoint::Entry;
@@ -15,17 +15,20 @@ pub struct Lie {
     pub given: Given,
 }
 
-/// A round: the mark word of its struck heads, and what these send, by sender and receiver.
+/// The first listener's number.
+pub const LISTENER: usize = 32;
+
+/// A round: the marks of its struck heads and, from bit 32 on, of its struck listeners; and what these heads send, by sender and receiver.
 pub struct Round {
-    pub struck: u32,
+    pub struck: u64,
     pub lies: BTreeMap<(usize, usize), Lie>,
 }
 
-pub fn has(marks: u32, head: usize) -> bool {
+pub fn has(marks: u64, head: usize) -> bool {
     marks >> head & 1 == 1
 }
 
-pub fn marks(heads: &[usize]) -> u32 {
+pub fn marks(heads: &[usize]) -> u64 {
     heads.iter().fold(0, |word, head| word | 1 << head)
 }
 
@@ -35,8 +38,10 @@ pub struct Ring {
     /// None if the memory was lost.
     pub positions: Vec<Entry>,
     pub lists: Vec<Vec<Entry>>,
-    /// The heads struck in the round before.
-    pub before: u32,
+    /// The listeners' positions: none before the first phase end, or if the memory was lost.
+    pub listeners: Vec<Entry>,
+    /// The heads and listeners struck in the round before.
+    pub before: u64,
     /// How many rounds were played.
     pub rounds: usize,
     /// The lines of the listing, from line 0.
@@ -44,10 +49,11 @@ pub struct Ring {
 }
 
 impl Ring {
-    pub fn start(f: usize, positions: &[i32]) -> Ring {
+    pub fn start(f: usize, positions: &[i32], listeners: usize) -> Ring {
         let n = positions.len();
         let positions = positions.iter().copied().map(Some).collect();
-        let mut ring = Ring { n, f, positions, lists: vec![Vec::new(); n], before: 0, rounds: 0, lines: Vec::new() };
+        let (lists, listeners) = (vec![Vec::new(); n], vec![None; listeners]);
+        let mut ring = Ring { n, f, positions, lists, listeners, before: 0, rounds: 0, lines: Vec::new() };
         ring.print(0);
         ring
     }
@@ -65,6 +71,16 @@ impl Ring {
         (0..self.n).filter(|&i| wanted(i)).collect()
     }
 
+    /// The numbers of the heads and listeners that are wanted, heads first.
+    pub fn receivers(&self, wanted: impl Fn(usize) -> bool) -> Vec<usize> {
+        (0..self.n).chain(self.listening()).filter(|&i| wanted(i)).collect()
+    }
+
+    /// The listeners' numbers.
+    pub fn listening(&self) -> std::ops::Range<usize> {
+        LISTENER..LISTENER + self.listeners.len()
+    }
+
     pub fn play(&mut self, round: &Round) {
         let said: Vec<Given> = (0..self.n).map(|i| self.says(i, round)).collect();
         let ends = !self.collecting();
@@ -74,11 +90,19 @@ impl Ring {
                 self.lists[i].clear();
                 continue;
             }
-            let heard: Vec<&Given> = (0..self.n).map(|k| round.lies.get(&(k, i)).map_or(&said[k], |lie| &lie.given)).collect();
+            let heard = self.heard(i, &said, round);
             if ends {
                 self.positions[i] = Some(self.settled(&heard));
             } else {
                 self.lists[i] = heard.iter().map(|given| if let Some(Said::Position(v)) = given { Some(*v) } else { None }).collect();
+            }
+        }
+        // What a listener hears in collection is never asked for.
+        for i in self.listening() {
+            if has(round.struck, i) {
+                self.listeners[i - LISTENER] = None;
+            } else if ends {
+                self.listeners[i - LISTENER] = Some(self.settled(&self.heard(i, &said, round)));
             }
         }
         self.rounds += 1;
@@ -86,6 +110,11 @@ impl Ring {
             self.print(round.struck);
         }
         self.before = round.struck;
+    }
+
+    /// What each link gives to head or listener i.
+    fn heard<'a>(&self, i: usize, said: &'a [Given], round: &'a Round) -> Vec<&'a Given> {
+        (0..self.n).map(|k| round.lies.get(&(k, i)).map_or(&said[k], |lie| &lie.given)).collect()
     }
 
     /// What head i sends to all; a struck one sends only its lies.
@@ -131,15 +160,16 @@ impl Ring {
         reach.next().filter(|_| reach.next().is_none()).map(|name| name.0)
     }
 
-    fn print(&mut self, confess: u32) {
+    /// The mark words are those of heads alone.
+    fn print(&mut self, confess: u64) {
         let (low, high) = self.range();
-        let collect = self.before;
+        let (collect, confess) = (self.before as u32, confess as u32);
         self.lines.push(format!("{} {low} {high} {} {collect:08x} {confess:08x}\n", self.rounds / 2, high - low));
     }
 
-    /// The lowest and the highest position held.
+    /// The lowest and the highest position held, by heads and listeners.
     pub fn range(&self) -> (i32, i32) {
-        let held = self.positions.iter().flatten();
+        let held = self.positions.iter().chain(&self.listeners).flatten();
         (*held.clone().min().expect("a sound head"), *held.max().expect("a sound head"))
     }
 }

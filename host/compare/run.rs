@@ -1,7 +1,7 @@
 //! A run as it is written, round by round, and the lies of a round.
 
 use crate::random::Random;
-use crate::ring::{has, Given, Lie, Ring, Round};
+use crate::ring::{has, Given, Lie, Ring, Round, LISTENER};
 use crate::rules::frames::Said;
 use crate::rules::midpoint::LIMIT;
 use crate::rules::records;
@@ -11,17 +11,19 @@ use std::collections::BTreeMap;
 /// A run as it is written: the model beside it knows the listing.
 pub struct Run {
     pub ring: Ring,
+    /// Whether a round without a struck listener has a record that says so.
+    pub zeros: bool,
     start: Vec<u8>,
     rounds: Vec<Round>,
 }
 
 impl Run {
-    pub fn new(f: usize, positions: &[i32]) -> Run {
+    pub fn new(f: usize, positions: &[i32], listeners: usize) -> Run {
         let start = records::start(positions.len(), f, positions);
-        Run { ring: Ring::start(f, positions), start, rounds: Vec::new() }
+        Run { ring: Ring::start(f, positions, listeners), zeros: false, start, rounds: Vec::new() }
     }
 
-    pub fn play(&mut self, struck: u32, lies: Lies) {
+    pub fn play(&mut self, struck: u64, lies: Lies) {
         let round = lies.round(struck);
         self.ring.play(&round);
         self.rounds.push(round);
@@ -30,14 +32,18 @@ impl Run {
     /// The records of the run file.
     pub fn records(&self) -> Vec<Vec<u8>> {
         let mut records = vec![self.start.clone()];
-        records.extend(self.rounds.iter().flat_map(round_records));
+        let listeners = self.ring.listeners.len();
+        records.extend((listeners > 0).then(|| records::listeners(listeners)));
+        records.extend(self.rounds.iter().flat_map(|round| round_records(round, self.zeros)));
         records
     }
 }
 
-/// The records of a round: its own, and those of what is planted.
-pub fn round_records(round: &Round) -> Vec<Vec<u8>> {
-    let mut records = vec![records::round(round.struck)];
+/// The records of a round: its own, that of its struck listeners if there are any (or if zeros are wanted), and those of what is planted.
+pub fn round_records(round: &Round, zeros: bool) -> Vec<Vec<u8>> {
+    let listeners = (round.struck >> LISTENER) as u16;
+    let mut records = vec![records::round(round.struck as u32)];
+    records.extend((zeros || listeners != 0).then(|| records::strike(listeners)));
     records.extend(round.lies.iter().map(|((from, to), lie)| records::planted(*from, *to, &lie.bytes)));
     records
 }
@@ -55,8 +61,8 @@ impl Lies {
         Lies { n: ring.n, phase: ring.phase(), collecting: ring.collecting(), lies: BTreeMap::new() }
     }
 
-    /// The round in which these heads are struck and tell the lies.
-    pub fn round(self, struck: u32) -> Round {
+    /// The round in which these heads and listeners are struck and the heads tell the lies.
+    pub fn round(self, struck: u64) -> Round {
         Round { struck, lies: self.lies }
     }
 

@@ -31,6 +31,8 @@ pub enum Call {
     Unscale { nanometres: i64, numerator: u32, denominator: u32, out: i32 },
     Start { n: u32, f: u32, number: u32, position: i32 },
     Restart { n: u32, f: u32, number: u32, phase: u32, round: u32 },
+    StartListener { n: u32, f: u32, number: u32 },
+    RestartListener { n: u32, f: u32, number: u32, phase: u32, round: u32 },
     Hear { link: u32, frame: Bytes },
     HearBatch { batch: Bytes, answers: Bytes, room: usize, out: usize },
     Write { buffer: Bytes, room: usize, out: usize },
@@ -65,16 +67,18 @@ impl Call {
             Call::Unscale { .. } => 4,
             Call::Start { .. } => 5,
             Call::Restart { .. } => 6,
-            Call::Hear { .. } => 7,
-            Call::HearBatch { .. } => 8,
-            Call::Write { .. } => 9,
-            Call::Close => 10,
-            Call::Position { .. } => 11,
-            Call::Kept { .. } => 12,
-            Call::Register { .. } => 13,
-            Call::Window { .. } => 14,
-            Call::SetRegister { .. } => 15,
-            Call::Interrupt => 16,
+            Call::StartListener { .. } => 7,
+            Call::RestartListener { .. } => 8,
+            Call::Hear { .. } => 9,
+            Call::HearBatch { .. } => 10,
+            Call::Write { .. } => 11,
+            Call::Close => 12,
+            Call::Position { .. } => 13,
+            Call::Kept { .. } => 14,
+            Call::Register { .. } => 15,
+            Call::Window { .. } => 16,
+            Call::SetRegister { .. } => 17,
+            Call::Interrupt => 18,
         }
     }
 
@@ -104,6 +108,8 @@ impl Call {
             }
             Call::Start { n, f, number, position } => (block.start(n, f, number, position), 0),
             Call::Restart { n, f, number, phase, round } => (block.restart(n, f, number, phase, round), 0),
+            Call::StartListener { n, f, number } => (block.start_listener(n, f, number), 0),
+            Call::RestartListener { n, f, number, phase, round } => (block.restart_listener(n, f, number, phase, round), 0),
             Call::Hear { link, .. } => (block.hear(link, &mut lent), 0),
             Call::HearBatch { room, mut out, .. } => (block.hear_batch(&mut batch, &mut lent[..room], &mut out), out as i64),
             Call::Write { room, mut out, .. } => (block.write(&mut lent[..room], &mut out), out as i64),
@@ -153,6 +159,10 @@ impl Call {
             Call::Start { n, f, number, position } => (device.start(n as usize, f as usize, number as usize, position), 0),
             Call::Restart { n, f, number, phase, round } => {
                 (device.restart(n as usize, f as usize, number as usize, phase as usize, round as usize), 0)
+            }
+            Call::StartListener { n, f, number } => (device.start_listener(n as usize, f as usize, number as usize), 0),
+            Call::RestartListener { n, f, number, phase, round } => {
+                (device.restart_listener(n as usize, f as usize, number as usize, phase as usize, round as usize), 0)
             }
             Call::Hear { link, .. } => (head.hear(link as usize, &lent), 0),
             Call::HearBatch { ref batch, room, out, .. } => {

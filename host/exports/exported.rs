@@ -14,6 +14,8 @@ mod c {
         pub fn focus_unscale(nanometres: i64, numerator: u32, denominator: u32, steps: *mut i32) -> u8;
         pub fn focus_head_start(head: *mut Block, n: u32, f: u32, number: u32, position: i32) -> u8;
         pub fn focus_head_restart(head: *mut Block, n: u32, f: u32, number: u32, phase: u32, round: u32) -> u8;
+        pub fn focus_listener_start(head: *mut Block, n: u32, f: u32, number: u32) -> u8;
+        pub fn focus_listener_restart(head: *mut Block, n: u32, f: u32, number: u32, phase: u32, round: u32) -> u8;
         pub fn focus_head_hear(head: *mut Block, link: u32, frame: *const u8, length: usize) -> u8;
         pub fn focus_head_hear_batch(head: *mut Block, batch: *const u8, length: usize, answers: *mut u8, room: usize, count: *mut usize) -> u8;
         pub fn focus_head_write(head: *const Block, buffer: *mut u8, room: usize, length: *mut usize) -> u8;
@@ -72,6 +74,14 @@ impl Block {
 
     pub fn restart(&mut self, n: u32, f: u32, number: u32, phase: u32, round: u32) -> u8 {
         unsafe { c::focus_head_restart(self, n, f, number, phase, round) }
+    }
+
+    pub fn start_listener(&mut self, n: u32, f: u32, number: u32) -> u8 {
+        unsafe { c::focus_listener_start(self, n, f, number) }
+    }
+
+    pub fn restart_listener(&mut self, n: u32, f: u32, number: u32, phase: u32, round: u32) -> u8 {
+        unsafe { c::focus_listener_restart(self, n, f, number, phase, round) }
     }
 
     pub fn hear(&mut self, link: u32, frame: &mut [u8]) -> u8 {

@@ -32,7 +32,7 @@ use std::process::ExitCode;
 use tally::{Tally, CALLS};
 
 /// So many calls are known to meet every answer.
-const ENOUGH: u64 = 20_000;
+const ENOUGH: u64 = 100_000;
 /// How often each of the camera's calls is made for a seed.
 const EACH: usize = 36;
 

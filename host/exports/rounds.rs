@@ -1,4 +1,4 @@
-//! Sequences of calls on one head: rounds in which most links give what a head takes, with other calls, and frames it refuses, in between.
+//! Sequences of calls on one head or listener: rounds in which most links give what a head takes, with other calls, and frames it refuses, in between.
 
 use crate::calls::{Bytes, Call};
 use crate::damage::damaged;
@@ -64,14 +64,19 @@ impl Writer<'_> {
         self.open(n, f, true)
     }
 
+    /// Of a head, or in one case of three of a listener.
     fn open(&mut self, n: u32, f: u32, spoilt: bool) -> Result<(), String> {
         let often = if spoilt { 3 } else { usize::MAX };
         let random = &mut *self.random;
-        let number = random.below(n.clamp(1, 32) as usize) as u32;
-        let number = if spoilt && random.chance(1, 4) { n } else { near(random, number, often) };
+        let listens = random.chance(1, 3);
+        let (from, count) = if listens { (32, 16) } else { (0, n.clamp(1, 32) as usize) };
+        let number = from + random.below(count) as u32;
+        let beside = [n, 31, 32, 47, 48];
+        let number = if spoilt && random.chance(1, 4) { random.pick(&beside) } else { near(random, number, often) };
         if random.chance(1, 2) {
             let position = if random.chance(1, often) { out_of_range(random) } else { position(random) };
-            if (self.ask)(Call::Start { n, f, number, position })? == 0 {
+            let call = if listens { Call::StartListener { n, f, number } } else { Call::Start { n, f, number, position } };
+            if (self.ask)(call)? == 0 {
                 self.opened(n, f, 1, 0);
             }
             return Ok(());
@@ -80,7 +85,8 @@ impl Writer<'_> {
         let phase = random.pick(&[1, 2, 255, 256, LAST_PHASE - 1, LAST_PHASE, LAST_PHASE, any]) as u32;
         let round = random.below(2) as u32;
         let (phase, round) = (near(random, phase, often), near(random, round, often));
-        if (self.ask)(Call::Restart { n, f, number, phase, round })? == 0 {
+        let call = if listens { Call::RestartListener { n, f, number, phase, round } } else { Call::Restart { n, f, number, phase, round } };
+        if (self.ask)(call)? == 0 {
             self.opened(n, f, phase, round);
         }
         Ok(())

@@ -2,7 +2,7 @@
 
 /// Each call with the numbers it can give, in the order of its checks. A position or a kept range is answered 1 if one is held, else 0; the interrupt
 /// line 1 if it is up.
-pub const CALLS: [(&str, &[u8]); 17] = [
+pub const CALLS: [(&str, &[u8]); 19] = [
     ("frame_check", &[0, 6, 7, 8]),
     ("midpoint", &[0, 1, 2, 8, 10, 11, 25]),
     ("midpoint_kept", &[0, 1, 2, 8, 10, 11, 25]),
@@ -10,9 +10,11 @@ pub const CALLS: [(&str, &[u8]); 17] = [
     ("unscale", &[0, 12]),
     ("head_start", &[0, 1, 2, 3, 4]),
     ("head_restart", &[0, 1, 2, 3, 5]),
+    ("listener_start", &[0, 1, 2, 3]),
+    ("listener_restart", &[0, 1, 2, 3, 5]),
     ("head_hear", &[0, 26, 3, 21, 6, 7, 8, 22, 9, 23, 10, 11]),
     ("head_hear_batch", &[0, 15, 24]),
-    ("head_write", &[0, 26, 24]),
+    ("head_write", &[0, 26, 17, 24]),
     ("head_close", &[0, 26, 25]),
     ("head_position", &[0, 1]),
     ("head_kept", &[0, 1]),

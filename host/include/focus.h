@@ -26,7 +26,7 @@ extern "C" {
 enum focus_refusal {
     FOCUS_HEAD_COUNT = 1,   /* head count */
     FOCUS_STRUCK_LIMIT = 2, /* struck limit too high */
-    FOCUS_HEAD_NUMBER = 3,  /* head or link number n or more */
+    FOCUS_HEAD_NUMBER = 3,  /* head or link number n or more, or a listener's outside 32 to 47 */
     FOCUS_POSITION = 4,     /* position out of range */
     FOCUS_PHASE = 5,        /* phase out of range, or round neither 0 (collection) nor 1 (confession) */
     FOCUS_STATED_LENGTH = 6, /* fewer than 4 bytes, or the length field differs from the bytes given */
@@ -40,6 +40,7 @@ enum focus_refusal {
     FOCUS_STRUCK = 14,      /* more than f struck, or a mark at n or above */
     FOCUS_BATCH_ENTRY = 15, /* an entry's length field is missing, below 4 or runs past the end (document 02, A1) */
     FOCUS_REGISTER = 16,    /* a write to a byte of the window other than 10 and 11, or a read past byte 15 (document 02, A5) */
+    FOCUS_LISTENER = 17,    /* a listener is told to send (document 02, A6) */
     FOCUS_HEARD = 21,       /* link already heard this round */
     FOCUS_OTHER_ROUND = 22,/* frame of the other round */
     FOCUS_OTHER_PHASE = 23, /* frame of another phase */
@@ -95,18 +96,20 @@ uint8_t focus_unscale(int64_t nanometres, uint32_t numerator, uint32_t denominat
  * its rows need. */
 #define FOCUS_PLAY_ENDS(bytes) ((bytes) / 16 + 1)
 #define FOCUS_PLAY_OUT(bytes) (64 * (FOCUS_PLAY_ENDS(bytes) + 2))
-#define FOCUS_PLAY_ROWS(bytes) (32 * FOCUS_PLAY_ENDS(bytes))
+#define FOCUS_PLAY_ROWS(bytes) (48 * FOCUS_PLAY_ENDS(bytes))
 
 /* Plays a run file of any bytes: its listing at the front of out, and for each phase end e, counted from the start, a
- * row of 32 numbers from rows[32 * e] on and a mark word words[e]. A row has the position of each head that is sound
- * at that end, and 0 elsewhere; the word has a bit for each head struck in the confession round. The listing's length
- * is put in *length and the number of phase ends in *ends; what is behind them in the three buffers stays as it was.
+ * row of 48 numbers from rows[48 * e] on and a mark word words[e]. Numbers 0 to 31 of a row are for heads and 32 to 47
+ * for the listeners of these numbers: the position of each one that is sound at that end, and 0 elsewhere. The word
+ * has a bit for each head and listener struck in the confession round; at the start, row 0, the bits of all listeners,
+ * which hold no position yet. The listing's length is put in *length and the number of phase ends in *ends; what is
+ * behind them in the three buffers stays as it was.
  * Returns the number of the file's first fault (1, 2, 4, 13, 14, 26), or 0 if it is played to its end. Returns 24,
  * with nothing written, if a buffer is shorter than the three macros say. Sizes of rows and words are in numbers, not
- * bytes. Takes about 160 KB of stack.
+ * bytes. Takes about 230 KB of stack.
  * Promised: `PlaysInto` (crates/run_whole/specs/Whole.antt), with demand 3 for any two of the rows. */
 uint8_t focus_play(const uint8_t *file, size_t bytes, uint8_t *out, size_t out_size, int32_t *rows, size_t rows_size,
-                   uint32_t *words, size_t words_size, size_t *length, size_t *ends);
+                   uint64_t *words, size_t words_size, size_t *length, size_t *ends);
 
 /* ---- a head that C keeps: crates/head_c/src/lib.rt has what its calls promise; crates/head_spec/specs/Calls.antt
  * defines the calls */
@@ -132,6 +135,15 @@ uint8_t focus_head_start(focus_head *head, uint32_t n, uint32_t f, uint32_t numb
  * Refusals 1, 2, 3, 5. */
 uint8_t focus_head_restart(focus_head *head, uint32_t n, uint32_t f, uint32_t number, uint32_t phase, uint32_t round);
 
+/* A listener (document 02, A6) is kept in a block as a head is, under a number from 32 to 47. All calls on a head's
+ * block are for its block too: it hears the n heads' links, closes rounds and settles positions as a head does. It
+ * has no link of its own and sends nothing: focus_head_write is refused 17.
+ * Starts it in phase 1 with no position: it holds none before its first phase end. Refusals 1, 2, 3. */
+uint8_t focus_listener_start(focus_head *head, uint32_t n, uint32_t f, uint32_t number);
+
+/* Restarts a listener whose strike is over, as focus_head_restart does a head. Refusals 1, 2, 3, 5. */
+uint8_t focus_listener_restart(focus_head *head, uint32_t n, uint32_t f, uint32_t number, uint32_t phase, uint32_t round);
+
 /* Hears the bytes of one frame on a link. Refusals 26, 3, 21, 6, 7, 8, 22, 9, 23, 10, 11. */
 uint8_t focus_head_hear(focus_head *head, uint32_t link, const uint8_t *frame, size_t length);
 
@@ -146,7 +158,7 @@ uint8_t focus_head_hear_batch(focus_head *head, const uint8_t *batch, size_t len
 
 /* Writes the frame that says what the head has to say to the front of the buffer, and its length to *length; the
  * bytes after it stay as they were.
- * Refusals 26, 24. */
+ * Refusals 26, 17 for a listener, 24. */
 uint8_t focus_head_write(const focus_head *head, uint8_t *buffer, size_t room, size_t *length);
 
 /* Closes the round: after collection its list stands, after confession it holds a new position and the next phase is

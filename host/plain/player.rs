@@ -1,25 +1,41 @@
 //! The run file: records as they come, rounds of a whole ring, and the listing.
 
 use crate::rules::frames::{half, word};
-use crate::rules::head::{Head, LAST_PHASE};
+use crate::rules::head::{Head, FIRST_LISTENER, LAST_PHASE, MOST_LISTENERS};
 use crate::rules::midpoint::{marked, size};
-use crate::rules::records::{LONGEST, PLANTED, ROUND, START};
+use crate::rules::records::{LISTENERS, LONGEST, PLANTED, ROUND, START, STRIKE};
 use std::io::{self, Read, Write};
 
+/// The mark words of a round's struck heads and struck listeners.
+#[derive(Clone, Copy, Default)]
+struct Struck {
+    heads: u32,
+    listeners: u16,
+}
+
+impl Struck {
+    fn has(&self, number: usize) -> bool {
+        marked(self.heads, number) || number >= FIRST_LISTENER && marked(self.listeners as u32, number - FIRST_LISTENER)
+    }
+}
+
 struct Round {
-    struck: u32,
+    struck: Struck,
     planted: Vec<(usize, usize, Vec<u8>)>,
 }
 
-/// The ring after an accepted start. A struck head has no record.
+/// The ring after an accepted start. A struck head or listener has no record.
 struct Ring {
     n: usize,
     f: usize,
+    /// The n heads, then the listeners.
     heads: Vec<Option<Head>>,
     played: usize,
-    before: u32,
+    before: Struck,
     given: usize,
     waiting: Option<Round>,
+    /// The kind of the last record taken.
+    last: u16,
 }
 
 impl Ring {
@@ -31,7 +47,44 @@ impl Ring {
         size(n, f)?;
         let start = |i: usize| Head::start(n, f, i, word(record, 6 + 4 * i) as i32).map(Some);
         let heads = (0..n).map(start).collect::<Result<_, u8>>()?;
-        Ok(Ring { n, f, heads, played: 0, before: 0, given: 0, waiting: None })
+        Ok(Ring { n, f, heads, played: 0, before: Struck::default(), given: 0, waiting: None, last: START })
+    }
+
+    /// The number of the head or listener at a place among `heads`.
+    fn number(&self, at: usize) -> usize {
+        if at < self.n { at } else { FIRST_LISTENER + at - self.n }
+    }
+
+    /// Where the head or listener of a number is, if there is one.
+    fn place(&self, number: usize) -> Option<usize> {
+        let at = if number < self.n { number } else { self.n + number.checked_sub(FIRST_LISTENER)? };
+        (at < self.heads.len()).then_some(at)
+    }
+
+    /// Just after the start: how many listeners there are.
+    fn listeners(&mut self, record: &[u8]) -> Result<(), u8> {
+        if self.last != START || record.len() != 5 || !(1..=MOST_LISTENERS).contains(&(record[4] as usize)) {
+            return Err(13);
+        }
+        for number in FIRST_LISTENER..FIRST_LISTENER + record[4] as usize {
+            self.heads.push(Some(Head::start_listener(self.n, self.f, number)?));
+        }
+        Ok(())
+    }
+
+    /// Directly after a round record: its struck listeners.
+    fn strike(&mut self, record: &[u8]) -> Result<(), u8> {
+        let count = self.heads.len() - self.n;
+        let round = match &mut self.waiting {
+            Some(round) if self.last == ROUND && record.len() == 6 => round,
+            _ => return Err(13),
+        };
+        let marks = half(record, 4);
+        if (count..MOST_LISTENERS).any(|j| marked(marks as u32, j)) {
+            return Err(13);
+        }
+        round.struck.listeners = marks;
+        Ok(())
     }
 
     fn round(&mut self, record: &[u8], output: &mut impl Write) -> io::Result<Result<(), u8>> {
@@ -47,19 +100,19 @@ impl Ring {
         }
         self.play(output)?;
         self.given += 1;
-        self.waiting = Some(Round { struck: marks, planted: Vec::new() });
+        self.waiting = Some(Round { struck: Struck { heads: marks, listeners: 0 }, planted: Vec::new() });
         Ok(Ok(()))
     }
 
     fn plant(&mut self, record: &[u8]) -> Result<(), u8> {
-        let n = self.n;
-        let round = match &mut self.waiting {
-            Some(round) if (6..=6 + LONGEST).contains(&record.len()) => round,
-            _ => return Err(13),
-        };
+        if !(6..=6 + LONGEST).contains(&record.len()) {
+            return Err(13);
+        }
         let (from, to) = (record[4] as usize, record[5] as usize);
+        let there = from < self.n && self.place(to).is_some();
+        let round = self.waiting.as_mut().filter(|_| there).ok_or(13)?;
         let rises = round.planted.last().map_or(true, |last| (last.0, last.1) < (from, to));
-        if from >= n || to >= n || !marked(round.struck, from) || marked(round.struck, to) || !rises {
+        if !round.struck.has(from) || round.struck.has(to) || !rises {
             return Err(13);
         }
         round.planted.push((from, to, record[6..].to_vec()));
@@ -73,14 +126,16 @@ impl Ring {
             None => return Ok(()),
         };
         let (phase, stage) = (self.played / 2 + 1, self.played % 2);
-        for i in 0..self.n {
-            if marked(round.struck, i) {
-                self.heads[i] = None;
-            } else if marked(self.before, i) {
-                self.heads[i] = Some(Head::restart(self.n, self.f, i, phase, stage).unwrap());
+        for at in 0..self.heads.len() {
+            let number = self.number(at);
+            let restart = if at < self.n { Head::restart } else { Head::restart_listener };
+            if round.struck.has(number) {
+                self.heads[at] = None;
+            } else if self.before.has(number) {
+                self.heads[at] = Some(restart(self.n, self.f, number, phase, stage).unwrap());
             }
         }
-        let sent: Vec<_> = self.heads.iter().map(|head| head.as_ref().map(|head| head.says().unwrap())).collect();
+        let sent: Vec<_> = self.heads[..self.n].iter().map(|head| head.as_ref().map(|head| head.says().unwrap())).collect();
         for head in self.heads.iter_mut().flatten() {
             for (k, frame) in sent.iter().enumerate() {
                 if let Some(frame) = frame {
@@ -89,19 +144,21 @@ impl Ring {
             }
         }
         for (from, to, bytes) in &round.planted {
-            let _ = self.heads[*to].as_mut().unwrap().hear(*from, bytes); // a refused frame gives nothing
+            let at = self.place(*to).unwrap();
+            let _ = self.heads[at].as_mut().unwrap().hear(*from, bytes); // a refused frame gives nothing
         }
         for head in self.heads.iter_mut().flatten() {
             head.close().unwrap();
         }
         if stage == 1 {
-            self.line(output, phase, self.before, round.struck)?;
+            self.line(output, phase, self.before.heads, round.struck.heads)?;
         }
         self.before = round.struck;
         self.played += 1;
         Ok(())
     }
 
+    /// Over the sound heads and listeners; line 0 is printed before there are listeners.
     fn line(&self, output: &mut impl Write, phase: usize, collect: u32, confess: u32) -> io::Result<()> {
         let sound = self.heads.iter().flatten().map(|head| head.position.unwrap());
         let (low, high) = (sound.clone().min().unwrap(), sound.max().unwrap());
@@ -134,8 +191,17 @@ fn take(ring: Option<Ring>, bytes: &[u8], output: &mut impl Write) -> io::Result
             ring.line(output, 0, 0, 0)?;
             Ok(Ok(ring))
         }
-        (ROUND, Some(mut ring)) => Ok(ring.round(bytes, output)?.map(|()| ring)),
-        (PLANTED, Some(mut ring)) => Ok(ring.plant(bytes).map(|()| ring)),
+        (kind, Some(mut ring)) => {
+            let taken = match kind {
+                LISTENERS => ring.listeners(bytes),
+                ROUND => ring.round(bytes, output)?,
+                STRIKE => ring.strike(bytes),
+                PLANTED => ring.plant(bytes),
+                _ => Err(13),
+            };
+            ring.last = kind;
+            Ok(taken.map(|()| ring))
+        }
         _ => Ok(Err(13)),
     }
 }
@@ -160,7 +226,7 @@ pub fn play(mut input: impl Read, output: &mut impl Write) -> io::Result<()> {
     }
 }
 
-/// The file ends after the start or after a confession round.
+/// The file ends after the start, with its listeners, or after a confession round.
 fn ending(ring: Option<Ring>, output: &mut impl Write) -> io::Result<Option<u8>> {
     match ring {
         Some(mut ring) if ring.given % 2 == 0 => ring.play(output).map(|()| None),

@@ -4,7 +4,11 @@ use super::frames::{self, Said};
 use super::midpoint::{is_position, settle, size, Entry, Kept};
 
 pub const LAST_PHASE: usize = 65_535;
+/// The number of the first listener, whatever n is, and how many there can be.
+pub const FIRST_LISTENER: usize = 32;
+pub const MOST_LISTENERS: usize = 16;
 
+/// A head, or a listener (document 02, A6): a listener has a number of its own, hears and closes as a head does, and sends nothing.
 pub struct Head {
     pub(super) n: usize,
     pub(super) f: usize,
@@ -18,6 +22,10 @@ pub struct Head {
     pub kept: Option<Kept>,
     list: Vec<Entry>,
     heard: Vec<Option<Said>>,
+}
+
+fn is_listener(number: usize) -> bool {
+    (FIRST_LISTENER..FIRST_LISTENER + MOST_LISTENERS).contains(&number)
 }
 
 impl Head {
@@ -49,10 +57,33 @@ impl Head {
         if number >= n {
             return Err(3);
         }
+        Head::resumed(n, f, number, phase, round)
+    }
+
+    /// 5.
+    fn resumed(n: usize, f: usize, number: usize, phase: usize, round: usize) -> Result<Head, u8> {
         if phase == 0 || phase > LAST_PHASE || round > 1 {
             return Err(5);
         }
         Ok(Head::healed(n, f, number, phase, round))
+    }
+
+    /// Document 02, A6: "A listener is started under its own number, without a position". 1, 2, 3.
+    pub fn start_listener(n: usize, f: usize, number: usize) -> Result<Head, u8> {
+        size(n, f)?;
+        if !is_listener(number) {
+            return Err(3);
+        }
+        Ok(Head { healed: false, ..Head::healed(n, f, number, 1, 0) })
+    }
+
+    /// 1, 2, 3, 5.
+    pub fn restart_listener(n: usize, f: usize, number: usize, phase: usize, round: usize) -> Result<Head, u8> {
+        size(n, f)?;
+        if !is_listener(number) {
+            return Err(3);
+        }
+        Head::resumed(n, f, number, phase, round)
     }
 
     /// 26, 3, 21, then what the frame is refused for.
@@ -82,10 +113,13 @@ impl Head {
         Ok(entries.len())
     }
 
-    /// 26; the frame.
+    /// 26, 17; the frame.
     pub fn says(&self) -> Result<Vec<u8>, u8> {
         if self.ended {
             return Err(26);
+        }
+        if is_listener(self.number) {
+            return Err(17);
         }
         let said = match (self.round, self.healed) {
             (0, true) => Said::Silence,
@@ -96,7 +130,7 @@ impl Head {
         Ok(frames::write(&said, self.number, self.phase))
     }
 
-    /// 26, 24; the frame at the front of the buffer, and its length.
+    /// 26, 17, 24; the frame at the front of the buffer, and its length.
     pub fn write(&self, buffer: &mut [u8]) -> Result<usize, u8> {
         let frame = self.says()?;
         buffer.get_mut(..frame.len()).ok_or(24)?.copy_from_slice(&frame);

@@ -3,6 +3,9 @@
 pub const START: u16 = 0x10;
 pub const ROUND: u16 = 0x11;
 pub const PLANTED: u16 = 0x12;
+/// Document 02, A6: the listeners struck in a round, and how many listeners there are.
+pub const STRIKE: u16 = 0x13;
+pub const LISTENERS: u16 = 0x15;
 
 /// The most bytes that can be planted on a link.
 pub const LONGEST: usize = 140;
@@ -35,4 +38,13 @@ pub fn round(struck: u32) -> Vec<u8> {
 
 pub fn planted(from: usize, to: usize, bytes: &[u8]) -> Vec<u8> {
     record(PLANTED, &[&[from as u8, to as u8], bytes].concat())
+}
+
+pub fn listeners(count: usize) -> Vec<u8> {
+    record(LISTENERS, &[count as u8])
+}
+
+/// Bit j for listener 32 + j.
+pub fn strike(struck: u16) -> Vec<u8> {
+    record(STRIKE, &struck.to_le_bytes())
 }

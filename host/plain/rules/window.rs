@@ -28,6 +28,19 @@ impl Device {
         Ok(())
     }
 
+    /// A listener's start and restart change events and mask as a head's do.
+    pub fn start_listener(&mut self, n: usize, f: usize, number: usize) -> Result<(), u8> {
+        self.head = Head::start_listener(n, f, number)?;
+        (self.events, self.mask) = (0, 0);
+        Ok(())
+    }
+
+    pub fn restart_listener(&mut self, n: usize, f: usize, number: usize, phase: usize, round: usize) -> Result<(), u8> {
+        self.head = Head::restart_listener(n, f, number, phase, round)?;
+        self.events |= STRIKE_OVER;
+        Ok(())
+    }
+
     /// A phase end is an event, and so is refusal 25.
     pub fn close(&mut self) -> Result<(), u8> {
         let last_round = self.head.round == 1;

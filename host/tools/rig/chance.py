@@ -46,18 +46,25 @@ def run_file(rng):
     """One that a player takes to its end, but for a rare start out of range."""
     n, f = rng.choice(SIZES)
     out = [wire.record(wire.START, bytes([n, f]) + wire.signed_bytes([steps(rng, 0.001) for _ in range(n)]))]
+    listeners = rng.choice([0, 0, 1, 2, 16])
+    if listeners:
+        out.append(wire.record(wire.LISTENERS, bytes([listeners])))
     for given in range(2 * rng.randrange(3)):
         struck = rng.sample(range(n), rng.randint(0, f))
         out.append(wire.record(wire.ROUND, wire.marks_of(struck).to_bytes(4, 'little')))
-        out.extend(planted(rng, n, struck, given))
+        silenced = rng.getrandbits(16) % 2 ** listeners if rng.random() < 0.5 else 0
+        if silenced or rng.random() < 0.2:
+            out.append(wire.record(wire.STRIKE, silenced.to_bytes(2, 'little')))
+        receivers = [*range(n), *(32 + j for j in range(listeners) if not wire.marked(silenced, j))]
+        out.extend(planted(rng, n, struck, receivers, given))
     return b''.join(out)
 
 
-def planted(rng, n, struck, given):
+def planted(rng, n, struck, receivers, given):
     phase, collecting = given // 2 + 1, given % 2 == 0
     for sender in sorted(struck):
         shared = frame(rng, n, sender, phase, collecting)
-        for receiver in range(n):
+        for receiver in receivers:
             if receiver in struck or rng.random() < 0.3:
                 continue
             sent = shared if rng.random() < 0.5 else frame(rng, n, sender, phase, collecting)
@@ -74,7 +81,7 @@ def damaged(rng, data):
             data[:at] + data[to:],
             data[:at] + any_bytes(rng, 8) + data[to:],
             data[:to] + data[at:],
-            data[:at] + bytes([rng.choice([0, 1, 2, 4, 8, 16, 17, 18, 255])]) + data[at + 1:],
+            data[:at] + bytes([rng.choice([0, 1, 2, 4, 8, 16, 17, 18, 19, 21, 255])]) + data[at + 1:],
         ])
     return data
 

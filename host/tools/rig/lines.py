@@ -66,7 +66,8 @@ def read_times(words):
 
 
 def read_line(words, place):
-    readers = {'start': read_start, 'round': read_round, 'plant': read_plant, 'record': read_record}
+    readers = {'start': read_start, 'listeners': read_listeners, 'round': read_round, 'strike': read_strike, 'plant': read_plant,
+               'record': read_record}
     if words[0] not in readers:
         raise TextError('a line begins with %s, repeat or end, not "%s"' % (', '.join(readers), words[0]))
     return readers[words[0]](words[1:], place)
@@ -89,6 +90,18 @@ def read_round(words, place):
     return wire.record(wire.ROUND, wire.marks_of(heads).to_bytes(4, 'little'))
 
 
+def read_listeners(words, place):
+    if len(words) != 1:
+        raise TextError('listeners: one number is wanted')
+    return wire.record(wire.LISTENERS, bytes([number(words[0], 0, 255, 'listeners')]))
+
+
+def read_strike(words, place):
+    first = wire.FIRST_LISTENER
+    listeners = [] if words == ['none'] else read_heads(words, first + wire.MOST_LISTENERS - 1, 'strike', 'listeners', first)
+    return wire.record(wire.STRIKE, wire.listener_marks_of(listeners).to_bytes(2, 'little'))
+
+
 def read_plant(words, place):
     if len(words) < 4 or words[1] != 'to' or ':' not in words:
         raise TextError('plant: a sender, "to", receivers, a colon and a frame are wanted, as in "plant 4 to 0: silence"')
@@ -104,7 +117,7 @@ def read_plant(words, place):
 def read_receivers(words, place):
     if words != ['all']:
         return read_heads(words, 255, 'receiver')
-    if not place.unstruck:
+    if not place.begun or not place.unstruck:
         raise TextError('all: no start before this line says how many heads there are')
     return place.unstruck
 
@@ -116,7 +129,7 @@ def read_record(words, place):
 # ---- bytes to text
 
 class Line:
-    """A line in the making. A planted one has receivers, and `unstruck`, the heads that `all` would stand for."""
+    """A line in the making. A planted one has receivers, and `unstruck`, the heads and listeners that `all` would stand for."""
 
     def __init__(self, words, note, receivers=(), unstruck=(), frame='', opens=False):
         self.words, self.note, self.receivers, self.unstruck, self.frame = words, note, list(receivers), unstruck, frame
@@ -140,11 +153,11 @@ def unpack(data):
     """A text that packs to these bytes, whatever they are. Its notes say what a player makes of each record, up to the first fault."""
     place, lines, fault = places.Place(), [], None
     records, rest = wire.split(data)
-    for record in records:
+    for record, following in zip(records, records[1:] + [b'']):
         unread = fault is not None
         fault = fault or places.fault(place, record)
         place.follow(record)
-        note = '' if unread else refusal(fault) if fault else usual_note(record, place)
+        note = '' if unread else refusal(fault) if fault else usual_note(record, place, following)
         add(lines, write_line(record, place, note))
     last = None if fault else places.end_fault(place, rest)
     if rest or last:
@@ -163,11 +176,16 @@ def refusal(fault):
     return 'refused %d: %s' % fault
 
 
-def usual_note(record, place):
-    kind = wire.kind_of(record)
+def usual_note(record, place, following):
+    """Which listeners are healed in a round is known at the record of its struck ones, if that follows."""
+    kind, healed = wire.kind_of(record), place.healed()
     if kind == wire.ROUND:
-        healed = write_heads(place.healed())
+        told_next = following and wire.kind_of(following) == wire.STRIKE
+        healed = write_heads([number for number in healed if number < wire.FIRST_LISTENER or not told_next])
         return 'phase %d, %s%s' % (place.phase, place.round_name, '; healed: ' + healed if healed else '')
+    if kind == wire.STRIKE:
+        healed = write_heads([number for number in healed if number >= wire.FIRST_LISTENER])
+        return 'healed: ' + healed if healed else ''
     if kind == wire.PLANT:
         fault = places.frame_fault(place, record[4], record[6:])
         return 'gives nothing: %d, %s' % fault if fault else ''
@@ -181,6 +199,11 @@ def write_line(record, place, note):
     if kind == wire.ROUND and size == 8:
         heads = write_heads(wire.heads_in(wire.word(record, 4)))
         return Line('round struck ' + heads if heads else 'round', note, opens=place.collecting)
+    if kind == wire.LISTENERS and size == 5:
+        return Line('listeners %d' % record[4], note)
+    if kind == wire.STRIKE and size == 6:
+        listeners = write_heads(wire.heads_in(wire.half(record, 4) << wire.FIRST_LISTENER))
+        return Line('strike ' + (listeners or 'none'), note)
     if kind == wire.PLANT and size >= 6:
         frame = write_frame(record[6:], record[4], place.phase)
         return Line('plant %d to' % record[4], note, [record[5]], place.unstruck, frame)

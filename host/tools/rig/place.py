@@ -9,11 +9,13 @@ class Place:
     def __init__(self):
         self.begun = False
         self.n = self.f = 0
+        self.listeners = 0           # how many
         self.rounds = 0              # round records so far
-        self.struck = 0              # marks of the last of them
+        self.struck = 0              # marks of the last of them, those of its listeners from bit 32 on
         self.before = 0              # and of the one before it
-        self.unstruck = []           # the heads that are not struck in it
+        self.unstruck = []           # the heads and listeners that are not struck in it
         self.pair = (-1, -1)         # the last pair planted in it
+        self.last = None             # the kind of the last record
 
     @property
     def phase(self):
@@ -32,9 +34,13 @@ class Place:
 
     def follow(self, record):
         """Goes past one whole record, taken or not."""
-        kind = wire.kind_of(record)
+        self.last = kind = wire.kind_of(record)
         if kind == wire.START and len(record) >= 6:
             self.begun, self.n, self.f = True, record[4], record[5]
+        elif kind == wire.LISTENERS and len(record) == 5:
+            self.listeners = min(record[4], wire.MOST_LISTENERS)
+        elif kind == wire.STRIKE and len(record) == 6:
+            self.struck = self.struck % 2 ** 32 + (wire.half(record, 4) << wire.FIRST_LISTENER)
         elif kind == wire.ROUND and len(record) == 8:
             self.rounds += 1
             self.before, self.struck = self.struck, wire.word(record, 4)
@@ -42,12 +48,17 @@ class Place:
         elif kind == wire.PLANT and len(record) >= 6:
             self.pair = (record[4], record[5])
             return
-        self.unstruck = [head for head in range(self.n) if not wire.marked(self.struck, head)]
+        self.unstruck = [head for head in self.numbers() if not wire.marked(self.struck, head)]
+
+    def numbers(self):
+        """Of all heads and listeners."""
+        return [*range(self.n), *range(wire.FIRST_LISTENER, wire.FIRST_LISTENER + self.listeners)]
 
 
 def fault(place, record):
     """None, or the number with which a player refuses the record, and why. Up to here it has refused none."""
-    judge = {wire.START: start_fault, wire.ROUND: round_fault, wire.PLANT: plant_fault}.get(wire.kind_of(record))
+    judges = {wire.START: start_fault, wire.LISTENERS: listeners_fault, wire.ROUND: round_fault, wire.STRIKE: strike_fault, wire.PLANT: plant_fault}
+    judge = judges.get(wire.kind_of(record))
     return judge(place, record) if judge else (13, 'unknown kind')
 
 
@@ -81,14 +92,36 @@ def round_fault(place, record):
     return None
 
 
+def listeners_fault(place, record):
+    if place.last != wire.START:
+        return 13, 'listeners not just after the start'
+    if len(record) != 5:
+        return 13, 'wrong length'
+    if not 1 <= record[4] <= wire.MOST_LISTENERS:
+        return 13, 'listeners are 1 to 16'
+    return None
+
+
+def strike_fault(place, record):
+    if place.last != wire.ROUND:
+        return 13, 'struck listeners not directly after a round'
+    if len(record) != 6:
+        return 13, 'wrong length'
+    if wire.half(record, 4) >> place.listeners:
+        return 13, 'no such listener'
+    return None
+
+
 def plant_fault(place, record):
     if place.rounds == 0:
         return 13, 'planted before a round'
     if not 6 <= len(record) <= 146:
         return 13, 'wrong length'
     sender, receiver = record[4], record[5]
-    if sender >= place.n or receiver >= place.n:
-        return 13, 'no such head'
+    if sender >= wire.FIRST_LISTENER and sender in place.numbers():
+        return 13, 'a listener sends nothing'
+    if sender >= place.n or receiver not in place.numbers():
+        return 13, 'no such head' if sender >= place.n or not place.listeners else 'no such head or listener'
     if not wire.marked(place.struck, sender):
         return 13, 'the sender is not struck'
     if wire.marked(place.struck, receiver):

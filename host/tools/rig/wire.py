@@ -4,6 +4,8 @@ import struct
 
 POSITION, SILENCE, LIST, CONFESSION = 1, 2, 3, 4    # kinds of frames
 START, ROUND, PLANT = 0x10, 0x11, 0x12              # kinds of run records
+STRIKE, LISTENERS = 0x13, 0x15                      # and of document 02, A6
+FIRST_LISTENER, MOST_LISTENERS = 32, 16
 
 
 def half(data, at):
@@ -44,13 +46,18 @@ def split(data):
 
 
 def marked(marks, head):
-    return head < 32 and marks >> head & 1 == 1
+    return marks >> head & 1 == 1
 
 
 @functools.lru_cache(maxsize=1024)
 def heads_in(marks):
-    return tuple(head for head in range(32) if marked(marks, head))
+    """The heads of a mark word; of one with listeners' marks above it, listeners too."""
+    return tuple(head for head in range(marks.bit_length()) if marked(marks, head))
 
 
 def marks_of(heads):
     return sum(1 << head for head in set(heads) if head < 32)
+
+
+def listener_marks_of(listeners):
+    return sum(1 << listener - FIRST_LISTENER for listener in set(listeners))

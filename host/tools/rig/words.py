@@ -34,14 +34,14 @@ def hexadecimal(word, digits, what):
     return int(word, 16)
 
 
-def read_heads(words, most, what):
+def read_heads(words, most, what, whom='heads', least=0):
     """Numbers and ranges, in the order given: `1 4-6` is 1 4 5 6."""
     if not words:
-        raise TextError('%s: which heads?' % what)
+        raise TextError('%s: which %s?' % (what, whom))
     heads = []
     for word in words:
         first, dash, last = word.partition('-')
-        low = number(first, 0, most, what)
+        low = number(first, least, most, what)
         high = number(last, low, most, what) if dash else low
         heads.extend(range(low, high + 1))
     return heads
