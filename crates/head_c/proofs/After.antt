@@ -20,17 +20,17 @@ use Rattle.head_spec.specs.Calls.{startListenerRefusal, startedListener, startL
 use Rattle.head_spec.specs.Calls.{closedCollection, closedPhase, closing, closeSettled, closeIn, close}
 use Rattle.head_lent.specs.Answers.{closedAnswer}
 use Rattle.head_window.specs.declared.Beside.{Beside}
-use Rattle.head_c.specs.Blocks.{after, withBeside}
+use Rattle.head_c.specs.Blocks.{withAnswer, withBeside}
 
 -- what a call leaves: its answer is a, found to be a′, and b stands beside the head
-pub answered : (w : List ℕ) {r : ℕ} {w′ : List ℕ} {a a′ : Answer} {b b′ : Beside} → (r ≡ a .refusal) × (w′ ≡ withBeside b (after w a)) → a ≡ a′ → b ≡ b′
-    → (r ≡ a′ .refusal) × (w′ ≡ withBeside b′ (after w a′))
-answered w p e q = (p .0 ∙ ap (λ (x : Answer). x .refusal) e, p .1 ∙ (λ i. withBeside (q i) (after w (e i))))
+pub answered : (w : List ℕ) {r : ℕ} {w′ : List ℕ} {a a′ : Answer} {b b′ : Beside} → (r ≡ a .refusal) × (w′ ≡ withBeside b (withAnswer w a)) → a ≡ a′ → b ≡ b′
+    → (r ≡ a′ .refusal) × (w′ ≡ withBeside b′ (withAnswer w a′))
+answered w p e q = (p .0 ∙ ap (λ (x : Answer). x .refusal) e, p .1 ∙ (λ i. withBeside (q i) (withAnswer w (e i))))
 
 -- the same where what stands beside the head is decided by the number answered
 pub answered-by : (w : List ℕ) (beside : ℕ → Beside) {r : ℕ} {w′ : List ℕ} {a a′ : Answer}
-    → (r ≡ a .refusal) × (w′ ≡ withBeside (beside (a .refusal)) (after w a)) → a ≡ a′
-    → (r ≡ a′ .refusal) × (w′ ≡ withBeside (beside (a′ .refusal)) (after w a′))
+    → (r ≡ a .refusal) × (w′ ≡ withBeside (beside (a .refusal)) (withAnswer w a)) → a ≡ a′
+    → (r ≡ a′ .refusal) × (w′ ≡ withBeside (beside (a′ .refusal)) (withAnswer w a′))
 answered-by w beside p e = answered w p e (ap (λ (x : Answer). beside (x .refusal)) e)
 
 -- ---- a call that is not refused makes a record with nothing heard

@@ -14,7 +14,7 @@ use Rattle.frame_spec.specs.Said.{Meaning, refused, collected, listed, confesse
 use Rattle.head_spec.specs.declared.Head.{Head}
 use Rattle.head_spec.specs.declared.Answer.{Answer}
 use Rattle.head_spec.specs.Calls.{saidTo, hear, Delivery}
-use Rattle.head_c.specs.Blocks.{IsBlock, headOf, wordsOf, seatWords, withHead, after, marked, changed, heardIn, heardEach}
+use Rattle.head_c.specs.Blocks.{IsBlock, headOf, wordsOf, seatWords, withHead, withAnswer, marked, changed, heardIn, heardEach}
 use Rattle.head_c.proofs.Copying.{copied-before}
 use Rattle.head_c.proofs.Putting.{words-long, first, second, third, first-long, second-long}
 use Rattle.head_c.proofs.Hearing.{heard-below, heard-past}
@@ -36,8 +36,8 @@ module _ (w : List ℕ) (block : IsBlock w) (i : ℕ) (from : 14 ≤ i) (to : i 
       ∙ ap (λ (n : ℕ). getD w n 0) (sym e)
 
   -- start, restart and closing
-  pub after-beside : (a : Answer) → getD (after w a) i 0 ≡ getD w i 0
-  unfolding after
+  pub after-beside : (a : Answer) → getD (withAnswer w a) i 0 ≡ getD w i 0
+  unfolding withAnswer
   after-beside a = go (a .refusal)
     where
       go : (c : ℕ) → getD (leaves c (withHead (a .head) w) w) i 0 ≡ getD w i 0

@@ -35,7 +35,7 @@ use Rattle.head_spec.specs.Calls.{closedCollection, closedPhase, closing, close
 use Rattle.head_spec.proofs.Proper.{ProperLast, ProperSeat, ProperHead, number-small, proper-started, proper-restarted, proper-started-listener, proper-restarted-listener}
 use Rattle.head_spec.proofs.RoundEnd.{proper-close}
 use Rattle.head_lent.specs.Answers.{closedAnswer}
-use Rattle.head_c.specs.Blocks.{IsBlock, headOf, withHead, after}
+use Rattle.head_c.specs.Blocks.{IsBlock, headOf, withHead, withAnswer}
 use Rattle.head_c.proofs.Blocks.{Fits32, FitNumbers, FitEntry, FitLast, FitSeat, Fit, head-back}
 
 -- ---- a proper record with nothing heard fits its words
@@ -103,36 +103,36 @@ module _ (w : List ℕ) (block : IsBlock w) where
 
   -- a call that makes a proper record with nothing heard, unless it is refused
   after-answer : (c : ℕ) (s : Seat) → (c ≡ 0 → ProperHead (opened s noEntries))
-      → let a = answer c (opened s noEntries) (headOf w) in headOf (after w a) ≡ a .head
-  unfolding after
+      → let a = answer c (opened s noEntries) (headOf w) in headOf (withAnswer w a) ≡ a .head
+  unfolding withAnswer
   after-answer zero s P = put-back s noEntries (P refl)
   after-answer (suc c) s P = refl
 
-  pub after-start : (n f i : ℕ) (v : ℤ) → headOf (after w (start (headOf w) n f i v)) ≡ start (headOf w) n f i v .head
+  pub after-start : (n f i : ℕ) (v : ℤ) → headOf (withAnswer w (start (headOf w) n f i v)) ≡ start (headOf w) n f i v .head
   unfolding start started
   after-start n f i v = after-answer (startRefusal n f i v) (firstSeat n f i v) (proper-started n f i v)
 
-  pub after-restart : (n f i p r : ℕ) → headOf (after w (restart (headOf w) n f i p r)) ≡ restart (headOf w) n f i p r .head
+  pub after-restart : (n f i p r : ℕ) → headOf (withAnswer w (restart (headOf w) n f i p r)) ≡ restart (headOf w) n f i p r .head
   unfolding restart restarted
   after-restart n f i p r = after-answer (restartRefusal n f i p r) (healedSeat n f i p r) (proper-restarted n f i p r)
 
-  pub after-start-listener : (n f i : ℕ) → headOf (after w (startListener (headOf w) n f i)) ≡ startListener (headOf w) n f i .head
+  pub after-start-listener : (n f i : ℕ) → headOf (withAnswer w (startListener (headOf w) n f i)) ≡ startListener (headOf w) n f i .head
   unfolding startListener startedListener
   after-start-listener n f i = after-answer (startListenerRefusal n f i) (listenerSeat n f i) (proper-started-listener n f i)
 
-  pub after-restart-listener : (n f i p r : ℕ) → headOf (after w (restartListener (headOf w) n f i p r)) ≡ restartListener (headOf w) n f i p r .head
+  pub after-restart-listener : (n f i p r : ℕ) → headOf (withAnswer w (restartListener (headOf w) n f i p r)) ≡ restartListener (headOf w) n f i p r .head
   unfolding restartListener restarted
   after-restart-listener n f i p r = after-answer (restartListenerRefusal n f i p r) (healedSeat n f i p r) (proper-restarted-listener n f i p r)
 
-  pub after-close : ProperHead (headOf w) → headOf (after w (closedAnswer (close (headOf w)))) ≡ close (headOf w) .head
-  unfolding after close closedCollection closedPhase settling
+  pub after-close : ProperHead (headOf w) → headOf (withAnswer w (closedAnswer (close (headOf w)))) ≡ close (headOf w) .head
+  unfolding withAnswer close closedCollection closedPhase settling
   after-close P = go (h .seat .ended) (h .seat .round) (proper-close h P)
     where
       h : Head
       h = headOf w
 
       Back : Closing → Type 0
-      Back c = ProperHead (c .head) → headOf (after w (closedAnswer c)) ≡ c .head
+      Back c = ProperHead (c .head) → headOf (withAnswer w (closedAnswer c)) ≡ c .head
 
       settles : (b : Bool) (k : Kept) → Back (closeSettled (cond b (settled.New k) (settled.Refused refusal.trusted)) h)
       settles true k Q = put-back (nextSeat (h .seat) k) noEntries Q

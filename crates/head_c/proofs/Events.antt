@@ -16,7 +16,7 @@ use Rattle.head_spec.proofs.Proper.{ProperHead}
 use Rattle.head_lent.specs.Answers.{closedAnswer}
 use Rattle.head_window.specs.declared.Beside.{Beside}
 use Rattle.fields.specs.Bytes.{signedOf}
-use Rattle.head_c.specs.Blocks.{IsBlock, flag, entryIn, rangeIn, upTo, numbersAt, listAt, seatOf, headOf, listWords, withHead, after, besideOf, withBeside, heardIn, heardEach}
+use Rattle.head_c.specs.Blocks.{IsBlock, flag, entryIn, rangeIn, upTo, numbersAt, listAt, seatOf, headOf, listWords, withHead, withAnswer, besideOf, withBeside, heardIn, heardEach}
 use Rattle.head_c.specs.Events.{Call, starts, restarts, startsListener, restartsListener, hears, hearsBatch, closes, sets, blockAfter, OnlyTheseChange}
 use Rattle.head_c.proofs.Copying.{upTo-same}
 use Rattle.head_c.proofs.Putting.{second, third, second-long}
@@ -35,8 +35,8 @@ beside-back b w l =
     λ i. record { events = events i; mask = getD-set-same one 17 (b .mask) 0 long i }
 
 -- a block is long enough for it after a call
-after-long : (w : List ℕ) (a : Answer) → IsBlock w → 17 < length (after w a)
-unfolding after withHead
+after-long : (w : List ℕ) (a : Answer) → IsBlock w → 17 < length (withAnswer w a)
+unfolding withAnswer withHead
 after-long w a block = go (a .refusal)
   where
     h : Head
@@ -52,8 +52,8 @@ after-long w a block = go (a .refusal)
         )
     go (suc c) = omega arith
 
-put-after : (b : Beside) (w : List ℕ) (a : Answer) → IsBlock w → besideOf (withBeside b (after w a)) ≡ b
-put-after b w a block = beside-back b (after w a) (after-long w a block)
+put-after : (b : Beside) (w : List ℕ) (a : Answer) → IsBlock w → besideOf (withBeside b (withAnswer w a)) ≡ b
+put-after b w a block = beside-back b (withAnswer w a) (after-long w a block)
 
 -- ---- only these change it
 
@@ -140,19 +140,19 @@ pub others-stay : (w : List ℕ) (c : Call) → IsBlock w → (i : ℕ) → 14 �
 unfolding blockAfter
 others-stay w (starts n f j v) block i from to d e =
     let a = start (headOf w) n f j v in
-    kept _ (after w a) i d e ∙ after-beside w block i from to a
+    kept _ (withAnswer w a) i d e ∙ after-beside w block i from to a
 others-stay w (restarts n f j p r) block i from to d e =
     let a = restart (headOf w) n f j p r in
-    kept _ (after w a) i d e ∙ after-beside w block i from to a
+    kept _ (withAnswer w a) i d e ∙ after-beside w block i from to a
 others-stay w (startsListener n f j) block i from to d e =
     let a = startListener (headOf w) n f j in
-    kept _ (after w a) i d e ∙ after-beside w block i from to a
+    kept _ (withAnswer w a) i d e ∙ after-beside w block i from to a
 others-stay w (restartsListener n f j p r) block i from to d e =
     let a = restartListener (headOf w) n f j p r in
-    kept _ (after w a) i d e ∙ after-beside w block i from to a
+    kept _ (withAnswer w a) i d e ∙ after-beside w block i from to a
 others-stay w closes block i from to d e =
     let a = closedAnswer (close (headOf w)) in
-    kept _ (after w a) i d e ∙ after-beside w block i from to a
+    kept _ (withAnswer w a) i d e ∙ after-beside w block i from to a
 others-stay w (sets at x) block i from to d e = kept _ w i d e
 others-stay w (hears k s) block i from to d e = go (hear (headOf w) k s .refusal)
   where
@@ -169,23 +169,23 @@ others-stay w (hearsBatch s room) block i from to d e = go (batchRefusal s room)
 module _ (w : List ℕ) (block : IsBlock w) where
   pub head-started : (n f i : ℕ) (v : ℤ) → headOf (blockAfter w (starts n f i v)) ≡ start (headOf w) n f i v .head
   unfolding blockAfter
-  head-started n f i v = head-apart _ (after w (start (headOf w) n f i v)) ∙ after-start w block n f i v
+  head-started n f i v = head-apart _ (withAnswer w (start (headOf w) n f i v)) ∙ after-start w block n f i v
 
   pub head-restarted : (n f i p r : ℕ) → headOf (blockAfter w (restarts n f i p r)) ≡ restart (headOf w) n f i p r .head
   unfolding blockAfter
-  head-restarted n f i p r = head-apart _ (after w (restart (headOf w) n f i p r)) ∙ after-restart w block n f i p r
+  head-restarted n f i p r = head-apart _ (withAnswer w (restart (headOf w) n f i p r)) ∙ after-restart w block n f i p r
 
   pub listener-started : (n f i : ℕ) → headOf (blockAfter w (startsListener n f i)) ≡ startListener (headOf w) n f i .head
   unfolding blockAfter
-  listener-started n f i = head-apart _ (after w (startListener (headOf w) n f i)) ∙ after-start-listener w block n f i
+  listener-started n f i = head-apart _ (withAnswer w (startListener (headOf w) n f i)) ∙ after-start-listener w block n f i
 
   pub listener-restarted : (n f i p r : ℕ) → headOf (blockAfter w (restartsListener n f i p r)) ≡ restartListener (headOf w) n f i p r .head
   unfolding blockAfter
-  listener-restarted n f i p r = head-apart _ (after w (restartListener (headOf w) n f i p r)) ∙ after-restart-listener w block n f i p r
+  listener-restarted n f i p r = head-apart _ (withAnswer w (restartListener (headOf w) n f i p r)) ∙ after-restart-listener w block n f i p r
 
   pub head-closed : ProperHead (headOf w) → headOf (blockAfter w closes) ≡ close (headOf w) .head
   unfolding blockAfter
-  head-closed P = head-apart _ (after w (closedAnswer (close (headOf w)))) ∙ after-close w block P
+  head-closed P = head-apart _ (withAnswer w (closedAnswer (close (headOf w)))) ∙ after-close w block P
 
   pub head-set : (at x : ℕ) → headOf (blockAfter w (sets at x)) ≡ headOf w
   unfolding blockAfter

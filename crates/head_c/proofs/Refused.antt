@@ -16,15 +16,15 @@ use Rattle.head_spec.specs.Batch.{batchRefusal}
 use Rattle.head_lent.specs.Answers.{closedNumber, closedAnswer}
 use Rattle.head_window.specs.declared.Beside.{Beside}
 use Rattle.head_window.specs.Window.{closedBeside, setRefusal, setBeside}
-use Rattle.head_c.specs.Blocks.{headOf, after, besideOf, withBeside}
+use Rattle.head_c.specs.Blocks.{headOf, withAnswer, besideOf, withBeside}
 use Rattle.head_c.specs.Events.{starts, restarts, startsListener, restartsListener, hears, hearsBatch, closes, sets, blockAfter, RefusedLeaves}
 
 -- what stands beside the head, put back where it stands
 pub same-put : (w : List ℕ) → withBeside (besideOf w) w ≡ w
 same-put w = ap (λ (l : List ℕ). set l 17 (getD w 17 0)) (set-getD w 16 0) ∙ set-getD w 17 0
 
-same-after : (w : List ℕ) (a : Answer) → a .refusal ≢ 0 → after w a ≡ w
-unfolding after
+same-after : (w : List ℕ) (a : Answer) → a .refusal ≢ 0 → withAnswer w a ≡ w
+unfolding withAnswer
 same-after w a h = sym (unchanged (a .refusal) _ w h)
 
 -- ---- only refusal 25 is an event
@@ -52,7 +52,7 @@ module _ (w : List ℕ) where
   abbrev Leaves : ℕ → Beside → List ℕ → Type 0
   Leaves c b w′ = (w′ ≡ withBeside b w) × (c ≢ 25 → w′ ≡ w)
 
-  put-leaves : (a : Answer) (b : Beside) → a .refusal ≢ 0 → (a .refusal ≢ 25 → b ≡ besideOf w) → Leaves (a .refusal) b (withBeside b (after w a))
+  put-leaves : (a : Answer) (b : Beside) → a .refusal ≢ 0 → (a .refusal ≢ 25 → b ≡ besideOf w) → Leaves (a .refusal) b (withBeside b (withAnswer w a))
   put-leaves a b h q =
       let e = ap (withBeside b) (same-after w a h) in
       (e, λ d. e ∙ ap (λ (x : Beside). withBeside x w) (q d) ∙ same-put w)

@@ -122,8 +122,8 @@ withHead h w =
     ++ listWords (h .lists) 32
 
 -- after a call that answers a, its record is put into the block
-unfoldable pub after : List ℕ → Answer → List ℕ
-after w a = leaves (a .refusal) (withHead (a .head) w) w
+unfoldable pub withAnswer : List ℕ → Answer → List ℕ
+withAnswer w a = leaves (a .refusal) (withHead (a .head) w) w
 
 -- ---- what stands beside the head (document 02, A5)
 

@@ -11,7 +11,7 @@ use Rattle.head_spec.specs.Batch.{entriesOf, batchRefusal}
 use Rattle.head_lent.specs.Answers.{closedAnswer}
 use Rattle.head_window.specs.declared.Beside.{Beside}
 use Rattle.head_window.specs.Window.{startedBeside, restartedBeside, closedBeside, setRefusal, setBeside}
-use Rattle.head_c.specs.Blocks.{IsBlock, headOf, after, besideOf, withBeside, heardIn, heardEach}
+use Rattle.head_c.specs.Blocks.{IsBlock, headOf, withAnswer, besideOf, withBeside, heardIn, heardEach}
 
 -- a call that is lent the block to change; all others are lent it to read
 pub data Call : Type 0 where
@@ -48,14 +48,14 @@ besideAfter w (sets at x) = setBeside at x (besideOf w)
 
 -- the block after it, as its contract has it
 unfoldable pub blockAfter : List ℕ → Call → List ℕ
-blockAfter w (starts n f i v) = withBeside (besideAfter w (starts n f i v)) (after w (start (headOf w) n f i v))
-blockAfter w (restarts n f i p r) = withBeside (besideAfter w (restarts n f i p r)) (after w (restart (headOf w) n f i p r))
-blockAfter w (startsListener n f i) = withBeside (besideAfter w (startsListener n f i)) (after w (startListener (headOf w) n f i))
+blockAfter w (starts n f i v) = withBeside (besideAfter w (starts n f i v)) (withAnswer w (start (headOf w) n f i v))
+blockAfter w (restarts n f i p r) = withBeside (besideAfter w (restarts n f i p r)) (withAnswer w (restart (headOf w) n f i p r))
+blockAfter w (startsListener n f i) = withBeside (besideAfter w (startsListener n f i)) (withAnswer w (startListener (headOf w) n f i))
 blockAfter w (restartsListener n f i p r) =
-    withBeside (besideAfter w (restartsListener n f i p r)) (after w (restartListener (headOf w) n f i p r))
+    withBeside (besideAfter w (restartsListener n f i p r)) (withAnswer w (restartListener (headOf w) n f i p r))
 blockAfter w (hears k s) = leaves (hear (headOf w) k s .refusal) (heardIn w k (saidTo (headOf w .seat) k s)) w
 blockAfter w (hearsBatch s room) = leaves (batchRefusal s room) (heardEach w (entriesOf s)) w
-blockAfter w closes = withBeside (besideAfter w closes) (after w (closedAnswer (close (headOf w))))
+blockAfter w closes = withBeside (besideAfter w closes) (withAnswer w (closedAnswer (close (headOf w))))
 blockAfter w (sets at x) = withBeside (besideAfter w (sets at x)) w
 
 -- the theorem: of any block, after any call, what stands beside the head is this

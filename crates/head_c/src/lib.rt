@@ -18,7 +18,7 @@ ghost use Rattle.head_lent.specs.Answers.{closedAnswer, writtenNumber, writtenO
 ghost use Rattle.head_window.specs.Window.{startedBeside, restartedBeside};
 ghost use Rattle.head_c.specs.Places as place;
 ghost use Rattle.head_c.specs.Blocks.{IsBlock, upTo, entryIn, rangeIn, numbersAt, listAt, seatOf, headOf};
-ghost use Rattle.head_c.specs.Blocks.{wordsOf, keptOf, seatWords, withHead, after, besideOf, withBeside};
+ghost use Rattle.head_c.specs.Blocks.{wordsOf, keptOf, seatWords, withHead, withAnswer, besideOf, withBeside};
 ghost use Rattle.head_c.specs.Blocks.{marked, changed, Hears, heardEach, HearsBatch};
 ghost use Rattle.head_c.specs.Events.{starts, restarts, startsListener, restartsListener, closes, blockAfter};
 ghost use Rattle.head_c.specs.Steps.{numberOf};
@@ -296,7 +296,7 @@ fn put_opened(h: &mut [u32], seat: Seat, list: Table)
 // Leaves what a call answers in the block, and gives its number. A record that a call makes has nothing heard.
 fn put_answer(h: &mut [u32], a: Answer) -> u8
     requires { ⌜ IsBlock (now h) × (a .refusal ≡ 0 → a .head ≡ opened (a .head .seat) (a .head .list)) ⌝ }
-    ensures { λ r. ⌜ (r ≡ a .refusal) × (now (h .exit) ≡ after (now (h .entry)) a) ⌝ }
+    ensures { λ r. ⌜ (r ≡ a .refusal) × (now (h .exit) ≡ withAnswer (now (h .entry)) a) ⌝ }
 {
     if a.refusal == 0 {
         let head = a.head;
@@ -330,7 +330,7 @@ fn put_beside(h: &mut [u32], b: Beside)
 // Leaves what a call answers in the block, and what stands beside the head after it, and gives its number.
 fn put_call(h: &mut [u32], a: Answer, b: Beside) -> u8
     requires { ⌜ IsBlock (now h) × (a .refusal ≡ 0 → a .head ≡ opened (a .head .seat) (a .head .list)) ⌝ }
-    ensures { λ r. ⌜ (r ≡ a .refusal) × (now (h .exit) ≡ withBeside b (after (now (h .entry)) a)) ⌝ }
+    ensures { λ r. ⌜ (r ≡ a .refusal) × (now (h .exit) ≡ withBeside b (withAnswer (now (h .entry)) a)) ⌝ }
 {
     let number = put_answer(h, a);
     put_beside(h, b);
@@ -341,7 +341,7 @@ fn put_call(h: &mut [u32], a: Answer, b: Beside) -> u8
 fn put_start(h: &mut [u32], a: Answer) -> u8
     requires { ⌜ IsBlock (now h) × (a .refusal ≡ 0 → a .head ≡ opened (a .head .seat) (a .head .list)) ⌝ }
     ensures { λ r. ⌜ (r ≡ a .refusal)
-        × (now (h .exit) ≡ withBeside (startedBeside (a .refusal) (besideOf (now (h .entry)))) (after (now (h .entry)) a)) ⌝ }
+        × (now (h .exit) ≡ withBeside (startedBeside (a .refusal) (besideOf (now (h .entry)))) (withAnswer (now (h .entry)) a)) ⌝ }
 {
     let b = head_window::after_start(a.refusal, beside_in(h));
     put_call(h, a, b)
@@ -351,7 +351,7 @@ fn put_start(h: &mut [u32], a: Answer) -> u8
 fn put_restart(h: &mut [u32], a: Answer) -> u8
     requires { ⌜ IsBlock (now h) × (a .refusal ≡ 0 → a .head ≡ opened (a .head .seat) (a .head .list)) ⌝ }
     ensures { λ r. ⌜ (r ≡ a .refusal)
-        × (now (h .exit) ≡ withBeside (restartedBeside (a .refusal) (besideOf (now (h .entry)))) (after (now (h .entry)) a)) ⌝ }
+        × (now (h .exit) ≡ withBeside (restartedBeside (a .refusal) (besideOf (now (h .entry)))) (withAnswer (now (h .entry)) a)) ⌝ }
 {
     let b = head_window::after_restart(a.refusal, beside_in(h));
     put_call(h, a, b)

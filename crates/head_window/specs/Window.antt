@@ -22,8 +22,8 @@ use Rattle.head_window.specs.declared.Beside.{Beside}
 abbrev pub three : (ℕ → Bool) → ℕ
 three g = bit (g 0) + 2 * bit (g 1) + 4 * bit (g 2)
 
-abbrev pub phaseEnd : ℕ
-phaseEnd = 0
+abbrev pub phaseOver : ℕ
+phaseOver = 0
 
 abbrev pub tooFew : ℕ
 tooFew = 1
@@ -49,7 +49,7 @@ restartedBeside c b = leaves c (withEvent strikeOver b) b
 abbrev pub closedBeside : Closed → Beside → Beside
 closedBeside (Closed.Refused c) b = cond (eqb c refusal.trusted) (withEvent tooFew b) b
 closedBeside Closed.Listed b = b
-closedBeside (Closed.Settled k) b = withEvent phaseEnd b
+closedBeside (Closed.Settled k) b = withEvent phaseOver b
 
 -- ---- the sixteen bytes
 

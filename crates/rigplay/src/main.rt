@@ -5,7 +5,7 @@ ghost use mathlib.Core.Bool.{true};
 ghost use mathlib.Core.List.{List, _++_};
 ghost use mathlib.Core.Path.{_≡_};
 ghost use Prim.Native.Nat.{ℕ};
-ghost use Rattle.run_state.specs.Memory.{before, after};
+ghost use Rattle.run_state.specs.Memory.{memoryBefore, memoryAfter};
 ghost use Rattle.run_piece.specs.Advances.{StateAt};
 use frame_slots::PlantedBytes;
 use frame_slots::PlantedLengths;
@@ -54,8 +54,8 @@ fn play_piece(
     planted: &mut PlantedBytes,
     lengths: &mut PlantedLengths,
 ) -> Wrote
-    ensures { λ r. ⌜ ((a : List ℕ) → StateAt a p (now (carry .entry)) (before positions marks lists planted lengths) → r .all ≡ true
-        → StateAt (a ++ now (bytes .entry)) (r .player) (now (carry .exit)) (after positions marks lists planted lengths)) ⌝ }
+    ensures { λ r. ⌜ ((a : List ℕ) → StateAt a p (now (carry .entry)) (memoryBefore positions marks lists planted lengths) → r .all ≡ true
+        → StateAt (a ++ now (bytes .entry)) (r .player) (now (carry .exit)) (memoryAfter positions marks lists planted lengths)) ⌝ }
 {
     let mut page = io::buffer();
     let mut player = p;

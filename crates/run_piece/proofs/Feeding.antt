@@ -9,7 +9,7 @@ use lib.ListN.{length, take, getD, length-append}
 use lib.Seq.{length-take-le, getD-take}
 use borrow.Author.Needs.{needs}
 use Rattle.terms.specs.Refusals as refusal
-use Rattle.run_spec.specs.RunFile.{File, unread, plant, lengthOf, kindOf, judged, stopped, withPart, feed, readFile, accepted}
+use Rattle.run_spec.specs.RunFile.{File, unread, plant, lengthIn, kindIn, judged, stopped, withPart, feed, readFile, accepted}
 use Rattle.run_spec.specs.Listing.{shown}
 use Rattle.run_spec.proofs.Streaming.{feed-append, part-shows, stop-shows}
 use Rattle.run_spec.proofs.Whole.{stands, Cut, Heads, heads-take, heads-stand, stands-long, feed-cut, feed-refused, feed-whole, feed-stopped, judged-empty, kept, kept-on, plant-long as plant-lengths}
@@ -29,7 +29,7 @@ use Rattle.run_round.proofs.Converging.{held-converges}
 use Rattle.run_record.proofs.Records.{stopped-next, plant-place}
 use Rattle.run_piece.specs.declared.FeedResult.{FeedResult}
 use Rattle.run_piece.specs.Advances.{StateAt, Advances, GrownTo, AdvancesOnce}
-use Rattle.run_piece.specs.Inner.{Missing, allowedTo, Whole, Plants, Waits, withLast, headedTo, Quiet, RecordTaken, Used}
+use Rattle.run_piece.specs.Inner.{Missing, allowedTo, BeginsWhole, Plants, Waits, withLast, headedTo, Quiet, RecordTaken, Used}
 use Rattle.run_piece.proofs.Growing.{grown-none, judged-grown}
 
 -- from the player p and the memory M: no record was accepted by which F became G, so that the memory M′ is the same, and the player q but for part and fault
@@ -61,8 +61,8 @@ used-as rest e f = rw e f
 -- what `run_record::take_record` promises of a record b
 abbrev Judges : Player → List ℕ → RecordResult → Memory → Memory → Type 0
 Judges p b t M M′ =
-    (a : List ℕ) → PlayerOf p (readFile a) → MemoryOf (readFile a) M → stands (readFile a) b ≡ true → length b ≡ lengthOf b
-    → Next (readFile a) (judged (kindOf b) (readFile a) b) p M t M′
+    (a : List ℕ) → PlayerOf p (readFile a) → MemoryOf (readFile a) M → stands (readFile a) b ≡ true → length b ≡ lengthIn b
+    → Next (readFile a) (judged (kindIn b) (readFile a) b) p M t M′
 
 -- what `run_record::plant_record` promises of a record b
 abbrev JudgesPlant : Player → List ℕ → Player → Memory → Memory → Type 0
@@ -99,7 +99,7 @@ uses G e room = record { within = omega (arith, e, G .within); some = λ h. omeg
 pub has-room : {t : RecordResult} {n : ℕ} {r : FeedResult} → RecordTaken t n r → t .text .len ≤ 64 → r .text .len ≤ 64
 has-room T h = rw (T .text) h
 
-pub uses-one : {p : Player} {rest : List ℕ} {used : ℕ} {t : RecordResult} {r : FeedResult} → Whole p rest → used ≡ lengthOf rest → RecordTaken t used r → t .text .len ≤ 64
+pub uses-one : {p : Player} {rest : List ℕ} {used : ℕ} {t : RecordResult} {r : FeedResult} → BeginsWhole p rest → used ≡ lengthIn rest → RecordTaken t used r → t .text .len ≤ 64
     → Used rest r
 uses-one W u T h =
     record { within = omega (arith, T .used, W .within); some = λ k. omega (arith, T .used, W .long); room = has-room T h }
@@ -115,7 +115,7 @@ module _ {rest : List ℕ} {used : ℕ} (P : Plants rest used) where
   plant-short : {b : List ℕ} → b ≡ take used rest → length b ≤ 146
   plant-short e = omega (arith, ap length e, length-take-le used rest (P .within), plant-place true false true false used (P .allowed))
 
-  plant-whole : {p : Player} {count number marks : ℕ} {pair : Pair} → Waits p count number marks pair → Whole p rest
+  plant-whole : {p : Player} {count number marks : ℕ} {pair : Pair} → Waits p count number marks pair → BeginsWhole p rest
   plant-whole W =
       record {
         fresh = W .fresh;
@@ -136,7 +136,7 @@ module _ {a : List ℕ} {p : Player} {before : List ℕ} {M : Memory} (L : State
   pub overfull : 1026 ≤ p .have → ⊥
   overfull h =
       let (may, few) = kept a (omega (arith, L .have)) in
-      omega (arith, L .have, stands-long (kindOf (F .part)) _ _ _ _ (lengthOf (F .part)) may .1)
+      omega (arith, L .have, stands-long (kindIn (F .part)) _ _ _ _ (lengthIn (F .part)) may .1)
 
   -- after a fault nothing is read
   pub rests : {xs : List ℕ} {n : ℕ} {r : FeedResult} → (p .fault ≡ 0 → ⊥) → Quiet p n r → AdvancesOnce a xs p M (r .player) (bytesOf (r .text)) before M
@@ -156,22 +156,22 @@ module _ {a : List ℕ} {p : Player} {before : List ℕ} {M : Memory} (L : State
 
   module _ {r : FeedResult} {t : RecordResult} {used : ℕ} {b carry : List ℕ} {M′ : Memory} (rest : List ℕ) (ok : p .fault ≡ 0) (T : RecordTaken t used r) (N : Judges p b t M M′) where
     -- a whole record b is taken
-    takes : F .part ++ take used rest ≡ b → 0 < length (take used rest) → stands F b ≡ true → length b ≡ lengthOf b
+    takes : F .part ++ take used rest ≡ b → 0 < length (take used rest) → stands F b ≡ true → length b ≡ lengthIn b
         → AdvancesOnce a (take (r .used) rest) p M (r .player) (bytesOf (r .text)) carry M′
     takes is some may all =
         let n = N a (L .player) (L .memory) may all in
-        becomes rest (judged (kindOf b) F b) (rw (← is) (feed-whole F (L .player .fault ∙ ok) (take used rest) some (rw is may) (rw is all)))
-        (judged-empty (kindOf b) F b) T n
-        (none-accepted (kindOf b) F b (lengthOf b) may (cost a .begun)) (judged-grown F b (kindOf b) (lengthOf b) may (n .shows))
+        becomes rest (judged (kindIn b) F b) (rw (← is) (feed-whole F (L .player .fault ∙ ok) (take used rest) some (rw is may) (rw is all)))
+        (judged-empty (kindIn b) F b) T n
+        (none-accepted (kindIn b) F b (lengthIn b) may (cost a .begun)) (judged-grown F b (kindIn b) (lengthIn b) may (n .shows))
 
     -- it stands in the piece
-    pub stands-there : Whole p rest → used ≡ lengthOf rest → b ≡ take used rest → AdvancesOnce a (take (r .used) rest) p M (r .player) (bytesOf (r .text)) carry M′
+    pub stands-there : BeginsWhole p rest → used ≡ lengthIn rest → b ≡ take used rest → AdvancesOnce a (take (r .used) rest) p M (r .player) (bytesOf (r .text)) carry M′
     stands-there W u e =
         let none : F .part ≡ [] = L .part ∙ ap (λ (n : ℕ). take n before) (W .fresh) in
         let same : Heads b rest = rw (← e) at (heads-take used rest (omega (arith, W .long))) in
         let long = length-take-le used rest (omega (arith, W .within)) in
         takes (ap (λ (l : List ℕ). l ++ take used rest) none ∙ sym e) (omega (arith, W .long))
-        (heads-stand F same ∙ allowed-as (L .player) (kindOf rest) (lengthOf rest) ∙ W .allowed)
+        (heads-stand F same ∙ allowed-as (L .player) (kindIn rest) (lengthIn rest) ∙ W .allowed)
         (ap length e ∙ long ∙ u ∙ sym (same .long))
 
   module _ {count number marks : ℕ} {pair : Pair} (W : Waits p count number marks pair) where
@@ -195,7 +195,7 @@ module _ {a : List ℕ} {p : Player} {before : List ℕ} {M : Memory} (L : State
           let q : Player = withLast p (record { some = true; from = from; to = to }) in
           let long = plant-long P in
           let same : Heads b rest = rw (← e) at (heads-take used rest (omega arith)) in
-          let kind : kindOf b ≡ plant = same .kind ∙ P .kind in
+          let kind : kindIn b ≡ plant = same .kind ∙ P .kind in
           let is : afterPlant p c b ≡ q =
           rw (z, e, getD-take used rest 4 0 (omega arith), getD-take used rest 5 0 (omega arith), ← f, ← g, W .fresh, W .sound) in
           let s =
@@ -216,10 +216,10 @@ module _ {a : List ℕ} {p : Player} {before : List ℕ} {M : Memory} (L : State
     s-there = G .put ∙ ap (λ (l : List ℕ). l ++ take used rest) (sym (L .part))
 
     -- if the header is there, the record is allowed, and the header says how long it is
-    due : 4 ≤ p .have → (stands F s ≡ true) × (p .have + want ≡ lengthOf s)
+    due : 4 ≤ p .have → (stands F s ≡ true) × (p .have + want ≡ lengthIn s)
     due h =
         let (may, same, few) = kept-on F (kept a) (take used rest) (omega (arith, L .have)) in
-        let long : lengthOf before ≡ lengthOf s = sym (ap lengthOf (L .part) ∙ heads-take (p .have) before h .long) ∙ same in
+        let long : lengthIn before ≡ lengthIn s = sym (ap lengthIn (L .part) ∙ heads-take (p .have) before h .long) ∙ same in
         (may, G .missing .rest h (omega (arith, L .have)) ∙ long)
 
     -- still cut
@@ -252,11 +252,11 @@ module _ {a : List ℕ} {p : Player} {before : List ℕ} {M : Memory} (L : State
         same : stands F s ≡ allowedTo p carry
         same =
             heads-stand F (rw s-there at (heads-take (p .have + used) carry (omega (arith, four))))
-            ∙ allowed-as (L .player) (kindOf carry) (lengthOf carry)
+            ∙ allowed-as (L .player) (kindIn carry) (lengthIn carry)
 
         go : (b : Bool) → stands F s ≡ b → q ≡ headedTo p b → AdvancesOnce a (take (r .used) rest) p M (r .player) (bytesOf (r .text)) carry M
         go true may is =
-            let long = stands-long (kindOf s) _ _ _ _ (lengthOf s) may .0 in
+            let long = stands-long (kindIn s) _ _ _ _ (lengthIn s) may .0 in
             stays 4 (λ k. (may, omega (arith, s-long, four))) (omega (arith, s-long, four)) is Q
         go false no-place is =
             let some : 0 < length (take used rest) = omega (arith, four, length-take-le used rest (G .within)) in
@@ -271,5 +271,5 @@ module _ {a : List ℕ} {p : Player} {before : List ℕ} {M : Memory} (L : State
     ends {b} h full e T N =
         let is : s ≡ b = sym (e ∙ s-there) in
         let (may, all) = due h in
-        let whole : length s ≡ lengthOf s = omega (arith, s-long, G .most) in
+        let whole : length s ≡ lengthIn s = omega (arith, s-long, G .most) in
         takes rest ok T N is (omega (arith, length-take-le used rest (G .within), G .missing .some)) (rw (← is) may) (rw (← is) whole)

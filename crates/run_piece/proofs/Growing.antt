@@ -11,7 +11,7 @@ use lib.IntN.{ℤ}
 use Rattle.terms.specs.Refusals.{unlessRefused}
 use Rattle.ring_spec.specs.Rounds.{Round, Ring, roundThen, afterRound, PhaseEnd, phaseEnd, withEnd, firstEnd, ringAfter, endsAfter}
 use Rattle.ring_spec.proofs.Counts.{counted}
-use Rattle.run_spec.specs.RunFile.{File, between, RecordKind, start, round, plant, listeners, strikes, other, isAllowed, countIn, limitIn, positionIn, struckIn, recordFault, thenPlayed, withRecord, stopped, judged, endsSoFar}
+use Rattle.run_spec.specs.RunFile.{File, between, RecordKind, start, round, plant, listeners, strikes, other, isAllowed, headCountIn, limitIn, positionIn, struckIn, recordFault, thenPlayed, withRecord, stopped, judged, endsSoFar}
 use Rattle.run_spec.specs.Listing.{title, line, lines, shown}
 use Rattle.run_spec.proofs.Streaming.{start-shows, plant-shows, listeners-shows, strikes-shows, stop-shows}
 use Rattle.run_state.specs.State.{ringBefore}
@@ -71,11 +71,11 @@ module _ (F : File) (s : List ℕ) {text : List ℕ} where
   unfolding ringAfter endsAfter
   start-grown begun t =
       let empty : [] ≡ endsSoFar F = rw begun in
-      let first : PhaseEnd = firstEnd (countIn s) (limitIn s) (positionIn s) in
+      let first : PhaseEnd = firstEnd (headCountIn s) (limitIn s) (positionIn s) in
       let same : first ≡ endHere 0 (endsSoFar F) (ringBefore (withRecord start F s)) = rw begun refl in
       one 0 refl (ap (λ (es : List PhaseEnd). first ∷ es) empty ∙ ap (λ (x : PhaseEnd). x ∷ endsSoFar F) same)
-      (same-after (shown F) (sym t ∙ start-shows F s begun) ∙ ap (λ (es : List PhaseEnd). line (countIn s) 0 (length es) first) empty
-      ∙ ap (line (countIn s) 0 (length (endsSoFar F))) same)
+      (same-after (shown F) (sym t ∙ start-shows F s begun) ∙ ap (λ (es : List PhaseEnd). line (headCountIn s) 0 (length es) first) empty
+      ∙ ap (line (headCountIn s) 0 (length (endsSoFar F))) same)
 
   round-grown : (b : Bool) → F .setup .begun ≡ true → let G = with-rounds F s (thenPlayed b (F .rounds .played) (F .rounds .last)) in
       shown G ≡ shown F ++ text → GrownTo F G text

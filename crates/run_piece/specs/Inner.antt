@@ -5,7 +5,7 @@ use mathlib.Core.List.{List, []}
 use Prim.Native.Nat.{ℕ, _+_, _≤_, _<_}
 use lib.ListN.{length, take}
 use Rattle.terms.specs.Refusals as refusal
-use Rattle.run_spec.specs.RunFile.{plant, lengthOf, kindOf, allowedWhen}
+use Rattle.run_spec.specs.RunFile.{plant, lengthIn, kindIn, allowedWhen}
 use Rattle.run_spec.specs.declared.Pair.{Pair}
 use Rattle.run_listing.specs.Texts.{bytesOf}
 use Rattle.run_state.specs.declared.Player.{Player}
@@ -21,23 +21,23 @@ use Rattle.run_piece.specs.Advances.{StateAt, AdvancesOnce}
 pub record Missing (have : ℕ) (carry : List ℕ) (r : ℕ) : Type 0 where
   pub some : 0 < r
   pub header : have < 4 → have + r ≡ 4
-  pub rest : 4 ≤ have → have < lengthOf carry → have + r ≡ lengthOf carry
+  pub rest : 4 ≤ have → have < lengthIn carry → have + r ≡ lengthIn carry
 
 -- whether the record that s begins is allowed, by the player's numbers
 abbrev pub allowedTo : Player → List ℕ → Bool
-allowedTo p s = allowedWhen (kindOf s) (p .begun) (firstOf p) (p .pending) (bareOf p) (lengthOf s)
+allowedTo p s = allowedWhen (kindIn s) (p .begun) (firstOf p) (p .pending) (bareOf p) (lengthIn s)
 
 -- a piece begins with a whole record that is allowed
-pub record Whole (p : Player) (s : List ℕ) : Type 0 where
+pub record BeginsWhole (p : Player) (s : List ℕ) : Type 0 where
   pub fresh : p .have ≡ 0
-  pub within : lengthOf s ≤ length s
-  pub long : 5 ≤ lengthOf s
+  pub within : lengthIn s ≤ length s
+  pub long : 5 ≤ lengthIn s
   pub allowed : allowedTo p s ≡ true
 
 -- a piece begins with a whole planted record of this size
 pub record Plants (s : List ℕ) (size : ℕ) : Type 0 where
-  pub kind : kindOf s ≡ plant
-  pub long : size ≡ lengthOf s
+  pub kind : kindIn s ≡ plant
+  pub long : size ≡ lengthIn s
   pub within : size ≤ length s
   pub allowed : allowedWhen plant true false true false size ≡ true
 

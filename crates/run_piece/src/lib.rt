@@ -5,9 +5,9 @@ ghost use mathlib.Core.List.{_++_};
 ghost use mathlib.Core.Path.{_≡_};
 ghost use Prim.Native.Nat.{_+_, _≤_, _<_, min};
 ghost use lib.ListN.{length, take};
-ghost use Rattle.run_state.specs.Memory.{before, after};
+ghost use Rattle.run_state.specs.Memory.{memoryBefore, memoryAfter};
 ghost use Rattle.run_state.specs.Changes.{halted};
-ghost use Rattle.run_piece.specs.Inner.{Missing, allowedTo, Whole, Plants, Waits, withLast, headedTo, Quiet, RecordTaken, Used, Reads, Passes};
+ghost use Rattle.run_piece.specs.Inner.{Missing, allowedTo, BeginsWhole, Plants, Waits, withLast, headedTo, Quiet, RecordTaken, Used, Reads, Passes};
 use frame_slots::PlantedBytes;
 use frame_slots::PlantedLengths;
 use run_listing::Text;
@@ -71,7 +71,7 @@ fn stands(p: Player, bytes: &[u8]) -> bool
 
 // Whether a piece begins with a whole record that is allowed.
 fn is_whole(p: Player, bytes: &[u8]) -> bool
-    ensures { λ r. ⌜ (r ≡ true → Whole p (now (bytes .entry))) ⌝ }
+    ensures { λ r. ⌜ (r ≡ true → BeginsWhole p (now (bytes .entry))) ⌝ }
 {
     if p.have != 0 {
         return false;
@@ -143,8 +143,8 @@ fn take_part(
     requires { ⌜ p .fault ≡ 0 ⌝ }
     ensures { λ r. ⌜ Used (now (rest .entry)) r ⌝ }
     ensures { λ r. ⌜ Reads p (now (rest .entry)) r
-        (now (carry .entry)) (before positions marks lists planted lengths)
-        (now (carry .exit)) (after positions marks lists planted lengths) ⌝ }
+        (now (carry .entry)) (memoryBefore positions marks lists planted lengths)
+        (now (carry .exit)) (memoryAfter positions marks lists planted lengths) ⌝ }
 {
     let have = p.have;
     if 1026 <= have {
@@ -243,8 +243,8 @@ pub fn advance(
 ) -> FeedResult
     ensures { λ r. ⌜ Used (now (rest .entry)) r ⌝ }
     ensures { λ r. ⌜ Reads p (now (rest .entry)) r
-        (now (carry .entry)) (before positions marks lists planted lengths)
-        (now (carry .exit)) (after positions marks lists planted lengths) ⌝ }
+        (now (carry .entry)) (memoryBefore positions marks lists planted lengths)
+        (now (carry .exit)) (memoryAfter positions marks lists planted lengths) ⌝ }
 {
     if p.fault != 0 {
         return quiet(p, rest.len());

@@ -13,7 +13,7 @@ use Rattle.convergence.specs.Counting.{Each}
 use Rattle.terms.proofs.Booleans.{and-both}
 use Rattle.head_spec.proofs.Proper.{both-passed}
 use Rattle.ring_spec.specs.Rounds.{Round, Ring, ringAfter, mostRounds}
-use Rattle.run_spec.specs.RunFile.{File, given, RecordKind, start, round, plant, listeners, strikes, allowedWhen, isAllowed, isFirst, isBare, numberIn, listenersIn, countIn, limitIn, positionIn, struckIn, fewMarks, senderIn, receiverIn, plantFault, recordFault, withRecord, stopped, judged, ringFrom}
+use Rattle.run_spec.specs.RunFile.{File, roundsGiven, RecordKind, start, round, plant, listeners, strikes, allowedWhen, isAllowed, isFirst, isBare, listenerCountIn, listenersIn, headCountIn, limitIn, positionIn, struckIn, fewMarks, senderIn, receiverIn, plantFault, recordFault, withRecord, stopped, judged, ringFrom}
 use Rattle.run_spec.specs.declared.Pair.{Pair}
 use Rattle.run_spec.specs.Listing.{title, shown}
 use Rattle.run_spec.proofs.Bytes.{first-begun}
@@ -68,14 +68,14 @@ module _ (F : File) (len : ℕ) where
 pub plant-place : (begun first pending bare : Bool) (len : ℕ) → allowedWhen plant begun first pending bare len ≡ true → len ≤ 146
 plant-place begun first pending bare len e = leb-true len 146 (and-both (pending && leb 6 len) _ e .1)
 
-start-small : (F : File) (s : List ℕ) → recordFault start F s ≡ 0 → countIn s ≤ 32
+start-small : (F : File) (s : List ℕ) → recordFault start F s ≡ 0 → headCountIn s ≤ 32
 unfolding isCount
 start-small F s sound =
-    let count = both-passed (eqb (length s) (6 + 4 * countIn s)) (isCount (countIn s)) 12 0 sound .1 in
-    leb-true (countIn s) 32 (and-both (leb 1 (countIn s)) _ count .1)
+    let count = both-passed (eqb (length s) (6 + 4 * headCountIn s)) (isCount (headCountIn s)) 12 0 sound .1 in
+    leb-true (headCountIn s) 32 (and-both (leb 1 (headCountIn s)) _ count .1)
 
-pub round-room : (F : File) (s : List ℕ) → recordFault round F s ≡ 0 → given F < mostRounds
-round-room F s sound = ltb-true (given F) _ (both-passed (fewMarks (F .setup .n) (F .setup .f) (struckIn s)) _ 13 25 sound .1)
+pub round-room : (F : File) (s : List ℕ) → recordFault round F s ≡ 0 → roundsGiven F < mostRounds
+round-room F s sound = ltb-true (roundsGiven F) _ (both-passed (fewMarks (F .setup .n) (F .setup .f) (struckIn s)) _ 13 25 sound .1)
 
 -- ---- a planted record
 
@@ -129,7 +129,7 @@ module _ {F : File} {p : Player} {M : Memory} {r : RecordResult} where
   module _ (s : List ℕ) where
     -- a round: what was planted is gone
     pub round-next : {M′ : Memory} {bytes lengths : List ℕ} → Turned F s (r .text) M′ → r .text .len ≤ 64 → ((k i : ℕ) → plantedIn bytes lengths k i ≡ [])
-        → PlayerOf p F → given F < mostRounds → r .player ≡ withRoundGiven p (struckIn s)
+        → PlayerOf p F → roundsGiven F < mostRounds → r .player ≡ withRoundGiven p (struckIn s)
         → Next F (withRecord round F s) p M r (withSlots M′ bytes lengths)
     round-next P room cleared T more is =
         record {
@@ -165,30 +165,30 @@ module _ {F : File} {p : Player} {M : Memory} {r : RecordResult} where
     -- a start: the first positions
     pub start-next : {M′ : Memory} → F .setup .begun ≡ false → recordFault start F s ≡ 0
         → ((j : ℕ) → j < 32 → getD (M′ .positions) j (pos 0) ≡ positionIn s j)
-        → r .player ≡ freshPlayer true (countIn s) (limitIn s) → bytesOf (r .text) ≡ endLine (countIn s) 0 0 (M′ .positions) 0 0 → r .text .len ≤ 64
+        → r .player ≡ freshPlayer true (headCountIn s) (limitIn s) → bytesOf (r .text) ≡ endLine (headCountIn s) 0 0 (M′ .positions) 0 0 → r .text .len ≤ 64
         → Next F (withRecord start F s) p M r M′
     start-next {M′} begun sound first is text room =
         let most = start-small F s sound in
-        let same : Each (countIn s) (λ i. getD (M′ .positions) i (pos 0) ≡ positionIn s i) = λ i l. first i (omega arith) in
-        let held = start-positions (countIn s) 0 (limitIn s) most (positionIn s) M′ same in
+        let same : Each (headCountIn s) (λ i. getD (M′ .positions) i (pos 0) ≡ positionIn s i) = λ i l. first i (omega arith) in
+        let held = start-positions (headCountIn s) 0 (limitIn s) most (positionIn s) M′ same in
         record {
           player = rw is (start-tells F s);
           whole = rw is refl;
           memory =
               record {
-                keeps = λ b. start-keeps (countIn s) 0 (limitIn s) most (positionIn s) M′ same;
+                keeps = λ b. start-keeps (headCountIn s) 0 (limitIn s) most (positionIn s) M′ same;
                 slots = λ w. absurd (true≢false (sym w));
                 short = λ w. absurd (true≢false (sym w));
               };
           refused = λ h. absurd (h refl);
           shows =
               start-shows F s begun
-              ∙ ap (λ (l : List ℕ). shown F ++ l) (first-line-is (countIn s) (limitIn s) (positionIn s) 0 0 (M′ .positions) most held ∙ sym text);
+              ∙ ap (λ (l : List ℕ). shown F ++ l) (first-line-is (headCountIn s) (limitIn s) (positionIn s) 0 0 (M′ .positions) most held ∙ sym text);
           room = room;
         }
 
     -- the number of listeners, just after the start: none of them holds a position
-    pub listeners-next : isFirst F ≡ true → MemoryOf F M → PlayerOf p F → r .player ≡ withListenersGiven p (numberIn s) → r .text .len ≡ 0
+    pub listeners-next : isFirst F ≡ true → MemoryOf F M → PlayerOf p F → r .player ≡ withListenersGiven p (listenerCountIn s) → r .text .len ≡ 0
         → Next F (withRecord listeners F s) p M r M
     listeners-next may H T is none =
         record {
@@ -201,8 +201,8 @@ module _ {F : File} {p : Player} {M : Memory} {r : RecordResult} where
         }
       where
         recounted : (ws : List Round) → length ws ≡ 0 → HeadsOf (F .setup .n) (F .setup .listeners) (ringFrom (F .setup) ws) M
-            → HeadsOf (F .setup .n) (numberIn s) (ringFrom (F .setup) ws) M
-        recounted [] z K = start-keeps-any (F .setup .n) (F .setup .listeners) (numberIn s) (F .setup .f) (F .setup .first) K
+            → HeadsOf (F .setup .n) (listenerCountIn s) (ringFrom (F .setup) ws) M
+        recounted [] z K = start-keeps-any (F .setup .n) (F .setup .listeners) (listenerCountIn s) (F .setup .f) (F .setup .first) K
         recounted (w ∷ ws) z K = absurd (omega arith)
 
     -- the struck listeners of a round whose marks are those of heads so far

@@ -5,8 +5,8 @@ ghost use mathlib.Core.Path.{_≡_};
 ghost use Prim.Native.Nat.{ℕ, _≤_, _<_};
 ghost use lib.ListN.{length, getD};
 ghost use lib.IntN.{pos};
-ghost use Rattle.run_spec.specs.RunFile.{File, given, readFile, start, round, plant, listeners, strikes, isFirst, isBare, kindOf, lengthOf, isAllowed, judged, stopped};
-ghost use Rattle.run_state.specs.Memory.{Memory, before, after, withPositions, withSlots};
+ghost use Rattle.run_spec.specs.RunFile.{File, roundsGiven, readFile, start, round, plant, listeners, strikes, isFirst, isBare, kindIn, lengthIn, isAllowed, judged, stopped};
+ghost use Rattle.run_state.specs.Memory.{Memory, memoryBefore, memoryAfter, withPositions, withSlots};
 ghost use Rattle.run_state.specs.State.{PlayerOf, MemoryOf};
 ghost use Rattle.run_record.specs.Next.{Next, NextQuiet, afterPlant};
 ghost use Rattle.run_record.specs.Inner.{Turned};
@@ -110,8 +110,8 @@ fn play_waiting(
     lengths: &PlantedLengths,
 ) -> Text
     ensures { λ r. ⌜ ((a s : List ℕ) → readFile a .setup .begun ≡ true → PlayerOf p (readFile a)
-        → MemoryOf (readFile a) (before positions marks lists planted lengths)
-        → Turned (readFile a) s r (after positions marks lists planted lengths)) ⌝ }
+        → MemoryOf (readFile a) (memoryBefore positions marks lists planted lengths)
+        → Turned (readFile a) s r (memoryAfter positions marks lists planted lengths)) ⌝ }
     ensures { λ r. ⌜ r .len ≤ 64 ⌝ }
 {
     if !p.pending {
@@ -131,8 +131,8 @@ fn take_round(
     lengths: &mut PlantedLengths,
 ) -> RecordResult
     ensures { λ r. ⌜ ((a : List ℕ) → readFile a .setup .begun ≡ true → PlayerOf p (readFile a)
-        → MemoryOf (readFile a) (before positions marks lists planted lengths)
-        → Next (readFile a) (judged round (readFile a) (now (bytes .entry))) p (before positions marks lists planted lengths) r (after positions marks lists planted lengths)) ⌝ }
+        → MemoryOf (readFile a) (memoryBefore positions marks lists planted lengths)
+        → Next (readFile a) (judged round (readFile a) (now (bytes .entry))) p (memoryBefore positions marks lists planted lengths) r (memoryAfter positions marks lists planted lengths)) ⌝ }
     ensures { λ r. ⌜ r .text .len ≤ 64 ⌝ }
 {
     let fault = run_judge::round_fault(bytes, p.n, p.f, p.given);
@@ -213,11 +213,11 @@ pub fn take_record(
     lengths: &mut PlantedLengths,
 ) -> RecordResult
     ensures { λ r. ⌜ ((a : List ℕ) → PlayerOf p (readFile a)
-        → MemoryOf (readFile a) (before positions marks lists planted lengths)
-        → isAllowed (kindOf (now (bytes .entry))) (readFile a) (lengthOf (now (bytes .entry))) ≡ true
-        → length (now (bytes .entry)) ≡ lengthOf (now (bytes .entry))
-        → Next (readFile a) (judged (kindOf (now (bytes .entry))) (readFile a) (now (bytes .entry)))
-        p (before positions marks lists planted lengths) r (after positions marks lists planted lengths)) ⌝ }
+        → MemoryOf (readFile a) (memoryBefore positions marks lists planted lengths)
+        → isAllowed (kindIn (now (bytes .entry))) (readFile a) (lengthIn (now (bytes .entry))) ≡ true
+        → length (now (bytes .entry)) ≡ lengthIn (now (bytes .entry))
+        → Next (readFile a) (judged (kindIn (now (bytes .entry))) (readFile a) (now (bytes .entry)))
+        p (memoryBefore positions marks lists planted lengths) r (memoryAfter positions marks lists planted lengths)) ⌝ }
     ensures { λ r. ⌜ r .text .len ≤ 64 ⌝ }
 {
     match fields::half_at(bytes, 2) {

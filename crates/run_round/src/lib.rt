@@ -3,8 +3,8 @@ ghost use mathlib.Core.Bool.{true};
 ghost use mathlib.Core.List.{List};
 ghost use mathlib.Core.Path.{_≡_};
 ghost use Prim.Native.Nat.{ℕ, _≤_};
-ghost use Rattle.run_spec.specs.RunFile.{given, readFile};
-ghost use Rattle.run_state.specs.Memory.{before, after};
+ghost use Rattle.run_spec.specs.RunFile.{roundsGiven, readFile};
+ghost use Rattle.run_state.specs.Memory.{memoryBefore, memoryAfter};
 ghost use Rattle.run_state.specs.State.{PlayerOf, MemoryOf};
 ghost use Rattle.run_round.specs.Played.{Played};
 ghost use Rattle.run_round.specs.Inner.{stageOf};
@@ -42,8 +42,8 @@ pub fn play_round(
     lengths: &PlantedLengths,
 ) -> Text
     ensures { λ r. ⌜ ((a : List ℕ) → readFile a .setup .begun ≡ true → readFile a .rounds .pending ≡ true → PlayerOf p (readFile a)
-        → MemoryOf (readFile a) (before positions marks lists planted lengths)
-        → Played (readFile a) r (after positions marks lists planted lengths)) ⌝ }
+        → MemoryOf (readFile a) (memoryBefore positions marks lists planted lengths)
+        → Played (readFile a) r (memoryAfter positions marks lists planted lengths)) ⌝ }
     ensures { λ r. ⌜ r .len ≤ 64 ⌝ }
 {
     let s = stage_of(p);

@@ -18,7 +18,7 @@ use Rattle.convergence.specs.Counting.{bit}
 use Rattle.head_spec.proofs.Proper.{both-passed}
 use Rattle.ring_spec.specs.Rounds.{Plant, Round}
 use Rattle.ring_spec.proofs.Counts.{counted}
-use Rattle.run_spec.specs.RunFile.{File, unread, Rounds, given, listenersFault, RecordKind, start, round, plant, listeners, strikes, other, lengthOf, kindOf, isAllowed, isFirst, isBare, countIn, numberIn, lastPair, thenPlayed, recordFault, withRecord, stopped, judged, withPart, readOn, step, feed, readFile, recordsOf, accepted, ending, roundsPlayed, endsPlayed, endsFrom, allRounds}
+use Rattle.run_spec.specs.RunFile.{File, unread, Rounds, roundsGiven, listenersFault, RecordKind, start, round, plant, listeners, strikes, other, lengthIn, kindIn, isAllowed, isFirst, isBare, headCountIn, listenerCountIn, lastPair, thenPlayed, recordFault, withRecord, stopped, judged, withPart, readOn, step, feed, readFile, recordsOf, accepted, ending, roundsPlayed, endsPlayed, endsFrom, allRounds}
 use Rattle.run_spec.proofs.Whole.{stands, RoundsFit, kept-on, kept-read, kept}
 use Rattle.run_spec.proofs.Streaming.{feed-append}
 
@@ -27,8 +27,8 @@ module _ (P : File → ℕ → Type 0)
     (rests : (F : File) (k : ℕ) → P F k → P F (suc k))
     (parts : (F : File) (s : List ℕ) (k : ℕ) → length s ≡ suc (length (F .part)) → P F k → P (withPart F s) (suc k))
     (stops : (F : File) (c k : ℕ) → P F k → P (stopped F c) (suc k))
-    (takes : (F : File) (s : List ℕ) (k : ℕ) → length s ≡ suc (length (F .part)) → stands F s ≡ true → length s ≡ lengthOf s
-    → recordFault (kindOf s) F s ≡ 0 → P F k → P (withRecord (kindOf s) F s) (suc k)) where
+    (takes : (F : File) (s : List ℕ) (k : ℕ) → length s ≡ suc (length (F .part)) → stands F s ≡ true → length s ≡ lengthIn s
+    → recordFault (kindIn s) F s ≡ 0 → P F k → P (withRecord (kindIn s) F s) (suc k)) where
   module _ (F : File) (kept : RoundsFit F) (x k : ℕ) (p : P F k) where
     abbrev s : List ℕ
     s = F .part ++ (x ∷ [])
@@ -36,11 +36,11 @@ module _ (P : File → ℕ → Type 0)
     one : length s ≡ suc (length (F .part))
     one = length-append (F .part) (x ∷ []) ∙ omega arith
 
-    judges : stands F s ≡ true → length s ≡ lengthOf s → P (judged (kindOf s) F s) (suc k)
+    judges : stands F s ≡ true → length s ≡ lengthIn s → P (judged (kindIn s) F s) (suc k)
     unfolding judged
-    judges may all = go (recordFault (kindOf s) F s) refl
+    judges may all = go (recordFault (kindIn s) F s) refl
       where
-        go : (c : ℕ) → recordFault (kindOf s) F s ≡ c → P (unlessRefused (stopped F) c (withRecord (kindOf s) F s)) (suc k)
+        go : (c : ℕ) → recordFault (kindIn s) F s ≡ c → P (unlessRefused (stopped F) c (withRecord (kindIn s) F s)) (suc k)
         go zero e = takes F s k one may all e p
         go (suc c) e = stops F (suc c) k p
 
@@ -54,13 +54,13 @@ module _ (P : File → ℕ → Type 0)
 
     reads : P (readOn F s) (suc k)
     unfolding readOn
-    reads = go (ltb (length s) 4) (eqb (length s) 4 && not (stands F s)) (eqb (length s) (lengthOf s)) refl refl refl
+    reads = go (ltb (length s) 4) (eqb (length s) 4 && not (stands F s)) (eqb (length s) (lengthIn s)) refl refl refl
       where
-        go : (few out all : Bool) → ltb (length s) 4 ≡ few → (eqb (length s) 4 && not (stands F s)) ≡ out → eqb (length s) (lengthOf s) ≡ all
-            → P (cond few (withPart F s) (cond out (stopped F refusal.run-record) (cond all (judged (kindOf s) F s) (withPart F s)))) (suc k)
+        go : (few out all : Bool) → ltb (length s) 4 ≡ few → (eqb (length s) 4 && not (stands F s)) ≡ out → eqb (length s) (lengthIn s) ≡ all
+            → P (cond few (withPart F s) (cond out (stopped F refusal.run-record) (cond all (judged (kindIn s) F s) (withPart F s)))) (suc k)
         go true out all f o a = parts F s k one p
         go false true all f o a = stops F refusal.run-record k p
-        go false false true f o a = judges (is-allowed f o) (eqb-true (length s) (lengthOf s) a)
+        go false false true f o a = judges (is-allowed f o) (eqb-true (length s) (lengthIn s) a)
         go false false false f o a = parts F s k one p
 
   pub from : (F : File) (xs : List ℕ) (k : ℕ) → RoundsFit F → P F k → P (feed F xs) (k + length xs)
@@ -88,22 +88,22 @@ length-then false ws w = omega arith
 pub record Cost (F : File) (k : ℕ) : Type 0 where
   pub begun : F .rounds .pending ≡ true → F .setup .begun ≡ true
   pub part : length (F .part) ≤ k
-  pub records : F .setup .begun ≡ true → 10 + 8 * given F + length (F .part) ≤ k
+  pub records : F .setup .begun ≡ true → 10 + 8 * roundsGiven F + length (F .part) ≤ k
 
 start-long : (F : File) (s : List ℕ) → recordFault start F s ≡ 0 → 10 ≤ length s
 unfolding isCount
 start-long F s sound =
-    let (whole, count, rest) = both-passed (eqb (length s) (6 + 4 * countIn s)) (isCount (countIn s)) 12 0 sound in
-    let some = leb-true 1 (countIn s) (and-both (leb 1 (countIn s)) _ count .0) in
-    omega (arith, eqb-true (length s) (6 + 4 * countIn s) whole)
+    let (whole, count, rest) = both-passed (eqb (length s) (6 + 4 * headCountIn s)) (isCount (headCountIn s)) 12 0 sound in
+    let some = leb-true 1 (headCountIn s) (and-both (leb 1 (headCountIn s)) _ count .0) in
+    omega (arith, eqb-true (length s) (6 + 4 * headCountIn s) whole)
 
-pub number-some : (s : List ℕ) → listenersFault s ≡ 0 → (1 ≤ numberIn s) × (numberIn s ≤ 16)
+pub number-some : (s : List ℕ) → listenersFault s ≡ 0 → (1 ≤ listenerCountIn s) × (listenerCountIn s ≤ 16)
 number-some s sound =
-    let (fits, none, done) = both-passed (leb 1 (numberIn s) && leb (numberIn s) 16) true 12 0 sound in
-    let (some, most) = and-both (leb 1 (numberIn s)) _ fits in
-    (leb-true 1 (numberIn s) some, leb-true (numberIn s) 16 most)
+    let (fits, none, done) = both-passed (leb 1 (listenerCountIn s) && leb (listenerCountIn s) 16) true 12 0 sound in
+    let (some, most) = and-both (leb 1 (listenerCountIn s)) _ fits in
+    (leb-true 1 (listenerCountIn s) some, leb-true (listenerCountIn s) 16 most)
 
-costs-more : (K : RecordKind) (F : File) (s : List ℕ) (k : ℕ) → length s ≡ suc (length (F .part)) → isAllowed K F (lengthOf s) ≡ true → length s ≡ lengthOf s
+costs-more : (K : RecordKind) (F : File) (s : List ℕ) (k : ℕ) → length s ≡ suc (length (F .part)) → isAllowed K F (lengthIn s) ≡ true → length s ≡ lengthIn s
     → recordFault K F s ≡ 0 → Cost F k → Cost (withRecord K F s) (suc k)
 costs-more start F s k one may all sound C =
     record { begun = λ w. refl; part = omega arith; records = λ b. omega (arith, start-long F s sound, C .part) }
@@ -112,7 +112,7 @@ costs-more round F s k one may all sound C =
     record {
       begun = λ w. begun;
       part = omega arith;
-      records = λ b. omega (arith, C .records begun, eqb-true (lengthOf s) 8 eight, length-then (F .rounds .pending) (F .rounds .played) (F .rounds .last));
+      records = λ b. omega (arith, C .records begun, eqb-true (lengthIn s) 8 eight, length-then (F .rounds .pending) (F .rounds .played) (F .rounds .last));
     }
 costs-more plant F s k one may all sound C =
     record { begun = C .begun; part = omega arith; records = λ b. omega (arith, C .records b) }
@@ -129,7 +129,7 @@ cost s =
     (λ F k C. record { begun = C .begun; part = omega (arith, C .part); records = λ b. omega (arith, C .records b) })
     (λ F s k one C. record { begun = C .begun; part = omega (arith, C .part); records = λ b. omega (arith, C .records b) })
     (λ F c k C. record { begun = C .begun; part = omega arith; records = λ b. omega (arith, C .records b) })
-    (λ F s k one may all sound C. costs-more (kindOf s) F s k one may all sound C)
+    (λ F s k one may all sound C. costs-more (kindIn s) F s k one may all sound C)
     (record { begun = λ w. absurd (true≢false (sym w)); part = omega arith; records = λ b. absurd (true≢false (sym b)) })
     s
 
@@ -163,11 +163,11 @@ few-ends s = go (F .setup .begun) (eqb (ending F) 0) refl
 -- ---- the records accepted
 
 -- just after the start, and just after a round record
-pub first-begun : (F : File) → isFirst F ≡ true → (F .setup .begun ≡ true) × (given F ≡ 0) × (F .setup .listeners ≡ 0)
+pub first-begun : (F : File) → isFirst F ≡ true → (F .setup .begun ≡ true) × (roundsGiven F ≡ 0) × (F .setup .listeners ≡ 0)
 first-begun F e =
-    let (front, none) = and-both (F .setup .begun && eqb (given F) 0) _ e in
+    let (front, none) = and-both (F .setup .begun && eqb (roundsGiven F) 0) _ e in
     let (begun, first) = and-both (F .setup .begun) _ front in
-    (begun, eqb-true (given F) 0 first, eqb-true (F .setup .listeners) 0 none)
+    (begun, eqb-true (roundsGiven F) 0 first, eqb-true (F .setup .listeners) 0 none)
 
 pub bare-pending : (R : Rounds) → isBare R ≡ true → (R .pending ≡ true) × (R .last .told ≡ false) × (length (R .last .plants) ≡ 0)
 bare-pending R e =
@@ -192,9 +192,9 @@ one-accepted plant F s len may sound W =
     let pending = and-both (F .rounds .pending) _ (and-both (F .rounds .pending && leb 6 len) _ may .0) .0 in
     rw (W pending, pending) (omega arith)
 one-accepted listeners F s len may sound W =
-    let (begun, given, none) = first-begun F (and-both (isFirst F) _ may .0) in
+    let (begun, roundsGiven, none) = first-begun F (and-both (isFirst F) _ may .0) in
     let some = number-some s sound in
-    rw (begun, none, ne-eqb (numberIn s) 0 (omega arith)) (omega arith)
+    rw (begun, none, ne-eqb (listenerCountIn s) 0 (omega arith)) (omega arith)
 one-accepted strikes F s len may sound W =
     let (pending, untold, none) = bare-pending (F .rounds) (and-both (isBare (F .rounds)) _ may .0) in
     rw (W pending, pending, untold) (omega arith)
@@ -216,7 +216,7 @@ record Least (m : ℕ) (F : File) (k : ℕ) : Type 0 where
   begun : F .rounds .pending ≡ true → F .setup .begun ≡ true
   least : m ≤ accepted F
 
-begun-more : (K : RecordKind) (F : File) (s : List ℕ) → isAllowed K F (lengthOf s) ≡ true → (F .rounds .pending ≡ true → F .setup .begun ≡ true)
+begun-more : (K : RecordKind) (F : File) (s : List ℕ) → isAllowed K F (lengthIn s) ≡ true → (F .rounds .pending ≡ true → F .setup .begun ≡ true)
     → withRecord K F s .rounds .pending ≡ true → withRecord K F s .setup .begun ≡ true
 begun-more start F s may W w = refl
 begun-more round F s may W w = and-both (F .setup .begun) _ may .0
@@ -225,10 +225,10 @@ begun-more listeners F s may W w = W w
 begun-more strikes F s may W w = W w
 begun-more other F s may W w = W w
 
-least-more : (m : ℕ) (K : RecordKind) (F : File) (s : List ℕ) (k : ℕ) → isAllowed K F (lengthOf s) ≡ true → recordFault K F s ≡ 0 → Least m F k
+least-more : (m : ℕ) (K : RecordKind) (F : File) (s : List ℕ) (k : ℕ) → isAllowed K F (lengthIn s) ≡ true → recordFault K F s ≡ 0 → Least m F k
     → Least m (withRecord K F s) (suc k)
 least-more m K F s k may sound L =
-    record { begun = begun-more K F s may (L .begun); least = omega (arith, one-accepted K F s (lengthOf s) may sound (L .begun), L .least) }
+    record { begun = begun-more K F s may (L .begun); least = omega (arith, one-accepted K F s (lengthIn s) may sound (L .begun), L .least) }
 
 -- by more bytes they do not become fewer
 pub more-accepted : (a b : List ℕ) → accepted (readFile a) ≤ accepted (readFile (a ++ b))
@@ -240,5 +240,5 @@ more-accepted a b =
     (λ F k L. record { begun = L .begun; least = L .least })
     (λ F s k one L. record { begun = L .begun; least = L .least })
     (λ F c k L. record { begun = L .begun; least = L .least })
-    (λ F s k one may all sound L. least-more m (kindOf s) F s k may sound L)
+    (λ F s k one may all sound L. least-more m (kindIn s) F s k may sound L)
     (readFile a) b (length a) (kept a) (record { begun = cost a .begun; least = omega arith }) .least)

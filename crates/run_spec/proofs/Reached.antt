@@ -23,7 +23,7 @@ use Rattle.terms.proofs.Booleans.{and-both}
 use Rattle.head_spec.proofs.Proper.{Sized, both-passed, sized-by}
 use Rattle.ring_spec.specs.Rounds.{Plant, Round, isReceiver, mostRounds}
 use Rattle.ring_spec.specs.Converges.{FewStruckIn}
-use Rattle.run_spec.specs.RunFile.{File, given, RecordKind, start, round, plant, listeners, strikes, other, lengthOf, kindOf, isAllowed, isFirst, isBare, countIn, limitIn, positionIn, positionsFit, struckIn, fewMarks, numberIn, listenersIn, senderIn, receiverIn, lastPair, pairFits, recordFault, thenPlayed, plantIn, withRecord, unread, readFile}
+use Rattle.run_spec.specs.RunFile.{File, roundsGiven, RecordKind, start, round, plant, listeners, strikes, other, lengthIn, kindIn, isAllowed, isFirst, isBare, headCountIn, limitIn, positionIn, positionsFit, struckIn, fewMarks, listenerCountIn, listenersIn, senderIn, receiverIn, lastPair, pairFits, recordFault, thenPlayed, plantIn, withRecord, unread, readFile}
 pub use Rattle.run_spec.proofs.Bytes.{length-then}
 use Rattle.run_spec.proofs.Bytes.{byte-by-byte, number-some, first-begun, bare-pending}
 
@@ -120,7 +120,7 @@ module _ (F : File) (G : F .setup .begun ≡ true → Reached F) where
 
   good-start : (s : List ℕ) → recordFault start F s ≡ 0 → Reached (withRecord start F s)
   good-start s e =
-      let n = countIn s in
+      let n = headCountIn s in
       let f = limitIn s in
       let (whole, count, rest) = both-passed (eqb (length s) (6 + 4 * n)) (isCount n) 12 0 e in
       let (limit, fit, done) = both-passed (isLimit n f) (positionsFit s n) 1 3 rest in
@@ -137,7 +137,7 @@ module _ (F : File) (G : F .setup .begun ≡ true → Reached F) where
   unfolding fewMarks marksBelow
   good-round s e I =
       let (fits, more, done) = both-passed (fewMarks (F .setup .n) (F .setup .f) (struckIn s)) _ 13 25 e in
-      let k : given F < mostRounds = ltb-true (given F) _ more in
+      let k : roundsGiven F < mostRounds = ltb-true (roundsGiven F) _ more in
       let (below, few) = and-both (marksBelow (struckIn s) n) _ fits in
       let l : struckIn s < 2 ^ n = ltb-true (struckIn s) (2 ^ n) below in
       record {
@@ -190,7 +190,7 @@ module _ (F : File) (G : F .setup .begun ≡ true → Reached F) where
         count = I .count;
       }
     where
-      none-fit : (ws : List Round) → length ws ≡ 0 → AllFit n (numberIn s) (F .setup .f) ws
+      none-fit : (ws : List Round) → length ws ≡ 0 → AllFit n (listenerCountIn s) (F .setup .f) ws
       none-fit [] z = tt
       none-fit (w ∷ ws) z = absurd (omega arith)
 
@@ -219,11 +219,11 @@ module _ (F : File) (G : F .setup .begun ≡ true → Reached F) where
       no-plants struck [] z = tt
       no-plants struck (x ∷ xs) z = absurd (omega arith)
 
-  good-record : (K : RecordKind) (s : List ℕ) → isAllowed K F (lengthOf s) ≡ true → recordFault K F s ≡ 0 → withRecord K F s .setup .begun ≡ true
+  good-record : (K : RecordKind) (s : List ℕ) → isAllowed K F (lengthIn s) ≡ true → recordFault K F s ≡ 0 → withRecord K F s .setup .begun ≡ true
       → Reached (withRecord K F s)
   good-record start s may e b = good-start s e
   good-record round s may e b = good-round s e (G b)
-  good-record plant s may e b = good-plant s (and-both (F .rounds .pending) _ (and-both (F .rounds .pending && leb 6 (lengthOf s)) _ may .0) .0) e (G b)
+  good-record plant s may e b = good-plant s (and-both (F .rounds .pending) _ (and-both (F .rounds .pending && leb 6 (lengthIn s)) _ may .0) .0) e (G b)
   good-record listeners s may e b = good-listeners s (and-both (isFirst F) _ may .0) e (G b)
   good-record strikes s may e b = good-strikes s (and-both (isBare (F .rounds)) _ may .0) e (G b)
   good-record other s may e b = absurd (true≢false (sym may))
@@ -235,7 +235,7 @@ taken s =
     (λ F k G. G)
     (λ F s k one G. G)
     (λ F c k G. G)
-    (λ F s k one may all sound G. good-record F G (kindOf s) s may sound)
+    (λ F s k one may all sound G. good-record F G (kindIn s) s may sound)
     (λ b. absurd (true≢false (sym b)))
     s
 

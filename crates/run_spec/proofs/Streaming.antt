@@ -16,7 +16,7 @@ use Rattle.convergence.proofs.Same.{SameEnd, same-bounds}
 use Rattle.ring_spec.specs.Rounds.{Round, Ring, afterRound, PhaseEnd, phaseEnd, withEnd, receivers, asEnd, firstEnd, ringAfter, endsAfter}
 use Rattle.ring_spec.proofs.Receivers.{first-out-as}
 use Rattle.ring_spec.proofs.Counts.{counted}
-use Rattle.run_spec.specs.RunFile.{File, given, start, round, plant, listeners, strikes, isFirst, numberIn, countIn, limitIn, positionIn, thenPlayed, withRecord, stopped, withPart, step, feed, ending, roundsPlayed, endsPlayed, ringFrom, endsFrom, allRounds}
+use Rattle.run_spec.specs.RunFile.{File, roundsGiven, start, round, plant, listeners, strikes, isFirst, listenerCountIn, headCountIn, limitIn, positionIn, thenPlayed, withRecord, stopped, withPart, step, feed, ending, roundsPlayed, endsPlayed, ringFrom, endsFrom, allRounds}
 use Rattle.run_spec.specs.Listing.{hex, title, line, lines, verdict, shown, listingOf}
 
 -- ---- bytes in pieces
@@ -107,7 +107,7 @@ module _ (F : File) where
 
   pub start-shows : (s : List ℕ) → F .setup .begun ≡ false
       → shown (withRecord start F s)
-      ≡ shown F ++ line (countIn s) 0 0 (firstEnd (countIn s) (limitIn s) (positionIn s))
+      ≡ shown F ++ line (headCountIn s) 0 0 (firstEnd (headCountIn s) (limitIn s) (positionIn s))
   unfolding shown lines endsAfter
   start-shows s e = rw (e, append-nil)
 
@@ -115,12 +115,12 @@ module _ (F : File) where
   pub listeners-shows : (s : List ℕ) → isFirst F ≡ true → shown (withRecord listeners F s) ≡ shown F
   unfolding shown lines endsAfter
   listeners-shows s e =
-      let (front, none) = and-both (F .setup .begun && eqb (given F) 0) _ e in
+      let (front, none) = and-both (F .setup .begun && eqb (roundsGiven F) 0) _ e in
       let (begun, first) = and-both (F .setup .begun) _ front in
       rw (
         begun,
-        none-played (F .rounds .played) (omega (arith, eqb-true (given F) 0 first)),
-        first-line (F .setup .n) (numberIn s) (F .setup .listeners) (F .setup .f) (F .setup .first),
+        none-played (F .rounds .played) (omega (arith, eqb-true (roundsGiven F) 0 first)),
+        first-line (F .setup .n) (listenerCountIn s) (F .setup .listeners) (F .setup .f) (F .setup .first),
       )
     where
       none-played : (ws : List Round) → length ws ≡ 0 → ws ≡ []

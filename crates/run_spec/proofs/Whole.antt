@@ -15,21 +15,21 @@ use Rattle.terms.proofs.Refusals.{unchanged, changed}
 use Rattle.terms.specs.Refusals as refusal
 use Rattle.fields.specs.Bytes.{at2}
 use Rattle.terms.proofs.Booleans.{and-both}
-use Rattle.run_spec.specs.RunFile.{File, unread, RecordKind, start, round, plant, listeners, strikes, other, lengthOf, kindOf, allowedWhen, isAllowed, recordFault, stopped, judged, withPart, readOn, step, feed, readFile}
+use Rattle.run_spec.specs.RunFile.{File, unread, RecordKind, start, round, plant, listeners, strikes, other, lengthIn, kindIn, allowedWhen, isAllowed, recordFault, stopped, judged, withPart, readOn, step, feed, readFile}
 
 -- ---- the header: four bytes
 
 -- whether the record that s begins is allowed
 abbrev pub stands : File → List ℕ → Bool
-stands F s = isAllowed (kindOf s) F (lengthOf s)
+stands F s = isAllowed (kindIn s) F (lengthIn s)
 
 at2-take : (n : ℕ) (s : List ℕ) (i : ℕ) → i + 1 < n → at2 (take n s) i ≡ at2 s i
 at2-take n s i h = let k : i < n = omega arith in rw (getD-take n s i 0 k, getD-take n s (i + 1) 0 h)
 
 -- t begins with the header of s
 pub record Heads (t s : List ℕ) : Type 0 where
-  pub long : lengthOf t ≡ lengthOf s
-  pub kind : kindOf t ≡ kindOf s
+  pub long : lengthIn t ≡ lengthIn s
+  pub kind : kindIn t ≡ kindIn s
 
 pub heads-take : (n : ℕ) (s : List ℕ) → 4 ≤ n → Heads (take n s) s
 heads-take n s h = record { long = at2-take n s 0 (omega arith); kind = rw (at2-take n s 2 (omega arith)) }
@@ -59,14 +59,14 @@ stands-long other begun first pending bare len e = absurd (true≢false (sym e))
 pub plant-long : (begun first pending bare : Bool) (len : ℕ) → allowedWhen plant begun first pending bare len ≡ true → (6 ≤ len) × (len ≤ 146)
 plant-long begun first pending bare len e = within pending 6 146 len e
 
-pub allowed-long : (F : File) (s : List ℕ) → stands F s ≡ true → (5 ≤ lengthOf s) × (lengthOf s ≤ 1026)
-allowed-long F s may = stands-long (kindOf s) _ _ _ _ (lengthOf s) may
+pub allowed-long : (F : File) (s : List ℕ) → stands F s ≡ true → (5 ≤ lengthIn s) × (lengthIn s ≤ 1026)
+allowed-long F s may = stands-long (kindIn s) _ _ _ _ (lengthIn s) may
 
 -- ---- a front of a record
 
 -- the first k of the bytes s are no whole record: they are too few for a header, or fewer than it says
 abbrev pub Cut : File → List ℕ → ℕ → Type 0
-Cut F s k = 4 ≤ k → (stands F s ≡ true) × (k < lengthOf s)
+Cut F s k = 4 ≤ k → (stands F s ≡ true) × (k < lengthIn s)
 
 cut-front : (F : File) (q xs s : List ℕ) → q ++ xs ≡ s → Cut F s (length q) → Cut F q (length q)
 cut-front F q xs s e c h =
@@ -80,22 +80,22 @@ module _ (F : File) (s : List ℕ) where
     where
       go : (few : Bool) → ltb (length s) 4 ≡ few
           → cond few (withPart F s)
-          (cond (eqb (length s) 4 && not (stands F s)) (stopped F refusal.run-record) (cond (eqb (length s) (lengthOf s)) (judged (kindOf s) F s) (withPart F s)))
+          (cond (eqb (length s) 4 && not (stands F s)) (stopped F refusal.run-record) (cond (eqb (length s) (lengthIn s)) (judged (kindIn s) F s) (withPart F s)))
           ≡ withPart F s
       go true e = refl
       go false e =
           let (may, more) = c (ltb-false (length s) 4 e) in
-          rw (may, and-false (eqb (length s) 4), ne-eqb (length s) (lengthOf s) (omega arith))
+          rw (may, and-false (eqb (length s) 4), ne-eqb (length s) (lengthIn s) (omega arith))
 
   read-refused : length s ≡ 4 → stands F s ≡ false → readOn F s ≡ stopped F refusal.run-record
   unfolding readOn
   read-refused four no-place = rw (no-place, le-ltb (length s) 4 (omega arith), eq-eqb (length s) 4 four)
 
-  read-whole : stands F s ≡ true → length s ≡ lengthOf s → readOn F s ≡ judged (kindOf s) F s
+  read-whole : stands F s ≡ true → length s ≡ lengthIn s → readOn F s ≡ judged (kindIn s) F s
   unfolding readOn
   read-whole may all =
       let long = allowed-long F s may in
-      rw (may, and-false (eqb (length s) 4), le-ltb (length s) 4 (omega arith), eq-eqb (length s) (lengthOf s) all)
+      rw (may, and-false (eqb (length s) 4), le-ltb (length s) 4 (omega arith), eq-eqb (length s) (lengthIn s) all)
 
 -- ---- the bytes kept so far are not looked at
 
@@ -114,7 +114,7 @@ judged-over other F q s = refl
 
 read-over : (F : File) (q s : List ℕ) → readOn (withPart F q) s ≡ readOn F s
 unfolding readOn
-read-over F q s = rw (judged-over (kindOf s) F q s)
+read-over F q s = rw (judged-over (kindIn s) F q s)
 
 -- ---- byte by byte, or at once
 
@@ -150,7 +150,7 @@ module _ (F : File) (ok : F .fault ≡ 0) where
     feed-refused four no-place = reads-on (λ k l h. absurd (omega arith)) (F .part) xs refl some ∙ read-refused F (F .part ++ xs) four no-place
 
     -- it is whole
-    pub feed-whole : let s = F .part ++ xs in stands F s ≡ true → length s ≡ lengthOf s → feed F xs ≡ judged (kindOf s) F s
+    pub feed-whole : let s = F .part ++ xs in stands F s ≡ true → length s ≡ lengthIn s → feed F xs ≡ judged (kindIn s) F s
     feed-whole may all = reads-on (λ k l h. (may, omega arith)) (F .part) xs refl some ∙ read-whole F (F .part ++ xs) may all
 
 -- after a fault nothing is read
@@ -180,7 +180,7 @@ RoundsFit F = Cut F (F .part) (length (F .part))
 
 -- its header holds for more bytes after it
 pub kept-on : (F : File) → RoundsFit F → (xs : List ℕ) → 4 ≤ length (F .part)
-    → let s = F .part ++ xs in (stands F s ≡ true) × (lengthOf (F .part) ≡ lengthOf s) × (length (F .part) < lengthOf s)
+    → let s = F .part ++ xs in (stands F s ≡ true) × (lengthIn (F .part) ≡ lengthIn s) × (length (F .part) < lengthIn s)
 kept-on F kept xs h =
     let same = heads-front (F .part) xs (F .part ++ xs) refl h in
     let (may, few) = kept h in
@@ -188,7 +188,7 @@ kept-on F kept xs h =
 
 module _ (F : File) (kept : RoundsFit F) (x : ℕ) where
   cut-more : let s = F .part ++ (x ∷ []) in
-      4 ≤ length s → (eqb (length s) 4 && not (stands F s)) ≡ false → (length s ≡ lengthOf s → ⊥) → (stands F s ≡ true) × (length s < lengthOf s)
+      4 ≤ length s → (eqb (length s) 4 && not (stands F s)) ≡ false → (length s ≡ lengthIn s → ⊥) → (stands F s ≡ true) × (length s < lengthIn s)
   cut-more h place more = go (decLe 4 (length (F .part)))
     where
       s : List ℕ
@@ -197,7 +197,7 @@ module _ (F : File) (kept : RoundsFit F) (x : ℕ) where
       one : length s ≡ length (F .part) + 1
       one = length-append (F .part) (x ∷ [])
 
-      go : Dec (4 ≤ length (F .part)) → (stands F s ≡ true) × (length s < lengthOf s)
+      go : Dec (4 ≤ length (F .part)) → (stands F s ≡ true) × (length s < lengthIn s)
       go (yes k) = let (may, same, few) = kept-on F kept (x ∷ []) k in (may, omega (arith, one))
       go (no k) =
           let may : stands F s ≡ true = not-false (stands F s) (rw (eq-eqb (length s) 4 (omega (arith, one))) at place) in
@@ -205,17 +205,17 @@ module _ (F : File) (kept : RoundsFit F) (x : ℕ) where
 
   pub kept-read : RoundsFit (readOn F (F .part ++ (x ∷ [])))
   unfolding readOn
-  kept-read = go (ltb (length s) 4) (eqb (length s) 4 && not (stands F s)) (eqb (length s) (lengthOf s)) refl refl refl
+  kept-read = go (ltb (length s) 4) (eqb (length s) 4 && not (stands F s)) (eqb (length s) (lengthIn s)) refl refl refl
     where
       s : List ℕ
       s = F .part ++ (x ∷ [])
 
-      go : (few out all : Bool) → ltb (length s) 4 ≡ few → (eqb (length s) 4 && not (stands F s)) ≡ out → eqb (length s) (lengthOf s) ≡ all
-          → RoundsFit (cond few (withPart F s) (cond out (stopped F refusal.run-record) (cond all (judged (kindOf s) F s) (withPart F s))))
+      go : (few out all : Bool) → ltb (length s) 4 ≡ few → (eqb (length s) 4 && not (stands F s)) ≡ out → eqb (length s) (lengthIn s) ≡ all
+          → RoundsFit (cond few (withPart F s) (cond out (stopped F refusal.run-record) (cond all (judged (kindIn s) F s) (withPart F s))))
       go true out all f o a h = absurd (omega (arith, ltb-true (length s) 4 f))
       go false true all f o a h = absurd (omega arith)
-      go false false true f o a h = absurd (omega (arith, ap length (judged-empty (kindOf s) F s)))
-      go false false false f o a h = cut-more h o (eqb-false (length s) (lengthOf s) a)
+      go false false true f o a h = absurd (omega (arith, ap length (judged-empty (kindIn s) F s)))
+      go false false false f o a h = cut-more h o (eqb-false (length s) (lengthIn s) a)
 
 kept-feed : (F : File) (s : List ℕ) → RoundsFit F → RoundsFit (feed F s)
 unfolding feed step

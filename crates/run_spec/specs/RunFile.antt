@@ -53,8 +53,8 @@ unfoldable pub unread : File
 unread = between noSetup noRounds
 
 -- the number of rounds given
-abbrev pub given : File → ℕ
-given F = length (F .rounds .played) + bit (F .rounds .pending)
+abbrev pub roundsGiven : File → ℕ
+roundsGiven F = length (F .rounds .played) + bit (F .rounds .pending)
 
 -- ---- records: kinds, and which is allowed, with what length
 
@@ -71,11 +71,11 @@ recordKind k =
     cond (eqb k 0x10) start (cond (eqb k 0x11) round (cond (eqb k 0x12) plant (cond (eqb k 0x15) listeners (cond (eqb k 0x13) strikes other))))
 
 -- two bytes length (of the whole record), two bytes kind
-abbrev pub lengthOf : List ℕ → ℕ
-lengthOf s = at2 s 0
+abbrev pub lengthIn : List ℕ → ℕ
+lengthIn s = at2 s 0
 
-abbrev pub kindOf : List ℕ → RecordKind
-kindOf s = recordKind (at2 s 2)
+abbrev pub kindIn : List ℕ → RecordKind
+kindIn s = recordKind (at2 s 2)
 
 -- By its first four bytes: a start first and once, a round after it, a planted record after a round; the number of listeners just after the start, and a round's
 -- struck listeners just after its record; the lengths that some record of that kind has. begun: a start was accepted; first: nothing else was; pending: a round
@@ -90,7 +90,7 @@ allowedWhen other begun first pending bare len = false
 
 -- nothing but the start was accepted
 abbrev pub isFirst : File → Bool
-isFirst F = F .setup .begun && eqb (given F) 0 && eqb (F .setup .listeners) 0
+isFirst F = F .setup .begun && eqb (roundsGiven F) 0 && eqb (F .setup .listeners) 0
 
 -- nothing was accepted after the record of the pending round
 abbrev pub isBare : Rounds → Bool
@@ -101,8 +101,8 @@ isAllowed K F len = allowedWhen K (F .setup .begun) (isFirst F) (F .rounds .pend
 
 -- ---- a start: n, f (a byte each), n positions
 
-abbrev pub countIn : List ℕ → ℕ
-countIn s = getD s 4 0
+abbrev pub headCountIn : List ℕ → ℕ
+headCountIn s = getD s 4 0
 
 abbrev pub limitIn : List ℕ → ℕ
 limitIn s = getD s 5 0
@@ -116,9 +116,9 @@ positionsFit s (suc j) = positionsFit s j && isPosition (positionIn s j)
 
 abbrev pub startFault : List ℕ → ℕ
 startFault s =
-    check (eqb (length s) (6 + 4 * countIn s)) refusal.run-record
-    (checkSize (countIn s) (limitIn s)
-    (check (positionsFit s (countIn s)) refusal.position 0))
+    check (eqb (length s) (6 + 4 * headCountIn s)) refusal.run-record
+    (checkSize (headCountIn s) (limitIn s)
+    (check (positionsFit s (headCountIn s)) refusal.position 0))
 
 -- ---- a round: a mark word of struck heads, at most f of them and none at n or above
 
@@ -134,11 +134,11 @@ roundFault n f rounds s = check (fewMarks n f (struckIn s)) refusal.struck (chec
 
 -- ---- the number of listeners, from 1 to 16 (document 02, A6)
 
-abbrev pub numberIn : List ℕ → ℕ
-numberIn s = getD s 4 0
+abbrev pub listenerCountIn : List ℕ → ℕ
+listenerCountIn s = getD s 4 0
 
 abbrev pub listenersFault : List ℕ → ℕ
-listenersFault s = check (leb 1 (numberIn s) && leb (numberIn s) 16) refusal.run-record 0
+listenersFault s = check (leb 1 (listenerCountIn s) && leb (listenerCountIn s) 16) refusal.run-record 0
 
 -- ---- a round's struck listeners: a mark word, bit j for listener 32 + j, with no mark for one that does not exist
 
@@ -177,7 +177,7 @@ plantFault n m struck last s = check (pairFits n m struck last (senderIn s) (rec
 
 abbrev pub recordFault : RecordKind → File → List ℕ → ℕ
 recordFault start F s = startFault s
-recordFault round F s = roundFault (F .setup .n) (F .setup .f) (given F) s
+recordFault round F s = roundFault (F .setup .n) (F .setup .f) (roundsGiven F) s
 recordFault plant F s = plantFault (F .setup .n) (F .setup .listeners) (F .rounds .last .struck) (lastPair (F .rounds .last .plants)) s
 recordFault listeners F s = listenersFault s
 recordFault strikes F s = strikesFault (F .setup .listeners) s
@@ -185,7 +185,7 @@ recordFault other F s = refusal.run-record
 
 -- the setup that a start record gives
 abbrev pub setupIn : List ℕ → Setup
-setupIn s = record { begun = true; n = countIn s; f = limitIn s; first = positionIn s; listeners = 0 }
+setupIn s = record { begun = true; n = headCountIn s; f = limitIn s; first = positionIn s; listeners = 0 }
 
 -- with listeners
 abbrev pub withListeners : Setup → ℕ → Setup
@@ -226,7 +226,7 @@ abbrev pub withRecord : RecordKind → File → List ℕ → File
 withRecord start F s = between (setupIn s) noRounds
 withRecord round F s = between (F .setup) (withRound (F .rounds) (struckIn s))
 withRecord plant F s = between (F .setup) (withPlant (F .rounds) (plantIn s))
-withRecord listeners F s = between (withListeners (F .setup) (numberIn s)) (F .rounds)
+withRecord listeners F s = between (withListeners (F .setup) (listenerCountIn s)) (F .rounds)
 withRecord strikes F s = between (F .setup) (withStrikes (F .rounds) (listenersIn s))
 withRecord other F s = F
 
@@ -246,8 +246,8 @@ withPart F s = record { part = s; fault = F .fault; setup = F .setup; rounds = F
 unfoldable pub readOn : File → List ℕ → File
 readOn F s =
     cond (ltb (length s) 4) (withPart F s)
-    (cond (eqb (length s) 4 && not (isAllowed (kindOf s) F (lengthOf s))) (stopped F refusal.run-record)
-    (cond (eqb (length s) (lengthOf s)) (judged (kindOf s) F s) (withPart F s)))
+    (cond (eqb (length s) 4 && not (isAllowed (kindIn s) F (lengthIn s))) (stopped F refusal.run-record)
+    (cond (eqb (length s) (lengthIn s)) (judged (kindIn s) F s) (withPart F s)))
 
 -- after a fault nothing is read
 unfoldable pub step : File → ℕ → File
@@ -277,7 +277,7 @@ isEmpty (x ∷ xs) = false
 
 -- the first fault, or 13: no start, a record cut short, or inside a phase; 0 if the file is played to its end
 unfoldable pub ending : File → ℕ
-ending F = check (eqb (F .fault) 0) (F .fault) (check (F .setup .begun && isEmpty (F .part) && endsPhase (given F)) refusal.run-record 0)
+ending F = check (eqb (F .fault) 0) (F .fault) (check (F .setup .begun && isEmpty (F .part) && endsPhase (roundsGiven F)) refusal.run-record 0)
 
 -- the ring of a setup after the rounds ws, and its phase ends
 abbrev pub ringFrom : Setup → List Round → Ring

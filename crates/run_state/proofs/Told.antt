@@ -9,7 +9,7 @@ use lib.ListN.{length}
 use borrow.Author.Needs.{needs}
 use borrow.Author.Tests.{ne-eqb}
 use Rattle.ring_spec.specs.Rounds.{Plant, mostRounds, afterRound, ringAfter}
-use Rattle.run_spec.specs.RunFile.{File, unread, given, RecordKind, start, round, plant, listeners, strikes, allowedWhen, isFirst, isBare, isAllowed, countIn, limitIn, struckIn, roundFault, numberIn, listenersIn, strikesFault, senderIn, receiverIn, lastPair, plantFault, recordFault, thenPlayed, withRecord, stopped, withPart, feed, readFile, ringFrom}
+use Rattle.run_spec.specs.RunFile.{File, unread, roundsGiven, RecordKind, start, round, plant, listeners, strikes, allowedWhen, isFirst, isBare, isAllowed, headCountIn, limitIn, struckIn, roundFault, listenerCountIn, listenersIn, strikesFault, senderIn, receiverIn, lastPair, plantFault, recordFault, thenPlayed, withRecord, stopped, withPart, feed, readFile, ringFrom}
 use Rattle.run_spec.proofs.Reached.{length-then}
 use Rattle.run_state.specs.declared.Player.{Player}
 use Rattle.run_state.specs.Changes.{freshPlayer, halted, withRoundGiven, withPairPlanted, withListenersGiven, withStrikesGiven}
@@ -20,7 +20,7 @@ pub unread-tells : PlayerOf (freshPlayer false 0 0) (readFile [])
 unfolding feed unread ringAfter
 unread-tells = search needs
 
-pub start-tells : (F : File) (s : List ℕ) → PlayerOf (freshPlayer true (countIn s) (limitIn s)) (withRecord start F s)
+pub start-tells : (F : File) (s : List ℕ) → PlayerOf (freshPlayer true (headCountIn s) (limitIn s)) (withRecord start F s)
 unfolding ringAfter
 start-tells F s = search needs
 
@@ -42,7 +42,7 @@ module _ {F : File} {p : Player} (T : PlayerOf p F) where
       go true = refl
       go false = refl
 
-  pub round-tells : (s : List ℕ) → given F < mostRounds → PlayerOf (withRoundGiven p (struckIn s)) (withRecord round F s)
+  pub round-tells : (s : List ℕ) → roundsGiven F < mostRounds → PlayerOf (withRoundGiven p (struckIn s)) (withRecord round F s)
   round-tells s more =
       record {
         begun = T .begun;
@@ -61,7 +61,7 @@ module _ {F : File} {p : Player} (T : PlayerOf p F) where
   pub plant-tells : (s : List ℕ) → PlayerOf (withPairPlanted p (senderIn s) (receiverIn s)) (withRecord plant F s)
   plant-tells s = search needs
 
-  pub listeners-tells : (s : List ℕ) → PlayerOf (withListenersGiven p (numberIn s)) (withRecord listeners F s)
+  pub listeners-tells : (s : List ℕ) → PlayerOf (withListenersGiven p (listenerCountIn s)) (withRecord listeners F s)
   listeners-tells s = search needs
 
   -- of a round whose struck listeners were not told, the marks are those of heads

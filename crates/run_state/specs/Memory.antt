@@ -17,8 +17,8 @@ abbrev pub Lent : Type 0 → Type 0
 Lent X = Both (RefT X) (RefT X)
 
 -- what is lent, as the function begins
-abbrev pub before : Lent (List ℤ) → Lent (List ℕ) → Lent (List (List ℤ)) → Lent (List ℕ) → Lent (List ℕ) → Memory
-before positions marks lists planted lengths =
+abbrev pub memoryBefore : Lent (List ℤ) → Lent (List ℕ) → Lent (List (List ℤ)) → Lent (List ℕ) → Lent (List ℕ) → Memory
+memoryBefore positions marks lists planted lengths =
     record {
       positions = now (positions .entry);
       marks = now (marks .entry);
@@ -28,8 +28,8 @@ before positions marks lists planted lengths =
     }
 
 -- and as it ends
-abbrev pub after : Lent (List ℤ) → Lent (List ℕ) → Lent (List (List ℤ)) → Lent (List ℕ) → Lent (List ℕ) → Memory
-after positions marks lists planted lengths =
+abbrev pub memoryAfter : Lent (List ℤ) → Lent (List ℕ) → Lent (List (List ℤ)) → Lent (List ℕ) → Lent (List ℕ) → Memory
+memoryAfter positions marks lists planted lengths =
     record {
       positions = now (positions .exit);
       marks = now (marks .exit);

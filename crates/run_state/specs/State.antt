@@ -4,7 +4,7 @@ use mathlib.Core.Path.{_≡_}
 use Prim.Native.Nat.{ℕ, _≤_, _<_}
 use lib.ListN.{length}
 use Rattle.ring_spec.specs.Rounds.{Ring, planted}
-use Rattle.run_spec.specs.RunFile.{File, given, lastPair, ringFrom}
+use Rattle.run_spec.specs.RunFile.{File, roundsGiven, lastPair, ringFrom}
 use Rattle.frame_slots.specs.Slots.{plantedIn}
 use Rattle.run_state.specs.declared.Player.{Player}
 use Rattle.run_state.specs.Memory.{Memory}
@@ -20,7 +20,7 @@ pub record PlayerOf (p : Player) (F : File) : Type 0 where
   pub n : F .setup .n ≡ p .n
   pub f : F .setup .f ≡ p .f
   pub listeners : F .setup .listeners ≡ p .listeners
-  pub given : given F ≡ p .given
+  pub given : roundsGiven F ≡ p .given
   pub pending : F .rounds .pending ≡ p .pending
   pub before : ringBefore F .before ≡ p .before
   pub struck : F .rounds .last .struck ≡ p .struck

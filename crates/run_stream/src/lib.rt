@@ -5,7 +5,7 @@ ghost use mathlib.Core.Path.{_≡_};
 ghost use Prim.Native.Nat.{ℕ, _+_, _≤_, _<_};
 ghost use lib.ListN.{length, take};
 ghost use Rattle.run_listing.specs.Texts.{bytesOf};
-ghost use Rattle.run_state.specs.Memory.{before, after, Memory};
+ghost use Rattle.run_state.specs.Memory.{memoryBefore, memoryAfter, Memory};
 ghost use Rattle.run_piece.specs.Advances.{StateAt, AdvancesOnce, Advances};
 ghost use Rattle.run_piece.specs.Inner.{Used, Reads, Waits, withLast, Passes};
 ghost use Rattle.run_stream.specs.Ends.{Ends, EndsWith};
@@ -100,8 +100,8 @@ fn step(
 ) -> FeedResult
     ensures { λ r. ⌜ Used (now (bytes .entry)) r ⌝ }
     ensures { λ r. ⌜ Reads p (now (bytes .entry)) r
-        (now (carry .entry)) (before positions marks lists planted lengths)
-        (now (carry .exit)) (after positions marks lists planted lengths) ⌝ }
+        (now (carry .entry)) (memoryBefore positions marks lists planted lengths)
+        (now (carry .exit)) (memoryAfter positions marks lists planted lengths) ⌝ }
 {
     let passed = pass_plants(p, bytes, planted, lengths);
     let player = passed.player;
@@ -133,9 +133,9 @@ pub fn feed(
     lengths: &mut PlantedLengths,
 ) -> FeedResult
     ensures { λ r. ⌜ (r .used ≤ length (now (bytes .entry))) × (0 < length (now (bytes .entry)) → 0 < r .used) × (r .text .len ≤ 64) ⌝ }
-    ensures { λ r. ⌜ ((a : List ℕ) → StateAt a p (now (carry .entry)) (before positions marks lists planted lengths)
-        → AdvancesOnce a (take (r .used) (now (bytes .entry))) p (before positions marks lists planted lengths)
-        (r .player) (bytesOf (r .text)) (now (carry .exit)) (after positions marks lists planted lengths)) ⌝ }
+    ensures { λ r. ⌜ ((a : List ℕ) → StateAt a p (now (carry .entry)) (memoryBefore positions marks lists planted lengths)
+        → AdvancesOnce a (take (r .used) (now (bytes .entry))) p (memoryBefore positions marks lists planted lengths)
+        (r .player) (bytesOf (r .text)) (now (carry .exit)) (memoryAfter positions marks lists planted lengths)) ⌝ }
 {
     let mut player = p;
     let mut used: usize = 0;
@@ -184,8 +184,8 @@ pub fn finish(
     lengths: &PlantedLengths,
 ) -> FinishResult
     ensures { λ r. ⌜ (r .line .len ≤ 64) × (r .verdict .len ≤ 64) ⌝ }
-    ensures { λ r. ⌜ ((a carry : List ℕ) → StateAt a p carry (before positions marks lists planted lengths)
-        → EndsWith a (before positions marks lists planted lengths) r (after positions marks lists planted lengths)) ⌝ }
+    ensures { λ r. ⌜ ((a carry : List ℕ) → StateAt a p carry (memoryBefore positions marks lists planted lengths)
+        → EndsWith a (memoryBefore positions marks lists planted lengths) r (memoryAfter positions marks lists planted lengths)) ⌝ }
 {
     let number = ending(p);
     let verdict = run_listing::verdict_line(number);
@@ -245,9 +245,9 @@ pub fn fill(
     lengths: &mut PlantedLengths,
 ) -> FillResult
     ensures { λ r. ⌜ (r .used ≤ length (now (bytes .entry))) × (0 < length (now (bytes .entry)) → 0 < r .used) × (r .len ≤ 4096) ⌝ }
-    ensures { λ r. ⌜ ((a : List ℕ) → StateAt a p (now (carry .entry)) (before positions marks lists planted lengths)
-        → Advances a (take (r .used) (now (bytes .entry))) p (before positions marks lists planted lengths)
-        (r .player) (take (r .len) (now (page .exit))) (now (carry .exit)) (after positions marks lists planted lengths)) ⌝ }
+    ensures { λ r. ⌜ ((a : List ℕ) → StateAt a p (now (carry .entry)) (memoryBefore positions marks lists planted lengths)
+        → Advances a (take (r .used) (now (bytes .entry))) p (memoryBefore positions marks lists planted lengths)
+        (r .player) (take (r .len) (now (page .exit))) (now (carry .exit)) (memoryAfter positions marks lists planted lengths)) ⌝ }
 {
     let mut player = p;
     let mut used: usize = 0;
@@ -289,8 +289,8 @@ pub fn last_page(
     lengths: &PlantedLengths,
 ) -> usize
     ensures { λ r. ⌜ r ≤ 4096 ⌝ }
-    ensures { λ r. ⌜ ((a carry : List ℕ) → StateAt a p carry (before positions marks lists planted lengths)
-        → Ends a (before positions marks lists planted lengths) (take r (now (page .exit))) (after positions marks lists planted lengths)) ⌝ }
+    ensures { λ r. ⌜ ((a carry : List ℕ) → StateAt a p carry (memoryBefore positions marks lists planted lengths)
+        → Ends a (memoryBefore positions marks lists planted lengths) (take r (now (page .exit))) (memoryAfter positions marks lists planted lengths)) ⌝ }
 {
     let end = finish(p, positions, marks, lists, planted, lengths);
     let line = end.line;

@@ -19,7 +19,7 @@ use Rattle.run_listing.specs.Held.{endIn}
 use Rattle.run_listing.proofs.Lowest.{found-held}
 use Rattle.ring_spec.specs.Rounds.{PhaseEnd, receivers, isReceiver, isOut, asEnd, ringAfter, afterRound}
 use Rattle.ring_spec.proofs.Counts.{counted}
-use Rattle.run_spec.specs.RunFile.{File, unread, given, RecordKind, start, round, plant, listeners, strikes, other, kindOf, lengthOf, isAllowed, thenPlayed, withRecord, feed, readFile, endsSoFar, ending, roundsPlayed, endsPlayed, ringFrom, endsFrom}
+use Rattle.run_spec.specs.RunFile.{File, unread, roundsGiven, RecordKind, start, round, plant, listeners, strikes, other, kindIn, lengthIn, isAllowed, thenPlayed, withRecord, feed, readFile, endsSoFar, ending, roundsPlayed, endsPlayed, ringFrom, endsFrom}
 use Rattle.run_spec.specs.Listing.{title, shown, listing}
 use Rattle.run_spec.proofs.Streaming.{feed-append}
 use Rattle.run_spec.proofs.Demand3.{every-file}
@@ -42,7 +42,7 @@ use Rattle.run_whole.specs.declared.Place.{Place}
 use Rattle.run_whole.specs.declared.PlayResult.{PlayResult}
 use Rattle.run_whole.specs.Buffers.{Buffers, mostEnds, hasRoom, row}
 use Rattle.run_whole.specs.Whole.{endNumber, HoldsEnd, Whole}
-use Rattle.run_whole.specs.Inner.{Put, EndKept, Rows, Told, Going}
+use Rattle.run_whole.specs.Inner.{Put, EndKept, Rows, HoldsSoFar, Going}
 use Rattle.run_whole.proofs.Rows.{rows-at, rows-recount}
 use Rattle.run_whole.proofs.Telling.{roomy, AtEnd, told-put, told-more, out-long}
 
@@ -64,12 +64,12 @@ few-so-far s = go (F .setup .begun) refl
 record Counts (n m r : ℕ) (F : File) (k : ℕ) : Type 0 where
   begun : F .setup .begun ≡ true
   heads : F .setup .n ≡ n
-  more : r ≤ given F
+  more : r ≤ roundsGiven F
   listeners : 0 < r → F .setup .listeners ≡ m
 
 module _ (n m r : ℕ) where
-  counts-on : (K : RecordKind) (F : File) (s : List ℕ) (k : ℕ) → isAllowed K F (lengthOf s) ≡ true → Counts n m r F k → Counts n m r (withRecord K F s) (suc k)
-  counts-on start F s k may C = absurd (true≢false (sym (C .begun) ∙ start-place F (lengthOf s) may))
+  counts-on : (K : RecordKind) (F : File) (s : List ℕ) (k : ℕ) → isAllowed K F (lengthIn s) ≡ true → Counts n m r F k → Counts n m r (withRecord K F s) (suc k)
+  counts-on start F s k may C = absurd (true≢false (sym (C .begun) ∙ start-place F (lengthIn s) may))
   counts-on round F s k may C =
       record {
         begun = C .begun;
@@ -83,24 +83,24 @@ module _ (n m r : ℕ) where
         begun = C .begun;
         heads = C .heads;
         more = C .more;
-        listeners = λ some. absurd (omega (arith, C .more, first-begun F (listeners-place F (lengthOf s) may) .1));
+        listeners = λ some. absurd (omega (arith, C .more, first-begun F (listeners-place F (lengthIn s) may) .1));
       }
   counts-on strikes F s k may C = record { begun = C .begun; heads = C .heads; more = C .more; listeners = C .listeners }
   counts-on other F s k may C = absurd (true≢false (sym may))
 
 same-counts : (a b : List ℕ) → readFile a .setup .begun ≡ true → let F = readFile a in
-    Counts (F .setup .n) (F .setup .listeners) (given F) (readFile (a ++ b)) (length a + length b)
+    Counts (F .setup .n) (F .setup .listeners) (roundsGiven F) (readFile (a ++ b)) (length a + length b)
 same-counts a b begun =
     let F = readFile a in
     let n = F .setup .n in
     let m = F .setup .listeners in
-    let r = given F in
+    let r = roundsGiven F in
     rw (feed-append unread a b)
     (from (Counts n m r)
     (λ F k C. record { begun = C .begun; heads = C .heads; more = C .more; listeners = C .listeners })
     (λ F s k one C. record { begun = C .begun; heads = C .heads; more = C .more; listeners = C .listeners })
     (λ F c k C. record { begun = C .begun; heads = C .heads; more = C .more; listeners = C .listeners })
-    (λ F s k one may all sound C. counts-on n m r (kindOf s) F s k may C)
+    (λ F s k one may all sound C. counts-on n m r (kindIn s) F s k may C)
     F b (length a) (kept a) (record { begun = begun; heads = refl; more = omega arith; listeners = λ some. refl }))
 
 -- before a start there is no row, and before the first round that of the start alone
@@ -115,7 +115,7 @@ rows-then a b ends words = go (F .setup .begun) refl
     G : File
     G = readFile (a ++ b)
 
-    counted-on : F .setup .begun ≡ true → Dec (0 < given F) → let es = endsFrom (F .setup) (F .rounds .played) in
+    counted-on : F .setup .begun ≡ true → Dec (0 < roundsGiven F) → let es = endsFrom (F .setup) (F .rounds .played) in
         Rows (F .setup .n) (F .setup .listeners) es ends words → Rows (G .setup .n) (G .setup .listeners) es ends words
     counted-on e (yes some) R = let C = same-counts a b e in rw (C .heads, C .listeners some) R
     counted-on e (no none) R =
@@ -124,7 +124,7 @@ rows-then a b ends words = go (F .setup .begun) refl
 
     go : (c : Bool) → F .setup .begun ≡ c → let es = cond c (endsFrom (F .setup) (F .rounds .played)) [] in
         Rows (F .setup .n) (F .setup .listeners) es ends words → Rows (G .setup .n) (G .setup .listeners) es ends words
-    go true e R = counted-on e (decLt 0 (given F)) R
+    go true e R = counted-on e (decLt 0 (roundsGiven F)) R
     go false e R = tt
 
 -- if there is a phase end, there was a start
@@ -137,7 +137,7 @@ begun-so F x es = go (F .setup .begun)
 
 -- ---- before the first byte
 
-none-told : (n m : ℕ) (B : Buffers) → Told n m [] [] 0 0 B B
+none-told : (n m : ℕ) (B : Buffers) → HoldsSoFar n m [] [] 0 0 B B
 unfolding Rows
 none-told n m B = record { len = refl; out = refl; count = refl; rows = tt; more-rows = refl; more-words = refl; long = refl; wide = refl }
 
@@ -165,7 +165,7 @@ module _ {file : List ℕ} {at : Place} {carry : List ℕ} {M : Memory} {B₀ B 
   a = take (at .used) file
 
   -- the numbers of heads and listeners as they are after more bytes
-  told-then : (b : List ℕ) → Told (readFile (a ++ b) .setup .n) (readFile (a ++ b) .setup .listeners) (shown (readFile a)) (endsSoFar (readFile a)) (at .len) (at .count) B₀ B
+  told-then : (b : List ℕ) → HoldsSoFar (readFile (a ++ b) .setup .n) (readFile (a ++ b) .setup .listeners) (shown (readFile a)) (endsSoFar (readFile a)) (at .len) (at .count) B₀ B
   told-then b =
       let T = G .told in
       record {
@@ -263,7 +263,7 @@ rows-converge {n} {m} x y {ps} {qs} H I D =
     }
 
 module _ (s : List ℕ) {r : PlayResult} {B₀ B : Buffers} (number : r .number ≡ ending (readFile s))
-    (T : Told (readFile s .setup .n) (readFile s .setup .listeners) (listing s) (endsPlayed (readFile s)) (r .len) (r .ends) B₀ B) where
+    (T : HoldsSoFar (readFile s .setup .n) (readFile s .setup .listeners) (listing s) (endsPlayed (readFile s)) (r .len) (r .ends) B₀ B) where
   whole-told : Whole s r B₀ B
   whole-told =
       let F = readFile s in

@@ -18,7 +18,7 @@ use Rattle.run_listing.specs.Texts.{bytesOf}
 use Rattle.run_piece.specs.Advances.{struckHere, endHere, Grown, none, one}
 use Rattle.run_piece.proofs.Growing.{line-some}
 use Rattle.run_whole.specs.Buffers.{Buffers, mostEnds, hasRoom}
-use Rattle.run_whole.specs.Inner.{Put, soundRow, wordAt, EndKept, Rows, Told}
+use Rattle.run_whole.specs.Inner.{Put, soundRow, wordAt, EndKept, Rows, HoldsSoFar}
 use Rattle.run_whole.proofs.Rows.{row-long, row-holds, row-before, row-new, rows-same}
 
 -- ---- room
@@ -45,7 +45,7 @@ word-here : (es : List PhaseEnd) (R : Ring) {c struck : ℕ} → c ≡ length es
 word-here [] R e s = rw e refl
 word-here (x ∷ es) R e s = rw e s
 
-module _ {n m : ℕ} {text : List ℕ} {es : List PhaseEnd} {l c : ℕ} {B₀ B : Buffers} (T : Told n m text es l c B₀ B) where
+module _ {n m : ℕ} {text : List ℕ} {es : List PhaseEnd} {l c : ℕ} {B₀ B : Buffers} (T : HoldsSoFar n m text es l c B₀ B) where
   pub out-long : l ≤ length (B₀ .out) → length (B .out) ≡ length (B₀ .out)
   out-long h = ap length (T .out) ∙ length-append text (drop l (B₀ .out)) ∙ omega (arith, length-drop l (B₀ .out), T .len)
 
@@ -54,7 +54,7 @@ module _ {n m : ℕ} {text : List ℕ} {es : List PhaseEnd} {l c : ℕ} {B₀ B 
   abbrev with-out : List ℕ → Buffers
   with-out out = record { out = out; ends = B .ends; words = B .words }
 
-  pub told-put : (more : List ℕ) (k : ℕ) {out : List ℕ} → length more ≡ k → out ≡ paste (B .out) l more k → Told n m (text ++ more) es (l + k) c B₀ (with-out out)
+  pub told-put : (more : List ℕ) (k : ℕ) {out : List ℕ} → length more ≡ k → out ≡ paste (B .out) l more k → HoldsSoFar n m (text ++ more) es (l + k) c B₀ (with-out out)
   told-put more k e p =
       let front : take l (B .out) ≡ text = ap (take l) (T .out) ∙ take-at text (drop l (B₀ .out)) l (sym (T .len)) in
       let all : take k more ≡ more = ap (λ (m : ℕ). take m more) (sym e) ∙ take-length more in
@@ -100,7 +100,7 @@ module _ {n m : ℕ} {text : List ℕ} {es : List PhaseEnd} {l c : ℕ} {B₀ B 
               (λ e h. getD-set-other (B .words) c e word 0 (omega arith)) (T .rows),
         )
 
-    told-keep : Told n m text (x ∷ es) l (c + 1) B₀ (record { out = B .out; ends = ends′; words = words′ })
+    told-keep : HoldsSoFar n m text (x ∷ es) l (c + 1) B₀ (record { out = B .out; ends = ends′; words = words′ })
     told-keep =
         let next : 48 * (c + 1) ≡ 48 * c + 48 = omega arith in
         record {
@@ -120,12 +120,12 @@ module _ {n m : ℕ} {text : List ℕ} {es : List PhaseEnd} {l c : ℕ} {B₀ B 
 
 -- ---- what is shown, and the phase end that it is the line of
 
-module _ {n m : ℕ} {text : List ℕ} {es : List PhaseEnd} {l c : ℕ} {B₀ B : Buffers} (T : Told n m text es l c B₀ B) where
+module _ {n m : ℕ} {text : List ℕ} {es : List PhaseEnd} {l c : ℕ} {B₀ B : Buffers} (T : HoldsSoFar n m text es l c B₀ B) where
   module _ {most : ℕ} (room : Roomy most B₀) (small : l ≤ 64 * (c + 1)) {t : Text} (short : t .len ≤ 64) {es′ : List PhaseEnd} (few : length es′ ≤ most) {R : Ring}
       {struck : ℕ} {positions : List ℤ} (ended : (x : PhaseEnd) → es′ ≡ x ∷ es → R .round ≡ 0 → AtEnd n m x R struck positions)
       {l′ c′ : ℕ} {out : List ℕ} {ends : List ℤ} {words : List ℕ} (P : Put t l l′ (B .out) out) where
     pub told-more : {some : Bool} → some ≡ not (eqb (t .len) 0) → EndKept some n m struck positions c c′ (B .ends) (B .words) ends words → Grown n m es es′ R (bytesOf t)
-        → Told n m (text ++ bytesOf t) es′ l′ c′ B₀ (record { out = out; ends = ends; words = words }) × (l′ ≤ 64 * (c′ + 1))
+        → HoldsSoFar n m (text ++ bytesOf t) es′ l′ c′ B₀ (record { out = out; ends = ends; words = words }) × (l′ ≤ 64 * (c′ + 1))
     told-more {some} flag K (none e z) =
         let long = P .long short in
         let zero : t .len ≡ 0 = omega (arith, ap length z) in

@@ -49,7 +49,7 @@ Rows n m [] ends words = Unit {0}
 Rows n m (x ∷ es) ends words = HoldsEnd n m x (row (length es) ends) (getD words (length es) 0) × Rows n m es ends words
 
 -- the buffers B, which were B₀, hold a text of l bytes and the phase ends es, c of them
-pub record Told (n m : ℕ) (text : List ℕ) (es : List PhaseEnd) (l c : ℕ) (B₀ B : Buffers) : Type 0 where
+pub record HoldsSoFar (n m : ℕ) (text : List ℕ) (es : List PhaseEnd) (l c : ℕ) (B₀ B : Buffers) : Type 0 where
   pub len : l ≡ length text
   pub out : B .out ≡ text ++ drop l (B₀ .out)
   pub count : c ≡ length es
@@ -64,5 +64,5 @@ pub record Going (file : List ℕ) (at : Place) (carry : List ℕ) (M : Memory) 
   pub room : hasRoom (length file) (length (B₀ .out)) (length (B₀ .ends)) (length (B₀ .words)) ≡ true
   pub within : at .used ≤ length file
   pub state : StateAt (take (at .used) file) (at .player) carry M
-  pub told : let F = readFile (take (at .used) file) in Told (F .setup .n) (F .setup .listeners) (shown F) (endsSoFar F) (at .len) (at .count) B₀ B
+  pub told : let F = readFile (take (at .used) file) in HoldsSoFar (F .setup .n) (F .setup .listeners) (shown F) (endsSoFar F) (at .len) (at .count) B₀ B
   pub small : at .len ≤ 64 * (at .count + 1)

@@ -6,7 +6,7 @@ ghost use mathlib.Core.Path.{_≡_};
 ghost use Prim.Native.Nat.{ℕ, _+_, _*_, _≤_, _<_};
 ghost use lib.ListN.{length};
 ghost use lib.Seq.{paste};
-ghost use Rattle.run_state.specs.Memory.{before, after};
+ghost use Rattle.run_state.specs.Memory.{memoryBefore, memoryAfter};
 ghost use Rattle.run_whole.specs.Buffers.{Buffers, lent, left, hasRoom};
 ghost use Rattle.run_whole.specs.Whole.{Whole, Plays, PlaysInto};
 ghost use Rattle.run_whole.specs.Inner.{Put, soundNumber, soundRow, wordAt, EndKept, Going};
@@ -149,8 +149,8 @@ fn step(
     requires { ⌜ at .used < length (now file) ⌝ }
     ensures { λ r. ⌜ (at .used < r .used) × (r .used ≤ length (now (file .entry))) ⌝ }
     ensures { λ r. ⌜ ((B : Buffers)
-        → Going (now (file .entry)) at (now (carry .entry)) (before positions marks lists planted lengths) B (lent out ends words)
-        → Going (now (file .entry)) r (now (carry .exit)) (after positions marks lists planted lengths) B (left out ends words)) ⌝ }
+        → Going (now (file .entry)) at (now (carry .entry)) (memoryBefore positions marks lists planted lengths) B (lent out ends words)
+        → Going (now (file .entry)) r (now (carry .exit)) (memoryAfter positions marks lists planted lengths) B (left out ends words)) ⌝ }
 {
     let used = at.used;
     let fed = run_stream::feed(
@@ -197,7 +197,7 @@ fn close(
     lengths: &PlantedLengths,
 ) -> PlayResult
     ensures { λ r. ⌜ ((file carry : List ℕ) (B : Buffers) → at .used ≡ length file
-        → Going file at carry (before positions marks lists planted lengths) B (lent out ends words) → Whole file r B (left out ends words)) ⌝ }
+        → Going file at carry (memoryBefore positions marks lists planted lengths) B (lent out ends words) → Whole file r B (left out ends words)) ⌝ }
 {
     let player = at.player;
     let last = run_stream::finish(player, positions, marks, lists, planted, lengths);

@@ -4,7 +4,7 @@ use mathlib.Core.Bool.{true≢false}
 use native.Mathlib.Omega.{arith}
 use denote.Ref.{now}
 use borrow.Author.Needs.{needs}
-use Rattle.run_spec.specs.RunFile.{lengthOf, kindOf}
+use Rattle.run_spec.specs.RunFile.{lengthIn, kindIn}
 use Rattle.run_spec.proofs.Whole.{stands-long}
 use Rattle.run_piece.proofs.is_whole.Statement.{statement}
 use Rattle.run_piece.proofs.is_whole.Tie as tie
@@ -22,7 +22,7 @@ returns-3 c e =
     record {
       fresh = search needs;
       within = omega (arith, c .before .before .half-at .ensures);
-      long = stands-long (kindOf (now (a .bytes))) _ _ _ _ (lengthOf (now (a .bytes))) allowed .0;
+      long = stands-long (kindIn (now (a .bytes))) _ _ _ _ (lengthIn (now (a .bytes))) allowed .0;
       allowed = allowed;
     }
 
