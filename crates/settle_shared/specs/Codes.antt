@@ -35,7 +35,7 @@ MarksOf n codes word = (j : ℕ) → bitOf word j ≡ (ltb j n && not (eqZ (getD
 
 -- the code that a receiver takes for entry j: the shared one if as many lists have it as are needed, and none if the entry's link confessed
 abbrev pub codeTaken : List ℤ → List ℕ → ℕ → ℕ → ℕ → ℤ
-codeTaken codes same need confessed j = cond (bitOf confessed j) noCode (cond (leb need (getD same j 0)) (getD codes j (pos 0)) noCode)
+codeTaken codes same need confesses j = cond (bitOf confesses j) noCode (cond (leb need (getD same j 0)) (getD codes j (pos 0)) noCode)
 
 -- 1 if a link gave a list with the code c at entry j
 abbrev pub holds : ℕ → ℤ → Given → ℕ

@@ -23,9 +23,7 @@ use terms::Words;
 // A number that is no position: the code of a null entry.
 const NONE: i32 = 1000001;
 
-// No lists to search.
-const NO_LISTS: [[i32; 32]; 32] = [[0; 32]; 32];
-
+// The marks of no lists.
 const NO_MARKS: [u32; 32] = [0; 32];
 
 // ---- Lists as codes.
@@ -331,8 +329,10 @@ pub fn marks_of(codes: &Numbers, n: u8) -> u32
 }
 
 // The new position of a receiver, its entries decided and put in order one by one, as a head does that closes a round: by the shared codes, their marks, and how many
-// lists it counted for each. There is no list more to search. `up`: whether an odd sum is rounded up.
+// lists it counted for each. None of `lists` is looked at: there is no list more to search. They are lent since a table of none would be filled at each call. `up`:
+// whether an odd sum is rounded up.
 pub fn settle_counted(
+    lists: &Lists,
     codes: &Numbers,
     word: u32,
     same: &Words,
@@ -353,5 +353,5 @@ pub fn settle_counted(
         alike: 0,
         apart: 0,
     };
-    settle_position::settle_entries(&NO_LISTS, &NO_MARKS, codes, same, d, n, f, up)
+    settle_position::settle_entries(lists, &NO_MARKS, codes, same, d, n, f, up)
 }
