@@ -89,6 +89,7 @@ fn need_after(need: usize, confessed: u32, n: usize) -> usize
 // is refused.
 fn position_from(
     s: Stage,
+    rows: &Lists,
     codes: &Numbers,
     word: u32,
     same: &Words,
@@ -100,7 +101,7 @@ fn position_from(
 {
     let n = ring_round::head_count(s);
     let up = steps::rounds_up(s.phase);
-    match settle_shared::settle_counted(codes, word, same, need, confessed, n, s.f, up) {
+    match settle_shared::settle_counted(rows, codes, word, same, need, confessed, n, s.f, up) {
         Settled::Refused(_) => 0,
         Settled::New(kept) => kept.position,
     }
@@ -126,6 +127,7 @@ fn is_same_front(a: &Numbers, b: &Numbers, n: usize) -> bool
 // same trusted entries, settle the same.
 fn position_after(
     s: Stage,
+    rows: &Lists,
     planted: &[u8],
     lengths: &[u8],
     i: usize,
@@ -159,12 +161,13 @@ fn position_after(
         }
     }
     *settled = own;
-    position_from(s, codes, word, &same, left, confessed)
+    position_from(s, rows, codes, word, &same, left, confessed)
 }
 
 // Stores the new position of each unstruck receiver.
 fn fill_positions(
     s: Stage,
+    rows: &Lists,
     planted: &[u8],
     lengths: &[u8],
     need: usize,
@@ -186,6 +189,7 @@ fn fill_positions(
         if ring_round::settles(s, i) {
             told = position_after(
                 s,
+                rows,
                 planted,
                 lengths,
                 i,
@@ -228,6 +232,16 @@ pub fn settle_all(
     }
     let need = settle_trust::lists_needed(links.confessed, n, s.f);
     let word = settle_shared::marks_of(&codes, n);
-    fill_positions(s, planted, lengths, need, &codes, word, &counts, positions);
+    fill_positions(
+        s,
+        rows,
+        planted,
+        lengths,
+        need,
+        &codes,
+        word,
+        &counts,
+        positions,
+    );
     true
 }
