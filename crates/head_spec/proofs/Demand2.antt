@@ -4,16 +4,15 @@ use mathlib.Core.Path.{_≡_, refl, ap, _∙_}
 use mathlib.Core.Bool.{false}
 use mathlib.Core.List.{List}
 use Prim.Native.Nat.{ℕ}
-use Rattle.terms.specs.declared.Entry.{Entry}
 use Rattle.entries.specs.Tables.{tableAt}
-use Rattle.convergence.specs.Counting.{Each}
-use Rattle.convergence.specs.Settling.{Rule, twoRounds, enough}
+use Rattle.convergence.specs.Settling.{twoRounds}
 use Rattle.convergence.specs.Trust.{Given, trusted}
 use Rattle.convergence.specs.Phases.{rounding}
-use Rattle.convergence.proofs.Same.{nulls-same, ordered-same, trusted-same}
+use Rattle.convergence.proofs.Same.{trusted-same}
 use Rattle.convergence.proofs.Support.{trusted-iff}
 use Rattle.settle_midpoint.specs.Answers.{settling}
 use Rattle.settle_midpoint.specs.declared.Settled.{Settled}
+use Rattle.settle_midpoint.proofs.Middle.{settling-same}
 use Rattle.frame_spec.proofs.OneMeaning.{one-meaning}
 use Rattle.head_spec.specs.declared.Seat.{Seat}
 use Rattle.head_spec.specs.declared.Head.{Head}
@@ -35,11 +34,6 @@ reached-proper (listens n f i e) = proper-started-listener n f i e
 reached-proper (listens-again n f i p r e) = proper-restarted-listener n f i p r e
 reached-proper (hears {h} k s B R) = proper-hear h k s (reached-proper R)
 reached-proper (closes {h} R) = proper-close h (reached-proper R)
-
--- what is settled depends on what the links 0 .. n - 1 gave only
-settling-same : (r n : ℕ) (S : Rule) (E E′ : ℕ → Entry) → Each n (λ j. E j ≡ E′ j) → settling r n S E ≡ settling r n S E′
-unfolding settling enough
-settling-same r n S E E′ h = rw (nulls-same n E E′ h, ordered-same n E E′ h)
 
 module _ (h : Head) (F : Fresh h) (D : List Delivery) where
   abbrev T : Head

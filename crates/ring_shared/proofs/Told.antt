@@ -3,9 +3,8 @@
 use mathlib.Core.Path.{_≡_, refl, ap, sym, _∙_}
 use mathlib.Core.Bool.{Bool, true, false, cond, _&&_}
 use mathlib.Core.List.{List, [], _∷_}
-use Prim.Native.Nat.{ℕ, _+_, _-_, _≤_, min}
+use Prim.Native.Nat.{ℕ, _+_, _-_, _≤_, _<_, min}
 use native.Mathlib.Omega.{arith}
-use lib.Dec.{leb}
 use lib.ListN.{getD}
 use lib.IntN.{ℤ, pos}
 use borrow.Author.Tests.{lt-ltb}
@@ -20,7 +19,7 @@ use Rattle.frame_spec.specs.Said.{Meaning, refused, collected, listed, confesse
 use Rattle.frame_spec.proofs.OneMeaning.{said-proper}
 use Rattle.settle_trust.specs.declared.Links.{Links}
 use Rattle.settle_trust.specs.Received.{givenBy}
-use Rattle.settle_shared.specs.Codes.{noCode, holds}
+use Rattle.settle_shared.specs.Codes.{noCode, codeTaken, MarksOf, holds}
 use Rattle.settle_shared.specs.Shared.{Shares}
 use Rattle.settle_shared.proofs.Codes.{position-code}
 use Rattle.settle_shared.proofs.Sharing.{confessions-marked}
@@ -43,17 +42,19 @@ given-positions n p r k bytes size j l u q = go (said n p r k bytes) refl q
     go confessed e h = absurd (not-null refl h)
 
 -- g and rows hold what is given all alike; n: the heads played; struck: how many of them are struck
-pub shared-by : (s : Stage) (g : Links) (rows : List (List ℤ)) {n struck need : ℕ} {codes : List ℤ} {counts : List ℕ} → n ≡ heads s → struck ≡ markedTo (s .struck) n
-    → Shares n (s .f) struck (givenBy g rows) codes counts → need ≡ n - s .f - markedTo (g .confessed) (min n 32) → Alike s (givenBy g rows) → SharedBy s need codes counts (givenBy g rows)
-shared-by s g rows {n} p q S e A =
+pub shared-by : (s : Stage) (g : Links) (rows : List (List ℤ)) {n struck need word : ℕ} {codes : List ℤ} {counts : List ℕ} → n ≡ heads s → struck ≡ markedTo (s .struck) n
+    → Shares n (s .f) struck (givenBy g rows) codes counts → need ≡ n - s .f - markedTo (g .confessed) (min n 32) → MarksOf n codes word → Alike s (givenBy g rows)
+    → SharedBy s need word codes counts (givenBy g rows)
+shared-by s g rows {n} p q S e M A =
     let small : min n 32 ≡ heads s = omega arith in
     record {
       shares = rw (q, p) at S;
       needed = e ∙ rw (small, p) (ap (λ (x : ℕ). heads s - s .f - x) (sym (confessions-marked (heads s) g rows)));
       alike = A;
+      marked = rw p at M;
     }
 
-module _ (s : Stage) (plant : ℕ → ℕ → List ℕ) (i : ℕ) (G : ℕ → Given) {need : ℕ} {codes : List ℤ} {counts : List ℕ} (S : SharedBy s need codes counts G) where
+module _ (s : Stage) (plant : ℕ → ℕ → List ℕ) (i : ℕ) (G : ℕ → Given) {need word : ℕ} {codes : List ℤ} {counts : List ℕ} (S : SharedBy s need word codes counts G) where
   abbrev G′ : ℕ → Given
   G′ = givenTo s G plant i
 
@@ -119,8 +120,24 @@ module _ (s : Stage) (plant : ℕ → ℕ → List ℕ) (i : ℕ) (G : ℕ → G
 
     -- left: how many lists are needed here
     pub codes-told : {left : ℕ} (out : List ℤ) → left ≡ need - markedTo confessed n
-        → Each n (λ j. getD out j (pos 0) ≡ cond (bitOf confessed j) noCode (cond (leb left (getD same j 0)) (getD codes j (pos 0)) noCode)) → CodesOf s G′ out
+        → Each n (λ j. getD out j (pos 0) ≡ codeTaken codes same left confessed j) → CodesOf s G′ out
     codes-told {left} out e h j l =
         let needs : left ≡ n - s .f - confessions n G′ = omega (arith, e, S .needed, confessions-here) in
         shared-trusted n (s .f) (markedTo (s .struck) n) G G′ (isStruck s) codes counts (S .shares) struck-count (λ k m. S .alike .untold k) (λ k m. kept k) tidy j l
         needs (T .counts j l ∙ ap (λ (x : ℕ). getD counts j 0 + x) (added-here j (getD codes j (pos 0)))) (marked-here j) (h j l)
+
+    -- some are, since more are needed of what is given all alike than heads are struck
+    pub need-told : {left : ℕ} → left ≡ need - markedTo confessed n → (0 < left) × (left ≤ 32)
+    need-told e =
+        let a : ℕ → ℕ = λ k. bit (bitOf confessed k) in
+        let b : ℕ → ℕ = λ k. bit (bitOf (s .struck) k) in
+        let few : markedTo confessed n ≤ markedTo (s .struck) n = omega (arith, sums-le n (a ∷ []) (b ∷ []) (λ k l. omega (arith, go k l))) in
+        (omega (arith, few, S .needed, S .shares .enough), omega (arith, S .needed, S .shares .small))
+      where
+        pick : (b h : Bool) → bit (cond b h false) ≤ bit b
+        pick true true = omega arith
+        pick true false = omega arith
+        pick false h = omega arith
+
+        go : Each n (λ k. bit (bitOf confessed k) ≤ bit (bitOf (s .struck) k))
+        go k l = rw (T .confesses k, lt-ltb k (heads s) l) (pick (bitOf (s .struck) k) (hasConfessed (plantedGiven s plant i k)))

@@ -5,6 +5,7 @@ use mathlib.Core.List.{List}
 use Prim.Native.Nat.{ℕ, _+_, _-_, _<_}
 use lib.ListN.{getD}
 use lib.IntN.{ℤ, pos}
+use Rattle.terms.specs.declared.Entry.{Entry}
 use Rattle.marks.specs.Marks.{bitOf, withMark, markedTo}
 use Rattle.convergence.specs.Counting.{Each, sum}
 use Rattle.convergence.specs.Settling.{twoRounds}
@@ -12,7 +13,7 @@ use Rattle.convergence.specs.Trust.{Given, hasConfessed, confessions, trusted}
 use Rattle.convergence.specs.Phases.{rounding}
 use Rattle.frame_spec.specs.Said.{said}
 use Rattle.settle_midpoint.specs.Answers.{settling}
-use Rattle.settle_shared.specs.Codes.{entryOf, holds}
+use Rattle.settle_shared.specs.Codes.{entryOf, MarksOf, holds}
 use Rattle.settle_shared.specs.Shared.{Shares}
 use Rattle.head_spec.specs.Record.{givenOf}
 use Rattle.ring_round.specs.declared.Stage.{Stage}
@@ -34,19 +35,24 @@ pub record Told (s : Stage) (plant : ℕ → ℕ → List ℕ) (i : ℕ) (codes 
       ≡ getD same j 0 + sum (heads s) (λ k. cond (bitOf (s .struck) k) (holds j (getD codes j (pos 0)) (plantedGiven s plant i k)) 0))
   pub confesses : (k : ℕ) → bitOf confessed k ≡ cond (isStruck s k) (hasConfessed (plantedGiven s plant i k)) false
 
--- G, what is given all alike, shows these codes and counts, and so many lists are needed
-pub record SharedBy (s : Stage) (need : ℕ) (codes : List ℤ) (counts : List ℕ) (G : ℕ → Given) : Type 0 where
+-- G, what is given all alike, shows these codes, with their marks, and counts, and so many lists are needed
+pub record SharedBy (s : Stage) (need word : ℕ) (codes : List ℤ) (counts : List ℕ) (G : ℕ → Given) : Type 0 where
   pub shares : Shares (heads s) (s .f) (markedTo (s .struck) (heads s)) G codes counts
   pub needed : need ≡ heads s - s .f - confessions (heads s) G
   pub alike : Alike s G
+  pub marked : MarksOf (heads s) codes word
 
 -- the codes are those of the trusted entries of a receiver to which its links give G
 abbrev pub CodesOf : Stage → (ℕ → Given) → List ℤ → Type 0
 CodesOf s G codes = Each (heads s) (λ j. entryOf (getD codes j (pos 0)) ≡ trusted (heads s) (s .f) G j)
 
--- the position that a receiver settles, from the codes of its trusted entries
-unfoldable pub settledAt : Stage → List ℤ → ℤ
-settledAt s codes = positionOf (settling (rounding (s .phase)) (heads s) (twoRounds (s .f)) (λ j. entryOf (getD codes j (pos 0))))
+-- the position that a receiver settles, from its trusted entries
+unfoldable pub settledBy : Stage → (ℕ → Entry) → ℤ
+settledBy s E = positionOf (settling (rounding (s .phase)) (heads s) (twoRounds (s .f)) E)
+
+-- from their codes
+abbrev pub settledAt : Stage → List ℤ → ℤ
+settledAt s codes = settledBy s (λ j. entryOf (getD codes j (pos 0)))
 
 -- a receiver to which its links give G settled this position, from these codes
 pub record SettledLast (s : Stage) (G : ℕ → Given) (codes : List ℤ) (position : ℤ) : Type 0 where

@@ -14,7 +14,8 @@ ghost use Rattle.settle_trust.specs.Received.{givenBy};
 ghost use Rattle.head_spec.specs.Record.{givenOf};
 ghost use Rattle.ring_round.specs.Memory.{heads};
 ghost use Rattle.ring_shared.specs.Planted.{AllSettled, SettlesAll, givenTo};
-ghost use Rattle.ring_shared.specs.Inner.{Counted, Told, SharedBy, CodesOf, settledAt, SettledLast};
+ghost use Rattle.settle_shared.specs.Codes.{entryOf, codeTaken, MarksOf};
+ghost use Rattle.ring_shared.specs.Inner.{Counted, Told, SharedBy, settledBy, SettledLast};
 use frame_spec::Said;
 use ring_round::Stage;
 use settle_midpoint::Settled;
@@ -84,35 +85,23 @@ fn need_after(need: usize, confessed: u32, n: usize) -> usize
     if need <= c { 0 } else { need - c }
 }
 
-// The codes of the trusted entries of receiver i.
-fn codes_for(
+// The position that a receiver settles, by the shared codes with their marks, how many lists it counted for each, how many are needed, and who confessed to it; 0 if it
+// is refused.
+fn position_from(
     s: Stage,
-    planted: &[u8],
-    lengths: &[u8],
-    i: usize,
-    need: usize,
+    rows: &Lists,
     codes: &Numbers,
-    counts: &Words,
-    out: &mut Numbers,
-)
-    requires { ⌜ (i < 48) × Each (heads s) (λ j. getD (now counts) j 0 ≤ 32) ⌝ }
-    ensures { λ _. ⌜ ((G : ℕ → Given) → SharedBy s need (now (codes .entry)) (now (counts .entry)) G
-        → CodesOf s (givenTo s G (plantedIn (now (planted .entry)) (now (lengths .entry))) i) (now (out .exit))) ⌝ }
-{
-    let n = ring_round::head_count(s);
-    let mut same = *counts;
-    let confessed = count_planted(s, planted, lengths, i, codes, &mut same);
-    let left = need_after(need, confessed, n as usize);
-    settle_shared::trust_codes(codes, &same, left, confessed, n, out);
-}
-
-// The position that a receiver settles from the codes of its trusted entries; 0 if it is refused.
-fn position_from(s: Stage, codes: &Numbers) -> i32
-    ensures { λ r. ⌜ r ≡ settledAt s (now (codes .entry)) ⌝ }
+    word: u32,
+    same: &Words,
+    need: usize,
+    confessed: u32,
+) -> i32
+    ensures { λ r. ⌜ (need ≤ 32 → (0 < heads s → 0 < need) → MarksOf (heads s) (now (codes .entry)) word
+        → r ≡ settledBy s (λ j. entryOf (codeTaken (now (codes .entry)) (now (same .entry)) need confessed j))) ⌝ }
 {
     let n = ring_round::head_count(s);
     let up = steps::rounds_up(s.phase);
-    match settle_shared::settle_codes(codes, n, s.f, up) {
+    match settle_shared::settle_counted(rows, codes, word, same, need, confessed, n, s.f, up) {
         Settled::Refused(_) => 0,
         Settled::New(kept) => kept.position,
     }
@@ -138,18 +127,20 @@ fn is_same_front(a: &Numbers, b: &Numbers, n: usize) -> bool
 // same trusted entries, settle the same.
 fn position_after(
     s: Stage,
+    rows: &Lists,
     planted: &[u8],
     lengths: &[u8],
     i: usize,
     need: usize,
     codes: &Numbers,
+    word: u32,
     counts: &Words,
     settled: &mut Numbers,
     last: usize,
     told: i32,
 ) -> i32
     requires { ⌜ (i < 48) × Each (heads s) (λ j. getD (now counts) j 0 ≤ 32) ⌝ }
-    ensures { λ r. ⌜ ((G : ℕ → Given) → SharedBy s need (now (codes .entry)) (now (counts .entry)) G
+    ensures { λ r. ⌜ ((G : ℕ → Given) → SharedBy s need word (now (codes .entry)) (now (counts .entry)) G
         → (last < 48 → SettledLast s (givenTo s G (plantedIn (now (planted .entry)) (now (lengths .entry))) last) (now (settled .entry)) told)
         → SettledLast s (givenTo s G (plantedIn (now (planted .entry)) (now (lengths .entry))) i) (now (settled .exit)) r) ⌝ }
 {
@@ -158,29 +149,35 @@ fn position_after(
             return told;
         }
     }
+    let n = ring_round::head_count(s);
+    let mut same = *counts;
+    let confessed = count_planted(s, planted, lengths, i, codes, &mut same);
+    let left = need_after(need, confessed, n as usize);
     let mut own = [0i32; 32];
-    codes_for(s, planted, lengths, i, need, codes, counts, &mut own);
+    settle_shared::trust_codes(codes, &same, left, confessed, n, &mut own);
     if last < 48 {
-        if is_same_front(&own, settled, ring_round::head_count(s) as usize) {
+        if is_same_front(&own, settled, n as usize) {
             return told;
         }
     }
     *settled = own;
-    position_from(s, &own)
+    position_from(s, rows, codes, word, &same, left, confessed)
 }
 
 // Stores the new position of each unstruck receiver.
 fn fill_positions(
     s: Stage,
+    rows: &Lists,
     planted: &[u8],
     lengths: &[u8],
     need: usize,
     codes: &Numbers,
+    word: u32,
     counts: &Words,
     positions: &mut [i32],
 )
     requires { ⌜ (length (now positions) ≡ 48) × Each (heads s) (λ j. getD (now counts) j 0 ≤ 32) ⌝ }
-    ensures { λ _. ⌜ ((G : ℕ → Given) → SharedBy s need (now (codes .entry)) (now (counts .entry)) G
+    ensures { λ _. ⌜ ((G : ℕ → Given) → SharedBy s need word (now (codes .entry)) (now (counts .entry)) G
         → AllSettled s G (plantedIn (now (planted .entry)) (now (lengths .entry))) (now (positions .entry)) (now (positions .exit))) ⌝ }
 {
     let end = ring_round::receiver_end(s);
@@ -192,11 +189,13 @@ fn fill_positions(
         if ring_round::settles(s, i) {
             told = position_after(
                 s,
+                rows,
                 planted,
                 lengths,
                 i,
                 need,
                 codes,
+                word,
                 counts,
                 &mut settled,
                 last,
@@ -232,6 +231,17 @@ pub fn settle_all(
         return false;
     }
     let need = settle_trust::lists_needed(links.confessed, n, s.f);
-    fill_positions(s, planted, lengths, need, &codes, &counts, positions);
+    let word = settle_shared::marks_of(&codes, n);
+    fill_positions(
+        s,
+        rows,
+        planted,
+        lengths,
+        need,
+        &codes,
+        word,
+        &counts,
+        positions,
+    );
     true
 }

@@ -1,6 +1,6 @@
 -- The new position from positions in order. Of n entries each is a position or null, so the nulls are the n entries less the positions: the
 -- positions in order say all that settling asks of a table.
-use mathlib.Core.Path.{_≡_, sym, _∙_}
+use mathlib.Core.Path.{_≡_, ap, sym, _∙_}
 use mathlib.Core.List.{List}
 use Prim.Native.Nat.{ℕ, _-_, _*_, _≤_, _<_, min}
 use native.Mathlib.Omega.{arith}
@@ -12,8 +12,10 @@ use borrow.Author.Tests.{le-leb, lt-leb}
 use Rattle.terms.specs.Refusals as refusal
 use Rattle.terms.specs.Positions.{half}
 use Rattle.terms.specs.declared.Entry.{Entry}
+use Rattle.convergence.specs.Counting.{Each}
 use Rattle.convergence.specs.Settling.{Rule, nulls, trim, twoRounds, ordered, lowKept, highKept, middle, enough}
 use Rattle.convergence.proofs.Order.{length-ordered}
+use Rattle.convergence.proofs.Same.{ordered-same}
 use Rattle.settle_midpoint.specs.declared.Settled.{Settled}
 use Rattle.settle_midpoint.specs.Answers.{settling, settlingFrom}
 use Rattle.settle_midpoint.specs.Orders.{OrderAfter}
@@ -24,6 +26,10 @@ unfolding settling settlingFrom enough
 settling-from r n R E =
     let z : nulls n E ≡ n - length (ordered n E) = omega (arith, length-ordered n E) in
     rw z
+
+-- what is settled depends on the entries 0 .. n - 1 only
+pub settling-same : (r n : ℕ) (R : Rule) (E E′ : ℕ → Entry) → Each n (λ j. E j ≡ E′ j) → settling r n R E ≡ settling r n R E′
+settling-same r n R E E′ h = settling-from r n R E ∙ ap (settlingFrom r n R) (ordered-same n E E′ h) ∙ sym (settling-from r n R E′)
 
 -- after n entries the order says all that settling asks of them
 pub settling-after : (r n : ℕ) (R : Rule) (E : ℕ → Entry) {len : ℕ} {a : List ℤ} → OrderAfter n E len a → settlingFrom r n R (take len a) ≡ settling r n R E

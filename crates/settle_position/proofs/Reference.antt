@@ -4,9 +4,8 @@ use mathlib.Core.Path.{_≡_, refl, ap, sym, _∙_}
 use mathlib.Core.Logic.{_≢_}
 use mathlib.Core.Bool.{Bool, true, false, not, cond, _&&_}
 use mathlib.Core.List.{List, [], _∷_}
-use Prim.Native.Nat.{ℕ, zero, suc, _+_, _%_, _≤_, _<_}
+use Prim.Native.Nat.{ℕ, _+_, _≤_, _<_}
 use native.Mathlib.Omega.{arith}
-use native.Mathlib.Nat.{mod-eq-of-lt}
 use lib.Dec.{T, eqb, eqb→eq}
 use lib.IntN.{ℤ, pos, ℤ-discrete}
 use lib.ListN.{getD}
@@ -23,14 +22,14 @@ use Rattle.convergence.specs.Trust.{is, choose}
 use Rattle.convergence.proofs.Sums.{sums-le}
 use Rattle.convergence.proofs.Support.{same-position, not-null, is-same, is-other}
 use Rattle.convergence.proofs.Links.{is-le}
-use Rattle.settle_trust.specs.Cells.{columnOf, CellOf, standsIn, decided}
-use Rattle.settle_position.specs.Reference.{sameNumber, isApart, agrees, alikeTo, apartFrom, agreeing, Decides, Lacks}
+use Rattle.settle_trust.specs.Cells.{columnOf, cellFor, standsIn, decided}
+use Rattle.settle_position.specs.Reference.{sameNumber, isApart, agrees, alikeTo, apartFrom, agreeing, Compares, Decides, Lacks}
+use Rattle.settle_position.specs.declared.Comparison.{Comparison}
 use Rattle.settle_position.specs.declared.Deciding.{Deciding}
 use Rattle.settle_position.specs.Deciding.{Prepared}
 use Rattle.marks.proofs.Counts.{sum-next}
-use Rattle.settle_trust.proofs.Cells.{holds-null, holds-same}
 use Rattle.settle_trust.proofs.Search.{only-seen, none-seen}
-use Rattle.settle_trust.proofs.Trusted.{decided-by-lists}
+use Rattle.settle_trust.proofs.Trusted.{decided-confessed, decided-by-lists}
 
 -- ---- one list, with the mark word m and the number a, beside the reference's, v and b
 
@@ -206,26 +205,35 @@ module _ (n need : ℕ) (marks : List ℕ) (lists : List (List ℤ)) (reference 
       few w =
           omega (arith, sums-le n ((λ k. is w (E k)) ∷ []) (aparts ∷ []) (λ k l. omega (arith, rw (says k) at (apart-is j (m k) (m reference) (a k) (a reference) w (sym leads ∙ e)))))
 
-  led : {x : ℕ} → CellOf x (E reference) → Decides x need (alikeTo n marks reference) (apartFrom n marks reference) (agreeing n marks lists reference j) → CellOf x (decided false n need E)
-  led {x = zero} h d = holds-same h (sym (h .entry) ∙ sym (led-null (sym (h .entry)) d))
-  led {x = suc w} h d = holds-same h (sym (h .entry) ∙ sym (led-position (sym (h .entry)) (d .0) (d .1)))
+  -- by what the reference says
+  led : (e : Entry) → columnOf marks lists j reference ≡ e
+      → Decides (cellFor e) need (alikeTo n marks reference) (apartFrom n marks reference) (agreeing n marks lists reference j) → decided false n need E ≡ e
+  led Null q d = led-null q d
+  led (Position u) q d = led-position q (d .0) (d .1)
 
-  lacking : {x : ℕ} → CellOf x (E reference) → Lacks x need (alikeTo n marks reference) (apartFrom n marks reference) (agreeing n marks lists reference j) → CellOf 0 (decided false n need E)
-  lacking {x = zero} h d = absurd (omega (arith, d .0))
-  lacking {x = suc w} h d = holds-same holds-null (sym (led-lacking (sym (h .entry)) (d .1) (d .2)))
+  lacking : (e : Entry) → columnOf marks lists j reference ≡ e
+      → Lacks (cellFor e) need (alikeTo n marks reference) (apartFrom n marks reference) (agreeing n marks lists reference j) → decided false n need E ≡ Null
+  lacking Null q d = absurd (omega (arith, d .0))
+  lacking (Position u) q d = led-lacking q (d .1) (d .2)
 
--- ---- entry j of a link that did not confess, by the cell x of the reference
+-- ---- what deciding looks at, if the lists stand so to that of the link `reference`, and they and their marks decide the entries E
 
-module _ {E : ℕ → Entry} {lists : List (List ℤ)} {marks same : List ℕ} {d : Deciding} (P : Prepared E lists marks same d) (j : ℕ) {x : ℕ} (below : j < 32)
-    (unconfessed : bitOf (d .confessed) j ≡ false) (h : CellOf x (columnOf marks lists j (d .reference % 32))) where
-  cell : CellOf x (columnOf marks lists j (d .reference))
-  cell = rw (mod-eq-of-lt (P .within)) at h
+pub prepared : (E : ℕ → Entry) (lists : List (List ℤ)) (marks : List ℕ) (reference : ℕ) (r : Comparison) (d : Deciding) → Compares (d .count) marks lists reference r
+    → d .alike ≡ r .alike → d .apart ≡ r .apart → d .word ≡ getD marks reference 0
+    → ((j : ℕ) → decided (bitOf (d .confessed) j) (d .count) (d .need) (columnOf marks lists j) ≡ E j) → ((j : ℕ) → 32 ≤ j → E j ≡ Null) → d .count ≤ 32
+    → Prepared E lists marks (getD lists reference []) (r .same) d
+prepared E lists marks reference r d C alike apart word decides past few =
+    record {
+      healed = λ j c. sym (decides j) ∙ decided-confessed (d .count) (d .need) (columnOf marks lists j) c;
+      shown = λ j l c t. entry j c ∙ led (d .count) (d .need) marks lists reference j _ (stands j) (rw (alike, apart, C .alike, C .apart, C .same j l) at t);
+      lacking = λ j l c t. entry j c ∙ lacking (d .count) (d .need) marks lists reference j _ (stands j) (rw (alike, apart, C .alike, C .apart, C .same j l) at t);
+      searched = λ j l c t. entry j c;
+      past = past;
+      few = few;
+    }
+  where
+    entry : (j : ℕ) → bitOf (d .confessed) j ≡ false → E j ≡ decided false (d .count) (d .need) (columnOf marks lists j)
+    entry j c = sym (decides j) ∙ rw c
 
-  is-entry : decided false (d .count) (d .need) (columnOf marks lists j) ≡ E j
-  is-entry = rw unconfessed at (P .decides j)
-
-  pub led-decided : Decides x (d .need) (d .alike) (d .apart) (getD same j 0) → CellOf x (E j)
-  led-decided t = holds-same (led (d .count) (d .need) marks lists (d .reference) j cell (rw (P .alike, P .apart, P .agree j below) at t)) is-entry
-
-  pub led-lacks : Lacks x (d .need) (d .alike) (d .apart) (getD same j 0) → CellOf 0 (E j)
-  led-lacks t = holds-same (lacking (d .count) (d .need) marks lists (d .reference) j cell (rw (P .alike, P .apart, P .agree j below) at t)) is-entry
+    stands : (j : ℕ) → columnOf marks lists j reference ≡ entryAt (d .word) (getD lists reference []) j
+    stands j = ap (λ (w : ℕ). entryAt w (getD lists reference []) j) (sym word)

@@ -1,5 +1,6 @@
 -- What deciding entry by entry looks at.
 use mathlib.Core.Path.{_≡_}
+use mathlib.Core.Bool.{true, false}
 use mathlib.Core.List.{List}
 use Prim.Native.Nat.{ℕ, _≤_, _<_}
 use lib.IntN.{ℤ}
@@ -8,16 +9,20 @@ use Rattle.terms.specs.declared.Entry.{Entry}
 use Rattle.terms.specs.declared.Entry.the-variants.{Null}
 use Rattle.marks.specs.Marks.{bitOf}
 use Rattle.convergence.specs.Counting.{Each}
-use Rattle.settle_trust.specs.Cells.{columnOf, decided}
+use Rattle.entries.specs.Entries.{entryAt}
+use Rattle.settle_trust.specs.Cells.{columnOf, cellFor, decided}
 use Rattle.settle_position.specs.declared.Deciding.{Deciding}
-use Rattle.settle_position.specs.Reference.{alikeTo, apartFrom, agreeing}
+use Rattle.settle_position.specs.Reference.{Decides, Lacks}
 
--- The entries E are what the lists and their marks decide, and null from 32 on; and d and `same` say how the lists stand to the reference's.
-pub record Prepared (E : ℕ → Entry) (lists : List (List ℤ)) (marks same : List ℕ) (d : Deciding) : Type 0 where
-  pub decides : (j : ℕ) → decided (bitOf (d .confessed) j) (d .count) (d .need) (columnOf marks lists j) ≡ E j
+-- The entries E, one by one: null if the link confessed; what the reference list shows if it decides; null if it lacks a position; else what the lists and their marks
+-- decide. From 32 on they are null. The reference is a list of numbers, with its marks in d.
+pub record Prepared (E : ℕ → Entry) (lists : List (List ℤ)) (marks : List ℕ) (reference : List ℤ) (same : List ℕ) (d : Deciding) : Type 0 where
+  pub healed : (j : ℕ) → bitOf (d .confessed) j ≡ true → E j ≡ Null
+  pub shown : Each 32 (λ j. bitOf (d .confessed) j ≡ false → let e = entryAt (d .word) reference j in
+      Decides (cellFor e) (d .need) (d .alike) (d .apart) (getD same j 0) → E j ≡ e)
+  pub lacking : Each 32 (λ j. bitOf (d .confessed) j ≡ false → let e = entryAt (d .word) reference j in
+      Lacks (cellFor e) (d .need) (d .alike) (d .apart) (getD same j 0) → E j ≡ Null)
+  pub searched : Each 32 (λ j. bitOf (d .confessed) j ≡ false → let e = entryAt (d .word) reference j in
+      (Decides (cellFor e) (d .need) (d .alike) (d .apart) (getD same j 0) → ⊥) → E j ≡ decided false (d .count) (d .need) (columnOf marks lists j))
   pub past : (j : ℕ) → 32 ≤ j → E j ≡ Null
   pub few : d .count ≤ 32
-  pub within : d .reference < 32
-  pub alike : d .alike ≡ alikeTo (d .count) marks (d .reference)
-  pub apart : d .apart ≡ apartFrom (d .count) marks (d .reference)
-  pub agree : Each 32 (λ j. getD same j 0 ≡ agreeing (d .count) marks lists (d .reference) j)

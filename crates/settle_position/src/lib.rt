@@ -1,7 +1,8 @@
 // From what the links gave in a confession round to the new position.
 ghost use mathlib.Core.Path.{_≡_};
 ghost use mathlib.Core.Bool.{true, false};
-ghost use Prim.Native.Nat.{ℕ, _+_, _≤_, _<_};
+ghost use mathlib.Core.List.{[]};
+ghost use Prim.Native.Nat.{ℕ, _+_, _%_, _≤_, _<_};
 ghost use lib.ListN.{length, getD};
 ghost use Rattle.convergence.specs.Counting.{Each, bit};
 ghost use Rattle.convergence.specs.Settling.{twoRounds};
@@ -27,13 +28,13 @@ struct Comparison {
     same: Words,
 }
 
-// What deciding an entry looks at beside the lists, their marks, and how many of them agree with the reference: worked out once when a round is closed. How many
-// links there are, how many lists have to agree, who confessed, which link is the reference, how many lists have its marks, and how many have others.
+// What deciding an entry looks at beside the lists, their marks, the reference list, and how many lists agree with it: worked out once when a round is closed. How
+// many lists there are to search, how many have to agree, who confessed, the marks of the reference, how many lists have these, and how many have others.
 pub struct Deciding {
     pub count: u8,
     pub need: u8,
     pub confessed: u32,
-    pub reference: u8,
+    pub word: u32,
     pub alike: u8,
     pub apart: u8,
 }
@@ -82,9 +83,9 @@ fn compare(lists: &Lists, marks: &Words, n: usize, reference: usize) -> Comparis
     Comparison { alike, apart, same }
 }
 
-// Whether the cell x of the reference's list decides: enough lists hold it, and those that may hold another position are too few.
+// Whether the cell x of the reference decides: enough lists hold it, and those that may hold another position are too few.
 fn decides(x: u64, need: u8, alike: u8, apart: u8, same: u32) -> bool
-    ensures { λ r. ⌜ (r ≡ true → Decides x need alike apart same) ⌝ }
+    ensures { λ r. ⌜ (r ≡ true → Decides x need alike apart same) × (r ≡ false → Decides x need alike apart same → ⊥) ⌝ }
 {
     if x == 0 {
         return apart < need;
@@ -108,17 +109,23 @@ fn lacks(x: u64, need: u8, alike: u8, apart: u8, same: u32) -> bool
     apart as u64 + (alike as u64) < same as u64 + need as u64
 }
 
-// The cell of trusted entry j as `trusted_cell` has it, from the reference's list alone if that decides.
-fn cell_by(lists: &Lists, marks: &Words, same: &Words, d: Deciding, j: usize) -> u64
+// The cell of trusted entry j: from the reference alone if that decides, else by a search of the lists.
+fn cell_by(
+    lists: &Lists,
+    marks: &Words,
+    reference: &Numbers,
+    same: &Words,
+    d: Deciding,
+    j: usize,
+) -> u64
     requires { ⌜ j < 32 ⌝ }
-    ensures { λ r. ⌜ ((E : ℕ → Entry) → Prepared E (now (lists .entry)) (now (marks .entry)) (now (same .entry)) d → CellOf r (E j)) ⌝ }
+    ensures { λ r. ⌜ ((E : ℕ → Entry) → Prepared E (now (lists .entry)) (now (marks .entry)) (now (reference .entry)) (now (same .entry)) d → CellOf r (E j)) ⌝ }
 {
     let confesses = marks::marked(d.confessed, j);
     if confesses {
         return 0;
     }
-    let k = (d.reference % 32) as usize;
-    let x = settle_trust::entry_cell(marks[k], &lists[k], j);
+    let x = settle_trust::entry_cell(d.word, reference, j);
     if decides(x, d.need, d.alike, d.apart, same[j]) {
         return x;
     }
@@ -135,8 +142,8 @@ fn cell_by(lists: &Lists, marks: &Words, same: &Words, d: Deciding, j: usize) ->
     )
 }
 
-// What deciding looks at, with the list of the link `reference` looked at first: if most lists are like it, it decides nearly all entries. It goes to the two lent
-// arrays and the answer.
+// What deciding looks at, with the list of the link `reference` (of 32) as reference: if most lists are like it, it decides nearly all entries. It goes to the two
+// lent arrays and the answer.
 pub fn prepare(
     lists: &Lists,
     links: Links,
@@ -146,7 +153,8 @@ pub fn prepare(
     marks: &mut Words,
     same: &mut Words,
 ) -> Deciding
-    ensures { λ r. ⌜ Prepared (trusted n f (givenBy links (now (lists .entry)))) (now (lists .entry)) (now (marks .exit)) (now (same .exit)) r ⌝ }
+    ensures { λ r. ⌜ Prepared (trusted n f (givenBy links (now (lists .entry)))) (now (lists .entry)) (now (marks .exit)) (getD (now (lists .entry)) (reference % 32) [])
+        (now (same .exit)) r ⌝ }
 {
     let first = reference % 32;
     let count = terms::at_most_32(n as usize);
@@ -158,7 +166,7 @@ pub fn prepare(
         count: count as u8,
         need: settle_trust::lists_needed(links.confessed, n, f) as u8,
         confessed: links.confessed,
-        reference: first as u8,
+        word: marks[first],
         alike: comparison.alike,
         apart: comparison.apart,
     }
@@ -169,23 +177,49 @@ pub fn prepare(
 pub fn decide_entry(
     lists: &Lists,
     marks: &Words,
+    reference: &Numbers,
     same: &Words,
     d: Deciding,
     j: usize,
     positions: &mut Numbers,
     len: usize,
 ) -> usize
-    ensures { λ r. ⌜ ((E : ℕ → Entry) → Prepared E (now (lists .entry)) (now (marks .entry)) (now (same .entry)) d
+    ensures { λ r. ⌜ ((E : ℕ → Entry) → Prepared E (now (lists .entry)) (now (marks .entry)) (now (reference .entry)) (now (same .entry)) d
         → OrderAfter j E len (now (positions .entry)) → OrderAfter (j + 1) E r (now (positions .exit))) ⌝ }
 {
     if 32 <= j {
         return len;
     }
-    let x = cell_by(lists, marks, same, d, j);
+    let x = cell_by(lists, marks, reference, same, d, j);
     settle_midpoint::place(settle_trust::entry_of(x), positions, len)
 }
 
-// The new position from what the links gave, entry by entry; `up`: whether an odd sum is rounded up.
+// The new position of n entries, decided and put in order one by one; `up`: whether an odd sum is rounded up.
+pub fn settle_entries(
+    lists: &Lists,
+    marks: &Words,
+    reference: &Numbers,
+    same: &Words,
+    d: Deciding,
+    n: u8,
+    f: u8,
+    up: bool,
+) -> settle_midpoint::Settled
+    ensures { λ r. ⌜ ((E : ℕ → Entry) → Prepared E (now (lists .entry)) (now (marks .entry)) (now (reference .entry)) (now (same .entry)) d
+        → r ≡ settling (bit up) n (twoRounds f) E) ⌝ }
+{
+    let count = terms::at_most_32(n as usize);
+    let mut positions = [0i32; 32];
+    let mut len: usize = 0;
+    let mut j: usize = 0;
+    while j < count {
+        len = decide_entry(lists, marks, reference, same, d, j, &mut positions, len);
+        j += 1;
+    }
+    settle_midpoint::middle_of(Order { len, positions }, n, f, up)
+}
+
+// The new position from what the links gave, with the list of the link `reference` (of 32) as reference.
 pub fn settle_by(
     lists: &Lists,
     links: Links,
@@ -199,15 +233,7 @@ pub fn settle_by(
     let mut marks = [0u32; 32];
     let mut same = [0u32; 32];
     let d = prepare(lists, links, reference, n, f, &mut marks, &mut same);
-    let count = terms::at_most_32(n as usize);
-    let mut positions = [0i32; 32];
-    let mut len: usize = 0;
-    let mut j: usize = 0;
-    while j < count {
-        len = decide_entry(lists, &marks, &same, d, j, &mut positions, len);
-        j += 1;
-    }
-    settle_midpoint::middle_of(Order { len, positions }, n, f, up)
+    settle_entries(lists, &marks, &lists[reference % 32], &same, d, n, f, up)
 }
 
 // The same of lists by value.

@@ -50,10 +50,16 @@ module _ (n f struck : ℕ) (g : Links) (lists : List (List ℤ)) (codes codes�
     kept : (j : ℕ) → j < n → bitOf (g .confessed) j ≡ false → getD codes′ j (pos 0) ≡ getD codes j (pos 0)
     kept j l e = dropped j l ∙ rw e
 
+    needs : need ≡ n - f - confessions n G
+    needs =
+        let m : min n 32 ≡ n = omega arith in
+        needed ∙ ap (λ (x : ℕ). n - f - markedTo (g .confessed) x) m ∙ ap (λ (x : ℕ). n - f - x) (sym (confessions-marked n g lists))
+
     pub shares-all : Shares n f struck G codes′ same
     shares-all =
         record {
           small = small;
+          enough = omega (arith, needs);
           few = λ j l. omega (arith, tallied j l, counted-le g lists j n (getD codes j (pos 0)));
           counts = λ j l e. tallied j l ∙ ap (counted g lists j n) (sym (kept j l (sym (is-confessed j) ∙ e)));
           alone = λ j l e w d. lonely j l (sym (is-confessed j) ∙ e) w d;
@@ -62,6 +68,4 @@ module _ (n f struck : ℕ) (g : Links) (lists : List (List ℤ)) (codes codes�
       where
         lonely : (j : ℕ) → j < n → bitOf (g .confessed) j ≡ false → (w : ℤ) → w ≢ getD codes′ j (pos 0) → support n G j w + struck < n - f
         lonely j l e w d =
-            let m : min n 32 ≡ n = omega arith in
-            let q : need ≡ n - f - confessions n G = needed ∙ ap (λ (x : ℕ). n - f - markedTo (g .confessed) x) m ∙ ap (λ (x : ℕ). n - f - x) (sym (confessions-marked n g lists)) in
-            omega (arith, support-few j w, too-few (led j l) (apart j l e) w (λ z. d (z ∙ sym (kept j l e))))
+            omega (arith, needs, support-few j w, too-few (led j l) (apart j l e) w (λ z. d (z ∙ sym (kept j l e))))

@@ -11,18 +11,20 @@ ghost use Rattle.convergence.specs.Counting.{Each, sum, bit};
 ghost use Rattle.convergence.specs.Settling.{twoRounds};
 ghost use Rattle.settle_trust.specs.Received.{givenBy};
 ghost use Rattle.settle_midpoint.specs.Answers.{settling};
-ghost use Rattle.settle_shared.specs.Codes.{noCode, entryOf, codeAt, holds, Tallied};
+ghost use Rattle.settle_shared.specs.Codes.{noCode, entryOf, codeAt, codeTaken, MarksOf, holds, Tallied};
 ghost use Rattle.settle_shared.specs.Shared.{Shares};
 ghost use Rattle.settle_shared.specs.Inner.{Voted, Leads, gives};
-use settle_midpoint::Order;
+use settle_position::Deciding;
 use settle_trust::Links;
-use terms::Entry;
 use terms::Lists;
 use terms::Numbers;
 use terms::Words;
 
 // A number that is no position: the code of a null entry.
 const NONE: i32 = 1000001;
+
+// The marks of no lists.
+const NO_MARKS: [u32; 32] = [0; 32];
 
 // ---- Lists as codes.
 
@@ -301,8 +303,7 @@ pub fn trust_codes(
     n: u8,
     out: &mut Numbers,
 )
-    ensures { λ _. ⌜ (n ≤ 32 → Each n (λ j. getD (now (out .exit)) j (pos 0)
-        ≡ cond (bitOf confessed j) noCode (cond (leb need (getD (now (same .entry)) j 0)) (getD (now (codes .entry)) j (pos 0)) noCode))) ⌝ }
+    ensures { λ _. ⌜ (n ≤ 32 → Each n (λ j. getD (now (out .exit)) j (pos 0) ≡ codeTaken (now (codes .entry)) (now (same .entry)) need confessed j)) ⌝ }
 {
     let count = terms::at_most_32(n as usize);
     pick(codes, same, need, count, out);
@@ -311,28 +312,46 @@ pub fn trust_codes(
     }
 }
 
-// The entry of a code.
-fn entry_of(x: i32) -> Entry
-    ensures { λ r. ⌜ r ≡ entryOf x ⌝ }
-{
-    if x == NONE {
-        Entry::Null
-    } else {
-        Entry::Position(x)
-    }
-}
-
-// The new position from the codes of n trusted entries; `up`: whether an odd sum is rounded up.
-pub fn settle_codes(codes: &Numbers, n: u8, f: u8, up: bool) -> settle_midpoint::Settled
-    ensures { λ r. ⌜ (n ≤ 32 → r ≡ settling (bit up) n (twoRounds f) (λ j. entryOf (getD (now (codes .entry)) j (pos 0)))) ⌝ }
+// The marks of the first n codes: set for a position, and not for a null entry.
+pub fn marks_of(codes: &Numbers, n: u8) -> u32
+    ensures { λ r. ⌜ (n ≤ 32 → MarksOf n (now (codes .entry)) r) ⌝ }
 {
     let count = terms::at_most_32(n as usize);
-    let mut positions = [0i32; 32];
-    let mut len: usize = 0;
+    let mut word: u32 = 0;
     let mut j: usize = 0;
     while j < count {
-        len = settle_midpoint::place(entry_of(codes[j]), &mut positions, len);
+        if codes[j] != NONE {
+            word = marks::with_mark(word, j);
+        }
         j += 1;
     }
-    settle_midpoint::middle_of(Order { len, positions }, n, f, up)
+    word
+}
+
+// The new position of a receiver, its entries decided and put in order one by one, as a head does that closes a round: by the shared codes, their marks, and how many
+// lists it counted for each. None of `lists` is looked at: there is no list more to search. They are lent since a table of none would be filled at each call. `up`:
+// whether an odd sum is rounded up.
+pub fn settle_counted(
+    lists: &Lists,
+    codes: &Numbers,
+    word: u32,
+    same: &Words,
+    need: usize,
+    confessed: u32,
+    n: u8,
+    f: u8,
+    up: bool,
+) -> settle_midpoint::Settled
+    ensures { λ r. ⌜ (n ≤ 32 → need ≤ 32 → (0 < n → 0 < need) → MarksOf n (now (codes .entry)) word
+        → r ≡ settling (bit up) n (twoRounds f) (λ j. entryOf (codeTaken (now (codes .entry)) (now (same .entry)) need confessed j))) ⌝ }
+{
+    let d = Deciding {
+        count: 0,
+        need: terms::at_most_32(need) as u8,
+        confessed,
+        word,
+        alike: 0,
+        apart: 0,
+    };
+    settle_position::settle_entries(lists, &NO_MARKS, codes, same, d, n, f, up)
 }

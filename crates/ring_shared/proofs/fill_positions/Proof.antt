@@ -20,14 +20,14 @@ use Rattle.ring_shared.proofs.fill_positions.Statement.{statement}
 use Rattle.ring_shared.proofs.fill_positions.Tie as tie
 
 abbrev Inv-loop : tie.InvT-loop
-Inv-loop s planted lengths need codes counts positions₀ end settled₀ last₀ told₀ i₀ positions settled last told i =
+Inv-loop s rows planted lengths need codes word counts positions₀ end settled₀ last₀ told₀ i₀ positions settled last told i =
     (i ≤ end) × (end ≤ 48) × (length positions ≡ 48)
-    × ((G : ℕ → Given) → SharedBy s need codes counts G
+    × ((G : ℕ → Given) → SharedBy s need word codes counts G
     → Filled (settles s) (λ j. settledFrom s (givenTo s G (plantedIn planted lengths) j)) (λ j. getD positions₀ j (pos 0)) i (λ j. getD positions j (pos 0))
     × (last < 48 → SettledLast s (givenTo s G (plantedIn planted lengths) last) settled (toZ w32 told)))
 
 abbrev μ-loop : tie.MeasureT-loop
-μ-loop s planted lengths need codes counts positions₀ end settled₀ last₀ told₀ i₀ positions settled last told i = end - i
+μ-loop s rows planted lengths need codes word counts positions₀ end settled₀ last₀ told₀ i₀ positions settled last told i = end - i
 
 loop-holds : tie.Need-loop-holds Inv-loop μ-loop
 loop-holds c =

@@ -18,22 +18,25 @@ returns-2 c = record { settles = λ e. absurd (true≢false (sym e)); stays = λ
 
 fill-positions-requires : tie.Need-fill-positions-requires
 fill-positions-requires c κs =
-    let i = c .before .before .before .before in
+    let i = c .before .before .before .before .before .before in
     let f = i .before in
     let h = f .before .before .before .before in
     (c .fill-positions-arg .given .0 .1, λ j l. f .share .ensures (not-false _ (i .if2 .left)) .few j (omega (arith, h .head-count .ensures)))
 
 returns-3 : tie.Need-returns-3
 returns-3 c =
-    let n = c .before .before .before .before in
+    let w = c .before .before .before .before in
+    let n = w .before .before in
     let i = n .before in
     let f = i .before in
     let m = f .before .before .before in
     let h = m .before in
     let a = h .before .before .before .before .before .args in
+    let small = h .head-count .ensures in
     record {
       settles = λ e A. c .fill-positions .ensures (givenBy (a .links) (now (a .rows)))
-          (shared-by (a .s) (a .links) (now (a .rows)) (h .head-count .ensures) (m .marked-to .ensures) (f .share .ensures (not-false _ (i .if2 .left))) (n .lists-needed .ensures) A);
+          (shared-by (a .s) (a .links) (now (a .rows)) small (m .marked-to .ensures) (f .share .ensures (not-false _ (i .if2 .left))) (n .lists-needed .ensures)
+          (w .marks-of .ensures (omega (arith, small))) A);
       stays = λ e. absurd (true≢false e);
     }
 
@@ -47,6 +50,7 @@ settle-all-spec =
     (λ c κs. search needs)
     (λ c κs. search needs)
     returns-2
+    (λ c κs. search needs)
     (λ c κs. search needs)
     fill-positions-requires
     returns-3)
