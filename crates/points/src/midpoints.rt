@@ -89,7 +89,12 @@ fn midpoint_with(c: Trusted, marks: u32) -> Answer {
 fn midpoint_line(c: Trusted) {
     answers::fill(
         b"midpoint # # in phase # [",
-        [Number(c.0 as i64), Number(c.1 as i64), Number(c.2 as i64), Null],
+        [
+            Number(c.0 as i64),
+            Number(c.1 as i64),
+            Number(c.2 as i64),
+            Null,
+        ],
     );
     print::table(c.0 as usize, table_of(c.3, entries_of(c)));
     print::text(b"]: ");
