@@ -94,9 +94,9 @@ fn midpoint(wanted: Wanted, n: usize, f: usize, nulls: usize) -> Option<Row> {
     let all: Vec<Vec<u8>> = (0..MANY).map(|_| table(&mut random)).collect();
     let export = |all: &mut Vec<Vec<u8>>| {
         let mut out = 0;
-        all.iter_mut().map(|table| exported::midpoint(n as u32, f as u32, marks, table, &mut out) as u64 + out as u64 % 8).sum()
+        all.iter_mut().map(|table| exported::midpoint(n as u32, f as u32, 2, marks, table, &mut out) as u64 + out as u64 % 8).sum()
     };
-    let given = |table: &[u8]| midpoint::midpoint(n, f, marks, table).map_or_else(|number| number as u64, |kept| kept.position as u64 % 8);
+    let given = |table: &[u8]| midpoint::midpoint(n, f, 2, marks, table).map_or_else(|number| number as u64, |kept| kept.position as u64 % 8);
     let plain = |all: &mut Vec<Vec<u8>>| all.iter().map(|table| given(table)).sum();
     let ready = || all.clone();
     row(wanted, format!("midpoint, ({n},{f}), {nulls} null"), MANY, (&ready, &export), (&ready, &plain))

@@ -27,12 +27,12 @@ struct lent_kept {
 #define GUARD UINT64_C(0x5aa55aa5c33cc33c)
 
 /* the midpoint's answer, with the number it must give; `position` counts if that is 0 */
-static void midpoint(const char *what, uint32_t n, uint32_t f, uint32_t marks, const uint8_t *entries, size_t length, uint8_t number,
-                     int32_t position) {
+static void midpoint(const char *what, uint32_t n, uint32_t f, uint32_t phase, uint32_t marks, const uint8_t *entries, size_t length,
+                     uint8_t number, int32_t position) {
     uint8_t copy[512];
     struct lent32 lent = {GUARD, -777, GUARD};
     memcpy(copy, entries, length);
-    uint8_t got = focus_midpoint(n, f, marks, entries, length, &lent.value);
+    uint8_t got = focus_midpoint(n, f, phase, marks, entries, length, &lent.value);
     int32_t want = number == 0 ? position : -777;
     same(what, got, number);
     same(what, lent.value, want);
@@ -40,9 +40,9 @@ static void midpoint(const char *what, uint32_t n, uint32_t f, uint32_t marks, c
     same("the entries read", memcmp(copy, entries, length), 0);
 
     struct lent_kept range = {GUARD, {-777, -777, -777, -777}, GUARD};
-    same(what, focus_midpoint_kept(n, f, marks, entries, length, &range.value), number);
+    same(what, focus_midpoint_kept(n, f, phase, marks, entries, length, &range.value), number);
     same(what, range.value.position, want);
-    same("half the sum of what is kept", number != 0 || (range.value.lowest + range.value.highest) >> 1 == want, 1);
+    same("half the sum of what is kept", number != 0 || (range.value.lowest + range.value.highest + (phase % 2 == 0)) >> 1 == want, 1);
     same("what a refusal leaves", number == 0 || (range.value.lowest == -777 && range.value.highest == -777 && range.value.trim == -777), 1);
     same("memory beside the kept range", range.before == GUARD && range.after == GUARD, 1);
     same("the entries read with the range", memcmp(copy, entries, length), 0);
@@ -73,13 +73,13 @@ static void frame(const char *what, const uint8_t *bytes, size_t length, uint8_t
     same("the frame read", memcmp(copy, bytes, length), 0);
 }
 
-/* ---- the midpoint: 1, 2, 8, 10, 11, 25 in every combination that can be built */
+/* ---- the midpoint: 1, 2, 5, 8, 10, 11, 25 in every combination that can be built */
 
-enum { HEADS = 1, LIMIT = 2, BYTES = 4, MARK = 8, RANGE = 16, FEW = 32, FAULTS = 64 };
+enum { HEADS = 1, LIMIT = 2, PHASE = 4, BYTES = 8, MARK = 16, RANGE = 32, FEW = 64, FAULTS = 128 };
 
 /* A ring of 5 heads with positions 10 to 50, or of 33 (or, if a mark must stand at n or above, of 0) as a wrong count. */
 static void midpoint_faults(int faults, int null_entry) {
-    static const uint8_t order[] = {FOCUS_HEAD_COUNT, FOCUS_STRUCK_LIMIT, FOCUS_KIND_LENGTH, FOCUS_MARKS, FOCUS_ENTRY, FOCUS_TRUSTED};
+    static const uint8_t order[] = {FOCUS_HEAD_COUNT, FOCUS_STRUCK_LIMIT, FOCUS_PHASE, FOCUS_KIND_LENGTH, FOCUS_MARKS, FOCUS_ENTRY, FOCUS_TRUSTED};
     uint8_t entries[512] = {0};
     uint32_t n = !(faults & HEADS) ? 5 : faults & MARK ? 0 : 33;
     uint32_t f = faults & LIMIT ? (2 * n + 4) / 7 + 1 : n == 0 ? 0 : 1;
@@ -100,7 +100,8 @@ static void midpoint_faults(int faults, int null_entry) {
         marks |= UINT32_C(1) << n;
     size_t length = 4 * n + (faults & BYTES ? 1 : 0);
     tried = faults;
-    midpoint("midpoint faults", n, f, marks, entries, length, first(faults, order, 6), 30);
+    uint32_t phase = !(faults & PHASE) ? 1 + (uint32_t)null_entry : null_entry ? 65536 : 0;
+    midpoint("midpoint faults", n, f, phase, marks, entries, length, first(faults, order, 7), 30);
     tried = 0;
 }
 
@@ -108,42 +109,48 @@ static void midpoint_extremes(void) {
     uint8_t entries[512] = {0};
     static const uint32_t wide[] = {0, 33, 255, 256, 261, 65536 + 5, UINT32_MAX / 2 + 1, UINT32_MAX};
     for (size_t i = 0; i < sizeof wide / sizeof *wide; i++) {
-        midpoint("head count", wide[i], 0, 0, entries, 0, FOCUS_HEAD_COUNT, 0);
-        midpoint("head count, any limit", wide[i], UINT32_MAX, UINT32_MAX, entries, 20, FOCUS_HEAD_COUNT, 0);
+        midpoint("head count", wide[i], 0, 1, 0, entries, 0, FOCUS_HEAD_COUNT, 0);
+        midpoint("head count, any limit", wide[i], UINT32_MAX, 0, UINT32_MAX, entries, 20, FOCUS_HEAD_COUNT, 0);
     }
     static const uint32_t limits[] = {2, 257, 65536, UINT32_MAX / 7, UINT32_MAX / 7 + 1, UINT32_MAX};
     for (size_t i = 0; i < sizeof limits / sizeof *limits; i++)
-        midpoint("struck limit", 5, limits[i], 31, entries, 20, FOCUS_STRUCK_LIMIT, 0);
+        midpoint("struck limit", 5, limits[i], 0, 31, entries, 20, FOCUS_STRUCK_LIMIT, 0);
     /* every size from 1 to 40 heads, with every limit to 12 */
     for (uint32_t n = 1; n <= 40; n++)
         for (uint32_t f = 0; f <= 12; f++) {
             uint32_t marks = n >= 32 ? UINT32_MAX : (UINT32_C(1) << n) - 1;
-            midpoint("size", n, f, marks, entries, 4 * n, n > 32 ? FOCUS_HEAD_COUNT : 2 * n < 7 * f + 2 ? FOCUS_STRUCK_LIMIT : 0, 0);
+            midpoint("size", n, f, 1, marks, entries, 4 * n, n > 32 ? FOCUS_HEAD_COUNT : 2 * n < 7 * f + 2 ? FOCUS_STRUCK_LIMIT : 0, 0);
         }
+    /* every phase near the ends, and each bit beside them; all entries are 0 */
+    static const uint32_t phases[] = {0, 1, 2, 65534, 65535, 65536, 65537, UINT32_C(1) << 17, UINT32_MAX - 1, UINT32_MAX};
+    for (size_t i = 0; i < sizeof phases / sizeof *phases; i++)
+        midpoint("phase", 5, 1, phases[i], 31, entries, 20, phases[i] >= 1 && phases[i] <= 65535 ? 0 : FOCUS_PHASE, 0);
+    for (uint32_t bit = 16; bit < 32; bit++)
+        midpoint("a phase of more than 2 bytes", 5, 1, 1 | UINT32_C(1) << bit, 31, entries, 20, FOCUS_PHASE, 0);
     /* every length beside 4n, and one byte short and long of it */
     for (size_t length = 0; length <= 200; length++)
-        midpoint("entries not 4n bytes", 32, 8, UINT32_MAX, entries, length, length == 128 ? 0 : FOCUS_KIND_LENGTH, 0);
+        midpoint("entries not 4n bytes", 32, 8, 1, UINT32_MAX, entries, length, length == 128 ? 0 : FOCUS_KIND_LENGTH, 0);
     /* each mark above n */
     for (uint32_t j = 5; j < 32; j++)
-        midpoint("a mark at n or above", 5, 1, 31 | UINT32_C(1) << j, entries, 20, FOCUS_MARKS, 0);
+        midpoint("a mark at n or above", 5, 1, 1, 31 | UINT32_C(1) << j, entries, 20, FOCUS_MARKS, 0);
     /* each entry at the ends of the range and past them, marked and not */
     static const int32_t values[] = {-1000000, 1000000, -1000001, 1000001, INT32_MIN, INT32_MAX, -1, 1, 0};
     for (uint32_t j = 0; j < 32; j++)
         for (size_t i = 0; i < sizeof values / sizeof *values; i++) {
             int in_range = values[i] >= -1000000 && values[i] <= 1000000;
             put4(entries + 4 * j, values[i]);
-            midpoint("an entry's range", 32, 8, UINT32_MAX, entries, 128, in_range ? 0 : FOCUS_ENTRY, 0);
-            midpoint("a null entry", 32, 8, ~(UINT32_C(1) << j), entries, 128, values[i] == 0 ? 0 : FOCUS_ENTRY, 0);
+            midpoint("an entry's range", 32, 8, 1, UINT32_MAX, entries, 128, in_range ? 0 : FOCUS_ENTRY, 0);
+            midpoint("a null entry", 32, 8, 1, ~(UINT32_C(1) << j), entries, 128, values[i] == 0 ? 0 : FOCUS_ENTRY, 0);
             put4(entries + 4 * j, 0);
         }
     /* 25 by the nulls alone */
     for (uint32_t nulls = 0; nulls <= 32; nulls++)
-        midpoint("nulls", 32, 8, nulls == 32 ? 0 : UINT32_MAX >> nulls, entries, 128, nulls > 24 ? FOCUS_TRUSTED : 0, 0);
-    midpoint("one null while f is 0", 1, 0, 0, entries, 4, FOCUS_TRUSTED, 0);
+        midpoint("nulls", 32, 8, 1, nulls == 32 ? 0 : UINT32_MAX >> nulls, entries, 128, nulls > 24 ? FOCUS_TRUSTED : 0, 0);
+    midpoint("one null while f is 0", 1, 0, 1, 0, entries, 4, FOCUS_TRUSTED, 0);
 }
 
 struct point {
-    uint32_t n, f, marks;
+    uint32_t n, f, phase, marks;
     int32_t entries[5];
     uint8_t number;
     int32_t position;
@@ -151,15 +158,19 @@ struct point {
 
 static void midpoint_points(void) {
     static const struct point points[] = {
-        {5, 1, 0x0f, {10, 20, 30, 40, 0}, 0, 25}, {5, 1, 0x07, {10, 20, 30, 0, 0}, 0, 20}, {5, 1, 0x03, {10, 20, 0, 0, 0}, 0, 15},
-        {5, 1, 0x01, {10, 0, 0, 0, 0}, FOCUS_TRUSTED, 0}, {5, 1, 0x1f, {0, 0, 0, 1, 1}, 0, 0}, {5, 1, 0x1f, {-3, -3, -2, -2, -2}, 0, -3},
-        {1, 0, 0x01, {7}, 0, 7},
+        {5, 1, 1, 0x0f, {10, 20, 30, 40, 0}, 0, 25}, {5, 1, 1, 0x07, {10, 20, 30, 0, 0}, 0, 20}, {5, 1, 1, 0x03, {10, 20, 0, 0, 0}, 0, 15},
+        {5, 1, 1, 0x01, {10, 0, 0, 0, 0}, FOCUS_TRUSTED, 0}, {1, 0, 1, 0x01, {7}, 0, 7},
+        /* odd sums: down in phases 1, 3 and 65,535, up in 2 and 65,534 */
+        {5, 1, 1, 0x1f, {0, 0, 0, 1, 1}, 0, 0}, {5, 1, 2, 0x1f, {0, 0, 0, 1, 1}, 0, 1}, {5, 1, 3, 0x1f, {0, 0, 0, 1, 1}, 0, 0},
+        {5, 1, 1, 0x1f, {-3, -3, -2, -2, -2}, 0, -3}, {5, 1, 2, 0x1f, {-3, -3, -2, -2, -2}, 0, -2},
+        {5, 1, 65535, 0x1f, {-3, -3, -2, -2, -2}, 0, -3}, {5, 1, 65534, 0x1f, {-3, -3, -2, -2, -2}, 0, -2},
     };
     for (size_t i = 0; i < sizeof points / sizeof *points; i++) {
         uint8_t entries[20];
         for (size_t j = 0; j < 5; j++)
             put4(entries + 4 * j, points[i].entries[j]);
-        midpoint("a worked point", points[i].n, points[i].f, points[i].marks, entries, 4 * points[i].n, points[i].number, points[i].position);
+        midpoint("a worked point", points[i].n, points[i].f, points[i].phase, points[i].marks, entries, 4 * points[i].n, points[i].number,
+                 points[i].position);
     }
 }
 

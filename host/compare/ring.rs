@@ -135,7 +135,7 @@ impl Ring {
         assert!(nulls <= 3 * self.f, "more than 3f nulls with at most f struck in a round");
         let trim = if nulls <= self.f { self.f } else { (3 * self.f - nulls + 1) / 2 };
         kept.sort_unstable();
-        (kept[trim] + kept[kept.len() - 1 - trim]) >> 1
+        (kept[trim] + kept[kept.len() - 1 - trim] + (self.phase() % 2 == 0) as i32) >> 1
     }
 
     /// The only position with support n - f, if link j has not confessed.

@@ -25,8 +25,8 @@ impl fmt::Debug for Bytes {
 #[derive(Debug)]
 pub enum Call {
     FrameCheck { frame: Bytes },
-    Midpoint { n: u32, f: u32, marks: u32, entries: Bytes, out: i32 },
-    MidpointKept { n: u32, f: u32, marks: u32, entries: Bytes, out: [i32; 4] },
+    Midpoint { n: u32, f: u32, phase: u32, marks: u32, entries: Bytes, out: i32 },
+    MidpointKept { n: u32, f: u32, phase: u32, marks: u32, entries: Bytes, out: [i32; 4] },
     Scale { steps: i32, numerator: u32, denominator: u32, out: i64 },
     Unscale { nanometres: i64, numerator: u32, denominator: u32, out: i32 },
     Start { n: u32, f: u32, number: u32, position: i32 },
@@ -100,8 +100,8 @@ impl Call {
         let mut kept = self.kept();
         let (number, out) = match *self {
             Call::FrameCheck { .. } => (exported::frame_check(&mut lent), 0),
-            Call::Midpoint { n, f, marks, mut out, .. } => (exported::midpoint(n, f, marks, &mut lent, &mut out), out as i64),
-            Call::MidpointKept { n, f, marks, .. } => (exported::midpoint_kept(n, f, marks, &mut lent, &mut kept), 0),
+            Call::Midpoint { n, f, phase, marks, mut out, .. } => (exported::midpoint(n, f, phase, marks, &mut lent, &mut out), out as i64),
+            Call::MidpointKept { n, f, phase, marks, .. } => (exported::midpoint_kept(n, f, phase, marks, &mut lent, &mut kept), 0),
             Call::Scale { steps, numerator, denominator, mut out } => (exported::scale(steps, numerator, denominator, &mut out), out),
             Call::Unscale { nanometres, numerator, denominator, mut out } => {
                 (exported::unscale(nanometres, numerator, denominator, &mut out), out as i64)
@@ -148,9 +148,11 @@ impl Call {
         let mut kept = self.kept();
         let (done, out) = match *self {
             Call::FrameCheck { .. } => (frames::check(&lent).map(drop), 0),
-            Call::Midpoint { n, f, marks, out, .. } => valued(midpoint::midpoint(n as usize, f as usize, marks, &lent).map(|kept| kept.position), out),
-            Call::MidpointKept { n, f, marks, .. } => {
-                (midpoint::midpoint(n as usize, f as usize, marks, &lent).map(|new| kept = four(new)), 0)
+            Call::Midpoint { n, f, phase, marks, out, .. } => {
+                valued(midpoint::midpoint(n as usize, f as usize, phase as usize, marks, &lent).map(|kept| kept.position), out)
+            }
+            Call::MidpointKept { n, f, phase, marks, .. } => {
+                (midpoint::midpoint(n as usize, f as usize, phase as usize, marks, &lent).map(|new| kept = four(new)), 0)
             }
             Call::Scale { steps, numerator, denominator, out } => valued(scale::scale(steps, numerator, denominator), out),
             Call::Unscale { nanometres, numerator, denominator, out } => {

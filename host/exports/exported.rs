@@ -8,8 +8,8 @@ mod c {
 
     extern "C" {
         pub fn focus_frame_check(frame: *const u8, length: usize) -> u8;
-        pub fn focus_midpoint(n: u32, f: u32, marks: u32, entries: *const u8, length: usize, position: *mut i32) -> u8;
-        pub fn focus_midpoint_kept(n: u32, f: u32, marks: u32, entries: *const u8, length: usize, kept: *mut [i32; 4]) -> u8;
+        pub fn focus_midpoint(n: u32, f: u32, phase: u32, marks: u32, entries: *const u8, length: usize, position: *mut i32) -> u8;
+        pub fn focus_midpoint_kept(n: u32, f: u32, phase: u32, marks: u32, entries: *const u8, length: usize, kept: *mut [i32; 4]) -> u8;
         pub fn focus_scale(steps: i32, numerator: u32, denominator: u32, nanometres: *mut i64) -> u8;
         pub fn focus_unscale(nanometres: i64, numerator: u32, denominator: u32, steps: *mut i32) -> u8;
         pub fn focus_head_start(head: *mut Block, n: u32, f: u32, number: u32, position: i32) -> u8;
@@ -51,12 +51,12 @@ pub fn frame_check(frame: &mut [u8]) -> u8 {
     unsafe { c::focus_frame_check(frame.as_mut_ptr(), frame.len()) }
 }
 
-pub fn midpoint(n: u32, f: u32, marks: u32, entries: &mut [u8], position: &mut i32) -> u8 {
-    unsafe { c::focus_midpoint(n, f, marks, entries.as_mut_ptr(), entries.len(), position) }
+pub fn midpoint(n: u32, f: u32, phase: u32, marks: u32, entries: &mut [u8], position: &mut i32) -> u8 {
+    unsafe { c::focus_midpoint(n, f, phase, marks, entries.as_mut_ptr(), entries.len(), position) }
 }
 
-pub fn midpoint_kept(n: u32, f: u32, marks: u32, entries: &mut [u8], kept: &mut [i32; 4]) -> u8 {
-    unsafe { c::focus_midpoint_kept(n, f, marks, entries.as_mut_ptr(), entries.len(), kept) }
+pub fn midpoint_kept(n: u32, f: u32, phase: u32, marks: u32, entries: &mut [u8], kept: &mut [i32; 4]) -> u8 {
+    unsafe { c::focus_midpoint_kept(n, f, phase, marks, entries.as_mut_ptr(), entries.len(), kept) }
 }
 
 pub fn scale(steps: i32, numerator: u32, denominator: u32, nanometres: &mut i64) -> u8 {

@@ -62,10 +62,12 @@ pub fn midpoint(random: &mut Random) -> Call {
     }
     let f = if random.chance(1, 30) { highest_limit(n) + 1 } else { f };
     let (n, f) = (near(random, n as u32, 25), near(random, f as u32, 25));
+    let phase = if random.chance(1, 3) { random.pick(&[1, 2, 3, 65534, 65535]) } else { 1 + random.below(65535) };
+    let phase = if random.chance(1, 30) { random.pick(&[0, 65536, 65537, 1 << 17]) } else { near(random, phase as u32, 40) };
     if random.chance(1, 2) {
-        return Call::MidpointKept { n, f, marks, entries: Bytes(entries), out: four(random) };
+        return Call::MidpointKept { n, f, phase, marks, entries: Bytes(entries), out: four(random) };
     }
-    Call::Midpoint { n, f, marks, entries: Bytes(entries), out: random.next() as i32 }
+    Call::Midpoint { n, f, phase, marks, entries: Bytes(entries), out: random.next() as i32 }
 }
 
 /// Four numbers that stand in lent memory.

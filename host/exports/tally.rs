@@ -4,8 +4,8 @@
 /// line 1 if it is up.
 pub const CALLS: [(&str, &[u8]); 19] = [
     ("frame_check", &[0, 6, 7, 8]),
-    ("midpoint", &[0, 1, 2, 8, 10, 11, 25]),
-    ("midpoint_kept", &[0, 1, 2, 8, 10, 11, 25]),
+    ("midpoint", &[0, 1, 2, 5, 8, 10, 11, 25]),
+    ("midpoint_kept", &[0, 1, 2, 5, 8, 10, 11, 25]),
     ("scale", &[0, 12, 4]),
     ("unscale", &[0, 12]),
     ("head_start", &[0, 1, 2, 3, 4]),

@@ -56,14 +56,16 @@ enum focus_refusal {
  * Promised: the result is `frameRefusal` of the bytes (crates/frame_check/specs/Check.antt). */
 uint8_t focus_frame_check(const uint8_t *frame, size_t length);
 
-/* The midpoint of a trusted table: n heads, struck limit f, bit j of marks set if entry j is a position, entries of 4
- * bytes each, signed, lowest byte first, 0 where null.
- * Returns 0 and puts the new position in *position, or 1, 2, 8 (length is not 4n), 10, 11, 25.
+/* The midpoint of a trusted table: n heads, struck limit f, the phase that it ends (1 to 65,535), bit j of marks set if
+ * entry j is a position, entries of 4 bytes each, signed, lowest byte first, 0 where null. An odd sum is rounded down,
+ * towards minus infinity, in odd phases, and up, towards plus infinity, in even ones.
+ * Returns 0 and puts the new position in *position, or 1, 2, 5, 8 (length is not 4n), 10, 11, 25.
  * Promised: number and *position are those of `midpointCall` (crates/settle_midpoint/specs/Call.antt). */
-uint8_t focus_midpoint(uint32_t n, uint32_t f, uint32_t marks, const uint8_t *entries, size_t length, int32_t *position);
+uint8_t focus_midpoint(uint32_t n, uint32_t f, uint32_t phase, uint32_t marks, const uint8_t *entries, size_t length,
+                       int32_t *position);
 
 /* What a settling keeps: the lowest and highest entry kept, how many were dropped from each end, and the new
- * position, half the sum of the two. */
+ * position, half the sum of the two, rounded by the phase. */
 typedef struct focus_kept {
     int32_t lowest, highest, trim, position;
 } focus_kept;
@@ -72,7 +74,8 @@ typedef struct focus_kept {
  * is refused.
  * Promised: number and *kept are those of `midpointCall` (crates/settle_midpoint/specs/Call.antt), by `keptOr`
  * (crates/camera/specs/Out.antt). */
-uint8_t focus_midpoint_kept(uint32_t n, uint32_t f, uint32_t marks, const uint8_t *entries, size_t length, focus_kept *kept);
+uint8_t focus_midpoint_kept(uint32_t n, uint32_t f, uint32_t phase, uint32_t marks, const uint8_t *entries, size_t length,
+                            focus_kept *kept);
 
 /* The step scale: nanometres are steps times numerator, divided by denominator, rounded down (towards minus
  * infinity). Numerator and denominator are from 1 to 1,000,000, the numerator at least the denominator.

@@ -17,19 +17,20 @@ pub extern "C" fn focus_frame_check(frame: &[u8]) -> u8
     frame_check::frame_refusal(frame)
 }
 
-// The midpoint of a trusted table, rounded as in phase 1: 0 and the new position, or 1, 2, 8, 10, 11, 25.
+// The midpoint of a trusted table, an odd sum rounded by the phase: 0 and the new position, or 1, 2, 5, 8, 10, 11, 25.
 #[no_mangle]
 pub extern "C" fn focus_midpoint(
     n: u32,
     f: u32,
+    phase: u32,
     marks: u32,
     entries: &[u8],
     position: &mut i32,
 ) -> u8
-    ensures number { λ r. ⌜ r ≡ settledNumber (midpointCall n f marks (now (entries .entry))) ⌝ }
-    ensures result { λ r. ⌜ now (position .exit) ≡ settledOr (midpointCall n f marks (now (entries .entry))) (now (position .entry)) ⌝ }
+    ensures number { λ r. ⌜ r ≡ settledNumber (midpointCall n f phase marks (now (entries .entry))) ⌝ }
+    ensures result { λ r. ⌜ now (position .exit) ≡ settledOr (midpointCall n f phase marks (now (entries .entry))) (now (position .entry)) ⌝ }
 {
-    let answer = settle_midpoint::midpoint(n, f, marks, entries);
+    let answer = settle_midpoint::midpoint(n, f, phase, marks, entries);
     match answer {
         Settled::Refused(number) => number,
         Settled::New(kept) => {
@@ -40,19 +41,20 @@ pub extern "C" fn focus_midpoint(
     }
 }
 
-// The midpoint with what it kept: 0, and the lowest kept entry, the highest, the trim and the new position; or 1, 2, 8, 10, 11, 25.
+// The midpoint with what it kept: 0, and the lowest kept entry, the highest, the trim and the new position; or 1, 2, 5, 8, 10, 11, 25.
 #[no_mangle]
 pub extern "C" fn focus_midpoint_kept(
     n: u32,
     f: u32,
+    phase: u32,
     marks: u32,
     entries: &[u8],
     kept: &mut [i32; 4],
 ) -> u8
-    ensures number { λ r. ⌜ r ≡ settledNumber (midpointCall n f marks (now (entries .entry))) ⌝ }
-    ensures result { λ r. ⌜ now (kept .exit) ≡ keptOr (midpointCall n f marks (now (entries .entry))) (now (kept .entry)) ⌝ }
+    ensures number { λ r. ⌜ r ≡ settledNumber (midpointCall n f phase marks (now (entries .entry))) ⌝ }
+    ensures result { λ r. ⌜ now (kept .exit) ≡ keptOr (midpointCall n f phase marks (now (entries .entry))) (now (kept .entry)) ⌝ }
 {
-    let settled = settle_midpoint::midpoint(n, f, marks, entries);
+    let settled = settle_midpoint::midpoint(n, f, phase, marks, entries);
     match settled {
         Settled::Refused(refused) => refused,
         Settled::New(k) => {

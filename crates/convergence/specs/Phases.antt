@@ -1,6 +1,6 @@
 -- Document 01, "Strikes" and the two rounds, for a whole ring: from one phase end to the next.
 use mathlib.Core.Bool.{Bool, true, false, not, cond}
-use Prim.Native.Nat.{ℕ, zero, suc}
+use Prim.Native.Nat.{ℕ, zero, suc, _+_, _%_}
 use lib.Dec.{ltb}
 use lib.IntN.{ℤ}
 use lib.Signed.{leZ}
@@ -47,9 +47,9 @@ givenTo e F i k = gives (F .confess k) (F .collect k) (F .replied k i) confessed
 unfoldable pub after : ℕ → ℕ → ℕ → End → Faults → End
 after r n f e F = record { struck = F .confess; at = λ i. settled r n (twoRounds f) (trusted n f (givenTo e F i)) }
 
--- how phase p rounds odd sums: always down
+-- how phase p rounds odd sums: 0, down, in odd phases, and 1, up, in even ones (document 02, A7)
 unfoldable pub rounding : ℕ → ℕ
-rounding p = 0
+rounding p = (p + 1) % 2
 
 -- the end of phase p; end 0 is the start
 unfoldable pub endAfter : ℕ → ℕ → (ℕ → ℤ) → (ℕ → Faults) → ℕ → End

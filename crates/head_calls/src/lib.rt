@@ -161,10 +161,7 @@ fn member_refusal(listens: bool, n: u32, f: u32, number: u32, rest: u8) -> u8
 fn is_time(phase: u32, round: u32) -> bool
     ensures { λ r. ⌜ r ≡ isTime phase round ⌝ }
 {
-    if phase == 0 {
-        return false;
-    }
-    if 65535 < phase {
+    if !steps::is_phase(phase) {
         return false;
     }
     round < 2

@@ -7,7 +7,7 @@ use lib.ListN.{set}
 use lib.IntN.{ℤ}
 use Rattle.terms.specs.Refusals as refusal
 use Rattle.terms.specs.Refusals.{check}
-use Rattle.terms.specs.Sizes.{checkSize, isListener}
+use Rattle.terms.specs.Sizes.{checkSize, isPhase, isListener}
 use Rattle.terms.specs.Positions.{isPosition}
 use Rattle.terms.specs.declared.Entry.{Entry}
 use Rattle.terms.specs.declared.Table.{Table}
@@ -51,7 +51,7 @@ start h n f i v = answer (startRefusal n f i v) (started n f i v) h
 
 -- a phase and a round that there are
 abbrev pub isTime : ℕ → ℕ → Bool
-isTime p r = leb 1 p && leb p 65535 && ltb r 2
+isTime p r = isPhase p && ltb r 2
 
 unfoldable pub restartRefusal : ℕ → ℕ → ℕ → ℕ → ℕ → ℕ
 restartRefusal n f i p r = checkSize n f (check (ltb i n) refusal.head-number (check (isTime p r) refusal.phase 0))

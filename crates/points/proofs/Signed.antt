@@ -1,19 +1,20 @@
--- Signed numbers as the machine holds them: -1 - z of a negative z, a product of 32 bits by 32, and a quotient rounded towards zero, which is never
--- larger than what is divided.
-use mathlib.Core.Path.{_≡_, _∙_, ap, ap₂}
+-- Signed numbers as the machine holds them: -1 - z of a negative z, a sum of two numbers of 32 bits less 1, a product of 32 bits by 32, and a quotient
+-- rounded towards zero, which is never larger than what is divided.
+use mathlib.Core.Path.{_≡_, sym, _∙_, ap, ap₂}
 use mathlib.Core.Bool.{true, false}
 use Prim.Native.Nat.{ℕ, zero, suc, _+_, _*_, _/_, _≤_, zero-le}
 use native.Mathlib.Nat.{div-le-self, mul-le-mul}
 use native.Mathlib.Omega.{arith}
 use lib.Dec.{T}
-use lib.IntN.{ℤ, pos, negsuc, negℤ, natAbs, _-ℤ_, _*ℤ_}
+use lib.IntN.{ℤ, pos, negsuc, negℤ, natAbs, _+ℤ_, _-ℤ_, _*ℤ_}
 use lib.Signed.{mag, ltZ, nonNeg, quotZ}
 use mir.Syntax.{w32, w64}
 use mir.Val.{Fits, SFits, toZ}
 use mir.Facts.{sfits-toZ, fits-ofZ}
 use mir.ValLaws.{sfits-le}
 use Rattle.terms.proofs.Machine.{read, read-as, fits-as, turned, turned-is, negative-is, natural-is}
-use Rattle.steps.proofs.Machine.{wide-is, wide-natural-is}
+use Rattle.terms.proofs.Whole.{plus, minus, arithZ, sum-lin}
+use Rattle.steps.proofs.Machine.{wide-is, wide-natural-is, wide-sum-fits, fits-range, range-fits}
 
 -- ---- a number with its sign
 
@@ -49,6 +50,22 @@ quotient-small (negsuc n) d = below-small (suc n / d) (div-le-self (suc n) d)
 -- what the machine holds of z, which fits, divided by d
 pub quotient-fits : {z : ℤ} (d : ℕ) → SFits w64 z → SFits w64 (quotZ (read w64 z) (pos d))
 quotient-fits {z} d f = sfits-le (quotient-small (read w64 z) d) (sfits-toZ (fits-ofZ f))
+
+-- ---- a sum
+
+module _ {a b : ℤ} (f : SFits w32 a) (g : SFits w32 b) where
+  sum-is : read w64 (read w64 (read w32 a) +ℤ read w64 (read w32 b)) ≡ a +ℤ b
+  sum-is =
+      let wide = ap₂ _+ℤ_ (wide-is f) (wide-is g) in
+      read-as wide (fits-as (sym wide) (wide-sum-fits a b f g))
+
+  less-fits : SFits w64 ((a +ℤ b) -ℤ pos 1)
+  unfolding plus minus
+  less-fits = range-fits (omega (arithZ, fits-range f, fits-range g, sum-lin a b, sum-lin (a +ℤ b) (negsuc 0)))
+
+  -- the sum of two numbers of 32 bits, less 1
+  pub one-less-fits : SFits w64 (read w64 (read w64 (read w32 a) +ℤ read w64 (read w32 b)) -ℤ pos 1)
+  one-less-fits = fits-as (ap (λ (z : ℤ). z -ℤ pos 1) sum-is) less-fits
 
 -- ---- a product
 

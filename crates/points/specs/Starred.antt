@@ -20,13 +20,13 @@ use Rattle.settle_midpoint.specs.Answers.{settling}
 use Rattle.settle_midpoint.specs.declared.Settled.{Settled}
 use Rattle.settle_midpoint.specs.declared.Settled.the-variants.{Refused, New}
 
--- n heads, struck limit f, and what the rules answer, in phase 1
+-- n heads, struck limit f, and what the rules answer. Document 01's points count as phase 1 (document 02, A7); beside each odd sum is the same point in phase 2.
 pub data Point : Type 0 where
   taken : ℕ → ℕ → Point
   refused : ℕ → ℕ → ℕ → Point  -- with the number
   halving : ℕ → ℕ → Point
   no-halving : ℕ → ℕ → Point
-  settles : ℕ → ℕ → List Entry → ℤ → Point  -- trusted entries, new position
+  settles : ℕ → ℕ → ℕ → List Entry → ℤ → Point  -- in a phase: trusted entries, new position
   too-few : ℕ → ℕ → List Entry → Point  -- 25
   trusts : ℕ → ℕ → List Given → ℕ → Entry → Point  -- what the links gave, a head, its trusted entry
 
@@ -49,7 +49,7 @@ PointHolds (taken n f) = sizeRefusal n f ≡ 0
 PointHolds (refused n f c) = sizeRefusal n f ≡ c
 PointHolds (halving n f) = Halves n f
 PointHolds (no-halving n f) = Halves n f → ⊥
-PointHolds (settles n f l v) = newPosition (settling (rounding 1) n (twoRounds f) (table l)) ≡ Position v
+PointHolds (settles p n f l v) = newPosition (settling (rounding p) n (twoRounds f) (table l)) ≡ Position v
 PointHolds (too-few n f l) = number (settling (rounding 1) n (twoRounds f) (table l)) ≡ 25
 PointHolds (trusts n f l j e) = trusted n f (links l) j ≡ e
 
@@ -80,13 +80,15 @@ starred =
     ∷ halving 23 6
     ∷ no-halving 8 2
     ∷ no-halving 22 6
-    ∷ settles 5 1 (at 10 ∷ at 20 ∷ at 30 ∷ at 40 ∷ Null ∷ []) (pos 25)
-    ∷ settles 5 1 (at 10 ∷ at 20 ∷ at 30 ∷ Null ∷ Null ∷ []) (pos 20)
-    ∷ settles 5 1 (at 10 ∷ at 20 ∷ Null ∷ Null ∷ Null ∷ []) (pos 15)
+    ∷ settles 1 5 1 (at 10 ∷ at 20 ∷ at 30 ∷ at 40 ∷ Null ∷ []) (pos 25)
+    ∷ settles 1 5 1 (at 10 ∷ at 20 ∷ at 30 ∷ Null ∷ Null ∷ []) (pos 20)
+    ∷ settles 1 5 1 (at 10 ∷ at 20 ∷ Null ∷ Null ∷ Null ∷ []) (pos 15)
     ∷ too-few 5 1 (at 10 ∷ Null ∷ Null ∷ Null ∷ Null ∷ [])
-    ∷ settles 5 1 (at 0 ∷ at 0 ∷ at 0 ∷ at 1 ∷ at 1 ∷ []) (pos 0)
-    ∷ settles 5 1 (below 3 ∷ below 3 ∷ below 2 ∷ below 2 ∷ below 2 ∷ []) (negsuc 2)
-    ∷ settles 1 0 (at 7 ∷ []) (pos 7)
+    ∷ settles 1 5 1 (at 0 ∷ at 0 ∷ at 0 ∷ at 1 ∷ at 1 ∷ []) (pos 0)
+    ∷ settles 2 5 1 (at 0 ∷ at 0 ∷ at 0 ∷ at 1 ∷ at 1 ∷ []) (pos 1)
+    ∷ settles 1 5 1 (below 3 ∷ below 3 ∷ below 2 ∷ below 2 ∷ below 2 ∷ []) (negsuc 2)
+    ∷ settles 2 5 1 (below 3 ∷ below 3 ∷ below 2 ∷ below 2 ∷ below 2 ∷ []) (negsuc 1)
+    ∷ settles 1 1 0 (at 7 ∷ []) (pos 7)
     ∷ trusts 5 1 (gave (table (at 10 ∷ [])) ∷ gave (table (at 20 ∷ [])) ∷ confessed ∷ confessed ∷ confessed ∷ []) 0 Null
     ∷ []
 
@@ -120,7 +122,7 @@ starred-hold = (
                           (λ h. omega arith),
                           (
                             (λ h. omega arith),
-                            (refl, (refl, (refl, (refl, (refl, (refl, (refl, (refl, tt)))))))),
+                            (refl, (refl, (refl, (refl, (refl, (refl, (refl, (refl, (refl, (refl, tt)))))))))),
                           ),
                         ),
                       ),

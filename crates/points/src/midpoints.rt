@@ -8,20 +8,25 @@ use crate::wrong;
 use terms::Table;
 ghost use Prim.Native.Nat.{_<_};
 
-// n, f, marks (bit j set if entry j is a position), five entries
-struct Trusted(u32, u32, u32, i32, i32, i32, i32, i32);
+// n, f, the phase, marks (bit j set if entry j is a position), five entries
+struct Trusted(u32, u32, u32, u32, i32, i32, i32, i32, i32);
 
-const MIDPOINTS: [Trusted; 10] = [
-    Trusted(5, 1, 0b01111, 10, 20, 30, 40, 0),
-    Trusted(5, 1, 0b00111, 10, 20, 30, 0, 0),
-    Trusted(5, 1, 0b00011, 10, 20, 0, 0, 0),
-    Trusted(5, 1, 0b00001, 10, 0, 0, 0, 0),
-    Trusted(5, 1, 0b11111, 0, 0, 0, 1, 1),
-    Trusted(5, 1, 0b11111, -3, -3, -2, -2, -2),
-    Trusted(1, 0, 0b1, 7, 0, 0, 0, 0),
-    Trusted(1, 0, 0b1, 0, 0, 0, 0, 0),
-    Trusted(1, 0, 0b0, 0, 0, 0, 0, 0),
-    Trusted(2, 0, 0b01, 10, 0, 0, 0, 0),
+// Document 01's points count as phase 1; beside each odd sum is the same point in phase 2 (document 02, A7).
+const MIDPOINTS: [Trusted; 14] = [
+    Trusted(5, 1, 1, 0b01111, 10, 20, 30, 40, 0),
+    Trusted(5, 1, 1, 0b00111, 10, 20, 30, 0, 0),
+    Trusted(5, 1, 1, 0b00011, 10, 20, 0, 0, 0),
+    Trusted(5, 1, 1, 0b00001, 10, 0, 0, 0, 0),
+    Trusted(5, 1, 1, 0b11111, 0, 0, 0, 1, 1),
+    Trusted(5, 1, 2, 0b11111, 0, 0, 0, 1, 1),
+    Trusted(5, 1, 1, 0b11111, -3, -3, -2, -2, -2),
+    Trusted(5, 1, 2, 0b11111, -3, -3, -2, -2, -2),
+    Trusted(1, 0, 1, 0b1, 7, 0, 0, 0, 0),
+    Trusted(1, 0, 1, 0b1, 0, 0, 0, 0, 0),
+    Trusted(1, 0, 1, 0b0, 0, 0, 0, 0, 0),
+    Trusted(2, 0, 1, 0b01, 10, 0, 0, 0, 0),
+    Trusted(5, 1, 0, 0b11111, 0, 0, 0, 1, 1),
+    Trusted(5, 1, 65536, 0b11111, 0, 0, 0, 1, 1),
 ];
 
 // The trims with the limit f, by the number of nulls.
@@ -70,27 +75,32 @@ pub fn table_of(marks: u32, list: [i32; 8]) -> Table {
 }
 
 fn entries_of(c: Trusted) -> [i32; 8] {
-    [c.3, c.4, c.5, c.6, c.7, 0, 0, 0]
+    [c.4, c.5, c.6, c.7, c.8, 0, 0, 0]
 }
 
 // The midpoint of a case, with these marks.
 fn midpoint_with(c: Trusted, marks: u32) -> Answer {
     let bytes = bytes_of(entries_of(c));
     let entries = print::front(&bytes, 4 * (c.0 as usize));
-    answers::of_settled(settle_midpoint::midpoint(c.0, c.1, marks, entries))
+    answers::of_settled(settle_midpoint::midpoint(c.0, c.1, c.2, marks, entries))
 }
 
 // Where there are nulls, with what zeros in their place would give.
 fn midpoint_line(c: Trusted) {
     answers::fill(
-        b"midpoint # # [",
-        [Number(c.0 as i64), Number(c.1 as i64), Null, Null],
+        b"midpoint # # in phase # [",
+        [
+            Number(c.0 as i64),
+            Number(c.1 as i64),
+            Number(c.2 as i64),
+            Null,
+        ],
     );
-    print::table(c.0 as usize, table_of(c.2, entries_of(c)));
+    print::table(c.0 as usize, table_of(c.3, entries_of(c)));
     print::text(b"]: ");
-    let ours = midpoint_with(c, c.2);
+    let ours = midpoint_with(c, c.3);
     let full = wrong::no_nulls(c.0);
-    if c.2 == full {
+    if c.3 == full {
         answers::line(ours);
     } else {
         answers::compare(ours, b" (null for zero: ", midpoint_with(c, full));

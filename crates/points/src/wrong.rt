@@ -16,6 +16,16 @@ pub fn half_towards_zero(a: i32, b: i32) -> i64 {
     (a as i64 + b as i64) / 2
 }
 
+// Half of a sum, an odd sum rounded away from zero.
+pub fn half_away_from_zero(a: i32, b: i32) -> i64 {
+    let sum = a as i64 + b as i64;
+    if sum < 0 {
+        (sum - 1) / 2
+    } else {
+        (sum + 1) / 2
+    }
+}
+
 // Half of a sum, an odd sum rounded to an even number: one more than rounded down, if the sum and that are odd.
 pub fn half_to_even(a: i32, b: i32) -> i32 {
     let down = fields::unsigned(steps::half_sum(a, b, false));

@@ -1,11 +1,11 @@
--- The midpoint call: n, f, and a list's marks and entries. Checks 1, 2, 8 (entries not 4n bytes), 10, 11, 25.
+-- The midpoint call: n, f, the phase (document 02, A7), and a list's marks and entries. Checks 1, 2, 5, 8 (entries not 4n bytes), 10, 11, 25.
 use mathlib.Core.List.{List}
 use Prim.Native.Nat.{ℕ, zero, suc, _*_}
 use lib.Dec.{eqb}
 use lib.ListN.{length}
 use Rattle.terms.specs.Refusals as refusal
 use Rattle.terms.specs.Refusals.{check, unlessRefused}
-use Rattle.terms.specs.Sizes.{checkSize}
+use Rattle.terms.specs.Sizes.{checkSize, isPhase}
 use Rattle.terms.specs.declared.Entry.{Entry}
 use Rattle.marks.specs.Marks.{marksBelow}
 use Rattle.entries.specs.Entries.{entryAt, entriesFit, numbers}
@@ -19,13 +19,14 @@ abbrev pub entriesGiven : ℕ → ℕ → List ℕ → ℕ → Entry
 entriesGiven n m s = entryAt m (numbers s n)
 
 -- all but 25, which settling gives
-unfoldable pub listRefusal : ℕ → ℕ → ℕ → List ℕ → ℕ
-listRefusal n f m s =
+unfoldable pub listRefusal : ℕ → ℕ → ℕ → ℕ → List ℕ → ℕ
+listRefusal n f p m s =
     checkSize n f
+    (check (isPhase p) refusal.phase
     (check (eqb (length s) (4 * n)) refusal.kind-length
     (check (marksBelow m n) refusal.marks
-    (check (entriesFit m s n) refusal.entry 0)))
+    (check (entriesFit m s n) refusal.entry 0))))
 
--- rounded as in phase 1
-unfoldable pub midpointCall : ℕ → ℕ → ℕ → List ℕ → Settled
-midpointCall n f m s = unlessRefused Settled.Refused (listRefusal n f m s) (settling (rounding 1) n (twoRounds f) (entriesGiven n m s))
+-- rounded as in phase p
+unfoldable pub midpointCall : ℕ → ℕ → ℕ → ℕ → List ℕ → Settled
+midpointCall n f p m s = unlessRefused Settled.Refused (listRefusal n f p m s) (settling (rounding p) n (twoRounds f) (entriesGiven n m s))

@@ -36,7 +36,7 @@ wide-natural-is f = toZ-pos w64 (omega arith)
 abbrev InWidth : Width → ℤ → Type 0
 InWidth w z = (negsuc (2 ^ hbits w - 1) ≤ℤ z) × (z ≤ℤ pos (2 ^ hbits w - 1))
 
-fits-range : {w : Width} {z : ℤ} → SFits w z → InWidth w z
+pub fits-range : {w : Width} {z : ℤ} → SFits w z → InWidth w z
 fits-range {w} {z = pos n} f = (record { le = tt }, record { le = le→leb n (2 ^ hbits w - 1) (omega arith) })
 fits-range {w} {z = negsuc n} f = (record { le = le→leb n (2 ^ hbits w - 1) (omega arith) }, record { le = tt })
 

@@ -2,7 +2,7 @@
 ghost use mathlib.Core.Path.{_≡_};
 ghost use lib.IntN.{_+ℤ_};
 ghost use Rattle.terms.specs.Positions.{isPosition, half};
-ghost use Rattle.terms.specs.Sizes.{sizeRefusal};
+ghost use Rattle.terms.specs.Sizes.{sizeRefusal, isPhase};
 ghost use Rattle.convergence.specs.Counting.{bit};
 ghost use Rattle.convergence.specs.Phases.{rounding};
 use terms::refusal;
@@ -16,18 +16,25 @@ pub fn is_position(v: i32) -> bool
     -1000000 <= v && v <= 1000000
 }
 
-// Whether an odd sum is rounded up in a phase: it is always rounded down, towards minus infinity.
+// Whether an odd sum is rounded up in a phase: down in odd phases, up in even ones (document 02, A7).
 pub fn rounds_up(phase: u16) -> bool
     ensures { λ r. ⌜ bit r ≡ rounding phase ⌝ }
 {
-    false
+    phase % 2 == 0
 }
 
-// Half of a + b; an odd sum is rounded up if `up`, else down, towards minus infinity.
+// Half of a + b; an odd sum is rounded up, towards plus infinity, if `up`, else down, towards minus infinity.
 pub fn half_sum(a: i32, b: i32, up: bool) -> i32
     ensures { λ r. ⌜ r ≡ half (bit up) (a +ℤ b) ⌝ }
 {
     ((a as i64 + b as i64 + up as i64) >> 1) as i32
+}
+
+// Whether there is such a phase: from 1 to 65,535.
+pub fn is_phase(phase: u32) -> bool
+    ensures { λ r. ⌜ r ≡ isPhase phase ⌝ }
+{
+    1 <= phase && phase <= 65535
 }
 
 // Whether a ring of n heads with the struck limit f is taken: 0, or 1 for the head count, or 2 for the limit.

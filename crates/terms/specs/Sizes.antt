@@ -13,6 +13,10 @@ isCount n = leb 1 n && leb n 32
 unfoldable pub isLimit : ℕ → ℕ → Bool
 isLimit n f = leb (7 * f + 2) (2 * n)
 
+-- phases are numbered 1 to 65,535
+abbrev pub isPhase : ℕ → Bool
+isPhase p = leb 1 p && leb p 65535
+
 -- listeners are numbered 32 to 47 (document 02, A6)
 unfoldable pub isListener : ℕ → Bool
 isListener i = leb 32 i && leb i 47

@@ -1,7 +1,7 @@
 //! A head's record and its calls.
 
 use super::frames::{self, Said};
-use super::midpoint::{is_position, settle, size, Entry, Kept};
+use super::midpoint::{is_phase, is_position, settle, size, Entry, Kept};
 
 pub const LAST_PHASE: usize = 65_535;
 /// The number of the first listener, whatever n is, and how many there can be.
@@ -62,7 +62,7 @@ impl Head {
 
     /// 5.
     fn resumed(n: usize, f: usize, number: usize, phase: usize, round: usize) -> Result<Head, u8> {
-        if phase == 0 || phase > LAST_PHASE || round > 1 {
+        if !is_phase(phase) || round > 1 {
             return Err(5);
         }
         Ok(Head::healed(n, f, number, phase, round))
@@ -148,7 +148,7 @@ impl Head {
             self.round = 1;
         } else {
             let trusted: Vec<_> = (0..self.n).map(|j| self.trusted(j)).collect();
-            let kept = settle(self.f, &trusted)?;
+            let kept = settle(self.f, self.phase, &trusted)?;
             (self.position, self.kept) = (Some(kept.position), Some(kept));
             self.list = vec![None; self.n];
             self.ended = self.phase == LAST_PHASE;

@@ -1,6 +1,7 @@
 //! Positions, sizes, tables of entries, and the midpoint of a trusted table.
 
 use super::frames::word;
+use super::head::LAST_PHASE;
 
 pub const LIMIT: i32 = 1_000_000;
 
@@ -20,6 +21,11 @@ pub fn size(n: usize, f: usize) -> Result<(), u8> {
         return Err(2);
     }
     Ok(())
+}
+
+/// Phases are numbered 1 to 65,535.
+pub fn is_phase(phase: usize) -> bool {
+    (1..=LAST_PHASE).contains(&phase)
 }
 
 /// The highest struck limit that n heads allow.
@@ -57,8 +63,17 @@ pub struct Kept {
     pub position: i32,
 }
 
-/// 25 if more than 3f entries are null; the new position with what it is the middle of.
-pub fn settle(f: usize, trusted: &[Entry]) -> Result<Kept, u8> {
+/// Half a sum: an odd one goes down in odd phases and up in even ones, towards minus and plus infinity (document 02, A7).
+fn half(sum: i32, phase: usize) -> i32 {
+    if phase % 2 == 1 {
+        sum.div_euclid(2)
+    } else {
+        -(-sum).div_euclid(2)
+    }
+}
+
+/// 25 if more than 3f entries are null; the new position at the end of a phase, with what it is the middle of.
+pub fn settle(f: usize, phase: usize, trusted: &[Entry]) -> Result<Kept, u8> {
     let mut order: Vec<i32> = trusted.iter().flatten().copied().collect();
     let nulls = trusted.len() - order.len();
     if nulls > 3 * f {
@@ -67,14 +82,17 @@ pub fn settle(f: usize, trusted: &[Entry]) -> Result<Kept, u8> {
     let trim = if nulls <= f { f } else { (3 * f - nulls + 1) / 2 };
     order.sort_unstable();
     let (low, high) = (order[trim], order[order.len() - trim - 1]);
-    Ok(Kept { low, high, trim, position: (low + high).div_euclid(2) })
+    Ok(Kept { low, high, trim, position: half(low + high, phase) })
 }
 
-/// 1, 2, 8, 10, 11, 25; the new position of a trusted table, with what it is the middle of.
-pub fn midpoint(n: usize, f: usize, marks: u32, entries: &[u8]) -> Result<Kept, u8> {
+/// 1, 2, 5, 8, 10, 11, 25; the new position of a trusted table in a phase, with what it is the middle of.
+pub fn midpoint(n: usize, f: usize, phase: usize, marks: u32, entries: &[u8]) -> Result<Kept, u8> {
     size(n, f)?;
+    if !is_phase(phase) {
+        return Err(5);
+    }
     if entries.len() != 4 * n {
         return Err(8);
     }
-    settle(f, &table(n, marks, entries)?)
+    settle(f, phase, &table(n, marks, entries)?)
 }

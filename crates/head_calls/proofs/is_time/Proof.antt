@@ -1,21 +1,19 @@
--- Each test that fails is one of the three that have to hold.
-use native.Mathlib.Omega.{arith}
-use borrow.Author.Tests.{le-leb, lt-leb}
+-- Each test that fails is one of the two that have to hold.
+use mathlib.Core.Path.{sym, _∙_}
+use borrow.Author.Needs.{needs}
+use borrow.Author.Tests.{not-true, not-false}
 use Rattle.head_calls.proofs.is_time.Statement.{statement}
 use Rattle.head_calls.proofs.is_time.Tie as tie
 
 returns : tie.Need-returns
-returns c = rw (c .if1 .taken)
+returns c =
+    let p = sym (c .before .is-phase .ensures) ∙ not-true _ (c .if1 .taken) in
+    rw p
 
 returns-2 : tie.Need-returns-2
 returns-2 c =
-    let p = c .before .before .args .phase in
-    rw (le-leb 1 p (omega arith), lt-leb p 65535 (c .if2 .taken))
-
-returns-3 : tie.Need-returns-3
-returns-3 c =
-    let p = c .before .before .args .phase in
-    rw (le-leb 1 p (omega arith), le-leb p 65535 (c .if2 .left))
+    let p = sym (c .before .is-phase .ensures) ∙ not-false _ (c .if1 .left) in
+    rw p
 
 pub is-time-spec : {M : Type 1} → statement M
-is-time-spec = tie.close (tie.spec returns returns-2 returns-3)
+is-time-spec = tie.close (tie.spec (λ c κs. search needs) returns returns-2)

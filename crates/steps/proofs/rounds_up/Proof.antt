@@ -1,12 +1,22 @@
--- `steps::rounds_up` meets its contract: every phase rounds down.
-use mathlib.Core.Path.{refl}
+-- `steps::rounds_up` meets its contract: the phase after an even one is odd.
+use mathlib.Core.Path.{_≡_}
+use mathlib.Core.Logic.{by-cases}
+use Prim.Native.Nat.{ℕ, _+_, _%_}
+use native.Mathlib.Decide.{ℕ-discrete}
+use native.Mathlib.Omega.{arith}
+use borrow.Author.Tests.{eq-eqb, ne-eqb}
+use lib.Dec.{eqb}
+use Rattle.convergence.specs.Counting.{bit}
 use Rattle.convergence.specs.Phases.{rounding}
 use Rattle.steps.proofs.rounds_up.Statement.{statement}
 use Rattle.steps.proofs.rounds_up.Tie as tie
 
-returns : tie.Need-returns
+even-up : (p : ℕ) → bit (eqb (p % 2) 0) ≡ rounding p
 unfolding rounding
-returns c = refl
+even-up p = by-cases (ℕ-discrete (p % 2) 0) (λ e. rw (eq-eqb _ _ e) (omega arith)) (λ e. rw (ne-eqb _ _ e) (omega arith))
+
+returns : tie.Need-returns
+returns c = even-up _
 
 pub rounds-up-spec : {M : Type 1} → statement M
 rounds-up-spec = tie.close (tie.spec returns)
