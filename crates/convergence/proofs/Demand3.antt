@@ -14,7 +14,7 @@ use Rattle.terms.specs.declared.Entry.the-variants.{Position}
 use Rattle.convergence.specs.Counting.{bit, AtMost}
 use Rattle.convergence.specs.Settling.{nulls, trim, twoRounds, midpoint, enough, settled}
 use Rattle.convergence.specs.Trust.{trusted}
-use Rattle.convergence.specs.Phases.{End, start, Faults, soundAt, lowest, highest, givenTo, after, rounding, endAfter}
+use Rattle.convergence.specs.Phases.{End, startEnd, Faults, soundAt, lowest, highest, givenTo, after, rounding, endAfter}
 use Rattle.convergence.specs.Demand3.{KeptBetween, AcceptedSize, Halves, FewStruck, Converges}
 use Rattle.convergence.proofs.Sums.{sum-same, sum-none}
 use Rattle.convergence.proofs.Support.{same-position}
@@ -89,7 +89,7 @@ module _ (n f : ℕ) (size : AcceptedSize n f) (v : ℕ → ℤ) (F : ℕ → Fa
   end = endAfter n f v F
 
   pub few-struck : (p : ℕ) → AtMost f n (end p .struck)
-  unfolding endAfter start after
+  unfolding endAfter startEnd after
   few-struck zero = omega (arith, sum-none n, sum-same n (λ j. bit (not (ltb j n))) (λ j. 0) (λ j l. rw (lt-ltb j n l)))
   few-struck (suc p) = within (suc p) .1
 
@@ -98,7 +98,7 @@ module _ (n f : ℕ) (size : AcceptedSize n f) (v : ℕ → ℤ) (F : ℕ → Fa
   limits p = record { size = size; few-c = within (suc p) .0; few-d = within (suc p) .1; few-p = few-struck p }
 
   run : (N : ℕ) → n ≤ N → Run n N f (Halves n f) end
-  unfolding endAfter start
+  unfolding endAfter startEnd
   run N more =
       record {
         large = omega arith;

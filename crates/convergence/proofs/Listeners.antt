@@ -12,7 +12,7 @@ use Rattle.terms.specs.declared.Entry.the-variants.{Null, Position}
 use Rattle.convergence.specs.Counting.{sum}
 use Rattle.convergence.specs.Settling.{nulls, trim, insert, ordered, lowKept, highKept, middle, midpoint, enough, settled}
 use Rattle.convergence.specs.Trust.{nothing, confessed, support, confessions, seen, trusted}
-use Rattle.convergence.specs.Phases.{End, start, Faults, listOf, givenTo, after, rounding, endAfter, lowest, highest, spread}
+use Rattle.convergence.specs.Phases.{End, startEnd, Faults, listOf, givenTo, after, rounding, endAfter, lowest, highest, spread}
 use Rattle.convergence.specs.Demand3.{FewStruck}
 
 pub strikes : ℕ → Faults
@@ -36,5 +36,5 @@ pub record Listening : Type 0 where
   pub counted : spread 7 (end 1) ≡ 2
 
 pub listening : Listening
-unfolding strikes end endAfter rounding sum spread lowest highest gap start after settled enough midpoint middle half floorDiv lowKept highKept trim nulls ordered insert trusted support confessions seen eqZ givenTo listOf
+unfolding strikes end endAfter rounding sum spread lowest highest gap startEnd after settled enough midpoint middle half floorDiv lowKept highKept trim nulls ordered insert trusted support confessions seen eqZ givenTo listOf
 listening = record { few = λ p. (lit≤ tt, lit≤ tt); at-start = refl; head = refl; listener = refl; counted = refl }

@@ -18,7 +18,7 @@ use Rattle.terms.specs.declared.Entry.the-variants.{Null, Position}
 use Rattle.convergence.specs.Counting.{sum, AtMost}
 use Rattle.convergence.specs.Settling.{nulls, trim, insert, ordered, lowKept, highKept, middle, midpoint, enough, settled}
 use Rattle.convergence.specs.Trust.{nothing, confessed, gave, support, confessions, seen, trusted}
-use Rattle.convergence.specs.Phases.{End, start, Faults, listOf, givenTo, after, rounding, endAfter, lowest, highest, spread}
+use Rattle.convergence.specs.Phases.{End, startEnd, Faults, listOf, givenTo, after, rounding, endAfter, lowest, highest, spread}
 use Rattle.convergence.specs.Demand3.{halved, AcceptedSize, Halves, FewStruck}
 use Rattle.convergence.proofs.Demand3.{converges}
 
@@ -92,16 +92,16 @@ module _ (f x a s : ℕ) where
   -- Of those struck in confession only, the ones with 2 confess to the receivers below s, which then lack them, and the ones with 0 to the others. So the
   -- first see more zeros, the others more twos.
   lying : ℕ → Faults
-  lying n = echo (start n holding) telling (λ k i. cond (ltb i s) (twos k) (leb (f + a) k))
+  lying n = echo (startEnd n holding) telling (λ k i. cond (ltb i s) (twos k) (leb (f + a) k))
 
   -- with n heads the size is accepted and below the bound, at most f heads are struck in each round, and the spread stays 2
   abbrev Stays : ℕ → Type 0
   Stays n =
-      AcceptedSize n f × (Halves n f → ⊥) × AtMost f n (lying n .collect) × AtMost f n (lying n .confess) × (spread n (start n holding) ≡ 2)
-      × (spread n (after 0 n f (start n holding) (lying n)) ≡ 2)
+      AcceptedSize n f × (Halves n f → ⊥) × AtMost f n (lying n .collect) × AtMost f n (lying n .confess) × (spread n (startEnd n holding) ≡ 2)
+      × (spread n (after 0 n f (startEnd n holding) (lying n)) ≡ 2)
 
 stay : Stays 2 0 1 6 8 × Stays 4 0 1 11 15 × Stays 5 1 2 14 19 × Stays 6 0 1 16 22 × Stays 7 1 2 19 26 × Stays 8 0 1 21 29 × Stays 8 2 3 22 30
-unfolding shown twos holding telling echo lying sum spread lowest highest gap start after settled enough midpoint middle half floorDiv lowKept highKept trim nulls ordered insert trusted support confessions seen eqZ givenTo listOf
+unfolding shown twos holding telling echo lying sum spread lowest highest gap startEnd after settled enough midpoint middle half floorDiv lowKept highKept trim nulls ordered insert trusted support confessions seen eqZ givenTo listOf
 stay = (
   (lit≤ tt, λ h. omega arith, lit≤ tt, lit≤ tt, refl, refl),
   (lit≤ tt, λ h. omega arith, lit≤ tt, lit≤ tt, refl, refl),

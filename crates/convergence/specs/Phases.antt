@@ -17,8 +17,8 @@ pub record End : Type 0 where
   pub at : ℕ → Entry
 
 -- At the start the heads are sound, with the positions of the start record; a receiver that is no head counts as struck, since it holds no position yet.
-unfoldable pub start : ℕ → (ℕ → ℤ) → End
-start n v = record { struck = λ j. not (ltb j n); at = λ j. Position (v j) }
+unfoldable pub startEnd : ℕ → (ℕ → ℤ) → End
+startEnd n v = record { struck = λ j. not (ltb j n); at = λ j. Position (v j) }
 
 -- A phase's strikes, and what the struck heads send: anything, something else to each receiver, or nothing (a null entry, `nothing`). A listener sends
 -- nothing: of it only `confess` matters.
@@ -53,7 +53,7 @@ rounding p = (p + 1) % 2
 
 -- the end of phase p; end 0 is the start
 unfoldable pub endAfter : ℕ → ℕ → (ℕ → ℤ) → (ℕ → Faults) → ℕ → End
-endAfter n f v F zero = start n v
+endAfter n f v F zero = startEnd n v
 endAfter n f v F (suc p) = after (rounding (suc p)) n f (endAfter n f v F p) (F (suc p))
 
 -- ---- lowest, highest and spread of the sound ones among receivers 0 .. n - 1

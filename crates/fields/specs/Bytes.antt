@@ -1,10 +1,15 @@
 -- Fields of two and four bytes, the lowest byte first; a byte past the end of a slice counts as 0.
-use mathlib.Core.Bool.{cond}
+use mathlib.Core.Bool.{Bool, true, false, cond}
 use mathlib.Core.List.{List, [], _∷_, _++_}
 use Prim.Native.Nat.{ℕ, _+_, _-_, _*_, _/_, _%_}
 use lib.Dec.{ltb, leb}
 use lib.ListN.{length, getD, set, take, drop}
 use lib.IntN.{ℤ, pos, negsuc}
+
+-- no bytes
+abbrev pub isEmpty : List ℕ → Bool
+isEmpty [] = true
+isEmpty (x ∷ s) = false
 
 -- two bytes from place i on
 abbrev pub at2 : List ℕ → ℕ → ℕ

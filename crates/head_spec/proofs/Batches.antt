@@ -13,9 +13,10 @@ use borrow.Author.Tests.{leb-true}
 use Rattle.terms.specs.Refusals as refusal
 use Rattle.terms.specs.Refusals.{leaves}
 use Rattle.terms.proofs.Booleans.{and-both}
+use Rattle.fields.specs.Bytes.{isEmpty}
 use Rattle.head_spec.specs.declared.Head.{Head}
 use Rattle.head_spec.specs.Calls.{answer, Delivery, hearEach, answersTo}
-use Rattle.head_spec.specs.Batch.{frameLength, isWhole, firstEntry, behindFirst, entrySize, isEmpty, cutInto, isCutInto, entriesOf, isBatch, batchRefusal, hearBatch, batchAnswers, batchCount}
+use Rattle.head_spec.specs.Batch.{frameLength, isWhole, firstEntry, behindFirst, entrySize, cutInto, isCutInto, entriesOf, isBatch, batchRefusal, hearBatch, batchAnswers, batchCount}
 use Rattle.head_spec.proofs.Proper.{both-passed}
 use Rattle.head_spec.proofs.Stops.{ended-hears}
 

@@ -7,7 +7,7 @@ use lib.Dec.{leb}
 use lib.ListN.{length, getD, take, drop}
 use Rattle.terms.specs.Refusals as refusal
 use Rattle.terms.specs.Refusals.{check, leaves}
-use Rattle.fields.specs.Bytes.{at2}
+use Rattle.fields.specs.Bytes.{isEmpty, at2}
 use Rattle.head_spec.specs.declared.Head.{Head}
 use Rattle.head_spec.specs.declared.Answer.{Answer}
 use Rattle.head_spec.specs.Calls.{answer, Delivery, hearEach, answersTo}
@@ -32,10 +32,6 @@ behindFirst s = drop (1 + frameLength s) s
 -- its bytes, the link byte among them, or 0 if it is not whole
 abbrev pub entrySize : List ℕ → ℕ
 entrySize s = cond (isWhole s) (1 + frameLength s) 0
-
-abbrev pub isEmpty : List ℕ → Bool
-isEmpty [] = true
-isEmpty (b ∷ s) = false
 
 -- the whole entries at the front, m of them at most, and whether m at most are all that there is
 unfoldable pub cutInto : ℕ → List ℕ → List Delivery

@@ -36,21 +36,21 @@ table l j = getD l j Null
 abbrev pub links : List Given → ℕ → Given
 links l k = getD l k nothing
 
-abbrev pub newPosition : Settled → Entry
-newPosition (Refused c) = Null
-newPosition (New k) = Position (k .position)
+abbrev pub settledEntry : Settled → Entry
+settledEntry (Refused c) = Null
+settledEntry (New k) = Position (k .position)
 
-abbrev pub number : Settled → ℕ
-number (Refused c) = c
-number (New k) = 0
+abbrev pub refusalNumber : Settled → ℕ
+refusalNumber (Refused c) = c
+refusalNumber (New k) = 0
 
 abbrev pub PointHolds : Point → Type 0
 PointHolds (taken n f) = sizeRefusal n f ≡ 0
 PointHolds (refused n f c) = sizeRefusal n f ≡ c
 PointHolds (halving n f) = Halves n f
 PointHolds (no-halving n f) = Halves n f → ⊥
-PointHolds (settles p n f l v) = newPosition (settling (rounding p) n (twoRounds f) (table l)) ≡ Position v
-PointHolds (too-few n f l) = number (settling (rounding 1) n (twoRounds f) (table l)) ≡ 25
+PointHolds (settles p n f l v) = settledEntry (settling (rounding p) n (twoRounds f) (table l)) ≡ Position v
+PointHolds (too-few n f l) = refusalNumber (settling (rounding 1) n (twoRounds f) (table l)) ≡ 25
 PointHolds (trusts n f l j e) = trusted n f (links l) j ≡ e
 
 abbrev pub All : List Point → Type 0

@@ -26,7 +26,7 @@ use Rattle.settle_trust.specs.Received.{givenBy}
 use Rattle.head_spec.specs.Record.{givenOf}
 use Rattle.ring_round.specs.declared.Stage.{Stage}
 use Rattle.ring_round.specs.Memory.{heads, hears, rowIn, replies, givenEntry, positionOf, newPosition}
-use Rattle.ring_shared.specs.Planted.{isStruck, givenTo, settledFrom, Alike}
+use Rattle.ring_shared.specs.Planted.{isStruck, givenOrPlanted, positionSettled, Alike}
 use Rattle.ring_shared.proofs.Settling.{settled-same}
 use Rattle.ring_shared.proofs.Told.{given-positions}
 use Rattle.ring_confession.specs.Inner.{ownReply, replied, Received, RowsKept, givenAlike, Untold}
@@ -54,12 +54,12 @@ replied-alike s marks lists k m e =
 
 -- x: what settling answered, from n heads, rounded by r
 pub settled-is : (s : Stage) (G : ℕ → Given) {n r : ℕ} {x : Settled} → n ≡ heads s → r ≡ rounding (s .phase)
-    → x ≡ settling r n (twoRounds (s .f)) (trusted n (s .f) G) → positionOf x ≡ settledFrom s G
-unfolding settledFrom
+    → x ≡ settling r n (twoRounds (s .f)) (trusted n (s .f) G) → positionOf x ≡ positionSettled s G
+unfolding positionSettled
 settled-is s G p r e = ap positionOf e ∙ rw (p, r)
 
-pub settled-received : (s : Stage) (g : Links) (rows : List (List ℤ)) (G : ℕ → Given) → Received g rows G → settledFrom s (givenBy g rows) ≡ settledFrom s G
-settled-received s g rows G h = ap (settledFrom s) (fun-ext (h .gives))
+pub settled-received : (s : Stage) (g : Links) (rows : List (List ℤ)) (G : ℕ → Given) → Received g rows G → positionSettled s (givenBy g rows) ≡ positionSettled s G
+settled-received s g rows G h = ap (positionSettled s) (fun-ext (h .gives))
 
 -- ---- what is planted
 
@@ -68,8 +68,8 @@ module _ (s : Stage) (g : Links) (rows rows′ : List (List ℤ)) (h : RowsKept 
   pub untold-kept : Untold s g rows → Untold s g rows′
   untold-kept u = record { marks-long = u .marks-long; rows-long = h .long; untold = λ k e. ap (λ (G : ℕ → Given). G k) (h .gives) ∙ u .untold k e }
 
-  pub planted-kept : (plant : ℕ → ℕ → List ℕ) (i : ℕ) → givenTo s (givenBy g rows′) plant i ≡ givenTo s (givenBy g rows) plant i
-  planted-kept plant i = ap (λ (G : ℕ → Given). givenTo s G plant i) (h .gives)
+  pub planted-kept : (plant : ℕ → ℕ → List ℕ) (i : ℕ) → givenOrPlanted s (givenBy g rows′) plant i ≡ givenOrPlanted s (givenBy g rows) plant i
+  planted-kept plant i = ap (λ (G : ℕ → Given). givenOrPlanted s G plant i) (h .gives)
 
 -- the links and the rows hold what the unstruck heads give alike
 module _ (s : Stage) (marks : List ℕ) (lists : List (List ℤ)) (g : Links) (rows : List (List ℤ)) (gives : (k : ℕ) → givenBy g rows k ≡ givenAlike s marks lists k) where
@@ -91,8 +91,8 @@ module _ (s : Stage) (marks : List ℕ) (lists : List (List ℤ)) (g : Links) (r
       go k j m u false q = absurd (not-null refl q)
 
   module _ (plant : ℕ → ℕ → List ℕ) (i : ℕ) where
-    given-same : (k : ℕ) → k < heads s → givenTo s (givenBy g rows) plant i k ≡ givenEntry s marks lists plant i k
-    unfolding givenTo givenAlike givenEntry replied
+    given-same : (k : ℕ) → k < heads s → givenOrPlanted s (givenBy g rows) plant i k ≡ givenEntry s marks lists plant i k
+    unfolding givenOrPlanted givenAlike givenEntry replied
     given-same k l = rw (gives k, lt-ltb k (heads s) l) (go (bitOf (s .struck) k))
       where
         go : (b : Bool) → cond b (givenOf (said (heads s) (s .phase) 1 k (plant k i)))
@@ -101,8 +101,8 @@ module _ (s : Stage) (marks : List ℕ) (lists : List (List ℤ)) (g : Links) (r
         go true = refl
         go false = refl
 
-    pub new-settled : settledFrom s (givenTo s (givenBy g rows) plant i) ≡ newPosition s marks lists plant i
-    unfolding settledFrom newPosition
+    pub new-settled : positionSettled s (givenOrPlanted s (givenBy g rows) plant i) ≡ newPosition s marks lists plant i
+    unfolding positionSettled newPosition
     new-settled = settled-same s _ _ given-same
 
 pub alike-untold : (s : Stage) (marks : List ℕ) (lists : List (List ℤ)) (g : Links) (rows : List (List ℤ)) → Received g rows (givenAlike s marks lists) → Untold s g rows

@@ -14,7 +14,7 @@ ghost use Rattle.head_spec.specs.Record.{givenOf};
 ghost use Rattle.ring_round.specs.Memory.{settles, replies, newPosition};
 ghost use Rattle.frame_slots.specs.Slots.{plantedIn};
 ghost use Rattle.ring_confession.specs.Inner.{ownReply, replied, linksWith, rowsWith, heardOn, Heard, Received, RowsKept, givenAlike, Untold, ListFits, ListsFit, OwnLinks, ConfessedAll, ConfessesAll};
-ghost use Rattle.ring_shared.specs.Planted.{givenTo, settledFrom};
+ghost use Rattle.ring_shared.specs.Planted.{givenOrPlanted, positionSettled};
 use frame_spec::Said;
 use ring_round::Stage;
 use settle_midpoint::Settled;
@@ -324,7 +324,7 @@ fn hear_planted(
     rows: &mut Lists,
 ) -> Links
     requires { ⌜ (i < 48) × Untold s base (now rows) ⌝ }
-    ensures given { λ r. ⌜ Received r (now (rows .exit)) (givenTo s (givenBy base (now (rows .entry))) (plantedIn (now (planted .entry)) (now (lengths .entry))) i) ⌝ }
+    ensures given { λ r. ⌜ Received r (now (rows .exit)) (givenOrPlanted s (givenBy base (now (rows .entry))) (plantedIn (now (planted .entry)) (now (lengths .entry))) i) ⌝ }
     ensures kept { λ r. ⌜ RowsKept base (now (rows .entry)) (now (rows .exit)) ⌝ }
 {
     let n = ring_round::head_count(s);
@@ -352,7 +352,7 @@ fn first_listed(m: u32) -> usize
 // The position that a receiver settles from what its links gave; 0 if it is refused.
 fn settled(s: Stage, rows: &Lists, links: Links, reference: usize) -> i32
     requires { ⌜ reference < 32 ⌝ }
-    ensures { λ r. ⌜ r ≡ settledFrom s (givenBy links (now (rows .entry))) ⌝ }
+    ensures { λ r. ⌜ r ≡ positionSettled s (givenBy links (now (rows .entry))) ⌝ }
 {
     let n = ring_round::head_count(s);
     let up = steps::rounds_up(s.phase);
@@ -373,7 +373,7 @@ fn position_for(
     reference: usize,
 ) -> i32
     requires { ⌜ (i < 48) × Untold s base (now rows) × (reference < 32) ⌝ }
-    ensures position { λ r. ⌜ r ≡ settledFrom s (givenTo s (givenBy base (now (rows .entry))) (plantedIn (now (planted .entry)) (now (lengths .entry))) i) ⌝ }
+    ensures position { λ r. ⌜ r ≡ positionSettled s (givenOrPlanted s (givenBy base (now (rows .entry))) (plantedIn (now (planted .entry)) (now (lengths .entry))) i) ⌝ }
     ensures kept { λ r. ⌜ RowsKept base (now (rows .entry)) (now (rows .exit)) ⌝ }
 {
     let links = hear_planted(s, planted, lengths, i, base, rows);
@@ -393,8 +393,8 @@ fn position_after(
     told: i32,
 ) -> i32
     requires { ⌜ (i < 48) × Untold s base (now rows) × (reference < 32)
-        × (last < 48 → told ≡ settledFrom s (givenTo s (givenBy base (now rows)) (plantedIn (now planted) (now lengths)) last)) ⌝ }
-    ensures position { λ r. ⌜ r ≡ settledFrom s (givenTo s (givenBy base (now (rows .entry))) (plantedIn (now (planted .entry)) (now (lengths .entry))) i) ⌝ }
+        × (last < 48 → told ≡ positionSettled s (givenOrPlanted s (givenBy base (now rows)) (plantedIn (now planted) (now lengths)) last)) ⌝ }
+    ensures position { λ r. ⌜ r ≡ positionSettled s (givenOrPlanted s (givenBy base (now (rows .entry))) (plantedIn (now (planted .entry)) (now (lengths .entry))) i) ⌝ }
     ensures kept { λ r. ⌜ RowsKept base (now (rows .entry)) (now (rows .exit)) ⌝ }
 {
     if last < 48 {
@@ -417,7 +417,7 @@ fn fill_positions(
     requires { ⌜ Untold s base (now rows) × (length (now positions) ≡ 48) ⌝ }
     ensures { λ _. ⌜ ((i : ℕ) → getD (now (positions .exit)) i (pos 0)
         ≡ cond (settles s i)
-        (settledFrom s (givenTo s (givenBy base (now (rows .entry))) (plantedIn (now (planted .entry)) (now (lengths .entry))) i))
+        (positionSettled s (givenOrPlanted s (givenBy base (now (rows .entry))) (plantedIn (now (planted .entry)) (now (lengths .entry))) i))
         (getD (now (positions .entry)) i (pos 0))) ⌝ }
 {
     let end = ring_round::receiver_end(s);

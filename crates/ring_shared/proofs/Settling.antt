@@ -22,11 +22,11 @@ use Rattle.settle_shared.specs.Codes.{entryOf}
 use Rattle.head_spec.specs.Record.{givenOf}
 use Rattle.ring_round.specs.declared.Stage.{Stage}
 use Rattle.ring_round.specs.Memory.{heads, ToldAlike, positionOf}
-use Rattle.ring_shared.specs.Planted.{givenTo, settledFrom}
+use Rattle.ring_shared.specs.Planted.{givenOrPlanted, positionSettled}
 use Rattle.ring_shared.specs.Inner.{CodesOf, settledBy, settledAt}
 
-pub settled-same : (s : Stage) (G G′ : ℕ → Given) → Each (heads s) (λ k. G k ≡ G′ k) → settledFrom s G ≡ settledFrom s G′
-unfolding settledFrom
+pub settled-same : (s : Stage) (G G′ : ℕ → Given) → Each (heads s) (λ k. G k ≡ G′ k) → positionSettled s G ≡ positionSettled s G′
+unfolding positionSettled
 settled-same s G G′ h =
     ap positionOf (settling-same (rounding (s .phase)) (heads s) (twoRounds (s .f)) _ _ (λ j l. trusted-same (heads s) (s .f) G G′ j l h))
 
@@ -36,8 +36,8 @@ unfolding settledBy
 settled-entries s E E′ h = ap positionOf (settling-same (rounding (s .phase)) (heads s) (twoRounds (s .f)) E E′ h)
 
 -- from the codes of the trusted entries
-pub settled-codes : (s : Stage) (G : ℕ → Given) (codes : List ℤ) → CodesOf s G codes → settledAt s codes ≡ settledFrom s G
-unfolding settledBy settledFrom
+pub settled-codes : (s : Stage) (G : ℕ → Given) (codes : List ℤ) → CodesOf s G codes → settledAt s codes ≡ positionSettled s G
+unfolding settledBy positionSettled
 settled-codes s G codes h = ap positionOf (settling-same (rounding (s .phase)) (heads s) (twoRounds (s .f)) _ _ h)
 
 pub codes-alike : (s : Stage) (a b : List ℤ) → Each (heads s) (λ j. getD a j (pos 0) ≡ getD b j (pos 0)) → settledAt s a ≡ settledAt s b
@@ -45,11 +45,11 @@ codes-alike s a b h = settled-entries s _ _ (λ j l. ap entryOf (h j l))
 
 -- receivers told alike settle the same
 pub told-settled : (s : Stage) (G : ℕ → Given) (plant : ℕ → ℕ → List ℕ) (i m : ℕ) → ToldAlike s plant i m
-    → settledFrom s (givenTo s G plant m) ≡ settledFrom s (givenTo s G plant i)
-unfolding givenTo
+    → positionSettled s (givenOrPlanted s G plant m) ≡ positionSettled s (givenOrPlanted s G plant i)
+unfolding givenOrPlanted
 told-settled s G plant i m h = settled-same s _ _ go
   where
-    go : (k : ℕ) → k < heads s → givenTo s G plant m k ≡ givenTo s G plant i k
+    go : (k : ℕ) → k < heads s → givenOrPlanted s G plant m k ≡ givenOrPlanted s G plant i k
     go k l = rw (lt-ltb k (heads s) l) (pick (bitOf (s .struck) k) (h k l))
       where
         pick : (b : Bool) → (b ≡ true → plant k i ≡ plant k m)

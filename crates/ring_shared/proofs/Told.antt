@@ -28,7 +28,7 @@ use Rattle.head_spec.specs.Record.{givenOf}
 use Rattle.head_spec.proofs.Range.{listed-position}
 use Rattle.ring_round.specs.declared.Stage.{Stage}
 use Rattle.ring_round.specs.Memory.{heads}
-use Rattle.ring_shared.specs.Planted.{isStruck, givenTo, Alike}
+use Rattle.ring_shared.specs.Planted.{isStruck, givenOrPlanted, Alike}
 use Rattle.ring_shared.specs.Inner.{plantedGiven, Told, SharedBy, CodesOf}
 
 -- a list that a frame gives holds positions in range
@@ -56,14 +56,14 @@ shared-by s g rows {n} p q S e M A =
 
 module _ (s : Stage) (plant : ℕ → ℕ → List ℕ) (i : ℕ) (G : ℕ → Given) {need word : ℕ} {codes : List ℤ} {counts : List ℕ} (S : SharedBy s need word codes counts G) where
   abbrev G′ : ℕ → Given
-  G′ = givenTo s G plant i
+  G′ = givenOrPlanted s G plant i
 
   planted : (k : ℕ) → isStruck s k ≡ true → G′ k ≡ plantedGiven s plant i k
-  unfolding givenTo
+  unfolding givenOrPlanted
   planted k e = rw e
 
   kept : (k : ℕ) → isStruck s k ≡ false → G′ k ≡ G k
-  unfolding givenTo
+  unfolding givenOrPlanted
   kept k e = rw e
 
   struck-count : sum (heads s) (λ k. bit (isStruck s k)) ≡ markedTo (s .struck) (heads s)

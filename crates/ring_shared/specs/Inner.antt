@@ -18,7 +18,7 @@ use Rattle.settle_shared.specs.Shared.{Shares}
 use Rattle.head_spec.specs.Record.{givenOf}
 use Rattle.ring_round.specs.declared.Stage.{Stage}
 use Rattle.ring_round.specs.Memory.{heads, positionOf}
-use Rattle.ring_shared.specs.Planted.{isStruck, Alike, settledFrom}
+use Rattle.ring_shared.specs.Planted.{isStruck, Alike, positionSettled}
 
 -- what is planted on the link from k to i gives
 abbrev pub plantedGiven : Stage → (ℕ → ℕ → List ℕ) → ℕ → ℕ → Given
@@ -56,5 +56,5 @@ settledAt s codes = settledBy s (λ j. entryOf (getD codes j (pos 0)))
 
 -- a receiver to which its links give G settled this position, from these codes
 pub record SettledLast (s : Stage) (G : ℕ → Given) (codes : List ℤ) (position : ℤ) : Type 0 where
-  pub from : position ≡ settledFrom s G
+  pub from : position ≡ positionSettled s G
   pub by : position ≡ settledAt s codes

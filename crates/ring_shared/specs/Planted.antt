@@ -24,12 +24,12 @@ abbrev pub isStruck : Stage → ℕ → Bool
 isStruck s k = ltb k (heads s) && bitOf (s .struck) k
 
 -- what link k gives receiver i: what is planted, or what it gives all alike
-unfoldable pub givenTo : Stage → (ℕ → Given) → (ℕ → ℕ → List ℕ) → ℕ → ℕ → Given
-givenTo s G plant i k = cond (isStruck s k) (givenOf (said (heads s) (s .phase) 1 k (plant k i))) (G k)
+unfoldable pub givenOrPlanted : Stage → (ℕ → Given) → (ℕ → ℕ → List ℕ) → ℕ → ℕ → Given
+givenOrPlanted s G plant i k = cond (isStruck s k) (givenOf (said (heads s) (s .phase) 1 k (plant k i))) (G k)
 
 -- the position that a receiver settles, from what its links give
-unfoldable pub settledFrom : Stage → (ℕ → Given) → ℤ
-settledFrom s G = positionOf (settling (rounding (s .phase)) (heads s) (twoRounds (s .f)) (trusted (heads s) (s .f) G))
+unfoldable pub positionSettled : Stage → (ℕ → Given) → ℤ
+positionSettled s G = positionOf (settling (rounding (s .phase)) (heads s) (twoRounds (s .f)) (trusted (heads s) (s .f) G))
 
 -- G is what unstruck heads can give all alike: nothing comes from struck heads, and lists hold positions in range
 pub record Alike (s : Stage) (G : ℕ → Given) : Type 0 where
@@ -39,7 +39,7 @@ pub record Alike (s : Stage) (G : ℕ → Given) : Type 0 where
 -- each unstruck receiver has settled, and the other positions are as they were
 abbrev pub AllSettled : Stage → (ℕ → Given) → (ℕ → ℕ → List ℕ) → List ℤ → List ℤ → Type 0
 AllSettled s G plant before after =
-    (i : ℕ) → getD after i (pos 0) ≡ cond (settles s i) (settledFrom s (givenTo s G plant i)) (getD before i (pos 0))
+    (i : ℕ) → getD after i (pos 0) ≡ cond (settles s i) (positionSettled s (givenOrPlanted s G plant i)) (getD before i (pos 0))
 
 -- the answer is yes if all have settled
 pub record SettlesAll (answer : Bool) (s : Stage) (G : ℕ → Given) (plant : ℕ → ℕ → List ℕ) (before after : List ℤ) : Type 0 where

@@ -13,7 +13,7 @@ ghost use Rattle.frame_slots.specs.Slots.{plantedIn};
 ghost use Rattle.settle_trust.specs.Received.{givenBy};
 ghost use Rattle.head_spec.specs.Record.{givenOf};
 ghost use Rattle.ring_round.specs.Memory.{heads};
-ghost use Rattle.ring_shared.specs.Planted.{AllSettled, SettlesAll, givenTo};
+ghost use Rattle.ring_shared.specs.Planted.{AllSettled, SettlesAll, givenOrPlanted};
 ghost use Rattle.settle_shared.specs.Codes.{entryOf, codeTaken, MarksOf};
 ghost use Rattle.ring_shared.specs.Inner.{Counted, Told, SharedBy, settledBy, SettledLast};
 use frame_spec::Said;
@@ -141,8 +141,8 @@ fn position_after(
 ) -> i32
     requires { ⌜ (i < 48) × Each (heads s) (λ j. getD (now counts) j 0 ≤ 32) ⌝ }
     ensures { λ r. ⌜ ((G : ℕ → Given) → SharedBy s need word (now (codes .entry)) (now (counts .entry)) G
-        → (last < 48 → SettledLast s (givenTo s G (plantedIn (now (planted .entry)) (now (lengths .entry))) last) (now (settled .entry)) told)
-        → SettledLast s (givenTo s G (plantedIn (now (planted .entry)) (now (lengths .entry))) i) (now (settled .exit)) r) ⌝ }
+        → (last < 48 → SettledLast s (givenOrPlanted s G (plantedIn (now (planted .entry)) (now (lengths .entry))) last) (now (settled .entry)) told)
+        → SettledLast s (givenOrPlanted s G (plantedIn (now (planted .entry)) (now (lengths .entry))) i) (now (settled .exit)) r) ⌝ }
 {
     if last < 48 {
         if ring_round::is_told_alike(s, planted, lengths, i, last) {

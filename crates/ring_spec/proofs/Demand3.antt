@@ -20,7 +20,7 @@ use Rattle.marks.proofs.Marks.{bit-none}
 use Rattle.convergence.specs.Counting.{Each, bit, AtMost}
 use Rattle.convergence.specs.Settling.{twoRounds, enough}
 use Rattle.convergence.specs.Trust.{trusted}
-use Rattle.convergence.specs.Phases.{End, Faults, lowest, highest, start, endAfter}
+use Rattle.convergence.specs.Phases.{End, Faults, lowest, highest, startEnd, endAfter}
 use Rattle.convergence.specs.Demand3.{AcceptedSize, FewStruck}
 use Rattle.convergence.proofs.Sums.{sum-same, sum-none}
 use Rattle.convergence.proofs.Same.{SameEnd, same-bounds, demand3-same}
@@ -190,8 +190,8 @@ module _ (n f : ℕ) (v : ℕ → ℤ) (S : Sized n f) (range : Each n (λ i. is
           at = λ i l q. s .at i (omega (arith, S .most)) (sym (before-same ws i l) ∙ q);
         }
 
-    start-same : SameEnd receivers (ended []) (start n v)
-    unfolding ringAfter firstHeads started start
+    start-same : SameEnd receivers (ended []) (startEnd n v)
+    unfolding ringAfter firstHeads started startEnd
     start-same =
         record {
           struck = λ i l. first-out n m i (S .most) l;

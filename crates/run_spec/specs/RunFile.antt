@@ -9,7 +9,7 @@ use Rattle.terms.specs.Refusals as refusal
 use Rattle.terms.specs.Refusals.{check, unlessRefused, leaves}
 use Rattle.terms.specs.Sizes.{checkSize}
 use Rattle.terms.specs.Positions.{isPosition}
-use Rattle.fields.specs.Bytes.{at2, at4, signedAt}
+use Rattle.fields.specs.Bytes.{isEmpty, at2, at4, signedAt}
 use Rattle.marks.specs.Marks.{bitOf, marksBelow}
 use Rattle.convergence.specs.Counting.{sum, bit}
 use Rattle.ring_spec.specs.Rounds.{Plant, Round, Ring, isReceiver, endsPhase, mostRounds, PhaseEnd, ringAfter, endsAfter}
@@ -270,10 +270,6 @@ unfoldable pub accepted : File → ℕ
 accepted F = cond (F .setup .begun) (suc (bit (not (eqb (F .setup .listeners) 0)) + recordsOf (allRounds (F .rounds)))) 0
 
 -- ---- the end
-
-abbrev pub isEmpty : List ℕ → Bool
-isEmpty [] = true
-isEmpty (x ∷ xs) = false
 
 -- the first fault, or 13: no start, a record cut short, or inside a phase; 0 if the file is played to its end
 unfoldable pub ending : File → ℕ

@@ -11,7 +11,8 @@ use borrow.Author.Tests.{eqb-true, eqb-false, eq-eqb, ne-eqb}
 use Rattle.terms.specs.Refusals as refusal
 use Rattle.terms.specs.Refusals.{check}
 use Rattle.ring_spec.specs.Rounds.{Round, endsPhase, ringAfter}
-use Rattle.run_spec.specs.RunFile.{File, isEmpty, thenPlayed, readFile, endsSoFar, ending, roundsPlayed, endsPlayed, ringFrom, endsFrom}
+use Rattle.fields.specs.Bytes.{isEmpty}
+use Rattle.run_spec.specs.RunFile.{File, thenPlayed, readFile, endsSoFar, ending, roundsPlayed, endsPlayed, ringFrom, endsFrom}
 use Rattle.run_spec.specs.Listing.{title, lines, verdict, shown, listingOf}
 use Rattle.run_listing.specs.declared.Text.{Text}
 use Rattle.run_listing.specs.Texts.{bytesOf}

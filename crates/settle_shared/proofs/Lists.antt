@@ -17,7 +17,7 @@ use Rattle.convergence.proofs.Sums.{sums-le, sum-one, bit-le}
 use Rattle.settle_trust.specs.declared.Links.{Links}
 use Rattle.settle_trust.specs.Received.{givenBy}
 use Rattle.settle_shared.specs.Codes.{codeAt, holds}
-use Rattle.settle_shared.specs.Inner.{Voted, Leads, gives}
+use Rattle.settle_shared.specs.Inner.{Voted, Leads, givesList}
 use Rattle.settle_shared.proofs.Codes.{code-entry, holds-le}
 use Rattle.settle_shared.proofs.Votes.{leads-same, vote-step}
 
@@ -36,7 +36,7 @@ module _ (g : Links) (lists : List (List ℤ)) (j : ℕ) where
   abbrev pub counted : ℕ → ℤ → ℕ
   counted k w = sum k (λ i. holds j w (G i))
 
-  holds-given : (k : ℕ) → gives (g .confessed) (g .listed) k ≡ true → (w : ℤ) → holds j w (G k) ≡ bit (eqZ (x k) w)
+  holds-given : (k : ℕ) → givesList (g .confessed) (g .listed) k ≡ true → (w : ℤ) → holds j w (G k) ≡ bit (eqZ (x k) w)
   unfolding givenBy
   holds-given k e w = go (bitOf (g .confessed) k) (bitOf (g .listed) k) e
     where
@@ -48,7 +48,7 @@ module _ (g : Links) (lists : List (List ℤ)) (j : ℕ) where
       go false true q = ap (λ (v : ℤ). bit (eqZ v w)) (sym (code-entry (getD (g .marks) k 0) (getD lists k []) j))
       go false false q = absurd (true≢false (sym q))
 
-  holds-not : (k : ℕ) → gives (g .confessed) (g .listed) k ≡ false → (w : ℤ) → holds j w (G k) ≡ 0
+  holds-not : (k : ℕ) → givesList (g .confessed) (g .listed) k ≡ false → (w : ℤ) → holds j w (G k) ≡ 0
   unfolding givenBy
   holds-not k e w = go (bitOf (g .confessed) k) (bitOf (g .listed) k) e
     where
@@ -64,16 +64,16 @@ module _ (g : Links) (lists : List (List ℤ)) (j : ℕ) where
   counted-le k w = omega (arith, sum-one k, sums-le k ((λ i. holds j w (G i)) ∷ []) ((λ i. 1) ∷ []) (λ i l. omega (arith, holds-le j w (G i))))
 
   module _ (k : ℕ) {L l : ℕ} {c : ℤ} (h : Leads (counted k) L c l) where
-    pub vote-given : gives (g .confessed) (g .listed) k ≡ true → {c′ : ℤ} {l′ : ℕ} → Voted (x k) c l c′ l′ → Leads (counted (k + 1)) (L + 1) c′ l′
+    pub vote-given : givesList (g .confessed) (g .listed) k ≡ true → {c′ : ℤ} {l′ : ℕ} → Voted (x k) c l c′ l′ → Leads (counted (k + 1)) (L + 1) c′ l′
     vote-given e v = vote-step (counted k) (counted (k + 1)) (x k) (λ w. sum-step _ k ∙ ap (λ (y : ℕ). counted k w + y) (holds-given k e w)) h v
 
-    pub vote-skipped : gives (g .confessed) (g .listed) k ≡ false → Leads (counted (k + 1)) L c l
+    pub vote-skipped : givesList (g .confessed) (g .listed) k ≡ false → Leads (counted (k + 1)) L c l
     vote-skipped e = leads-same (λ w. omega (arith, sum-step (λ i. holds j w (G i)) k, holds-not k e w)) h
 
   module _ (k : ℕ) (w : ℤ) {s : ℕ} (h : s ≡ counted k w) where
-    pub tally-given : gives (g .confessed) (g .listed) k ≡ true → k < 32 → {s′ : ℕ} → s′ ≡ (s + bit (eqZ (x k) w)) % 4294967296 → s′ ≡ counted (k + 1) w
+    pub tally-given : givesList (g .confessed) (g .listed) k ≡ true → k < 32 → {s′ : ℕ} → s′ ≡ (s + bit (eqZ (x k) w)) % 4294967296 → s′ ≡ counted (k + 1) w
     tally-given e m q =
         omega (arith, q, counted-le k w, bit-le (eqZ (x k) w), sum-step (λ i. holds j w (G i)) k, holds-given k e w)
 
-    pub tally-skipped : gives (g .confessed) (g .listed) k ≡ false → s ≡ counted (k + 1) w
+    pub tally-skipped : givesList (g .confessed) (g .listed) k ≡ false → s ≡ counted (k + 1) w
     tally-skipped e = omega (arith, sum-step (λ i. holds j w (G i)) k, holds-not k e w)

@@ -9,8 +9,8 @@ use Rattle.terms.specs.Positions.{eqZ}
 use Rattle.marks.specs.Marks.{bitOf}
 
 -- link k gives a list
-abbrev pub gives : ℕ → ℕ → ℕ → Bool
-gives confesses lists k = not (bitOf confesses k) && bitOf lists k
+abbrev pub givesList : ℕ → ℕ → ℕ → Bool
+givesList confesses lists k = not (bitOf confesses k) && bitOf lists k
 
 -- a list with the code x votes: l is by how much the code c leads, c′ and l′ are both after the vote
 pub record Voted (x c : ℤ) (l : ℕ) (c′ : ℤ) (l′ : ℕ) : Type 0 where

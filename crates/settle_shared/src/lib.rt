@@ -13,7 +13,7 @@ ghost use Rattle.settle_trust.specs.Received.{givenBy};
 ghost use Rattle.settle_midpoint.specs.Answers.{settling};
 ghost use Rattle.settle_shared.specs.Codes.{noCode, entryOf, codeAt, codeTaken, MarksOf, holds, Tallied};
 ghost use Rattle.settle_shared.specs.Shared.{Shares};
-ghost use Rattle.settle_shared.specs.Inner.{Voted, Leads, gives};
+ghost use Rattle.settle_shared.specs.Inner.{Voted, Leads, givesList};
 use settle_position::Deciding;
 use settle_trust::Links;
 use terms::Lists;
@@ -158,7 +158,7 @@ fn vote_for(m: u32, list: &Numbers, codes: &mut [i32], leads: &mut [u32], n: usi
 
 // Whether link k gives a list.
 fn gives_list(confessed: u32, listed: u32, k: usize) -> bool
-    ensures { λ r. ⌜ r ≡ gives confessed listed k ⌝ }
+    ensures { λ r. ⌜ r ≡ givesList confessed listed k ⌝ }
 {
     if marks::marked(confessed, k) {
         return false;

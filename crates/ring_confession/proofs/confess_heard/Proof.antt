@@ -10,7 +10,7 @@ use lib.ListN.{getD}
 use lib.IntN.{ℤ, pos}
 use Rattle.ring_round.specs.Memory.{settles, newPosition}
 use Rattle.settle_trust.specs.Received.{givenBy}
-use Rattle.ring_shared.specs.Planted.{givenTo, settledFrom}
+use Rattle.ring_shared.specs.Planted.{givenOrPlanted, positionSettled}
 use Rattle.frame_slots.specs.Slots.{plantedIn}
 use Rattle.ring_confession.proofs.Settling.{alike-untold, alike-given, new-settled}
 use Rattle.ring_confession.proofs.confess_heard.Statement.{statement}
@@ -31,7 +31,7 @@ module _ (c : tie.After-settle-all) where
   new-is : (i : ℕ) (v : ℤ) →
       let a = start .args in
       let plant = plantedIn (now (a .planted)) (now (a .lengths)) in
-      cond (settles (a .s) i) (settledFrom (a .s) (givenTo (a .s) (givenBy (heard .hear-replies .result) rows) plant i)) v
+      cond (settles (a .s) i) (positionSettled (a .s) (givenOrPlanted (a .s) (givenBy (heard .hear-replies .result) rows) plant i)) v
       ≡ cond (settles (a .s) i) (newPosition (a .s) (now (a .marks)) (now (a .lists)) plant i) v
   new-is i v =
       let a = start .args in

@@ -12,7 +12,7 @@ use Rattle.ring_round.specs.Memory.{settles, newPosition}
 use Rattle.ring_round.proofs.Frames.{phase-small}
 use Rattle.settle_trust.specs.declared.Links.{Links}
 use Rattle.settle_trust.specs.Received.{givenBy}
-use Rattle.ring_shared.specs.Planted.{Alike, givenTo, settledFrom}
+use Rattle.ring_shared.specs.Planted.{Alike, givenOrPlanted, positionSettled}
 use Rattle.ring_confession.specs.Inner.{givenAlike}
 use Rattle.ring_confession.proofs.Settling.{alike-given, new-settled}
 use Rattle.ring_confession.proofs.Honest.{own-given}
@@ -48,7 +48,7 @@ module _ (c : tie.After-all-fit) (fit : c .all-fit .result ≡ true) where
   new-is : (i : ℕ) (v : ℤ) →
       let a = start .args in
       let plant = plantedIn (now (a .planted)) (now (a .lengths)) in
-      cond (settles (a .s) i) (settledFrom (a .s) (givenTo (a .s) (givenBy links (now (a .lists))) plant i)) v
+      cond (settles (a .s) i) (positionSettled (a .s) (givenOrPlanted (a .s) (givenBy links (now (a .lists))) plant i)) v
       ≡ cond (settles (a .s) i) (newPosition (a .s) (now (a .marks)) (now (a .lists)) plant i) v
   new-is i v =
       let a = start .args in

@@ -14,7 +14,7 @@ use lib.IntN.{pos}
 use Rattle.ring_round.specs.Memory.{settles}
 use Rattle.frame_slots.specs.Slots.{plantedIn}
 use Rattle.settle_trust.specs.Received.{givenBy}
-use Rattle.ring_shared.specs.Planted.{givenTo, settledFrom}
+use Rattle.ring_shared.specs.Planted.{givenOrPlanted, positionSettled}
 use Rattle.ring_confession.specs.Inner.{RowsKept}
 use Rattle.ring_round.proofs.Filling.{Filled, filled-none, filled-passed, filled-set, filled-all}
 use Rattle.ring_round.proofs.Receivers.{end-small, settles-below}
@@ -25,10 +25,10 @@ use Rattle.ring_confession.proofs.fill_positions.Tie as tie
 abbrev Inv-loop : tie.InvT-loop
 Inv-loop s planted lengths base rows₀ positions₀ end reference last₀ told₀ i₀ rows positions last told i =
     (i ≤ end) × (end ≤ 48) × (length positions ≡ 48)
-    × Filled (settles s) (λ j. settledFrom s (givenTo s (givenBy base rows₀) (plantedIn planted lengths) j))
+    × Filled (settles s) (λ j. positionSettled s (givenOrPlanted s (givenBy base rows₀) (plantedIn planted lengths) j))
     (λ j. getD positions₀ j (pos 0)) i (λ j. getD positions j (pos 0))
     × RowsKept base rows₀ rows
-    × (last < 48 → toZ w32 told ≡ settledFrom s (givenTo s (givenBy base rows₀) (plantedIn planted lengths) last))
+    × (last < 48 → toZ w32 told ≡ positionSettled s (givenOrPlanted s (givenBy base rows₀) (plantedIn planted lengths) last))
 
 abbrev μ-loop : tie.MeasureT-loop
 μ-loop s planted lengths base rows₀ positions₀ end reference last₀ told₀ i₀ rows positions last told i = end - i
@@ -50,7 +50,7 @@ position-after-requires c κs =
       search needs,
       untold-kept (a .s) (a .base) (now (a .rows)) (h .loop .rows) k (s .pre .0),
       f .first-listed .ensures,
-      λ l. i .5 l ∙ ap (settledFrom (a .s)) (sym (planted-kept (a .s) (a .base) (now (a .rows)) (h .loop .rows) k (plantedIn (now (a .planted)) (now (a .lengths))) (h .loop .last))),
+      λ l. i .5 l ∙ ap (positionSettled (a .s)) (sym (planted-kept (a .s) (a .base) (now (a .rows)) (h .loop .rows) k (plantedIn (now (a .planted)) (now (a .lengths))) (h .loop .last))),
     )
 
 loop-again : tie.Need-loop-again Inv-loop μ-loop
@@ -63,7 +63,7 @@ loop-again c =
     ⊎-elim
     (λ w.
     let e = toZ-ofZ (record { sfits = w .2 .ok }) ∙ w .2 .ensures .0
-    ∙ ap (settledFrom (a .s)) (planted-kept (a .s) (a .base) (now (a .rows)) (l .rows) (l .inv .4) (plantedIn (now (a .planted)) (now (a .lengths))) (l .i)) in (
+    ∙ ap (positionSettled (a .s)) (planted-kept (a .s) (a .base) (now (a .rows)) (l .rows) (l .inv .4) (plantedIn (now (a .planted)) (now (a .lengths))) (l .i)) in (
       search needs,
       l .inv .1,
       rw (w .4) (simp length-set (l .inv .2)),

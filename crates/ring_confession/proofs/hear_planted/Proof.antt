@@ -16,7 +16,7 @@ use Rattle.settle_trust.specs.Received.{givenBy}
 use Rattle.head_spec.specs.Record.{givenOf}
 use Rattle.ring_round.specs.Memory.{heads}
 use Rattle.frame_slots.specs.Slots.{plantedIn}
-use Rattle.ring_shared.specs.Planted.{givenTo}
+use Rattle.ring_shared.specs.Planted.{givenOrPlanted}
 use Rattle.ring_confession.specs.Inner.{Received}
 use Rattle.ring_round.proofs.Filling.{filledTo}
 use Rattle.ring_confession.proofs.Received.{rows-kept, received-start, received-passed, received-heard}
@@ -62,7 +62,7 @@ loop-again c =
     (c .if1 .came)
 
 returns : tie.Need-returns Inv-loop μ-loop
-unfolding givenTo
+unfolding givenOrPlanted
 returns c =
     let l = c .before .loop in
     let e : l .k ≡ heads (c .before .before .before .before .before .args .s) = omega (arith, c .before .before .head-count .ensures) in

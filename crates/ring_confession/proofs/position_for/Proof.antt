@@ -5,7 +5,7 @@ use denote.Ref.{now}
 use borrow.Author.Needs.{needs}
 use Rattle.frame_slots.specs.Slots.{plantedIn}
 use Rattle.settle_trust.specs.Received.{givenBy}
-use Rattle.ring_shared.specs.Planted.{givenTo}
+use Rattle.ring_shared.specs.Planted.{givenOrPlanted}
 use Rattle.ring_confession.proofs.Settling.{settled-received}
 use Rattle.ring_confession.proofs.position_for.Statement.{statement}
 use Rattle.ring_confession.proofs.position_for.Tie as tie
@@ -16,7 +16,7 @@ returns c =
     let a = p .before .before .before .before .args in (
       toZ-ofZ (record { sfits = c .settled .ok })
           ∙ c .settled .ensures
-          ∙ settled-received (a .s) (p .hear-planted .result) _ (givenTo (a .s) (givenBy (a .base) (now (a .rows))) (plantedIn (now (a .planted)) (now (a .lengths))) (a .i)) (p .hear-planted .ensures .0),
+          ∙ settled-received (a .s) (p .hear-planted .result) _ (givenOrPlanted (a .s) (givenBy (a .base) (now (a .rows))) (plantedIn (now (a .planted)) (now (a .lengths))) (a .i)) (p .hear-planted .ensures .0),
       p .hear-planted .ensures .1,
     )
 

@@ -6,7 +6,7 @@ use borrow.Author.Needs.{needs}
 use Rattle.settle_trust.specs.Received.{givenBy}
 use Rattle.settle_midpoint.specs.declared.Settled.{Settled}
 use Rattle.ring_round.specs.Memory.{positionOf}
-use Rattle.ring_shared.specs.Planted.{settledFrom}
+use Rattle.ring_shared.specs.Planted.{positionSettled}
 use Rattle.ring_confession.proofs.Settling.{settled-is}
 use Rattle.ring_confession.proofs.settled.Statement.{statement}
 use Rattle.ring_confession.proofs.settled.Tie as tie
@@ -16,7 +16,7 @@ module _ (c : tie.After-settle-by) where
   start = c .before .before .before
 
   -- what was settled, case by case
-  position-is : {x : Settled} → c .settle-by .result ≡ x → positionOf x ≡ settledFrom (start .args .s) (givenBy (start .args .links) (now (start .args .rows)))
+  position-is : {x : Settled} → c .settle-by .result ≡ x → positionOf x ≡ positionSettled (start .args .s) (givenBy (start .args .links) (now (start .args .rows)))
   position-is e =
       let a = start .args in
       settled-is (a .s) (givenBy (a .links) (now (a .rows))) (c .before .before .head-count .ensures) (c .before .rounds-up .ensures)

@@ -14,7 +14,7 @@ use Rattle.frame_slots.specs.Slots.{plantedIn}
 use Rattle.ring_round.specs.Memory.{settles}
 use Rattle.ring_round.proofs.Filling.{Filled, filled-none, filled-passed, filled-set, filled-all}
 use Rattle.ring_round.proofs.Receivers.{end-small, settles-below}
-use Rattle.ring_shared.specs.Planted.{givenTo, settledFrom}
+use Rattle.ring_shared.specs.Planted.{givenOrPlanted, positionSettled}
 use Rattle.ring_shared.specs.Inner.{SharedBy, SettledLast}
 use Rattle.ring_shared.proofs.fill_positions.Statement.{statement}
 use Rattle.ring_shared.proofs.fill_positions.Tie as tie
@@ -23,8 +23,8 @@ abbrev Inv-loop : tie.InvT-loop
 Inv-loop s rows planted lengths need codes word counts positions₀ end settled₀ last₀ told₀ i₀ positions settled last told i =
     (i ≤ end) × (end ≤ 48) × (length positions ≡ 48)
     × ((G : ℕ → Given) → SharedBy s need word codes counts G
-    → Filled (settles s) (λ j. settledFrom s (givenTo s G (plantedIn planted lengths) j)) (λ j. getD positions₀ j (pos 0)) i (λ j. getD positions j (pos 0))
-    × (last < 48 → SettledLast s (givenTo s G (plantedIn planted lengths) last) settled (toZ w32 told)))
+    → Filled (settles s) (λ j. positionSettled s (givenOrPlanted s G (plantedIn planted lengths) j)) (λ j. getD positions₀ j (pos 0)) i (λ j. getD positions j (pos 0))
+    × (last < 48 → SettledLast s (givenOrPlanted s G (plantedIn planted lengths) last) settled (toZ w32 told)))
 
 abbrev μ-loop : tie.MeasureT-loop
 μ-loop s rows planted lengths need codes word counts positions₀ end settled₀ last₀ told₀ i₀ positions settled last told i = end - i

@@ -15,7 +15,7 @@ use Rattle.convergence.specs.Trust.{Given}
 use Rattle.frame_slots.specs.Slots.{plantedIn}
 use Rattle.settle_shared.specs.Codes.{entryOf, codeTaken}
 use Rattle.ring_round.specs.Memory.{heads}
-use Rattle.ring_shared.specs.Planted.{givenTo, settledFrom}
+use Rattle.ring_shared.specs.Planted.{givenOrPlanted, positionSettled}
 use Rattle.ring_shared.specs.Inner.{SharedBy, settledAt}
 use Rattle.ring_shared.proofs.Settling.{settled-entries, settled-codes, codes-alike, told-settled}
 use Rattle.ring_shared.proofs.Told.{codes-told, need-told}
@@ -47,7 +47,7 @@ module _ (t : tie.After-trust-codes) where
   taken j l = t .trust-codes .ensures (omega (arith, played .head-count .ensures)) j (omega (arith, played .head-count .ensures))
 
   settled-own : (G : ℕ → Given) → let a = start .args in SharedBy (a .s) (a .need) (a .word) (now (a .codes)) (now (a .counts)) G
-      → settledAt (a .s) own ≡ settledFrom (a .s) (givenTo (a .s) G (plantedIn (now (a .planted)) (now (a .lengths))) (a .i))
+      → settledAt (a .s) own ≡ positionSettled (a .s) (givenOrPlanted (a .s) G (plantedIn (now (a .planted)) (now (a .lengths))) (a .i))
   settled-own G S =
       let a = start .args in
       settled-codes (a .s) _ own (codes-told (a .s) (plantedIn (now (a .planted)) (now (a .lengths))) (a .i) G S (counted .count-planted .ensures) own needed taken)
