@@ -42,9 +42,9 @@ given-positions n p r k bytes size j l u q = go (said n p r k bytes) refl q
     go confessed e h = absurd (not-null refl h)
 
 -- g and rows hold what is given all alike; n: the heads played; struck: how many of them are struck
-pub shared-by : (s : Stage) (g : Links) (rows : List (List ℤ)) {n struck need word : ℕ} {codes : List ℤ} {counts : List ℕ} → n ≡ heads s → struck ≡ markedTo (s .struck) n
-    → Shares n (s .f) struck (givenBy g rows) codes counts → need ≡ n - s .f - markedTo (g .confessed) (min n 32) → MarksOf n codes word → Alike s (givenBy g rows)
-    → SharedBy s need word codes counts (givenBy g rows)
+pub shared-by : (s : Stage) (g : Links) (rows : List (List ℤ)) {n struck need word : ℕ} {codes : List ℤ} {counts : List ℕ} → n ≡ heads s
+    → struck ≡ markedTo (s .struck) n → Shares n (s .f) struck (givenBy g rows) codes counts → need ≡ n - s .f - markedTo (g .confessed) (min n 32)
+    → MarksOf n codes word → Alike s (givenBy g rows) → SharedBy s need word codes counts (givenBy g rows)
 shared-by s g rows {n} p q S e M A =
     let small : min n 32 ≡ heads s = omega arith in
     record {
@@ -54,7 +54,8 @@ shared-by s g rows {n} p q S e M A =
       marked = rw p at M;
     }
 
-module _ (s : Stage) (plant : ℕ → ℕ → List ℕ) (i : ℕ) (G : ℕ → Given) {need word : ℕ} {codes : List ℤ} {counts : List ℕ} (S : SharedBy s need word codes counts G) where
+module _ (s : Stage) (plant : ℕ → ℕ → List ℕ) (i : ℕ) (G : ℕ → Given) {need word : ℕ} {codes : List ℤ} {counts : List ℕ}
+    (S : SharedBy s need word codes counts G) where
   abbrev G′ : ℕ → Given
   G′ = givenOrPlanted s G plant i
 

@@ -218,15 +218,16 @@ module _ (n need : ℕ) (marks : List ℕ) (lists : List (List ℤ)) (reference 
 
 -- ---- what deciding looks at, if the lists stand so to that of the link `reference`, and they and their marks decide the entries E
 
-pub prepared : (E : ℕ → Entry) (lists : List (List ℤ)) (marks : List ℕ) (reference : ℕ) (r : Comparison) (d : Deciding) → Compares (d .count) marks lists reference r
-    → d .alike ≡ r .alike → d .apart ≡ r .apart → d .word ≡ getD marks reference 0
+pub prepared : (E : ℕ → Entry) (lists : List (List ℤ)) (marks : List ℕ) (reference : ℕ) (r : Comparison) (d : Deciding)
+    → Compares (d .count) marks lists reference r → d .alike ≡ r .alike → d .apart ≡ r .apart → d .word ≡ getD marks reference 0
     → ((j : ℕ) → decided (bitOf (d .confessed) j) (d .count) (d .need) (columnOf marks lists j) ≡ E j) → ((j : ℕ) → 32 ≤ j → E j ≡ Null) → d .count ≤ 32
     → Prepared E lists marks (getD lists reference []) (r .same) d
 prepared E lists marks reference r d C alike apart word decides past few =
     record {
       healed = λ j c. sym (decides j) ∙ decided-confessed (d .count) (d .need) (columnOf marks lists j) c;
       shown = λ j l c t. entry j c ∙ led (d .count) (d .need) marks lists reference j _ (stands j) (rw (alike, apart, C .alike, C .apart, C .same j l) at t);
-      lacking = λ j l c t. entry j c ∙ lacking (d .count) (d .need) marks lists reference j _ (stands j) (rw (alike, apart, C .alike, C .apart, C .same j l) at t);
+      lacking = λ j l c t. entry j c
+          ∙ lacking (d .count) (d .need) marks lists reference j _ (stands j) (rw (alike, apart, C .alike, C .apart, C .same j l) at t);
       searched = λ j l c t. entry j c;
       past = past;
       few = few;

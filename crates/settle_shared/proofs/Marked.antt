@@ -1,5 +1,5 @@
--- The marks of codes, one code after the other, and what they show: with its mark, a code shows its entry. So the codes can stand as a list, the reference by which a
--- receiver's entries are decided: it takes each position that enough lists have, and there is no list more to search.
+-- The marks of codes, one code after the other, and what they show: with its mark, a code shows its entry. So the codes can stand as a list, the
+-- reference by which a receiver's entries are decided: it takes each position that enough lists have, and there is no list more to search.
 use mathlib.Core.Path.{_≡_, refl, ap, sym, _∙_}
 use mathlib.Core.Logic.{_≢_}
 use mathlib.Core.Bool.{Bool, true, false, not, cond, _&&_, true≢false}
@@ -118,8 +118,8 @@ abbrev pub entriesTaken : ℕ → List ℤ → List ℕ → ℕ → ℕ → ℕ 
 entriesTaken n codes same need confesses j = cond (ltb j n) (entryOf (codeTaken codes same need confesses j)) Null
 
 -- these are what the codes as the reference decide, if no list is to be searched
-module _ (n : ℕ) (codes : List ℤ) (same : List ℕ) (lists : List (List ℤ)) (marks : List ℕ) (d : Deciding) (small : n ≤ 32) (count : d .count ≡ 0) (alike : d .alike ≡ 0)
-    (apart : d .apart ≡ 0) (some : 0 < n → 0 < d .need) (M : MarksOf n codes (d .word)) where
+module _ (n : ℕ) (codes : List ℤ) (same : List ℕ) (lists : List (List ℤ)) (marks : List ℕ) (d : Deciding) (small : n ≤ 32)
+    (count : d .count ≡ 0) (alike : d .alike ≡ 0) (apart : d .apart ≡ 0) (some : 0 < n → 0 < d .need) (M : MarksOf n codes (d .word)) where
   abbrev E : ℕ → Entry
   E = entriesTaken n codes same (d .need) (d .confessed)
 

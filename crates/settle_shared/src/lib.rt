@@ -328,9 +328,9 @@ pub fn marks_of(codes: &Numbers, n: u8) -> u32
     word
 }
 
-// The new position of a receiver, its entries decided and put in order one by one, as a head does that closes a round: by the shared codes, their marks, and how many
-// lists it counted for each. None of `lists` is looked at: there is no list more to search. They are lent since a table of none would be filled at each call. `up`:
-// whether an odd sum is rounded up.
+// The new position of a receiver, its entries decided and put in order one by one, as a head does that closes a round: by the shared codes, their
+// marks, and how many lists it counted for each. There is no list more to search, so none of `lists` is looked at: they are lent since an empty table
+// would be filled at each call. `up`: whether an odd sum is rounded up.
 pub fn settle_counted(
     lists: &Lists,
     codes: &Numbers,

@@ -42,15 +42,18 @@ module _ (t : tie.After-trust-codes) where
   needed : left .need-after .result ≡ start .args .need - markedTo (counted .count-planted .result) (heads (start .args .s))
   needed = left .need-after .ensures ∙ ap (λ (x : ℕ). start .args .need - markedTo (counted .count-planted .result) x) (played .head-count .ensures)
 
-  taken : Each (heads (start .args .s))
-      (λ j. getD own j (pos 0) ≡ codeTaken (now (start .args .codes)) (counted .count-planted .last .1 .1 .1 .1 .1 .0) (left .need-after .result) (counted .count-planted .result) j)
+  taken :
+      let a = start .args in
+      let p = counted .count-planted in
+      Each (heads (a .s)) (λ j. getD own j (pos 0) ≡ codeTaken (now (a .codes)) (p .last .1 .1 .1 .1 .1 .0) (left .need-after .result) (p .result) j)
   taken j l = t .trust-codes .ensures (omega (arith, played .head-count .ensures)) j (omega (arith, played .head-count .ensures))
 
   settled-own : (G : ℕ → Given) → let a = start .args in SharedBy (a .s) (a .need) (a .word) (now (a .codes)) (now (a .counts)) G
       → settledAt (a .s) own ≡ positionSettled (a .s) (givenOrPlanted (a .s) G (plantedIn (now (a .planted)) (now (a .lengths))) (a .i))
   settled-own G S =
       let a = start .args in
-      settled-codes (a .s) _ own (codes-told (a .s) (plantedIn (now (a .planted)) (now (a .lengths))) (a .i) G S (counted .count-planted .ensures) own needed taken)
+      let plant = plantedIn (now (a .planted)) (now (a .lengths)) in
+      settled-codes (a .s) _ own (codes-told (a .s) plant (a .i) G S (counted .count-planted .ensures) own needed taken)
 
 returns : tie.Need-returns
 returns c G S last =
@@ -70,7 +73,8 @@ returns-2 c G S last =
     let s = start t in
     let a = s .args in
     let L = last (search needs) in
-    let alike = codes-alike (a .s) (own t) (now (a .settled)) (λ j l. f .is-same-front .ensures (c .if4 .taken) j (omega (arith, played t .head-count .ensures))) in
+    let n = played t .head-count .ensures in
+    let alike = codes-alike (a .s) (own t) (now (a .settled)) (λ j l. f .is-same-front .ensures (c .if4 .taken) j (omega (arith, n))) in
     record { from = toZ-ofZ (s .fits .told) ∙ L .by ∙ sym alike ∙ settled-own t G S; by = toZ-ofZ (s .fits .told) ∙ L .by }
 
 returns-3 : tie.Need-returns-3

@@ -33,9 +33,10 @@ returns-3 c =
     let h = m .before in
     let a = h .before .before .before .before .before .args in
     let small = h .head-count .ensures in
+    let shares = f .share .ensures (not-false _ (i .if2 .left)) in
     record {
       settles = λ e A. c .fill-positions .ensures (givenBy (a .links) (now (a .rows)))
-          (shared-by (a .s) (a .links) (now (a .rows)) small (m .marked-to .ensures) (f .share .ensures (not-false _ (i .if2 .left))) (n .lists-needed .ensures)
+          (shared-by (a .s) (a .links) (now (a .rows)) small (m .marked-to .ensures) shares (n .lists-needed .ensures)
           (w .marks-of .ensures (omega (arith, small))) A);
       stays = λ e. absurd (true≢false e);
     }

@@ -14,14 +14,16 @@ returns-2 c E P =
     let e = c .before .before .before in
     let i = e .before in
     let x = e .entry-cell .ensures in
-    holds-same x (sym (P .shown _ (i .before .before .pre) (sym (i .before .marked .ensures) ∙ i .if1 .left) (rw (x .cell) at (c .before .decides .ensures .0 (c .if2 .taken)))))
+    let unconfessed = sym (i .before .marked .ensures) ∙ i .if1 .left in
+    holds-same x (sym (P .shown _ (i .before .before .pre) unconfessed (rw (x .cell) at (c .before .decides .ensures .0 (c .if2 .taken)))))
 
 returns-3 : tie.Need-returns-3
 returns-3 c E P =
     let e = c .before .before .before .before .before .before in
     let i = e .before in
     let x = e .entry-cell .ensures in
-    holds-same holds-null (sym (P .lacking _ (i .before .before .pre) (sym (i .before .marked .ensures) ∙ i .if1 .left) (rw (x .cell) at (c .before .lacks .ensures (c .if3 .taken)))))
+    let unconfessed = sym (i .before .marked .ensures) ∙ i .if1 .left in
+    holds-same holds-null (sym (P .lacking _ (i .before .before .pre) unconfessed (rw (x .cell) at (c .before .lacks .ensures (c .if3 .taken)))))
 
 returns-4 : tie.Need-returns-4
 returns-4 c E P =

@@ -36,12 +36,14 @@ returns c =
 returns-2 : tie.Need-returns-2
 returns-2 c =
     let a = c .before .before .args in
-    (λ t. absurd (true≢false (sym t)), λ t d. omega (arith, c .if2 .taken, decides-cell (a .need) (a .alike) (a .apart) (a .same) (a .x) (c .before .if1 .left) d .0))
+    let D = decides-cell (a .need) (a .alike) (a .apart) (a .same) (a .x) (c .before .if1 .left) in
+    (λ t. absurd (true≢false (sym t)), λ t d. omega (arith, c .if2 .taken, D d .0))
 
 returns-3 : tie.Need-returns-3
 returns-3 c =
     let a = c .before .before .args in (
-      λ t. cell-decides (a .need) (a .alike) (a .apart) (a .same) (a .x) (c .before .if1 .left) (c .if2 .left) (ltb-true (a .alike + a .apart) (a .same + a .need) t),
+      λ t. cell-decides (a .need) (a .alike) (a .apart) (a .same) (a .x) (c .before .if1 .left) (c .if2 .left)
+          (ltb-true (a .alike + a .apart) (a .same + a .need) t),
       λ t d. omega (
         arith,
         ltb-false (a .alike + a .apart) (a .same + a .need) t,

@@ -15,10 +15,11 @@ returns c =
     let m = k .before .before .before .before in
     let n = m .before in
     let s = n .before in
-    let w = words (s .args .links) (s .good .1 .0) in
+    let a = s .args in
+    let w = words (a .links) (s .good .1 .0) in
     prepared _ _ _ _ (k .before .before .compare .result) _ (k .before .before .compare .ensures) refl refl refl
-    (λ j. decided-marked (s .args .links) (now (s .args .lists)) w (s .args .n) (s .args .f) j (n .at-most-32 .ensures) (k .lists-needed .ensures) (m .all-marks .ensures))
-    (trusted-past (s .args .links) (now (s .args .lists)) w (s .args .n) (s .args .f))
+    (λ j. decided-marked (a .links) (now (a .lists)) w (a .n) (a .f) j (n .at-most-32 .ensures) (k .lists-needed .ensures) (m .all-marks .ensures))
+    (trusted-past (a .links) (now (a .lists)) w (a .n) (a .f))
     (omega (arith, n .at-most-32 .ensures))
 
 pub prepare-spec : {M : Type 1} → statement M

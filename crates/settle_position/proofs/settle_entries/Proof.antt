@@ -1,5 +1,5 @@
--- `settle_position::settle_entries` meets its contract: before entry j the order holds the positions among the entries below j. After the last entry these are all
--- that settling asks of the entries.
+-- `settle_position::settle_entries` meets its contract: before entry j the order holds the positions among the entries below j. After the last entry
+-- these are all that settling asks of the entries.
 use mathlib.Core.Path.{_∙_}
 use Prim.Native.Nat.{ℕ, _-_, _≤_}
 use native.Mathlib.Omega.{arith}

@@ -1,7 +1,7 @@
 -- `settle_shared::marks_of` meets its contract: before entry j, the word has the marks of the codes below j.
 use mathlib.Core.Path.{_≡_, ap, sym, _∙_}
 use mathlib.Core.Logic.{⊎-elim}
-use Prim.Native.Nat.{_-_, _≤_}
+use Prim.Native.Nat.{_-_, _≤_, _<_}
 use native.Mathlib.Omega.{arith}
 use mir.Syntax.{w32}
 use mir.Val.{toZ}
@@ -29,9 +29,11 @@ loop-again c =
     let h = r .before .before in
     let l = h .loop in
     let codes = now (h .before .before .args .codes) in
+    let below : l .j < 32 = omega (arith, h .before .at-most-32 .ensures) in
+    let fits = toZ-ofZ (record { sfits = r .if12 .given }) in
     ⊎-elim
-    (λ w. (search needs, rw (w .2, w .1 .ensures) (marks-more codes (l .j) (l .word) (l .inv .1) (omega (arith, h .before .at-most-32 .ensures)) (bits-other (w .0 .taken)))))
-    (λ w. (search needs, rw (w .1) (marks-skip codes (l .j) (l .word) (l .inv .1) (sym (toZ-ofZ (record { sfits = r .if12 .given })) ∙ ap (toZ w32) (w .0 .left)))))
+    (λ w. (search needs, rw (w .2, w .1 .ensures) (marks-more codes (l .j) (l .word) (l .inv .1) below (bits-other (w .0 .taken)))))
+    (λ w. (search needs, rw (w .1) (marks-skip codes (l .j) (l .word) (l .inv .1) (sym fits ∙ ap (toZ w32) (w .0 .left)))))
     (c .if1 .came)
 
 returns : tie.Need-returns Inv-loop μ-loop
