@@ -18,9 +18,14 @@ zeros zero j = refl
 zeros (suc n) zero = refl
 zeros (suc n) (suc j) = zeros n j
 
--- a list that is filled with 0 to its end
-pub wiped : (d l : List ℕ) (n : ℕ) → length d ≤ n → l ≡ replicate n 0 ++ drop n d → (j : ℕ) → getD l j 0 ≡ 0
-wiped d l n h e j = rw (e, drop-of-length-le d h, append-nil) (zeros n j)
+-- a list whose first n numbers are 0
+pub wiped : (l x : List ℕ) (n j : ℕ) → l ≡ replicate n 0 ++ x → j < n → getD l j 0 ≡ 0
+wiped l x n j e h = rw e (front n j h)
+  where
+    front : (n j : ℕ) → j < n → getD (replicate n 0 ++ x) j 0 ≡ 0
+    front zero j h = absurd (omega (arith, h))
+    front (suc n) zero h = refl
+    front (suc n) (suc j) h = front n j (omega (arith, h))
 
 -- a part of the first of two lists
 part-front : (h x : List ℕ) (from n : ℕ) → from + n ≤ length h → take n (drop from (h ++ x)) ≡ take n (drop from h)

@@ -2,7 +2,7 @@
 ghost use mathlib.Core.Bool.{true};
 ghost use mathlib.Core.List.{List, []};
 ghost use mathlib.Core.Path.{_≡_};
-ghost use Prim.Native.Nat.{ℕ, _+_, _*_, _<_};
+ghost use Prim.Native.Nat.{ℕ, _+_, _*_, _≤_, _<_};
 ghost use lib.ListN.{length, getD, set};
 ghost use Rattle.frame_slots.specs.Slots.{slot, plantedIn, withPlanted, withLength, PlantedThen};
 use terms::HEADS;
@@ -70,22 +70,23 @@ pub fn is_alike(bytes: &[u8], lengths: &[u8], k: u8, i: u8, m: u8) -> bool
     is_same(planted(bytes, lengths, k, i), planted(bytes, lengths, k, m))
 }
 
-// Every length is 0.
-fn wipe(lengths: &mut [u8])
-    ensures { λ _. ⌜ ((s : ℕ) → getD (now (lengths .exit)) s 0 ≡ 0) ⌝ }
+// The first lengths, up to `end`, are 0.
+fn wipe(lengths: &mut [u8], end: usize)
+    requires { ⌜ end ≤ length (now lengths) ⌝ }
+    ensures { λ _. ⌜ ((s : ℕ) → s < end → getD (now (lengths .exit)) s 0 ≡ 0) ⌝ }
 {
     let mut s: usize = 0;
-    while s < lengths.len() {
+    while s < end {
         lengths[s] = 0;
         s += 1;
     }
 }
 
-// Nothing is planted.
-pub fn clear(lengths: &mut PlantedLengths)
-    ensures { λ _. ⌜ ((bytes : List ℕ) (k i : ℕ) → plantedIn bytes (now (lengths .exit)) k i ≡ []) ⌝ }
+// Nothing is planted on the links from the first n heads.
+pub fn clear(lengths: &mut PlantedLengths, n: u8)
+    ensures { λ _. ⌜ ((bytes : List ℕ) (k i : ℕ) → k < 32 → k < n → i < 48 → plantedIn bytes (now (lengths .exit)) k i ≡ []) ⌝ }
 {
-    wipe(lengths);
+    wipe(lengths, 48 * terms::at_most_32(n as usize));
 }
 
 // The length of a slot.

@@ -128,14 +128,14 @@ module _ {F : File} {p : Player} {M : Memory} {r : RecordResult} where
 
   module _ (s : List ℕ) where
     -- a round: what was planted is gone
-    pub round-next : {M′ : Memory} {bytes lengths : List ℕ} → Turned F s (r .text) M′ → r .text .len ≤ 64 → ((k i : ℕ) → plantedIn bytes lengths k i ≡ [])
+    pub round-next : {M′ : Memory} {bytes lengths : List ℕ} → Turned F s (r .text) M′ → r .text .len ≤ 64 → ((k i : ℕ) → k < 32 → k < p .n → i < 48 → plantedIn bytes lengths k i ≡ [])
         → PlayerOf p F → roundsGiven F < mostRounds → r .player ≡ withRoundGiven p (struckIn s)
         → Next F (withRecord round F s) p M r (withSlots M′ bytes lengths)
     round-next P room cleared T more is =
         record {
           player = rw is (round-tells T s more);
           whole = rw is refl;
-          memory = record { keeps = λ b. same-keeps (P .keeps); slots = λ w k i k-below i-below. cleared k i; short = λ w k i. omega arith };
+          memory = record { keeps = λ b. same-keeps (P .keeps); slots = λ w k i a b c. cleared k i a (rw (← T .n) b) c; short = λ w k i. omega arith };
           refused = λ h. absurd (h refl);
           shows = P .shows;
           room = room;
@@ -154,7 +154,7 @@ module _ {F : File} {p : Player} {M : Memory} {r : RecordResult} where
           memory =
               record {
                 keeps = λ b. same-keeps (H .keeps b);
-                slots = λ w k i a b. rw (new k i a b (rw (H .slots w k i a b) (H .short w k i)), H .slots w k i a b);
+                slots = λ w k i a m b. rw (new k i a b (rw (H .slots w k i a m b) (H .short w k i)), H .slots w k i a m b);
                 short = λ w k i. either-short (eqb (senderIn s) k && eqb (receiverIn s) i) (drop 6 s) _ few (H .short w k i);
               };
           refused = λ h. absurd (h refl);

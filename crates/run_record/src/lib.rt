@@ -140,7 +140,7 @@ fn take_round(
         return refuse(p, fault);
     }
     let text = play_waiting(p, positions, marks, lists, planted, lengths);
-    frame_slots::clear(lengths);
+    frame_slots::clear(lengths, p.n);
     RecordResult {
         player: run_state::given_round(p, fields::word_at(bytes, 4)),
         text,

@@ -28,7 +28,7 @@ pub record Plays (n m f : ℕ) (R : Ring) (w : Round) (s : Stage) (plant : ℕ �
   pub before : (k : ℕ) → k < 32 → bitOf (s .before) k ≡ bitOf (R .before) k
   pub struck : (k : ℕ) → k < 32 → bitOf (s .struck) k ≡ bitOf (w .struck) k
   pub away : (i : ℕ) → 32 ≤ i → i < receivers → bitOf (s .away) (i - 32) ≡ bitOf (w .struck) i
-  pub plants : (k i : ℕ) → k < 32 → i < receivers → plant k i ≡ planted (w .plants) k i
+  pub plants : (k i : ℕ) → k < 32 → k < n → i < receivers → plant k i ≡ planted (w .plants) k i
 
 module _ {n m f : ℕ} {R : Ring} {w : Round} {s : Stage} {plant : ℕ → ℕ → List ℕ} (P : Plays n m f R w s plant) (S : RingReady n f R) where
   pub heads-are : heads s ≡ n
@@ -64,7 +64,7 @@ module _ {n m f : ℕ} {R : Ring} {w : Round} {s : Stage} {plant : ℕ → ℕ �
           h = openedAt n f R w k
 
           go : (c : Bool) → bitOf (w .struck) k ≡ c → cond c (plant k i) (frameOf n k (R .phase) x) ≡ cond c (planted (w .plants) k i) (frameFor h)
-          go true e = P .plants k i small l
+          go true e = P .plants k i small b l
           go false e =
               let A = opened-ready n f R w S k (inl b) e .seat in
               ap (frameOf n k (R .phase)) (sym (says e)) ∙ rw (A .count, A .number, A .phase)

@@ -18,18 +18,18 @@ pub type Carry = [u8; CARRY];
 
 // What has been read of a run file, but for the heads' memory.
 pub struct Player {
+    pub before: u64, // who was struck in the round before the last: bits 0 to 31 heads, 32 to 47 listeners
+    pub struck: u64, // who is struck in the last
+    pub given: u32, // rounds given
     pub begun: bool, // a start was accepted
     pub n: u8,
     pub f: u8,
     pub listeners: u8,
-    pub given: u32, // rounds given
-    pub pending: bool, // the last of them is not yet played
-    pub before: u64, // who was struck in the round before it: bits 0 to 31 heads, 32 to 47 listeners
-    pub struck: u64, // who is struck in it
-    pub told: bool, // its struck listeners were given
-    pub last: Pair, // its last planted pair
     pub have: usize, // how many bytes of the record that is not yet whole
+    pub pending: bool, // the last round is not yet played
+    pub told: bool, // its struck listeners were given
     pub fault: u8, // the number of the first fault, 0 for none
+    pub last: Pair, // the last planted pair of the last round
 }
 
 // Before the first round.

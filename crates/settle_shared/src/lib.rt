@@ -23,9 +23,6 @@ use terms::Words;
 // A number that is no position: the code of a null entry.
 const NONE: i32 = 1000001;
 
-// The marks of no lists.
-const NO_MARKS: [u32; 32] = [0; 32];
-
 // ---- Lists as codes.
 
 // The code of an entry with the number v, by its mark.
@@ -353,5 +350,5 @@ pub fn settle_counted(
         alike: 0,
         apart: 0,
     };
-    settle_position::settle_entries(lists, &NO_MARKS, codes, same, d, n, f, up)
+    settle_position::settle_entries(lists, same, codes, same, d, n, f, up)
 }

@@ -12,10 +12,10 @@ use Rattle.frame_slots.proofs.wipe.Statement.{statement}
 use Rattle.frame_slots.proofs.wipe.Tie as tie
 
 abbrev Inv-loop : tie.InvT-loop
-Inv-loop lengths₀ s₀ lengths s = (s ≤ length lengths₀) × (length lengths ≡ length lengths₀) × (lengths ≡ replicate s 0 ++ drop s lengths₀)
+Inv-loop lengths₀ end s₀ lengths s = (s ≤ end) × (length lengths ≡ length lengths₀) × (lengths ≡ replicate s 0 ++ drop s lengths₀)
 
 abbrev μ-loop : tie.MeasureT-loop
-μ-loop lengths₀ s₀ lengths s = length lengths₀ - s
+μ-loop lengths₀ end s₀ lengths s = end - s
 
 loop-again : tie.Need-loop-again Inv-loop μ-loop
 loop-again c =
@@ -26,7 +26,7 @@ loop-again c =
 returns : tie.Need-returns Inv-loop μ-loop
 returns c =
     let l = c .before .loop in
-    wiped (now (c .before .before .args .lengths)) (l .lengths) (l .s) (omega arith) (l .inv .2)
+    λ s b. wiped (l .lengths) _ (l .s) s (l .inv .2) (omega arith)
 
 pub wipe-spec : {M : Type 1} → statement M
 wipe-spec =

@@ -15,7 +15,7 @@ use Rattle.settle_shared.proofs.settle_counted.Tie as tie
 
 returns : tie.Need-returns
 returns c small few some M =
-    let m = c .before .before in
+    let m = c .before in
     let a = m .before .args in
     let codes = now (a .codes) in
     let same = now (a .same) in
