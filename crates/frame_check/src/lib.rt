@@ -1,5 +1,7 @@
 // Frames: the frame check.
 ghost use mathlib.Core.Path.{_≡_};
+ghost use denote.Ref.{ptr};
+ghost use Prim.Native.Nat.{_+_};
 ghost use Rattle.frame_check.specs.Check.{kindOf, isKnown, lengthOf, frameRefusal, restOf};
 use terms::refusal;
 
@@ -62,6 +64,7 @@ pub fn frame_refusal(frame: &[u8]) -> u8
 pub fn check<'a, 'b>(frame: &'a [u8], number: &'b mut u8) -> &'a [u8]
     ensures number { λ r. ⌜ now (number .exit) ≡ frameRefusal (now (frame .entry)) ⌝ }
     ensures rest { λ r. ⌜ now r ≡ restOf (now (frame .entry)) ⌝ }
+    ensures place { λ r. ⌜ (frameRefusal (now (frame .entry)) ≡ 0 → (ptr r .0 ≡ ptr (frame .entry) .0) × (ptr r .1 ≡ ptr (frame .entry) .1 + 7)) ⌝ }
 {
     let refused = frame_refusal(frame);
     *number = refused;

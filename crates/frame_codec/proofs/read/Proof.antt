@@ -37,7 +37,7 @@ returns-3 c =
     let d = c .before .before in
     let o = d .before .before in
     let a = o .before .before .before .before .args in
-    let rest : now (o .before .check .result) ≡ restField (now (a .frame)) = o .before .check .ensures .1 ∙ accepted-rest _ (accepted o) in
+    let rest : now (o .before .check .result) ≡ restField (now (a .frame)) = o .before .check .ensures .1 .0 ∙ accepted-rest _ (accepted o) in
     c .read-rest .ensures
     ∙ ap₂ (λ (x : ℕ) (t : List ℕ). saidUnless (fromMarks (kindOf x) (a .n) t) (kindOf x) (a .n) t) (d .before .half-at .ensures) rest
     ∙ says-rest _ _ _ _ _ (accepted o) (sym (common-is d) ∙ c .before .if2 .left)
