@@ -4,6 +4,7 @@ use mathlib.Core.Bool.{Bool, true, false, cond}
 use mathlib.Core.List.{List, []}
 use Prim.Native.Nat.{ℕ, _≤_}
 use native.Mathlib.Omega.{arith}
+use native.Mathlib.Nat.{le-refl}
 use lib.Dec.{eqb}
 use lib.ListN.{length}
 use Rattle.ring_spec.specs.Rounds.{Round, mostRounds}
@@ -34,10 +35,14 @@ module _ (F : File) (I : Reached F) where
   )
   played-within false = (few-struck-in n m f (F .rounds .played) (I .rounds), omega (arith, I .count))
 
-  pub played-converges : (b : Bool) → AnyTwo n m f (endsFrom (F .setup) (playedWith b F))
-  played-converges b =
+  -- of the heads and any of the listeners
+  pub some-converge : (b : Bool) (k : ℕ) → k ≤ m → AnyTwo n k f (endsFrom (F .setup) (playedWith b F))
+  some-converge b k l =
       let (within, most) = played-within b in
-      ring-converges n m f (F .setup .first) (playedWith b F) (I .size .most) (I .listeners) (I .size .limit) (I .ranges) within most
+      ring-converges n k f (F .setup .first) (playedWith b F) (I .size .most) (omega (arith, I .listeners)) (I .size .limit) (I .ranges) within most
+
+  pub played-converges : (b : Bool) → AnyTwo n m f (endsFrom (F .setup) (playedWith b F))
+  played-converges b = some-converge b m (le-refl m)
 
 pub every-file : EveryFile
 unfolding endsPlayed roundsPlayed
@@ -46,6 +51,7 @@ every-file s = go (readFile s .setup .begun) refl
     F : File
     F = readFile s
 
-    go : (b : Bool) → F .setup .begun ≡ b → AnyTwo (F .setup .n) (F .setup .listeners) (F .setup .f) (cond b (endsFrom (F .setup) (roundsPlayed F)) [])
-    go true e = played-converges F (taken s e) (eqb (ending F) 0)
-    go false e = λ i k l. absurd (omega arith)
+    go : (b : Bool) → F .setup .begun ≡ b
+        → (m : ℕ) → m ≤ F .setup .listeners → AnyTwo (F .setup .n) m (F .setup .f) (cond b (endsFrom (F .setup) (roundsPlayed F)) [])
+    go true e = some-converge F (taken s e) (eqb (ending F) 0)
+    go false e = λ m h i k l. absurd (omega arith)

@@ -7,10 +7,11 @@ use mathlib.Core.List.{List, [], _∷_, _++_, append-assoc}
 use Prim.Native.Nat.{ℕ, suc, _+_, _-_, _*_, _≤_, _<_}
 use native.Mathlib.Omega.{arith}
 use native.Mathlib.Decide.{decLt}
-use lib.Dec.{eqb}
+use lib.Dec.{eqb, ltb, leb}
 use lib.ListN.{length, getD, take}
 use lib.Seq.{length-take-le, take-all}
 use lib.IntN.{ℤ, pos}
+use borrow.Author.Tests.{ltb-true, lt-ltb}
 use Rattle.terms.specs.declared.Entry.{Entry}
 use Rattle.convergence.specs.Counting.{Each}
 use Rattle.convergence.specs.Phases.{spread}
@@ -243,23 +244,36 @@ last-struck F x = go (eqb (ending F) 0) (F .rounds .pending)
     go true false e = absurd (more (endsSoFar F) e)
     go false w e = absurd (more (endsSoFar F) e)
 
--- neither missing nor struck
-sound-in : (b c : Bool) → (not b || c) ≡ false → (b && not c) ≡ true
-sound-in true true o = absurd (true≢false o)
-sound-in true false o = refl
-sound-in false c o = absurd (true≢false o)
+-- whoever is there with m listeners is there with more
+more-receive : (n m M i : ℕ) → m ≤ M → isReceiver n m i ≡ true → isReceiver n M i ≡ true
+more-receive n m M i l = go (ltb i n) (leb 32 i) (ltb i (32 + m)) refl
+  where
+    go : (a b c : Bool) → ltb i (32 + m) ≡ c → (a || (b && c)) ≡ true → (a || (b && ltb i (32 + M))) ≡ true
+    go true b c q e = refl
+    go false true true q e = lt-ltb i (32 + M) (omega (arith, ltb-true i (32 + m) q))
+    go false true false q e = absurd (true≢false (sym e))
+    go false false c q e = absurd (true≢false (sym e))
 
--- demand 3 of two phase ends, of the rows and words that hold them
-rows-converge : {n m k : ℕ} {halves : Type 0} (x y : PhaseEnd) {ps qs : List ℤ} {v w : ℕ} → HoldsEnd n m x ps v → HoldsEnd n m y qs w
+-- neither missing nor struck
+sound-in : (n m M i : ℕ) (c : Bool) → m ≤ M → (not (isReceiver n m i) || c) ≡ false → (isReceiver n M i && not c) ≡ true
+sound-in n m M i c l = go (isReceiver n m i) c refl
+  where
+    go : (b c : Bool) → isReceiver n m i ≡ b → (not b || c) ≡ false → (isReceiver n M i && not c) ≡ true
+    go true true q o = absurd (true≢false o)
+    go true false q o = rw (more-receive n m M i l q) refl
+    go false c q o = absurd (true≢false o)
+
+-- demand 3 of two phase ends, of the rows and words that hold them with these listeners and perhaps more
+rows-converge : {n m M k : ℕ} {halves : Type 0} → m ≤ M → (x y : PhaseEnd) {ps qs : List ℤ} {v w : ℕ} → HoldsEnd n M x ps v → HoldsEnd n M y qs w
     → Demand3 receivers halves k (asEnd n m x) (asEnd n m y) → Demand3 receivers halves k (endIn n m v ps) (endIn n m w qs)
 unfolding endIn spread
-rows-converge {n} {m} x y {ps} {qs} H I D =
-    let X = found-held n m (x .struck) (λ i. x .heads i .seat .position) ps (λ i l r q. H .held i l (rw (r, q) refl)) in
-    let Y = found-held n m (y .struck) (λ i. y .heads i .seat .position) qs (λ i l r q. I .held i l (rw (r, q) refl)) in
+rows-converge {n} {m} {M} h x y {ps} {qs} H I D =
+    let X = found-held n m (x .struck) (λ i. x .heads i .seat .position) ps (λ i l r q. H .held i l (rw (more-receive n m M i h r, q) refl)) in
+    let Y = found-held n m (y .struck) (λ i. y .heads i .seat .position) qs (λ i l r q. I .held i l (rw (more-receive n m M i h r, q) refl)) in
     rw (H .marks, I .marks)
     record {
-      range = λ i l o. rw (← X .is-low, ← X .is-high, ← I .held i l (sound-in (isReceiver n m i) _ o)) (D .range i l o);
-      halving = λ h. rw (← X .is-low, ← X .is-high, ← Y .is-low, ← Y .is-high) (D .halving h);
+      range = λ i l o. rw (← X .is-low, ← X .is-high, ← I .held i l (sound-in n m M i _ h o)) (D .range i l o);
+      halving = λ p. rw (← X .is-low, ← X .is-high, ← Y .is-low, ← Y .is-high) (D .halving p);
     }
 
 module _ (s : List ℕ) {r : PlayResult} {B₀ B : Buffers} (number : r .number ≡ ending (readFile s))
@@ -279,12 +293,12 @@ module _ (s : List ℕ) {r : PlayResult} {B₀ B : Buffers} (number : r .number 
         more-rows = T .more-rows;
         more-words = T .more-words;
         demand3 =
-            λ e k l.
+            λ m e k h l.
             let i = length es - 1 - (e + k) in
             let c = T .count in
             let z : i + k ≡ length es - 1 - e = omega arith in
-            rows-converge (endNumber es e) (endNumber es (e + k)) (at e (omega arith)) (at (e + k) l)
-            (rw z at (every-file s i k (omega arith)));
+            rows-converge h (endNumber es e) (endNumber es (e + k)) (at e (omega arith)) (at (e + k) l)
+            (rw z at (every-file s m h i k (omega arith)));
       }
 
 module _ {file : List ℕ} {at : Place} {carry : List ℕ} {M : Memory} {B₀ B : Buffers} (G : Going file at carry M B₀ B) (all : at .used ≡ length file) where

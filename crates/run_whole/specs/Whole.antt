@@ -2,7 +2,7 @@
 use mathlib.Core.Bool.{Bool, true, false, not, _&&_}
 use mathlib.Core.List.{List, _++_}
 use mathlib.Core.Path.{_≡_}
-use Prim.Native.Nat.{ℕ, _+_, _-_, _*_, _<_}
+use Prim.Native.Nat.{ℕ, _+_, _-_, _*_, _≤_, _<_}
 use lib.ListN.{length, getD, drop}
 use lib.IntN.{ℤ, pos}
 use Rattle.terms.specs.Refusals as refusal
@@ -39,7 +39,7 @@ abbrev pub endAt : ℕ → ℕ → Buffers → ℕ → End
 endAt n m B e = endIn n m (getD (B .words) e 0) (row e (B .ends))
 
 -- the file s is played: how it ends; its listing, with what stands behind it as it was; its phase ends, with what stands behind them as it was; and any two of
--- these, k phases apart, keep demand 3
+-- these, k phases apart, keep demand 3: of the heads alone (m = 0), as the order has it, and with the first m listeners, all of them too (document 02, A6)
 pub record Whole (s : List ℕ) (r : PlayResult) (B B′ : Buffers) : Type 0 where
   pub number : r .number ≡ ending (readFile s)
   pub len : r .len ≡ length (listing s)
@@ -50,7 +50,7 @@ pub record Whole (s : List ℕ) (r : PlayResult) (B B′ : Buffers) : Type 0 whe
   pub more-rows : drop (48 * r .ends) (B′ .ends) ≡ drop (48 * r .ends) (B .ends)
   pub more-words : drop (r .ends) (B′ .words) ≡ drop (r .ends) (B .words)
   pub demand3 : let S = readFile s .setup in
-      (e k : ℕ) → e + k < r .ends → Demand3 receivers (Halves (S .n) (S .f)) k (endAt (S .n) (S .listeners) B′ e) (endAt (S .n) (S .listeners) B′ (e + k))
+      (m e k : ℕ) → m ≤ S .listeners → e + k < r .ends → Demand3 receivers (Halves (S .n) (S .f)) k (endAt (S .n) m B′ e) (endAt (S .n) m B′ (e + k))
 
 -- by whether the buffers have room: if not, 24, and they are as they were
 abbrev pub Plays : Bool → List ℕ → PlayResult → Buffers → Buffers → Type 0
