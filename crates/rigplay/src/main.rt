@@ -7,6 +7,8 @@ ghost use mathlib.Core.Path.{_≡_};
 ghost use Prim.Native.Nat.{ℕ};
 ghost use Rattle.run_state.specs.Memory.{memoryBefore, memoryAfter};
 ghost use Rattle.run_piece.specs.Advances.{StateAt};
+ghost use lib.ListN.{take};
+ghost use Rattle.rigplay.specs.Turns.{Turned, Holds, LastOf};
 use frame_slots::PlantedBytes;
 use frame_slots::PlantedLengths;
 use libc::STDIN_FILENO;
@@ -29,6 +31,13 @@ struct Turn {
     player: Player,
     more: bool,
     ended: bool,
+    len: usize, // how many bytes came
+}
+
+// The end of the input: whether it was reached, and how many bytes the last page has.
+struct Last {
+    ended: bool,
+    len: usize,
 }
 
 // Writes the first n bytes.
@@ -91,7 +100,10 @@ fn play_some(
     lists: &mut Lists,
     planted: &mut PlantedBytes,
     lengths: &mut PlantedLengths,
-) -> Turn {
+) -> Turn
+    ensures { λ r. ⌜ ((a : List ℕ) → StateAt a p (now (carry .entry)) (memoryBefore positions marks lists planted lengths)
+        → Turned a (now (piece .exit)) r (now (carry .exit)) (memoryAfter positions marks lists planted lengths)) ⌝ }
+{
     let got = libc::read(STDIN_FILENO, piece);
     let len = io::count(got, piece);
     if len == 0 {
@@ -99,6 +111,7 @@ fn play_some(
             player: p,
             more: false,
             ended: got == 0,
+            len,
         };
     }
     let wrote = play_piece(
@@ -116,6 +129,7 @@ fn play_some(
         player,
         more: wrote.all,
         ended: false,
+        len,
     }
 }
 
@@ -130,11 +144,15 @@ fn play_all(
     lists: &mut Lists,
     planted: &mut PlantedBytes,
     lengths: &mut PlantedLengths,
-) -> Turn {
+) -> Turn
+    ensures { λ r. ⌜ ((a : List ℕ) → StateAt a p (now (carry .entry)) (memoryBefore positions marks lists planted lengths)
+        → Holds a r (now (carry .exit)) (memoryAfter positions marks lists planted lengths)) ⌝ }
+{
     let mut turn = Turn {
         player: p,
         more: true,
         ended: false,
+        len: 0,
     };
     let mut turns = u64::MAX;
     while turns > 0 && turn.more {
@@ -153,6 +171,39 @@ fn play_all(
     turn
 }
 
+// Plays the input, from its first byte on, and fills the last page if it has ended.
+fn play_input(
+    piece: &mut [u8],
+    page: &mut Page,
+    carry: &mut Carry,
+    positions: &mut Positions,
+    marks: &mut Words,
+    lists: &mut Lists,
+    planted: &mut PlantedBytes,
+    lengths: &mut PlantedLengths,
+) -> Last
+    ensures { λ r. ⌜ (r .ended ≡ true → LastOf (take (r .len) (now (page .exit))) (memoryAfter positions marks lists planted lengths)) ⌝ }
+{
+    let turn = play_all(
+        run_stream::begin(),
+        piece,
+        carry,
+        positions,
+        marks,
+        lists,
+        planted,
+        lengths,
+    );
+    if !turn.ended {
+        return Last {
+            ended: false,
+            len: 0,
+        };
+    }
+    let len = run_stream::last_page(turn.player, page, positions, marks, lists, planted, lengths);
+    Last { ended: true, len }
+}
+
 fn main() {
     let mut piece = io::large_buffer();
     let mut carry = [0u8; run_state::CARRY];
@@ -167,9 +218,9 @@ fn main() {
     if !write_page(&page, first) {
         return;
     }
-    let turn = play_all(
-        run_stream::begin(),
+    let last = play_input(
         &mut piece,
+        &mut page,
         &mut carry,
         &mut positions,
         &mut marks,
@@ -177,17 +228,7 @@ fn main() {
         &mut planted,
         &mut lengths,
     );
-    if !turn.ended {
-        return;
+    if last.ended {
+        write_page(&page, last.len);
     }
-    let last = run_stream::last_page(
-        turn.player,
-        &mut page,
-        &mut positions,
-        &mut marks,
-        &mut lists,
-        &planted,
-        &lengths,
-    );
-    write_page(&page, last);
 }
