@@ -72,7 +72,7 @@ module _ (w : List ℕ) (block : IsBlock w) (i : ℕ) (from : 14 ≤ i) (to : i 
 
 -- ---- hearing a batch
 
-heard-block : (w : List ℕ) → IsBlock w → (k : ℕ) (m : Meaning) → IsBlock (heardIn w k m)
+pub heard-block : (w : List ℕ) → IsBlock w → (k : ℕ) (m : Meaning) → IsBlock (heardIn w k m)
 heard-block w block k m = by-cases (decLt k 32)
     (λ l. rw (heard-below w k m l) (go l m))
     (λ d. rw (heard-past w k m (omega arith)) block)

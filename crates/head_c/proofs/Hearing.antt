@@ -108,7 +108,7 @@ said-fits n p r k s = go (refusalOf n p r k s) (kindField s)
 -- ---- the promise of hearing
 
 module _ (w : List ℕ) (block : IsBlock w) (k : ℕ) (s : List ℕ) where
-  head-heard : headOf (leaves (hear (headOf w) k s .refusal) (heardIn w k (saidTo (headOf w .seat) k s)) w) ≡ hear (headOf w) k s .head
+  pub head-heard : headOf (leaves (hear (headOf w) k s .refusal) (heardIn w k (saidTo (headOf w .seat) k s)) w) ≡ hear (headOf w) k s .head
   unfolding hear
   head-heard = go (hearRefusal (headOf w) k s)
     where

@@ -10,3 +10,4 @@ pub mod Calls
 pub mod Beside
 pub mod Events
 pub mod Refused
+pub mod Made

@@ -3,3 +3,4 @@ pub mod Places
 pub mod Blocks
 pub mod Steps
 pub mod Events
+pub mod Made
