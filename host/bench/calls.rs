@@ -133,7 +133,7 @@ fn window(wanted: Wanted) -> Option<Row> {
         block.start(5, 1, 2, position(i));
         block
     };
-    let device = |i: usize| Device { head: Head::start(5, 1, 2, position(i)).expect("a start that is taken"), events: 0, mask: 0 };
+    let device = |i: usize| Device { head: Head::start(5, 1, 2, position(i)).expect("a start that is taken"), events: 0, mask: 0, offer: None };
     let export = |blocks: &mut Vec<Block>| {
         let mut bytes = [0; 16];
         let mut read = |block: &mut Block| {
@@ -227,7 +227,7 @@ impl Heard {
             heads
         };
         let close_blocks = |blocks: &mut Vec<Block>| blocks.iter_mut().map(|block| block.close() as u64).sum();
-        let close_heads = |heads: &mut Vec<Head>| heads.iter_mut().map(|head| number(head.close())).sum();
+        let close_heads = |heads: &mut Vec<Head>| heads.iter_mut().map(|head| number(head.close().map(drop))).sum();
         row(wanted, name, MANY, (&blocks, &close_blocks), (&heads, &close_heads))
     }
 }

@@ -42,6 +42,7 @@ static focus_head in_confession(unsigned phase, unsigned lists) {
 static focus_head ended_under(uint32_t number) {
     focus_head head = confessing(number, 65535, 5);
     same("close", focus_head_close(&head), 0);
+    same("adopt", focus_head_adopt(&head), 0);
     return head;
 }
 
@@ -222,6 +223,49 @@ static void closes(void) {
     }
     focus_head head = ended(), before = head;
     answered("close at the end", focus_head_close(&head), FOCUS_ENDED, &head, &before);
+    answered("adopt at the end", focus_head_adopt(&head), FOCUS_NO_OFFER, &head, &before);
+}
+
+/* What is offered, as it is to be. */
+static void offers(const char *what, const focus_head *head, int stands) {
+    focus_kept kept = {-777, -777, -777, -777};
+    same(what, focus_head_offer(head, &kept), stands);
+    same(what, kept.position, stands ? 7 : -777);
+}
+
+/* An offer stands through refused calls, and ends by an accepted frame, a start, a restart and its adoption. */
+static void offered(void) {
+    uint8_t frame[FOCUS_FRAME_MAX];
+    int32_t at = -777;
+    focus_head head = in_confession(3, 4), before = head;
+    tried = 0;
+    offers("no offer before the closing", &head, 0);
+    answered("adopt too early", focus_head_adopt(&head), FOCUS_NO_OFFER, &head, &before);
+    same("close", focus_head_close(&head), 0);
+    offers("the offer", &head, 1);
+    same("no position yet", focus_head_position(&head, &at), 0);
+    before = head;
+    same("close again", focus_head_close(&head), 0);
+    same("the same is offered", memcmp(&head, &before, sizeof head), 0);
+    answered("a refused frame", focus_head_hear(&head, 0, frame, sevens(frame, 0, 3)), FOCUS_HEARD, &head, &before);
+    answered("a refused start", focus_head_start(&head, 33, 1, 0, 7), FOCUS_HEAD_COUNT, &head, &before);
+    answered("a refused restart", focus_head_restart(&head, 5, 1, 5, 3, 1), FOCUS_HEAD_NUMBER, &head, &before);
+    offers("the offer still stands", &head, 1);
+    same("an accepted frame", focus_head_hear(&head, 4, frame, sevens(frame, 4, 3)), 0);
+    offers("it has lapsed", &head, 0);
+    same("adopt what has lapsed", focus_head_adopt(&head), FOCUS_NO_OFFER);
+    same("offer anew", focus_head_close(&head), 0);
+    same("adopt", focus_head_adopt(&head), 0);
+    offers("it is adopted", &head, 0);
+    same("the position", focus_head_position(&head, &at), 1);
+    same("it is what was offered", at, 7);
+    same("adopt twice", focus_head_adopt(&head), FOCUS_NO_OFFER);
+    for (int again = 0; again < 2; again++) {
+        head = in_confession(3, 5);
+        same("close", focus_head_close(&head), 0);
+        same("start or restart", again ? focus_head_restart(&head, 5, 1, 0, 3, 1) : focus_head_start(&head, 5, 1, 0, 7), 0);
+        offers("neither leaves an offer", &head, 0);
+    }
 }
 
 static void positions(void) {
@@ -248,6 +292,8 @@ static void kept_ranges(void) {
     for (unsigned k = 0; k < 5; k++)
         same("hear", focus_head_hear(&head, k, frame, put_list(frame, k, 3, 5, 0x1f, entries)), 0);
     same("close", focus_head_close(&head), 0);
+    same("no range while it is only offered", focus_head_kept(&head, &kept), 0);
+    same("adopt", focus_head_adopt(&head), 0);
     for (int more = 0; more < 2; more++) { /* at the phase end, and after a closing refused 25 */
         tried = more;
         kept = (focus_kept){-777, -777, -777, -777};
@@ -286,6 +332,8 @@ static void listens(void) {
         same("what is lent for it", at, -777);
         same("close", focus_head_close(&head), 0);
         same("a listener closes", focus_head_close(&listener), 0);
+        same("adopt", focus_head_adopt(&head), round == 0 ? FOCUS_NO_OFFER : 0);
+        same("a listener adopts", focus_head_adopt(&listener), round == 0 ? FOCUS_NO_OFFER : 0);
     }
     int32_t at = -777, heard = -777;
     focus_kept kept, range;
@@ -309,6 +357,7 @@ int main(void) {
     writes();
     closes();
     positions();
+    offered();
     kept_ranges();
     listens();
     return all_checked();

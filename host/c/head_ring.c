@@ -65,6 +65,7 @@ static void play(struct ring *r, uint64_t struck, liar lies) {
             }
         }
         same("close", focus_head_close(&r->heads[i]), 0);
+        same("adopt", focus_head_adopt(&r->heads[i]), r->round == 0 ? FOCUS_NO_OFFER : 0);
     }
     r->before = struck;
     r->phase += r->round;
@@ -140,6 +141,7 @@ static void after_all(focus_head *head) {
     same("length of a refused frame", (long long)length, 99);
     same("hear after the last phase", focus_head_hear(head, 40, buffer, 0), FOCUS_ENDED);
     same("close after the last phase", focus_head_close(head), FOCUS_ENDED);
+    same("adopt after the last phase", focus_head_adopt(head), FOCUS_NO_OFFER);
     same("restart after the last phase", focus_head_restart(head, 1, 0, 0, 65535, 1), 0);
     same("start after the last phase", focus_head_start(head, 1, 0, 0, 3), 0);
 }

@@ -107,7 +107,9 @@ static void confessed(focus_head *head, struct seen *now, int32_t v) {
         same("hear", focus_head_hear(head, k, frame, put_list(frame, k, now->phase, 5, 0x1f, entries)), 0);
         shows(head, *now); /* hearing is no event */
     }
-    same("end the phase", focus_head_close(head), 0);
+    same("offer the position", focus_head_close(head), 0);
+    shows(head, *now); /* an offer is no event */
+    same("end the phase", focus_head_adopt(head), 0);
     now->position = v;
     now->events |= PHASE_END;
     now->status = now->phase < 65535 ? HELD : HELD | CONFESSION;
@@ -183,6 +185,7 @@ int main(void) {
     confessed(&head, &now, -3);
     same("the last phase end", served(&head, &now), PHASE_END);
     same("close at the end", focus_head_close(&head), FOCUS_ENDED);
+    same("adopt at the end", focus_head_adopt(&head), FOCUS_NO_OFFER);
     same("hear at the end", focus_head_hear(&head, 0, (const uint8_t *)"", 0), FOCUS_ENDED);
     shows(&head, now);
     refused(&head, now);

@@ -37,6 +37,8 @@ pub enum Call {
     HearBatch { batch: Bytes, answers: Bytes, room: usize, out: usize },
     Write { buffer: Bytes, room: usize, out: usize },
     Close,
+    Adopt,
+    Offer { out: [i32; 4] },
     Position { out: i32 },
     Kept { out: [i32; 4] },
     Register { at: u32, out: u8 },
@@ -79,6 +81,8 @@ impl Call {
             Call::Window { .. } => 16,
             Call::SetRegister { .. } => 17,
             Call::Interrupt => 18,
+            Call::Adopt => 19,
+            Call::Offer { .. } => 20,
         }
     }
 
@@ -114,6 +118,8 @@ impl Call {
             Call::HearBatch { room, mut out, .. } => (block.hear_batch(&mut batch, &mut lent[..room], &mut out), out as i64),
             Call::Write { room, mut out, .. } => (block.write(&mut lent[..room], &mut out), out as i64),
             Call::Close => (block.close(), 0),
+            Call::Adopt => (block.adopt(), 0),
+            Call::Offer { .. } => (block.offer(&mut kept), 0),
             Call::Position { mut out } => (block.position(&mut out), out as i64),
             Call::Kept { .. } => (block.kept(&mut kept), 0),
             Call::Register { at, mut out } => (block.register(at, &mut out), out as i64),
@@ -137,7 +143,7 @@ impl Call {
 
     /// Whether the call may not change the block, whatever it answers.
     fn reads(&self) -> bool {
-        matches!(self, Call::Write { .. } | Call::Position { .. } | Call::Kept { .. })
+        matches!(self, Call::Write { .. } | Call::Position { .. } | Call::Kept { .. } | Call::Offer { .. })
             || matches!(self, Call::Register { .. } | Call::Window { .. } | Call::Interrupt)
     }
 
@@ -166,12 +172,17 @@ impl Call {
             Call::RestartListener { n, f, number, phase, round } => {
                 (device.restart_listener(n as usize, f as usize, number as usize, phase as usize, round as usize), 0)
             }
-            Call::Hear { link, .. } => (head.hear(link as usize, &lent), 0),
+            Call::Hear { link, .. } => (device.hear(link as usize, &lent), 0),
             Call::HearBatch { ref batch, room, out, .. } => {
-                valued(head.hear_batch(&batch.0, &mut lent[..room]).map(|count| count as i64), out as i64)
+                valued(device.hear_batch(&batch.0, &mut lent[..room]).map(|count| count as i64), out as i64)
             }
             Call::Write { room, out, .. } => valued(head.write(&mut lent[..room]).map(|length| length as i64), out as i64),
             Call::Close => (device.close(), 0),
+            Call::Adopt => (device.adopt(), 0),
+            Call::Offer { .. } => {
+                kept = device.offer.map_or(kept, four);
+                (device.offer.map_or(Ok(()), |_| Err(1)), 0)
+            }
             Call::Position { out } => (head.position.map_or(Ok(()), |_| Err(1)), head.position.unwrap_or(out) as i64),
             Call::Kept { .. } => {
                 kept = head.kept.map_or(kept, four);
@@ -191,7 +202,7 @@ impl Call {
     /// The four numbers of a kept range that are lent.
     fn kept(&self) -> [i32; 4] {
         match self {
-            Call::MidpointKept { out, .. } | Call::Kept { out } => *out,
+            Call::MidpointKept { out, .. } | Call::Kept { out } | Call::Offer { out } => *out,
             _ => [0; 4],
         }
     }

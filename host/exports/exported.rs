@@ -20,6 +20,8 @@ mod c {
         pub fn focus_head_hear_batch(head: *mut Block, batch: *const u8, length: usize, answers: *mut u8, room: usize, count: *mut usize) -> u8;
         pub fn focus_head_write(head: *const Block, buffer: *mut u8, room: usize, length: *mut usize) -> u8;
         pub fn focus_head_close(head: *mut Block) -> u8;
+        pub fn focus_head_adopt(head: *mut Block) -> u8;
+        pub fn focus_head_offer(head: *const Block, kept: *mut [i32; 4]) -> u8;
         pub fn focus_head_position(head: *const Block, position: *mut i32) -> u8;
         pub fn focus_head_kept(head: *const Block, kept: *mut [i32; 4]) -> u8;
         pub fn focus_head_register(head: *const Block, at: u32, byte: *mut u8) -> u8;
@@ -38,9 +40,11 @@ pub fn as_in_header() -> bool {
     include_str!("../include/focus.h").contains(&format!("opaque[{WORDS}]"))
 }
 
-/// The bytes of a block, words 14, 15 and 18 to 23, that no call changes; and those of its pending events, which a closing refused 25 changes.
-pub const BESIDE: [Range<usize>; 2] = [56..64, 72..96];
+/// The bytes of a block, words 14, 15 and 23, that no call changes; those of its pending events, which a closing refused 25 changes; and the word that says
+/// whether an offer stands.
+pub const BESIDE: [Range<usize>; 2] = [56..64, 92..96];
 pub const EVENTS: Range<usize> = 64..68;
+pub const OFFERED: Range<usize> = 72..76;
 
 /// A head's block, as C keeps it.
 #[repr(C, align(4))]
@@ -98,6 +102,14 @@ impl Block {
 
     pub fn close(&mut self) -> u8 {
         unsafe { c::focus_head_close(self) }
+    }
+
+    pub fn adopt(&mut self) -> u8 {
+        unsafe { c::focus_head_adopt(self) }
+    }
+
+    pub fn offer(&mut self, kept: &mut [i32; 4]) -> u8 {
+        unsafe { c::focus_head_offer(self, kept) }
     }
 
     pub fn position(&mut self, position: &mut i32) -> u8 {

@@ -23,7 +23,7 @@ mod spoil;
 mod tally;
 
 use calls::Call;
-use exported::{Block, BESIDE, SIZE};
+use exported::{Block, BESIDE, OFFERED, SIZE};
 use random::Random;
 use rules::head::Head;
 use rules::window::Device;
@@ -51,11 +51,12 @@ impl Pair {
         let mut block = Block([0; SIZE]);
         if !zeros {
             block.0.copy_from_slice(&random.bytes(SIZE));
+            block.0[OFFERED].fill(0); // what was offered before a start is nobody's
         }
         // what stands beside a head that was never started is whatever is read there
         let mut window = [0; 16];
         block.window(&mut window);
-        let device = Device { head: Head::none(), events: window[10], mask: window[11] };
+        let device = Device { head: Head::none(), events: window[10], mask: window[11], offer: None };
         Pair { blocks: [guard, block, guard], device, known: zeros, calls: 0 }
     }
 

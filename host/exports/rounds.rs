@@ -159,13 +159,38 @@ impl Writer<'_> {
         (self.ask)(Call::HearBatch { batch: Bytes(batch), answers, room, out }).map(drop)
     }
 
+    /// Closes the round; what is offered is mostly adopted.
     fn close(&mut self) -> Result<(), String> {
-        if (self.ask)(Call::Close)? == 0 {
-            self.turns += 1;
-            self.phase = (self.phase + self.round).min(LAST_PHASE);
-            self.round = 1 - self.round;
+        if (self.ask)(Call::Close)? != 0 {
+            return Ok(());
         }
+        if self.round == 1 {
+            return self.adopt();
+        }
+        self.turns += 1;
+        self.round = 1;
         Ok(())
+    }
+
+    /// A look at the offer; perhaps a frame that is refused, or one that is accepted and ends the offer; and then mostly an adoption.
+    fn adopt(&mut self) -> Result<(), String> {
+        (self.ask)(Call::Offer { out: four(self.random) })?;
+        let link = self.random.below(self.n);
+        if self.random.chance(1, 4) {
+            self.wrong_frame(link)?;
+        }
+        if self.random.chance(1, 6) {
+            self.hear(link, frames::write(&Said::Confession, link, self.phase))?;
+        }
+        if self.random.chance(1, 6) {
+            (self.ask)(Call::Close)?;
+        }
+        if self.random.chance(7, 8) && (self.ask)(Call::Adopt)? == 0 {
+            self.turns += 1;
+            self.phase = (self.phase + 1).min(LAST_PHASE);
+            self.round = 0;
+        }
+        (self.ask)(Call::Offer { out: four(self.random) }).map(drop)
     }
 
     fn wrong_frame(&mut self, link: usize) -> Result<(), String> {
@@ -192,7 +217,8 @@ impl Writer<'_> {
             0..=2 => self.looks(),
             3..=7 => self.wrong_frame(link),
             8 | 9 => self.refused_opening(),
-            10 => self.hear(link, Vec::new()),
+            10 if self.random.chance(1, 2) => self.hear(link, Vec::new()),
+            10 => (self.ask)(Call::Adopt).map(drop), // no offer stands
             11 | 12 => self.bus(),
             _ if self.random.chance(1, 4) => self.close(),
             _ => Ok(()),

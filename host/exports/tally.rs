@@ -1,8 +1,8 @@
 //! How often each call gave each number.
 
-/// Each call with the numbers it can give, in the order of its checks. A position or a kept range is answered 1 if one is held, else 0; the interrupt
+/// Each call with the numbers it can give, in the order of its checks. A position, a kept range or an offer is answered 1 if there is one, else 0; the interrupt
 /// line 1 if it is up.
-pub const CALLS: [(&str, &[u8]); 19] = [
+pub const CALLS: [(&str, &[u8]); 21] = [
     ("frame_check", &[0, 6, 7, 8]),
     ("midpoint", &[0, 1, 2, 5, 8, 10, 11, 25]),
     ("midpoint_kept", &[0, 1, 2, 5, 8, 10, 11, 25]),
@@ -22,6 +22,8 @@ pub const CALLS: [(&str, &[u8]); 19] = [
     ("head_window", &[0]),
     ("head_set_register", &[0, 16]),
     ("head_interrupt", &[0, 1]),
+    ("head_adopt", &[0, 27]),
+    ("head_offer", &[0, 1]),
 ];
 
 #[derive(Default)]

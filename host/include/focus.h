@@ -46,7 +46,8 @@ enum focus_refusal {
     FOCUS_OTHER_PHASE = 23, /* frame of another phase */
     FOCUS_BUFFER = 24,      /* buffer too short */
     FOCUS_TRUSTED = 25,     /* too few trusted */
-    FOCUS_ENDED = 26        /* phase 65,535 has ended */
+    FOCUS_ENDED = 26,       /* phase 65,535 has ended */
+    FOCUS_NO_OFFER = 27     /* adopting with no offer standing */
 };
 
 /* ---- the camera's calls: crates/camera/src/lib.rt has what they promise */
@@ -164,9 +165,17 @@ uint8_t focus_head_hear_batch(focus_head *head, const uint8_t *batch, size_t len
  * Refusals 26, 17 for a listener, 24. */
 uint8_t focus_head_write(const focus_head *head, uint8_t *buffer, size_t room, size_t *length);
 
-/* Closes the round: after collection its list stands, after confession it holds a new position and the next phase is
- * open, which is an event. Refusals 26, 25, of which 25 is an event and changes nothing else. */
+/* Closes the round: after collection its list stands; after confession a new position is offered, and the head stays as
+ * it is until that is adopted. Refusals 26, 25, of which 25 is an event and changes nothing else. */
 uint8_t focus_head_close(focus_head *head);
+
+/* Adopts what is offered: the head holds the new position and the next phase is open, which is an event. An offer ends
+ * when it is adopted, when a frame is accepted, and when the head is started or restarted; a refused call leaves it.
+ * Refusal 27. */
+uint8_t focus_head_adopt(focus_head *head);
+
+/* No refusal: 1 and what is offered in *kept, or 0 if no offer stands, with *kept as it was. */
+uint8_t focus_head_offer(const focus_head *head, focus_kept *kept);
 
 /* No refusal: 1 and the head's position in *position, or 0 if it holds none, with *position as it was. */
 uint8_t focus_head_position(const focus_head *head, int32_t *position);

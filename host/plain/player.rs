@@ -148,7 +148,7 @@ impl Ring {
             let _ = self.heads[at].as_mut().unwrap().hear(*from, bytes); // a refused frame gives nothing
         }
         for head in self.heads.iter_mut().flatten() {
-            head.close().unwrap();
+            head.end_round().unwrap();
         }
         if stage == 1 {
             self.line(output, phase, self.before.heads, round.struck.heads)?;

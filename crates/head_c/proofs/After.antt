@@ -1,36 +1,33 @@
--- What start, restart and closing leave in a block, from the call by value on the record that the block is: a record with nothing heard, or the block
+-- What start, restart, closing and adopting leave in a block, from the call by value on the record that the block is: a record with nothing heard, or the block
 -- as it was.
-use mathlib.Core.Path.{_≡_, refl, ap, _∙_}
-use mathlib.Core.Bool.{Bool, true, false, cond}
+use mathlib.Core.Path.{_≡_, refl, ap, sym, _∙_}
 use mathlib.Core.List.{List}
 use Prim.Native.Nat.{ℕ, zero, suc}
 use native.Mathlib.Omega.{arith}
 use lib.IntN.{ℤ}
-use Rattle.terms.specs.Refusals as refusal
-use Rattle.convergence.specs.Settling.{twoRounds, enough}
-use Rattle.settle_midpoint.specs.Answers.{settling}
-use Rattle.settle_midpoint.specs.declared.Kept.{Kept}
-use Rattle.settle_midpoint.specs.declared.Settled.the-variants as settled
 use Rattle.head_spec.specs.declared.Head.{Head}
 use Rattle.head_spec.specs.declared.Answer.{Answer}
 use Rattle.head_spec.specs.declared.Closed.{Closed}
-use Rattle.head_spec.specs.Record.{opened, trustedBy}
+use Rattle.head_spec.specs.declared.Closing.{Closing}
+use Rattle.head_spec.specs.declared.Offer.{Offer}
+use Rattle.head_spec.specs.Record.{opened}
 use Rattle.head_spec.specs.Calls.{answer, startRefusal, started, start, restartRefusal, restarted, restart}
 use Rattle.head_spec.specs.Calls.{startListenerRefusal, startedListener, startListener, restartListenerRefusal, restartListener}
-use Rattle.head_spec.specs.Calls.{closedCollection, closedPhase, closing, closeSettled, closeIn, close}
-use Rattle.head_lent.specs.Answers.{closedAnswer}
+use Rattle.head_spec.specs.Calls.{closedCollection, closedPhase, close, adoptRefusal, adopt}
+use Rattle.head_spec.proofs.RoundClose.{closes}
 use Rattle.head_window.specs.declared.Beside.{Beside}
-use Rattle.head_c.specs.Blocks.{withAnswer, withBeside}
+use Rattle.head_c.specs.Blocks.{withAnswer, withBeside, withoutOffer}
 
--- what a call leaves: its answer is a, found to be a′, and b stands beside the head
-pub answered : (w : List ℕ) {r : ℕ} {w′ : List ℕ} {a a′ : Answer} {b b′ : Beside} → (r ≡ a .refusal) × (w′ ≡ withBeside b (withAnswer w a)) → a ≡ a′ → b ≡ b′
-    → (r ≡ a′ .refusal) × (w′ ≡ withBeside b′ (withAnswer w a′))
-answered w p e q = (p .0 ∙ ap (λ (x : Answer). x .refusal) e, p .1 ∙ (λ i. withBeside (q i) (withAnswer w (e i))))
+-- what a call leaves: its answer is a, found to be a′, and b stands beside the head; an offer is ended unless it is refused
+pub answered : (w : List ℕ) {r : ℕ} {w′ : List ℕ} {a a′ : Answer} {b b′ : Beside}
+    → (r ≡ a .refusal) × (w′ ≡ withoutOffer (a .refusal) (withBeside b (withAnswer w a))) → a ≡ a′ → b ≡ b′
+    → (r ≡ a′ .refusal) × (w′ ≡ withoutOffer (a′ .refusal) (withBeside b′ (withAnswer w a′)))
+answered w p e q = (p .0 ∙ ap (λ (x : Answer). x .refusal) e, p .1 ∙ (λ i. withoutOffer (e i .refusal) (withBeside (q i) (withAnswer w (e i)))))
 
 -- the same where what stands beside the head is decided by the number answered
 pub answered-by : (w : List ℕ) (beside : ℕ → Beside) {r : ℕ} {w′ : List ℕ} {a a′ : Answer}
-    → (r ≡ a .refusal) × (w′ ≡ withBeside (beside (a .refusal)) (withAnswer w a)) → a ≡ a′
-    → (r ≡ a′ .refusal) × (w′ ≡ withBeside (beside (a′ .refusal)) (withAnswer w a′))
+    → (r ≡ a .refusal) × (w′ ≡ withoutOffer (a .refusal) (withBeside (beside (a .refusal)) (withAnswer w a))) → a ≡ a′
+    → (r ≡ a′ .refusal) × (w′ ≡ withoutOffer (a′ .refusal) (withBeside (beside (a′ .refusal)) (withAnswer w a′)))
 answered-by w beside p e = answered w p e (ap (λ (x : Answer). beside (x .refusal)) e)
 
 -- ---- a call that is not refused makes a record with nothing heard
@@ -58,18 +55,17 @@ pub restart-listener-opens : (h : Head) (n f i p r : ℕ) → Opens (restartList
 unfolding restartListener restarted
 restart-listener-opens h n f i p r = answer-opens (restartListenerRefusal n f i p r) (restarted n f i p r) h refl
 
-pub close-opens : (h : Head) → Opens (closedAnswer (close h))
-unfolding close closedCollection closedPhase settling
-close-opens h = go (h .seat .ended) (h .seat .round)
-  where
-    settles : (b : Bool) (k : Kept) → Opens (closedAnswer (closeSettled (cond b (settled.New k) (settled.Refused refusal.trusted)) h))
-    settles true k z = refl
-    settles false k z = absurd (omega arith)
-
-    go : (b : Bool) (r : ℕ) → Opens (closedAnswer (cond b (closing (Closed.Refused refusal.ended) h) (closeIn r h)))
-    go true r z = absurd (omega arith)
-    go false zero z = refl
-    go false (suc r) z = settles (enough (h .seat .n) (twoRounds (h .seat .f)) (trustedBy h)) _ z
+pub adopt-opens : (h : Head) (o : Offer) → Opens (adopt h o)
+unfolding adopt closedPhase
+adopt-opens h Offer.Nothing z = absurd (omega arith)
+adopt-opens h (Offer.Standing k) z = answer-opens (adoptRefusal h (Offer.Standing k)) (closedPhase h k) h refl z
 
 pub opens-as : {a b : Answer} → a ≡ b → Opens b → Opens a
 opens-as e p = rw e p
+
+-- and so does a closing that ends a collection round
+pub close-opens : (h : Head) {q : Closing} → q ≡ close h → q .closed ≡ Closed.Listed → q .head ≡ opened (q .head .seat) (q .head .list)
+unfolding closedCollection
+close-opens h e z =
+    let c : close h .closed ≡ Closed.Listed = sym (ap (λ (x : Closing). x .closed) e) ∙ z in
+    rw (e, (rw c at (closes h)) .0)

@@ -1,7 +1,7 @@
--- A record put into a block, and hearing, leave words 14 to 23 as they were, whatever is answered.
+-- A record put into a block, and hearing, leave words 14 to 23 as they were, whatever is answered; but an accepted frame clears word 18, and so ends an offer.
 use mathlib.Core.Path.{_≡_, refl, ap, sym, _∙_}
 use mathlib.Core.List.{List, [], _∷_}
-use mathlib.Core.Logic.{by-cases}
+use mathlib.Core.Logic.{_≢_, by-cases}
 use Prim.Native.Nat.{ℕ, zero, suc, _+_, _*_, _-_, _≤_, _<_}
 use native.Mathlib.Omega.{arith}
 use native.Mathlib.Decide.{decLt}
@@ -11,16 +11,17 @@ use Rattle.terms.specs.Refusals.{leaves}
 use Rattle.terms.specs.declared.Entry.{Entry}
 use Rattle.fields.specs.Bytes.{wordOf}
 use Rattle.frame_spec.specs.Said.{Meaning, refused, collected, listed, confessed}
+use Rattle.frame_spec.specs.Proper.{AcceptedMeaning}
 use Rattle.head_spec.specs.declared.Head.{Head}
 use Rattle.head_spec.specs.declared.Answer.{Answer}
 use Rattle.head_spec.specs.Calls.{saidTo, hear, Delivery}
-use Rattle.head_c.specs.Blocks.{IsBlock, headOf, wordsOf, seatWords, withHead, withAnswer, marked, changed, heardIn, heardEach}
+use Rattle.head_c.specs.Blocks.{IsBlock, headOf, wordsOf, seatWords, withHead, withAnswer, marked, heardOn, changed, heardIn, heardEach}
 use Rattle.head_c.proofs.Copying.{copied-before}
 use Rattle.head_c.proofs.Putting.{words-long, first, second, third, first-long, second-long}
 use Rattle.head_c.proofs.Hearing.{heard-below, heard-past}
 
 module _ (w : List ℕ) (block : IsBlock w) (i : ℕ) (from : 14 ≤ i) (to : i < 24) where
-  put-beside : (h : Head) → getD (withHead h w) i 0 ≡ getD w i 0
+  pub put-beside : (h : Head) → getD (withHead h w) i 0 ≡ getD w i 0
   unfolding withHead
   put-beside h =
       let j = i - 14 in
@@ -35,7 +36,7 @@ module _ (w : List ℕ) (block : IsBlock w) (i : ℕ) (from : 14 ≤ i) (to : i 
       ∙ getD-take 24 w (14 + j) 0 (omega arith)
       ∙ ap (λ (n : ℕ). getD w n 0) (sym e)
 
-  -- start, restart and closing
+  -- start, restart and adopting
   pub after-beside : (a : Answer) → getD (withAnswer w a) i 0 ≡ getD w i 0
   unfolding withAnswer
   after-beside a = go (a .refusal)
@@ -44,31 +45,38 @@ module _ (w : List ℕ) (block : IsBlock w) (i : ℕ) (from : 14 ≤ i) (to : i 
       go zero = put-beside (a .head)
       go (suc c) = refl
 
-  -- hearing
-  once-beside : (k : ℕ) → getD (marked 24 k w) i 0 ≡ getD w i 0
-  once-beside k = getD-set-other w 24 i _ 0 (omega arith)
+  -- hearing: but for word 18, since an accepted frame ends an offer
+  abbrev w₀ : List ℕ
+  w₀ = set w 18 0
 
-  twice-beside : (at k : ℕ) → 24 ≤ at → getD (marked at k (marked 24 k w)) i 0 ≡ getD w i 0
-  twice-beside at k far = getD-set-other (marked 24 k w) at i _ 0 (omega arith) ∙ once-beside k
+  twice-beside : (at k : ℕ) → 24 ≤ at → getD (marked at k (heardOn k w)) i 0 ≡ getD w₀ i 0
+  twice-beside at k far = getD-set-other (heardOn k w) at i _ 0 (omega arith) ∙ getD-set-other w₀ 24 i _ 0 (omega arith)
 
-  changed-beside : (k : ℕ) → k < 32 → (m : Meaning) → getD (changed w k m) i 0 ≡ getD w i 0
-  changed-beside k b (refused c) = refl
-  changed-beside k b (collected Entry.Null) = once-beside k
-  changed-beside k b (collected (Entry.Position v)) =
-      getD-set-other (marked 25 k (marked 24 k w)) (26 + k) i (wordOf v) 0 (omega arith) ∙ twice-beside 25 k (omega arith)
-  changed-beside k b confessed = twice-beside 58 k (omega arith)
-  changed-beside k b (listed t) =
-      let two = marked 59 k (marked 24 k w) in
+  pub changed-beside : (k : ℕ) → k < 32 → (m : Meaning) → AcceptedMeaning m → getD (changed w k m) i 0 ≡ getD w₀ i 0
+  changed-beside k b (refused c) a = absurd a
+  changed-beside k b (collected Entry.Null) a = getD-set-other w₀ 24 i _ 0 (omega arith)
+  changed-beside k b (collected (Entry.Position v)) a =
+      getD-set-other (marked 25 k (heardOn k w)) (26 + k) i (wordOf v) 0 (omega arith) ∙ twice-beside 25 k (omega arith)
+  changed-beside k b confessed a = twice-beside 58 k (omega arith)
+  changed-beside k b (listed t) a =
+      let two = marked 59 k (heardOn k w) in
       let l = set two (60 + k) (t .marks) in
       let long : length l ≡ 1116 = simp length-set block in
       copied-before l (wordsOf (t .entries)) (92 + 32 * k) 32 0 (words-long (t .entries)) (omega arith) i (omega arith)
       ∙ getD-set-other two (60 + k) i (t .marks) 0 (omega arith)
       ∙ twice-beside 59 k (omega arith)
 
-  pub heard-beside : (k : ℕ) (m : Meaning) → getD (heardIn w k m) i 0 ≡ getD w i 0
-  heard-beside k m = by-cases (decLt k 32)
-      (λ l. rw (heard-below w k m l) (changed-beside k l m))
-      (λ d. rw (heard-past w k m (omega arith)) refl)
+  module _ (other : i ≢ 18) where
+    stays-beside : (k : ℕ) → k < 32 → (m : Meaning) → getD (changed w k m) i 0 ≡ getD w i 0
+    stays-beside k b (refused c) = refl
+    stays-beside k b (collected x) = changed-beside k b (collected x) tt ∙ getD-set-other w 18 i 0 0 other
+    stays-beside k b (listed t) = changed-beside k b (listed t) tt ∙ getD-set-other w 18 i 0 0 other
+    stays-beside k b confessed = changed-beside k b confessed tt ∙ getD-set-other w 18 i 0 0 other
+
+    pub heard-beside : (k : ℕ) (m : Meaning) → getD (heardIn w k m) i 0 ≡ getD w i 0
+    heard-beside k m = by-cases (decLt k 32)
+        (λ l. rw (heard-below w k m l) (stays-beside k l m))
+        (λ d. rw (heard-past w k m (omega arith)) refl)
 
 -- ---- hearing a batch
 
@@ -83,17 +91,17 @@ heard-block w block k m = by-cases (decLt k 32)
     go l (collected (Entry.Position v)) = simp length-set block
     go l confessed = simp length-set block
     go l (listed t) =
-        let s = set (marked 59 k (marked 24 k w)) (60 + k) (t .marks) in
+        let s = set (marked 59 k (heardOn k w)) (60 + k) (t .marks) in
         let long : length s ≡ 1116 = simp length-set block in
         length-paste s (92 + 32 * k) (wordsOf (t .entries)) 32 (omega arith) (omega (arith, words-long (t .entries))) ∙ long
 
-pub each-beside : (D : List Delivery) (w : List ℕ) → IsBlock w → (i : ℕ) → 14 ≤ i → i < 24 → getD (heardEach w D) i 0 ≡ getD w i 0
+pub each-beside : (D : List Delivery) (w : List ℕ) → IsBlock w → (i : ℕ) → 14 ≤ i → i < 24 → i ≢ 18 → getD (heardEach w D) i 0 ≡ getD w i 0
 unfolding heardEach
-each-beside [] w block i from to = refl
-each-beside (d ∷ D) w block i from to =
+each-beside [] w block i from to other = refl
+each-beside (d ∷ D) w block i from to other =
     let m = saidTo (headOf w .seat) (d .link) (d .bytes) in
-    go (hear (headOf w) (d .link) (d .bytes) .refusal) (heardIn w (d .link) m) (each-beside D w block i from to)
-    (each-beside D (heardIn w (d .link) m) (heard-block w block (d .link) m) i from to ∙ heard-beside w block i from to (d .link) m)
+    go (hear (headOf w) (d .link) (d .bytes) .refusal) (heardIn w (d .link) m) (each-beside D w block i from to other)
+    (each-beside D (heardIn w (d .link) m) (heard-block w block (d .link) m) i from to other ∙ heard-beside w block i from to other (d .link) m)
   where
     go : (c : ℕ) (w′ : List ℕ) → getD (heardEach w D) i 0 ≡ getD w i 0 → getD (heardEach w′ D) i 0 ≡ getD w i 0
         → getD (heardEach (leaves c w′ w) D) i 0 ≡ getD w i 0

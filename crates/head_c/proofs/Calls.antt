@@ -1,15 +1,16 @@
--- After start, restart and closing a block is the record that the call makes of the one before, as `Hears` says it of hearing. So C may keep a head
--- all shift. Of closing this is shown for a proper record, as all calls make them: its new position and its kept range fit their words.
+-- After start, restart, closing and adopting a block is the record that the call makes of the one before, as `Hears` says it of hearing. So C may keep a head
+-- all shift. Of closing and adopting this is shown for a proper record, as all calls make them: its numbers fit their words.
 use mathlib.Core.Path.{_≡_, refl, sym, _∙_}
-use mathlib.Core.Bool.{Bool, true, false, cond, and-true, true≢false}
+use mathlib.Core.Bool.{Bool, true, false, not, cond, and-true, true≢false}
 use mathlib.Core.List.{List, []}
-use Prim.Native.Nat.{ℕ, zero, suc, _<_}
+use Prim.Native.Nat.{ℕ, zero, suc, _+_, _<_}
 use native.Mathlib.Omega.{arith}
 use native.Mathlib.Decide.{decLt}
 use lib.ListN.{getD, getD-replicate}
 use lib.IntN.{ℤ, pos, negsuc}
-use borrow.Author.Tests.{leb-true, eqb-true}
+use borrow.Author.Tests.{leb-true, leb-false, eqb-true}
 use Rattle.terms.specs.Refusals as refusal
+use Rattle.terms.specs.Refusals.{check}
 use Rattle.terms.specs.Positions.{isPosition, eqZ}
 use Rattle.terms.specs.declared.Entry.{Entry}
 use Rattle.terms.specs.declared.Table.{Table}
@@ -17,26 +18,24 @@ use Rattle.marks.specs.Marks.{bitOf}
 use Rattle.entries.specs.Entries.{fits, zeros}
 use Rattle.frame_spec.specs.Said.{collected}
 use Rattle.frame_spec.specs.Proper.{ProperTable, Proper}
-use Rattle.convergence.specs.Settling.{twoRounds, enough}
-use Rattle.settle_midpoint.specs.Answers.{settling}
 use Rattle.settle_midpoint.specs.declared.Kept.{Kept}
-use Rattle.settle_midpoint.specs.declared.Settled.the-variants as settled
 use Rattle.head_spec.specs.declared.Row.{Row}
 use Rattle.head_spec.specs.declared.LastKept.{LastKept}
 use Rattle.head_spec.specs.declared.Seat.{Seat}
 use Rattle.head_spec.specs.declared.Head.{Head}
 use Rattle.head_spec.specs.declared.Closed.{Closed}
-use Rattle.head_spec.specs.declared.Closing.{Closing}
-use Rattle.head_spec.specs.Record.{noEntries, noLinks, noLists, opened, trustedBy}
-use Rattle.head_spec.specs.Seats.{firstSeat, listenerSeat, healedSeat, confessionSeat, nextSeat}
+use Rattle.head_spec.specs.declared.Offer.{Offer}
+use Rattle.head_spec.specs.Record.{noEntries, noLinks, noLists, opened}
+use Rattle.head_spec.specs.Seats.{firstSeat, listenerSeat, healedSeat, confessionSeat, isLast, nextSeat}
 use Rattle.head_spec.specs.Calls.{answer, startRefusal, started, start, restartRefusal, restarted, restart}
 use Rattle.head_spec.specs.Calls.{startListenerRefusal, startedListener, startListener, restartListenerRefusal, restartListener}
-use Rattle.head_spec.specs.Calls.{closedCollection, closedPhase, closing, closeSettled, closeIn, close}
-use Rattle.head_spec.proofs.Proper.{ProperLast, ProperSeat, ProperHead, number-small, proper-started, proper-restarted, proper-started-listener, proper-restarted-listener}
-use Rattle.head_spec.proofs.RoundEnd.{proper-close}
-use Rattle.head_lent.specs.Answers.{closedAnswer}
-use Rattle.head_c.specs.Blocks.{IsBlock, headOf, withHead, withAnswer}
+use Rattle.head_spec.specs.Calls.{closedCollection, closedPhase, close, adopt}
+use Rattle.head_spec.proofs.Proper.{ProperLast, ProperSeat, ProperHead, number-small, no-entries, proper-started, proper-restarted, proper-started-listener, proper-restarted-listener}
+use Rattle.head_spec.proofs.RoundEnd.{proper-collection}
+use Rattle.head_spec.proofs.RoundClose.{Closes, closes}
+use Rattle.head_c.specs.Blocks.{IsBlock, headOf, withHead, withAnswer, offerOf, withClosing}
 use Rattle.head_c.proofs.Blocks.{Fits32, FitNumbers, FitEntry, FitLast, FitSeat, Fit, head-back}
+use Rattle.head_c.proofs.Offers.{FitOffer, offer-fits, offer-apart}
 
 -- ---- a proper record with nothing heard fits its words
 
@@ -62,12 +61,12 @@ entry-fits : (n : ℕ) (e : Entry) → Proper n (collected e) → FitEntry e
 entry-fits n Entry.Null P = tt
 entry-fits n (Entry.Position v) P = position-fits v P
 
-last-fits : (f : ℕ) (x : LastKept) → f < 256 → ProperLast f x → FitLast x
+pub last-fits : (f : ℕ) (x : LastKept) → f < 256 → ProperLast f x → FitLast x
 last-fits f LastKept.Nothing l P = tt
 last-fits f (LastKept.Range k) l P =
     (position-fits (k .low) (P .low), position-fits (k .high) (P .high), omega (arith, P .trim), position-fits (k .position) (P .position))
 
-seat-fits : (s : Seat) → ProperSeat s → FitSeat s
+pub seat-fits : (s : Seat) → ProperSeat s → FitSeat s
 seat-fits s P =
     let most = P .size .most in
     let limit = P .size .limit in
@@ -81,12 +80,12 @@ seat-fits s P =
       last = last-fits (s .f) (s .last) (omega arith) (P .last);
     }
 
-opened-fits : (s : Seat) (t : Table) → ProperHead (opened s t) → Fit (opened s t)
+opened-fit : (s : Seat) (t : Table) → FitSeat s → FitNumbers (t .entries) → Fit (opened s t)
 unfolding noLinks noLists zeros
-opened-fits s t P =
+opened-fit s t S E =
     record {
-      seat = seat-fits s (P .seat);
-      list = table-fits (s .n) t (P .list);
+      seat = S;
+      list = E;
       marks = refl;
       lists-long = refl;
       lists =
@@ -94,6 +93,20 @@ opened-fits s t P =
           rw (getD-replicate {A = Row} 32 k (record { entries = zeros }) (record { entries = [] }) l)
           (record { long = refl; each = λ j m. rw (getD-replicate 32 j (pos 0) (pos 0) m) (omega arith) });
     }
+
+opened-fits : (s : Seat) (t : Table) → ProperHead (opened s t) → Fit (opened s t)
+opened-fits s t P = opened-fit s t (seat-fits s (P .seat)) (table-fits (s .n) t (P .list))
+
+-- what a proper seat is after a phase that ends with an offer whose numbers fit
+next-fits : (s : Seat) (k : Kept) → ProperSeat s → FitLast (LastKept.Range k) → FitSeat (nextSeat s k)
+next-fits s k P F =
+    let S = seat-fits s P in
+    let (phase, round) = times (isLast s) refl in
+    record { n = S .n; f = S .f; number = S .number; phase = phase; round = round; position = F .3; last = F }
+  where
+    times : (b : Bool) → isLast s ≡ b → (cond b (s .phase) (s .phase + 1) < 65536) × (cond b 1 0 < 256)
+    times true e = (omega (arith, P .to-last), omega arith)
+    times false e = (omega (arith, leb-false 65535 (s .phase) e), omega arith)
 
 -- ---- the calls
 
@@ -124,21 +137,34 @@ module _ (w : List ℕ) (block : IsBlock w) where
   unfolding restartListener restarted
   after-restart-listener n f i p r = after-answer (restartListenerRefusal n f i p r) (healedSeat n f i p r) (proper-restarted-listener n f i p r)
 
-  pub after-close : ProperHead (headOf w) → headOf (withAnswer w (closedAnswer (close (headOf w)))) ≡ close (headOf w) .head
-  unfolding withAnswer close closedCollection closedPhase settling
-  after-close P = go (h .seat .ended) (h .seat .round) (proper-close h P)
+  pub after-close : ProperHead (headOf w) → headOf (withClosing (close (headOf w) .closed) (close (headOf w) .head) w) ≡ close (headOf w) .head
+  unfolding closedCollection
+  after-close P = go (close h .closed) (close h .head) (closes h)
     where
       h : Head
       h = headOf w
 
-      Back : Closing → Type 0
-      Back c = ProperHead (c .head) → headOf (withAnswer w (closedAnswer c)) ≡ c .head
+      go : (c : Closed) (h′ : Head) → Closes c h h′ → headOf (withClosing c h′ w) ≡ h′
+      go (Closed.Refused c) h′ e = sym (e .0)
+      go Closed.Listed h′ e = rw (e .0) (put-back (confessionSeat (h .seat)) (h .list) (proper-collection h P))
+      go (Closed.Settled k) h′ e = offer-apart (Offer.Standing k) w ∙ sym (e .0)
 
-      settles : (b : Bool) (k : Kept) → Back (closeSettled (cond b (settled.New k) (settled.Refused refusal.trusted)) h)
-      settles true k Q = put-back (nextSeat (h .seat) k) noEntries Q
-      settles false k Q = refl
+  -- whatever words stand for the offer
+  pub after-adopt : ProperHead (headOf w) → let a = adopt (headOf w) (offerOf w) in headOf (withAnswer w a) ≡ a .head
+  unfolding withAnswer adopt closedPhase
+  after-adopt P = go (offerOf w) (offer-fits w)
+    where
+      h : Head
+      h = headOf w
 
-      go : (b : Bool) (r : ℕ) → Back (cond b (closing (Closed.Refused refusal.ended) h) (closeIn r h))
-      go true r Q = refl
-      go false zero Q = put-back (confessionSeat (h .seat)) (h .list) Q
-      go false (suc r) Q = settles (enough (h .seat .n) (twoRounds (h .seat .f)) (trustedBy h)) _ Q
+      ends : (b : Bool) (k : Kept) → FitOffer (Offer.Standing k)
+          → let a = answer (check (not b) refusal.ended 0) (opened (nextSeat (h .seat) k) noEntries) h in headOf (withAnswer w a) ≡ a .head
+      ends true k F = refl
+      ends false k F =
+          let s = nextSeat (h .seat) k in
+          head-back (opened s noEntries) w block
+          (opened-fit s noEntries (next-fits (h .seat) k (P .seat) F) (table-fits (h .seat .n) noEntries (no-entries (h .seat .n))))
+
+      go : (o : Offer) → FitOffer o → let a = adopt h o in headOf (withAnswer w a) ≡ a .head
+      go Offer.Nothing F = refl
+      go (Offer.Standing k) F = ends (h .seat .ended) k F

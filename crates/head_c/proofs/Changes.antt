@@ -14,7 +14,7 @@ use Rattle.fields.specs.Bytes.{signedOf, wordOf}
 use Rattle.marks.specs.Marks.{withMark}
 use Rattle.frame_spec.specs.Said.{collected, listed, confessed}
 use Rattle.head_spec.specs.Calls.{taken}
-use Rattle.head_c.specs.Blocks.{IsBlock, flag, entryIn, rangeIn, upTo, numbersAt, listAt, seatOf, headOf, wordsOf, marked, changed}
+use Rattle.head_c.specs.Blocks.{IsBlock, flag, entryIn, rangeIn, upTo, numbersAt, listAt, seatOf, headOf, wordsOf, marked}
 use Rattle.head_c.proofs.Copying.{upTo-same, upTo-set, copied-before, copied-there, copied-behind}
 use Rattle.head_c.proofs.Putting.{words-long, word-at}
 use Rattle.head_c.proofs.Blocks.{Fits32, signed-back, FitNumbers, numbers-back}
@@ -55,6 +55,28 @@ module _ (w w′ : List ℕ) where
   marks-same : ((i : ℕ) → 60 ≤ i → i < 92 → Same i) → upTo 32 (λ k. getD w′ (60 + k) 0) ≡ upTo 32 (λ k. getD w (60 + k) 0)
   marks-same h = upTo-same 32 _ _ (λ k l. h (60 + k) (omega arith) (omega arith))
 
+  -- the record is read from the words before 14 and from 24 on
+  pub head-same : ((i : ℕ) → i < 14 → Same i) → ((i : ℕ) → 24 ≤ i → Same i) → headOf w′ ≡ headOf w
+  unfolding headOf
+  head-same front back = λ i.
+      record {
+        seat = seat-same front i;
+        heard = back 24 (omega arith) i;
+        list = record { marks = back 25 (omega arith) i; entries = numbers-same 26 (λ j l. back (26 + j) (omega arith)) i };
+        links =
+            record {
+              confessed = back 58 (omega arith) i;
+              listed = back 59 (omega arith) i;
+              marks = marks-same (λ j l m. back j (omega arith)) i;
+            };
+        lists = lists-same (λ j l. back j (omega arith)) i;
+      }
+
+-- so it is no other for a word from 14 to 23
+pub set-apart : (w : List ℕ) (i x : ℕ) → 14 ≤ i → i < 24 → headOf (set w i x) ≡ headOf w
+set-apart w i x from to =
+    head-same w (set w i x) (λ j l. getD-set-other w i j x 0 (omega arith)) (λ j l. getD-set-other w i j x 0 (omega arith))
+
 -- ---- what is marked
 
 module _ (w : List ℕ) (block : IsBlock w) (k : ℕ) where
@@ -86,11 +108,11 @@ module _ (w : List ℕ) (block : IsBlock w) (k : ℕ) where
     twice-other : (i : ℕ) → (i ≢ 24) × (i ≢ at) → getD twice i 0 ≡ getD w i 0
     twice-other i x = getD-set-other once at i _ 0 (x .1) ∙ once-other i (x .0)
 
--- ---- what each meaning changes
+-- ---- what each meaning changes, in a block without an offer
 
 module _ (w : List ℕ) (block : IsBlock w) (k : ℕ) (below : k < 32) where
   -- silence
-  pub null-is : headOf (changed w k (collected Entry.Null)) ≡ taken (headOf w) k (collected Entry.Null)
+  pub null-is : headOf (marked 24 k w) ≡ taken (headOf w) k (collected Entry.Null)
   unfolding headOf
   null-is =
       let w′ = marked 24 k w in
@@ -109,7 +131,7 @@ module _ (w : List ℕ) (block : IsBlock w) (k : ℕ) (below : k < 32) where
         lists = lists-same w w′ (λ j l. same j (omega arith)) i;
       }
 
-  pub confession-is : headOf (changed w k confessed) ≡ taken (headOf w) k confessed
+  pub confession-is : headOf (marked 58 k (marked 24 k w)) ≡ taken (headOf w) k confessed
   unfolding headOf
   confession-is =
       let w′ = marked 58 k (marked 24 k w) in
@@ -151,7 +173,7 @@ module _ (w : List ℕ) (block : IsBlock w) (k : ℕ) (below : k < 32) where
         upTo-set 32 (λ j. signedOf (getD w (26 + j) 0)) (λ j. signedOf (getD placed (26 + j) 0)) k v (ap signedOf placed-there ∙ signed-back v fits)
         (λ j l d. ap signedOf (placed-other (26 + j) (omega arith)))
 
-    pub position-is : headOf (changed w k (collected (Entry.Position v))) ≡ taken (headOf w) k (collected (Entry.Position v))
+    pub position-is : headOf placed ≡ taken (headOf w) k (collected (Entry.Position v))
     unfolding headOf
     position-is =
         let two = twice-heard w block k 25 (omega arith) (omega arith) in
@@ -230,7 +252,7 @@ module _ (w : List ℕ) (block : IsBlock w) (k : ℕ) (below : k < 32) where
     lists-stored : upTo 32 (listAt stored) ≡ set (upTo 32 (listAt w)) k (record { entries = t .entries })
     lists-stored = upTo-set 32 (listAt w) (listAt stored) k (record { entries = t .entries }) this-list other-list
 
-    pub list-is : headOf (changed w k (listed t)) ≡ taken (headOf w) k (listed t)
+    pub list-is : headOf stored ≡ taken (headOf w) k (listed t)
     unfolding headOf
     list-is =
         let two = twice-heard w block k 59 (omega arith) (omega arith) in

@@ -1,191 +1,239 @@
--- What stands beside the head after a call (document 02, A5), and that neither the record nor any other word is another for it: words 16 and 17 are
--- no part of the record.
-use mathlib.Core.Path.{_≡_, refl, ap, _∙_}
+-- What stands beside the head after a call (document 02, A5), and the offer (A8), and that neither the record nor any other word is another for them: words
+-- 14 to 23 are no part of the record.
+use mathlib.Core.Path.{_≡_, refl, _∙_}
+use mathlib.Core.Logic.{_≢_}
 use mathlib.Core.List.{List, _∷_}
-use Prim.Native.Nat.{ℕ, zero, suc, _+_, _*_, _%_, _≤_, _<_}
+use Prim.Native.Nat.{ℕ, zero, suc, _≤_, _<_}
 use native.Mathlib.Omega.{arith}
 use lib.ListN.{length, getD, set, length-append, length-set}
 use lib.Seq.{getD-set-same, getD-set-other}
 use lib.IntN.{ℤ}
 use Rattle.terms.specs.Refusals.{leaves}
+use Rattle.fields.specs.Bytes.{wordOf}
+use Rattle.frame_check.specs.Check.{position}
+use Rattle.head_spec.specs.declared.LastKept.{LastKept}
 use Rattle.head_spec.specs.declared.Head.{Head}
 use Rattle.head_spec.specs.declared.Answer.{Answer}
-use Rattle.head_spec.specs.Calls.{start, restart, startListener, restartListener, hear, saidTo, close}
+use Rattle.head_spec.specs.declared.Closed.{Closed}
+use Rattle.head_spec.specs.declared.Offer.{Offer}
+use Rattle.head_spec.specs.Calls.{start, restart, startListener, restartListener, Delivery, hear, saidTo, answersTo, close, adopt}
 use Rattle.head_spec.specs.Batch.{entriesOf, batchRefusal}
+use Rattle.head_spec.specs.Offers.{lapsed, lapsedBy, offered}
 use Rattle.head_spec.proofs.Proper.{ProperHead}
-use Rattle.head_lent.specs.Answers.{closedAnswer}
+use Rattle.head_spec.proofs.RoundClose.{ProperClosed, proper-closed}
 use Rattle.head_window.specs.declared.Beside.{Beside}
-use Rattle.fields.specs.Bytes.{signedOf}
-use Rattle.head_c.specs.Blocks.{IsBlock, flag, entryIn, rangeIn, upTo, numbersAt, listAt, seatOf, headOf, listWords, withHead, withAnswer, besideOf, withBeside, heardIn, heardEach}
-use Rattle.head_c.specs.Events.{Call, starts, restarts, startsListener, restartsListener, hears, hearsBatch, closes, sets, blockAfter, OnlyTheseChange}
-use Rattle.head_c.proofs.Copying.{upTo-same}
+use Rattle.head_c.specs.Blocks.{IsBlock, headOf, listWords, withHead, withAnswer, besideOf, withBeside, offerOf, withOffer, withoutOffer, withClosing, heardIn, heardEach}
+use Rattle.head_c.specs.Events.{Call, starts, restarts, startsListener, restartsListener, hears, hearsBatch, closes, adopts, sets, blockAfter, OnlyTheseChange}
 use Rattle.head_c.proofs.Putting.{second, third, second-long}
-use Rattle.head_c.proofs.Beside.{after-beside, heard-beside, each-beside}
-use Rattle.head_c.proofs.Calls.{after-start, after-restart, after-start-listener, after-restart-listener, after-close}
+use Rattle.head_c.proofs.Changes.{set-apart}
+use Rattle.head_c.proofs.Offers.{same-offer, FitOffer, offer-back, offer-ended, ended-apart}
+use Rattle.head_c.proofs.Lapsing.{offer-heard, offer-each}
+use Rattle.head_c.proofs.Beside.{put-beside, after-beside, heard-beside, each-beside}
+use Rattle.head_c.proofs.Calls.{last-fits, seat-fits, after-start, after-restart, after-start-listener, after-restart-listener, after-close, after-adopt}
 
 same-beside : (w′ w : List ℕ) → getD w′ 16 0 ≡ getD w 16 0 → getD w′ 17 0 ≡ getD w 17 0 → besideOf w′ ≡ besideOf w
 same-beside w′ w p q = λ i. record { events = p i; mask = q i }
 
 -- what was put beside the head is read
-pub beside-back : (b : Beside) (w : List ℕ) → 17 < length w → besideOf (withBeside b w) ≡ b
+pub beside-back : (b : Beside) (w : List ℕ) → 22 < length w → besideOf (withBeside b w) ≡ b
 beside-back b w l =
     let one = set w 16 (b .events) in
-    let long : 17 < length one = rw (length-set w 16 (b .events)) l in
+    let long : 17 < length one = rw (length-set w 16 (b .events)) (omega arith) in
     let events = getD-set-other one 17 16 (b .mask) 0 (omega arith) ∙ getD-set-same w 16 (b .events) 0 (omega arith) in
     λ i. record { events = events i; mask = getD-set-same one 17 (b .mask) 0 long i }
 
--- a block is long enough for it after a call
-after-long : (w : List ℕ) (a : Answer) → IsBlock w → 17 < length (withAnswer w a)
-unfolding withAnswer withHead
+-- and it is all that is changed
+module _ (b : Beside) (w : List ℕ) where
+  kept : (i : ℕ) → (i ≡ 16 → ⊥) → (i ≡ 17 → ⊥) → getD (withBeside b w) i 0 ≡ getD w i 0
+  kept i d e = getD-set-other (set w 16 (b .events)) 17 i (b .mask) 0 (omega arith) ∙ getD-set-other w 16 i (b .events) 0 (omega arith)
+
+  pub head-apart : headOf (withBeside b w) ≡ headOf w
+  head-apart = set-apart (set w 16 (b .events)) 17 (b .mask) (omega arith) (omega arith) ∙ set-apart w 16 (b .events) (omega arith) (omega arith)
+
+  offer-kept : offerOf (withBeside b w) ≡ offerOf w
+  offer-kept = same-offer (withBeside b w) w (λ i from to. kept i (λ e. omega arith) (λ e. omega arith))
+
+-- an offer that is ended leaves what stands beside it
+ended-beside : (c : ℕ) (w : List ℕ) → besideOf (withoutOffer c w) ≡ besideOf w
+ended-beside zero w = same-beside (set w 18 0) w (getD-set-other w 18 16 0 0 (omega arith)) (getD-set-other w 18 17 0 0 (omega arith))
+ended-beside (suc c) w = refl
+
+-- ---- a block is long enough for it after a call
+
+put-long : (w : List ℕ) (h : Head) → IsBlock w → 22 < length (withHead h w)
+unfolding withHead
+put-long w h block =
+    omega (
+      arith,
+      second-long h w block,
+      length-append (third h w) (listWords (h .lists) 32),
+      length-append (second h w) (h .links .confessed ∷ h .links .listed ∷ h .links .marks),
+    )
+
+after-long : (w : List ℕ) (a : Answer) → IsBlock w → 22 < length (withAnswer w a)
+unfolding withAnswer
 after-long w a block = go (a .refusal)
   where
-    h : Head
-    h = a .head
-
-    go : (c : ℕ) → 17 < length (leaves c (withHead h w) w)
-    go zero =
-        omega (
-          arith,
-          second-long h w block,
-          length-append (third h w) (listWords (h .lists) 32),
-          length-append (second h w) (h .links .confessed ∷ h .links .listed ∷ h .links .marks),
-        )
+    go : (c : ℕ) → 22 < length (leaves c (withHead (a .head) w) w)
+    go zero = put-long w (a .head) block
     go (suc c) = omega arith
 
-put-after : (b : Beside) (w : List ℕ) (a : Answer) → IsBlock w → besideOf (withBeside b (withAnswer w a)) ≡ b
-put-after b w a block = beside-back b (withAnswer w a) (after-long w a block)
+closing-long : (w : List ℕ) (c : Closed) (h : Head) → IsBlock w → 22 < length (withClosing c h w)
+closing-long w (Closed.Refused c) h block = omega arith
+closing-long w Closed.Listed h block = put-long w h block
+closing-long w (Closed.Settled k) h block = let long : length (withOffer (Offer.Standing k) w) ≡ 1116 = simp length-set block in omega arith
 
 -- ---- only these change it
 
+-- a start, a restart and an adoption
+module _ (w : List ℕ) (block : IsBlock w) (b : Beside) (a : Answer) where
+  abbrev left : List ℕ
+  left = withBeside b (withAnswer w a)
+
+  put-after : besideOf (withoutOffer (a .refusal) left) ≡ b
+  put-after = ended-beside (a .refusal) left ∙ beside-back b (withAnswer w a) (after-long w a block)
+
+  pub offer-after : offerOf (withoutOffer (a .refusal) left) ≡ lapsed (a .refusal) (offerOf w)
+  offer-after =
+      let long : 22 < length left = simp length-set (after-long w a block) in
+      offer-ended (a .refusal) left w long
+      (offer-kept b (withAnswer w a) ∙ same-offer (withAnswer w a) w (λ i from to. after-beside w block i (omega arith) (omega arith) a))
+
+-- a closing
+module _ (w : List ℕ) (block : IsBlock w) where
+  proper-fits : (f : ℕ) (c : Closed) → f < 256 → ProperClosed f c → FitOffer (offered c Offer.Nothing)
+  proper-fits f (Closed.Refused c) l P = tt
+  proper-fits f Closed.Listed l P = tt
+  proper-fits f (Closed.Settled k) l P = last-fits f (LastKept.Range k) l P
+
+  offer-closed : (c : Closed) (h : Head) → FitOffer (offered c Offer.Nothing) → offerOf (withClosing c h w) ≡ offered c (offerOf w)
+  offer-closed (Closed.Refused c) h F = refl
+  offer-closed Closed.Listed h F = same-offer (withHead h w) w (λ i from to. put-beside w block i (omega arith) (omega arith) h)
+  offer-closed (Closed.Settled k) h F = offer-back k w block F
+
 pub only-these-change : OnlyTheseChange
 unfolding blockAfter
-only-these-change w (starts n f i v) block = put-after _ w (start (headOf w) n f i v) block
-only-these-change w (restarts n f i p r) block = put-after _ w (restart (headOf w) n f i p r) block
-only-these-change w (startsListener n f i) block = put-after _ w (startListener (headOf w) n f i) block
-only-these-change w (restartsListener n f i p r) block = put-after _ w (restartListener (headOf w) n f i p r) block
-only-these-change w closes block = put-after _ w (closedAnswer (close (headOf w))) block
-only-these-change w (sets at x) block = beside-back _ w (omega arith)
-only-these-change w (hears k s) block = go (hear (headOf w) k s .refusal)
+only-these-change w (starts n f i v) block = let a = start (headOf w) n f i v in (put-after w block _ a, λ P. offer-after w block _ a)
+only-these-change w (restarts n f i p r) block = let a = restart (headOf w) n f i p r in (put-after w block _ a, λ P. offer-after w block _ a)
+only-these-change w (startsListener n f i) block = let a = startListener (headOf w) n f i in (put-after w block _ a, λ P. offer-after w block _ a)
+only-these-change w (restartsListener n f i p r) block = let a = restartListener (headOf w) n f i p r in (put-after w block _ a, λ P. offer-after w block _ a)
+only-these-change w adopts block = let a = adopt (headOf w) (offerOf w) in (put-after w block _ a, λ P. offer-after w block _ a)
+only-these-change w (sets at x) block = (beside-back _ w (omega arith), λ P. offer-kept _ w)
+only-these-change w closes block =
+    let q = close (headOf w) in
+    let w′ = withClosing (q .closed) (q .head) w in (
+      beside-back _ w′ (closing-long w (q .closed) (q .head) block),
+      λ P. offer-kept _ w′ ∙ offer-closed w block (q .closed) (q .head)
+          (proper-fits w block (headOf w .seat .f) (q .closed) (seat-fits (headOf w .seat) (P .seat) .f) (proper-closed (headOf w) P)),
+    )
+only-these-change w (hears k s) block = (go (hear (headOf w) k s .refusal), λ P. offer-heard w block k s (P .seat .size .most))
   where
     go : (c : ℕ) → besideOf (leaves c (heardIn w k (saidTo (headOf w .seat) k s)) w) ≡ besideOf w
     go zero =
         let m = saidTo (headOf w .seat) k s in
-        same-beside (heardIn w k m) w (heard-beside w block 16 (omega arith) (omega arith) k m) (heard-beside w block 17 (omega arith) (omega arith) k m)
+        same-beside (heardIn w k m) w (heard-beside w block 16 (omega arith) (omega arith) (omega arith) k m)
+        (heard-beside w block 17 (omega arith) (omega arith) (omega arith) k m)
     go (suc c) = refl
-only-these-change w (hearsBatch s room) block = go (batchRefusal s room)
+only-these-change w (hearsBatch s room) block = (go (batchRefusal s room), λ P. all (batchRefusal s room) (P .seat .size .most))
   where
-    go : (c : ℕ) → besideOf (leaves c (heardEach w (entriesOf s)) w) ≡ besideOf w
+    D : List Delivery
+    D = entriesOf s
+
+    go : (c : ℕ) → besideOf (leaves c (heardEach w D) w) ≡ besideOf w
     go zero =
-        let D = entriesOf s in
-        same-beside (heardEach w D) w (each-beside D w block 16 (omega arith) (omega arith)) (each-beside D w block 17 (omega arith) (omega arith))
+        same-beside (heardEach w D) w (each-beside D w block 16 (omega arith) (omega arith) (omega arith))
+        (each-beside D w block 17 (omega arith) (omega arith) (omega arith))
     go (suc c) = refl
 
--- ---- the record is no other for what stands beside it
+    all : (c : ℕ) → headOf w .seat .n ≤ 32
+        → offerOf (leaves c (heardEach w D) w) ≡ leaves c (lapsedBy (answersTo (headOf w) D) (offerOf w)) (offerOf w)
+    all zero small = offer-each D w block small
+    all (suc c) small = refl
 
-module _ (b : Beside) (w : List ℕ) where
-  abbrev w′ : List ℕ
-  w′ = withBeside b w
+-- ---- the other words from 14 to 23 are kept by every call
 
-  kept : (i : ℕ) → (i ≡ 16 → ⊥) → (i ≡ 17 → ⊥) → getD w′ i 0 ≡ getD w i 0
-  kept i d e = getD-set-other (set w 16 (b .events)) 17 i (b .mask) 0 (omega arith) ∙ getD-set-other w 16 i (b .events) 0 (omega arith)
+module _ (w : List ℕ) (block : IsBlock w) (i : ℕ) (from : 14 ≤ i) (to : i < 24) (apart : 16 ≤ i → i < 23 → ⊥) where
+  abbrev Stays : List ℕ → Type 0
+  Stays w′ = getD w′ i 0 ≡ getD w i 0
 
-  front : (i : ℕ) → i < 14 → getD w′ i 0 ≡ getD w i 0
-  front i l = kept i (λ e. omega arith) (λ e. omega arith)
+  other : (j : ℕ) → 16 ≤ j → j < 23 → i ≢ j
+  other j l m e = apart (omega arith) (omega arith)
 
-  back : (i : ℕ) → 24 ≤ i → getD w′ i 0 ≡ getD w i 0
-  back i l = kept i (λ e. omega arith) (λ e. omega arith)
+  set-stays : (j x : ℕ) (w′ : List ℕ) → 16 ≤ j → j < 23 → Stays w′ → Stays (set w′ j x)
+  set-stays j x w′ l m e = getD-set-other w′ j i x 0 (other j l m) ∙ e
 
-  seat-apart : seatOf w′ ≡ seatOf w
-  unfolding seatOf
-  seat-apart = λ i.
-      record {
-        n = front 0 (omega arith) i % 256;
-        f = front 1 (omega arith) i % 256;
-        number = front 2 (omega arith) i % 256;
-        phase = front 3 (omega arith) i % 65536;
-        round = front 4 (omega arith) i % 256;
-        healed = flag (front 5 (omega arith) i);
-        ended = flag (front 6 (omega arith) i);
-        position = entryIn (front 7 (omega arith) i) (signedOf (front 8 (omega arith) i));
-        last =
-            rangeIn (front 9 (omega arith) i) (signedOf (front 10 (omega arith) i)) (signedOf (front 11 (omega arith) i)) (front 12 (omega arith) i % 256)
-            (signedOf (front 13 (omega arith) i));
-      }
+  beside-stays : (b : Beside) (w′ : List ℕ) → Stays w′ → Stays (withBeside b w′)
+  beside-stays b w′ e =
+      set-stays 17 (b .mask) (set w′ 16 (b .events)) (omega arith) (omega arith) (set-stays 16 (b .events) w′ (omega arith) (omega arith) e)
 
-  numbers-apart : (i : ℕ) → 24 ≤ i → numbersAt w′ i ≡ numbersAt w i
-  unfolding numbersAt
-  numbers-apart i h =
-      upTo-same 32 (λ j. signedOf (getD w′ (i + j) 0)) (λ j. signedOf (getD w (i + j) 0)) (λ j l. ap signedOf (back (i + j) (omega arith)))
+  call-stays : (b : Beside) (a : Answer) → Stays (withoutOffer (a .refusal) (withBeside b (withAnswer w a)))
+  call-stays b a = go (a .refusal) (withBeside b (withAnswer w a)) (beside-stays b (withAnswer w a) (after-beside w block i from to a))
+    where
+      go : (c : ℕ) (w′ : List ℕ) → Stays w′ → Stays (withoutOffer c w′)
+      go zero w′ e = set-stays 18 0 w′ (omega arith) (omega arith) e
+      go (suc c) w′ e = e
 
-  lists-apart : upTo 32 (listAt w′) ≡ upTo 32 (listAt w)
-  lists-apart = upTo-same 32 (listAt w′) (listAt w) (λ k l. λ i. record { entries = numbers-apart (92 + 32 * k) (omega arith) i })
+  closing-stays : (c : Closed) (h : Head) → Stays (withClosing c h w)
+  closing-stays (Closed.Refused c) h = refl
+  closing-stays Closed.Listed h = put-beside w block i from to h
+  closing-stays (Closed.Settled k) h =
+      let w₁ = set w 18 1 in
+      let w₂ = set w₁ 19 (wordOf (k .low)) in
+      let w₃ = set w₂ 20 (wordOf (k .high)) in
+      let w₄ = set w₃ 21 (k .trim) in
+      set-stays 22 (wordOf (k .position)) w₄ (omega arith) (omega arith)
+      (set-stays 21 (k .trim) w₃ (omega arith) (omega arith)
+      (set-stays 20 (wordOf (k .high)) w₂ (omega arith) (omega arith)
+      (set-stays 19 (wordOf (k .low)) w₁ (omega arith) (omega arith) (set-stays 18 1 w (omega arith) (omega arith) refl))))
 
-  marks-apart : upTo 32 (λ k. getD w′ (60 + k) 0) ≡ upTo 32 (λ k. getD w (60 + k) 0)
-  marks-apart = upTo-same 32 (λ k. getD w′ (60 + k) 0) (λ k. getD w (60 + k) 0) (λ k l. back (60 + k) (omega arith))
-
-  pub head-apart : headOf w′ ≡ headOf w
-  unfolding headOf
-  head-apart = λ i.
-      record {
-        seat = seat-apart i;
-        heard = back 24 (omega arith) i;
-        list = record { marks = back 25 (omega arith) i; entries = numbers-apart 26 (omega arith) i };
-        links = record { confessed = back 58 (omega arith) i; listed = back 59 (omega arith) i; marks = marks-apart i };
-        lists = lists-apart i;
-      }
-
--- the other words from 14 to 23 are kept by every call
-pub others-stay : (w : List ℕ) (c : Call) → IsBlock w → (i : ℕ) → 14 ≤ i → i < 24 → (i ≡ 16 → ⊥) → (i ≡ 17 → ⊥)
-    → getD (blockAfter w c) i 0 ≡ getD w i 0
-unfolding blockAfter
-others-stay w (starts n f j v) block i from to d e =
-    let a = start (headOf w) n f j v in
-    kept _ (withAnswer w a) i d e ∙ after-beside w block i from to a
-others-stay w (restarts n f j p r) block i from to d e =
-    let a = restart (headOf w) n f j p r in
-    kept _ (withAnswer w a) i d e ∙ after-beside w block i from to a
-others-stay w (startsListener n f j) block i from to d e =
-    let a = startListener (headOf w) n f j in
-    kept _ (withAnswer w a) i d e ∙ after-beside w block i from to a
-others-stay w (restartsListener n f j p r) block i from to d e =
-    let a = restartListener (headOf w) n f j p r in
-    kept _ (withAnswer w a) i d e ∙ after-beside w block i from to a
-others-stay w closes block i from to d e =
-    let a = closedAnswer (close (headOf w)) in
-    kept _ (withAnswer w a) i d e ∙ after-beside w block i from to a
-others-stay w (sets at x) block i from to d e = kept _ w i d e
-others-stay w (hears k s) block i from to d e = go (hear (headOf w) k s .refusal)
-  where
-    go : (c : ℕ) → getD (leaves c (heardIn w k (saidTo (headOf w .seat) k s)) w) i 0 ≡ getD w i 0
-    go zero = heard-beside w block i from to k (saidTo (headOf w .seat) k s)
-    go (suc c) = refl
-others-stay w (hearsBatch s room) block i from to d e = go (batchRefusal s room)
-  where
-    go : (c : ℕ) → getD (leaves c (heardEach w (entriesOf s)) w) i 0 ≡ getD w i 0
-    go zero = each-beside (entriesOf s) w block i from to
-    go (suc c) = refl
+  pub others-stay : (c : Call) → Stays (blockAfter w c)
+  unfolding blockAfter
+  others-stay (starts n f j v) = call-stays _ (start (headOf w) n f j v)
+  others-stay (restarts n f j p r) = call-stays _ (restart (headOf w) n f j p r)
+  others-stay (startsListener n f j) = call-stays _ (startListener (headOf w) n f j)
+  others-stay (restartsListener n f j p r) = call-stays _ (restartListener (headOf w) n f j p r)
+  others-stay adopts = call-stays _ (adopt (headOf w) (offerOf w))
+  others-stay closes = let q = close (headOf w) in beside-stays _ (withClosing (q .closed) (q .head) w) (closing-stays (q .closed) (q .head))
+  others-stay (sets at x) = beside-stays _ w refl
+  others-stay (hears k s) = go (hear (headOf w) k s .refusal)
+    where
+      go : (c : ℕ) → Stays (leaves c (heardIn w k (saidTo (headOf w .seat) k s)) w)
+      go zero = heard-beside w block i from to (other 18 (omega arith) (omega arith)) k (saidTo (headOf w .seat) k s)
+      go (suc c) = refl
+  others-stay (hearsBatch s room) = go (batchRefusal s room)
+    where
+      go : (c : ℕ) → Stays (leaves c (heardEach w (entriesOf s)) w)
+      go zero = each-beside (entriesOf s) w block i from to (other 18 (omega arith) (omega arith))
+      go (suc c) = refl
 
 -- so after each call the block is the record that the call by value makes
 module _ (w : List ℕ) (block : IsBlock w) where
+  call-head : (b : Beside) (a : Answer) → headOf (withoutOffer (a .refusal) (withBeside b (withAnswer w a))) ≡ headOf (withAnswer w a)
+  call-head b a = ended-apart (a .refusal) (withBeside b (withAnswer w a)) ∙ head-apart b (withAnswer w a)
+
   pub head-started : (n f i : ℕ) (v : ℤ) → headOf (blockAfter w (starts n f i v)) ≡ start (headOf w) n f i v .head
   unfolding blockAfter
-  head-started n f i v = head-apart _ (withAnswer w (start (headOf w) n f i v)) ∙ after-start w block n f i v
+  head-started n f i v = call-head _ (start (headOf w) n f i v) ∙ after-start w block n f i v
 
   pub head-restarted : (n f i p r : ℕ) → headOf (blockAfter w (restarts n f i p r)) ≡ restart (headOf w) n f i p r .head
   unfolding blockAfter
-  head-restarted n f i p r = head-apart _ (withAnswer w (restart (headOf w) n f i p r)) ∙ after-restart w block n f i p r
+  head-restarted n f i p r = call-head _ (restart (headOf w) n f i p r) ∙ after-restart w block n f i p r
 
   pub listener-started : (n f i : ℕ) → headOf (blockAfter w (startsListener n f i)) ≡ startListener (headOf w) n f i .head
   unfolding blockAfter
-  listener-started n f i = head-apart _ (withAnswer w (startListener (headOf w) n f i)) ∙ after-start-listener w block n f i
+  listener-started n f i = call-head _ (startListener (headOf w) n f i) ∙ after-start-listener w block n f i
 
   pub listener-restarted : (n f i p r : ℕ) → headOf (blockAfter w (restartsListener n f i p r)) ≡ restartListener (headOf w) n f i p r .head
   unfolding blockAfter
-  listener-restarted n f i p r = head-apart _ (withAnswer w (restartListener (headOf w) n f i p r)) ∙ after-restart-listener w block n f i p r
+  listener-restarted n f i p r = call-head _ (restartListener (headOf w) n f i p r) ∙ after-restart-listener w block n f i p r
 
   pub head-closed : ProperHead (headOf w) → headOf (blockAfter w closes) ≡ close (headOf w) .head
   unfolding blockAfter
-  head-closed P = head-apart _ (withAnswer w (closedAnswer (close (headOf w)))) ∙ after-close w block P
+  head-closed P = head-apart _ _ ∙ after-close w block P
+
+  pub head-adopted : ProperHead (headOf w) → headOf (blockAfter w adopts) ≡ adopt (headOf w) (offerOf w) .head
+  unfolding blockAfter
+  head-adopted P = call-head _ (adopt (headOf w) (offerOf w)) ∙ after-adopt w block P
 
   pub head-set : (at x : ℕ) → headOf (blockAfter w (sets at x)) ≡ headOf w
   unfolding blockAfter

@@ -7,7 +7,7 @@ use Prim.Native.Nat.{ℕ, zero, suc, _+_, _*_, _≤_, _<_}
 use native.Mathlib.Omega.{arith}
 use native.Mathlib.Decide.{ℕ-discrete, decLt}
 use lib.Dec.{ltb}
-use lib.ListN.{getD, set, getD-replicate}
+use lib.ListN.{getD, set, length-set, getD-replicate}
 use lib.Seq.{set-out, getD-set-same, getD-set-other}
 use lib.IntN.{pos}
 use borrow.Author.Tests.{lt-ltb, le-ltb}
@@ -32,7 +32,7 @@ use Rattle.head_hear.specs.Steps.{linkRefusal}
 use Rattle.head_hear.proofs.OneLink.{linkSays, refused-heard, entry-heard, list-heard, confession-heard}
 use Rattle.head_c.specs.Blocks.{IsBlock, numbersAt, listAt, headOf, changed, heardIn, Hears}
 use Rattle.head_c.specs.Steps.{numberOf}
-use Rattle.head_c.proofs.Changes.{null-is, position-is, list-is, confession-is}
+use Rattle.head_c.proofs.Changes.{set-apart, null-is, position-is, list-is, confession-is}
 use Rattle.head_c.proofs.Copying.{upTo-long}
 use Rattle.head_c.proofs.Blocks.{Fits32, signed-fits, FitNumbers, FitEntry}
 
@@ -75,12 +75,22 @@ heard-is w block k m F = by-cases (decLt k 32)
     (λ l. rw (lt-ltb k 32 l) (go l m F))
     (λ d. let past : 32 ≤ k = omega arith in rw (le-ltb k 32 past) (taken-past w k past m))
   where
+    -- without an offer the block is the same record
+    w₀ : List ℕ
+    w₀ = set w 18 0
+
+    block₀ : IsBlock w₀
+    block₀ = length-set w 18 0 ∙ block
+
+    lapsing : (m : Meaning) {h : Head} → h ≡ taken (headOf w₀) k m → h ≡ taken (headOf w) k m
+    lapsing m e = e ∙ ap (λ (x : Head). taken x k m) (set-apart w 18 0 (omega arith) (omega arith))
+
     go : k < 32 → (m : Meaning) → FitMeaning m → headOf (changed w k m) ≡ taken (headOf w) k m
     go l (refused c) F = refl
-    go l (collected Entry.Null) F = null-is w block k l
-    go l (collected (Entry.Position v)) F = position-is w block k l v F
-    go l (listed t) F = list-is w block k l t F
-    go l confessed F = confession-is w block k l
+    go l (collected Entry.Null) F = lapsing (collected Entry.Null) (null-is w₀ block₀ k l)
+    go l (collected (Entry.Position v)) F = lapsing (collected (Entry.Position v)) (position-is w₀ block₀ k l v F)
+    go l (listed t) F = lapsing (listed t) (list-is w₀ block₀ k l t F)
+    go l confessed F = lapsing confessed (confession-is w₀ block₀ k l)
 
 -- ---- what a frame says fits
 
@@ -133,7 +143,7 @@ unfolding heardIn
 heard-past w k m l = rw (le-ltb k 32 l)
 
 -- a refusal changes nothing
-heard-refused : (w : List ℕ) (k c : ℕ) → heardIn w k (refused c) ≡ w
+pub heard-refused : (w : List ℕ) (k c : ℕ) → heardIn w k (refused c) ≡ w
 unfolding heardIn
 heard-refused w k c = go (ltb k 32)
   where
@@ -146,7 +156,7 @@ module _ (w : List ℕ) (block : IsBlock w) (k : ℕ) (s : List ℕ) where
   h = headOf w
 
   -- the number that was said is that of hearing
-  number-said : (what : Said) → what ≡ saidOf (linkSays h k s) → numberOf what ≡ hear h k s .refusal
+  pub number-said : (what : Said) → what ≡ saidOf (linkSays h k s) → numberOf what ≡ hear h k s .refusal
   number-said (Said.Refused c) e = ap (λ (a : Answer). a .refusal) (refused-heard h k s e refl)
   number-said (Said.Collection x) e = ap (λ (a : Answer). a .refusal) (entry-heard h k s e refl refl refl)
   number-said Said.List e = ap (λ (a : Answer). a .refusal) (list-heard h k s e refl refl refl refl refl)
@@ -161,7 +171,7 @@ module _ (w : List ℕ) (block : IsBlock w) (k : ℕ) (s : List ℕ) where
       go (suc c) = refl
 
   -- it changes what the frame alone does, unless hearing is refused
-  link-block : heardIn w k (linkSays h k s) ≡ leaves (hear h k s .refusal) (heardIn w k (saidTo (h .seat) k s)) w
+  pub link-block : heardIn w k (linkSays h k s) ≡ leaves (hear h k s .refusal) (heardIn w k (saidTo (h .seat) k s)) w
   unfolding hear hearRefusal said
   link-block = go (not (h .seat .ended)) (ltb k (h .seat .n)) (not (bitOf (h .heard) k))
     where

@@ -4,10 +4,12 @@ pub mod Reading
 pub mod Putting
 pub mod Blocks
 pub mod Changes
+pub mod Offers
 pub mod Hearing
 pub mod After
 pub mod Calls
 pub mod Beside
+pub mod Lapsing
 pub mod Events
 pub mod Refused
 pub mod Made

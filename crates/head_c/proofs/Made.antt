@@ -1,5 +1,5 @@
--- The blocks that calls make: each call does to the block what the call by value does to its record.
-use mathlib.Core.Path.{_≡_, refl, ap, _∙_}
+-- The blocks that calls make: each call does to the block what the call by value does to its record and to the offer beside it.
+use mathlib.Core.Path.{_≡_, refl, ap, sym, _∙_}
 use mathlib.Core.Bool.{Bool, true, false, cond}
 use mathlib.Core.List.{List, [], _∷_}
 use Prim.Native.Nat.{ℕ, zero, suc, _+_}
@@ -8,47 +8,76 @@ use lib.ListN.{length, take, drop}
 use Rattle.terms.specs.Refusals.{leaves}
 use Rattle.frame_spec.specs.Proper.{AllBytes}
 use Rattle.frame_spec.proofs.FieldByField.{drop-bytes}
+use Rattle.head_spec.specs.declared.LastKept.{LastKept}
 use Rattle.head_spec.specs.declared.Head.{Head}
-use Rattle.head_spec.specs.Calls.{answer, startRefusal, start, restartRefusal, restart, startListenerRefusal, startListener, restartListenerRefusal, restartListener, saidTo, hear, Delivery, hearEach}
-use Rattle.head_spec.specs.Batch.{isWhole, firstEntry, frameLength, behindFirst, cutInto, entriesOf, batchRefusal}
-use Rattle.head_spec.specs.Demand2 as reach
-use Rattle.head_spec.specs.Demand2.{Reachable}
+use Rattle.head_spec.specs.declared.Answer.{Answer}
+use Rattle.head_spec.specs.declared.Closed.{Closed}
+use Rattle.head_spec.specs.declared.Closing.{Closing}
+use Rattle.head_spec.specs.declared.Offer.{Offer}
+use Rattle.head_spec.specs.Calls.{answer, startRefusal, start, restartRefusal, restart, startListenerRefusal, startListener, restartListenerRefusal, restartListener, Delivery, hear, saidTo, hearEach, answersTo, close, adopt}
+use Rattle.head_spec.specs.Batch.{frameLength, isWhole, firstEntry, behindFirst, cutInto, entriesOf, batchRefusal}
+use Rattle.head_spec.specs.Offers.{lapsed, lapsedBy, offered, thenAdopt, Offering}
+use Rattle.head_spec.specs.Offers as offering
+use Rattle.head_spec.proofs.Proper.{ProperHead}
 use Rattle.head_spec.proofs.Demand2.{demand-2}
-use Rattle.head_c.specs.Blocks.{IsBlock, headOf, heardIn, heardEach}
-use Rattle.head_c.specs.Events.{Call, starts, restarts, startsListener, restartsListener, hears, hearsBatch, closes, sets, numberAfter, blockAfter}
-use Rattle.head_c.specs.Made.{Opens, Bytes, MadeReachable}
+use Rattle.head_spec.proofs.Offers.{offer-then-adopt, offer-holds, offering-reached}
+use Rattle.head_c.proofs.Lapsing.{offer-each}
+use Rattle.head_spec.proofs.Stops.{adopts-nothing}
+use Rattle.head_spec.proofs.RoundClose.{offer-stays}
+use Rattle.head_window.specs.Window.{closedBeside, adoptedBeside}
+use Rattle.head_c.specs.Blocks.{IsBlock, headOf, besideOf, offerOf, heardIn, heardEach}
+use Rattle.head_c.specs.Events.{Call, starts, restarts, startsListener, restartsListener, hears, hearsBatch, closes, adopts, sets, numberAfter, blockAfter}
+use Rattle.head_c.specs.Made.{Opens, Bytes, MadeReachable, MadeOffers, MadeCloses}
 use Rattle.head_c.specs.Made as made
 use Rattle.head_c.proofs.Hearing.{head-heard}
 use Rattle.head_c.proofs.Beside.{heard-block}
-use Rattle.head_c.proofs.Events.{head-started, head-restarted, listener-started, listener-restarted, head-closed, head-set}
+use Rattle.head_c.proofs.Events.{offer-after, only-these-change, head-started, head-restarted, listener-started, listener-restarted, head-closed, head-adopted, head-set}
+
+-- a block whose record and offer these are
+abbrev Holds : List ℕ → Type 0
+Holds w = (x : LastKept) × Offering (headOf w) (offerOf w) x
+
+moved : {h h′ : Head} {o o′ : Offer} → h′ ≡ h → o′ ≡ o → (x : LastKept) × Offering h o x → (x : LastKept) × Offering h′ o′ x
+moved p q H = rw (p, q) H
+
+proper-of : {h : Head} {o : Offer} → (x : LastKept) × Offering h o x → ProperHead h
+proper-of {h} {o} H = demand-2 .proper h (offering-reached h o (H .0) (H .1) .0)
 
 -- ---- starts and restarts
 
 -- accepted
-fresh : (c : ℕ) (new old : Head) → answer c new old .refusal ≡ 0 → (c ≡ 0 → Reachable new) → Reachable (answer c new old .head)
-fresh zero new old e N = N refl
-fresh (suc c) new old e N = absurd (omega arith)
+fresh : (c : ℕ) (new old : Head) (o : Offer) → answer c new old .refusal ≡ 0 → (c ≡ 0 → Offering new Offer.Nothing LastKept.Nothing)
+    → (x : LastKept) × Offering (answer c new old .head) (lapsed (answer c new old .refusal) o) x
+fresh zero new old o e N = (LastKept.Nothing, N refl)
+fresh (suc c) new old o e N = absurd (omega arith)
 
 -- or not
-either : (c : ℕ) (new old : Head) → Reachable old → (c ≡ 0 → Reachable new) → Reachable (answer c new old .head)
-either zero new old R N = N refl
-either (suc c) new old R N = R
+either : (c : ℕ) (new old : Head) (o : Offer) → (x : LastKept) × Offering old o x → (c ≡ 0 → Offering new Offer.Nothing LastKept.Nothing)
+    → (x : LastKept) × Offering (answer c new old .head) (lapsed (answer c new old .refusal) o) x
+either zero new old o H N = (LastKept.Nothing, N refl)
+either (suc c) new old o H N = H
 
 module _ (w : List ℕ) (block : IsBlock w) where
   abbrev h : Head
   h = headOf w
 
-  opened-reached : (c : Call) → Opens c → numberAfter w c ≡ 0 → Reachable (headOf (blockAfter w c))
-  unfolding start restart startListener restartListener
-  opened-reached (starts n f i v) o e = rw (head-started w block n f i v) (fresh (startRefusal n f i v) _ h e (reach.starts n f i v))
-  opened-reached (restarts n f i p r) o e = rw (head-restarted w block n f i p r) (fresh (restartRefusal n f i p r) _ h e (reach.restarts n f i p r))
-  opened-reached (startsListener n f i) o e = rw (listener-started w block n f i) (fresh (startListenerRefusal n f i) _ h e (reach.listens n f i))
-  opened-reached (restartsListener n f i p r) o e =
-      rw (listener-restarted w block n f i p r) (fresh (restartListenerRefusal n f i p r) _ h e (reach.listens-again n f i p r))
-  opened-reached (hears k s) o e = absurd o
-  opened-reached (hearsBatch s room) o e = absurd o
-  opened-reached closes o e = absurd o
-  opened-reached (sets at x) o e = absurd o
+  opened-holds : (c : Call) → Opens c → numberAfter w c ≡ 0 → Holds (blockAfter w c)
+  unfolding blockAfter start restart startListener restartListener
+  opened-holds (starts n f i v) o e =
+      moved (head-started w block n f i v) (offer-after w block _ (start h n f i v)) (fresh (startRefusal n f i v) _ h (offerOf w) e (offering.starts n f i v))
+  opened-holds (restarts n f i p r) o e =
+      moved (head-restarted w block n f i p r) (offer-after w block _ (restart h n f i p r))
+      (fresh (restartRefusal n f i p r) _ h (offerOf w) e (offering.restarts n f i p r))
+  opened-holds (startsListener n f i) o e =
+      moved (listener-started w block n f i) (offer-after w block _ (startListener h n f i)) (fresh (startListenerRefusal n f i) _ h (offerOf w) e (offering.listens n f i))
+  opened-holds (restartsListener n f i p r) o e =
+      moved (listener-restarted w block n f i p r) (offer-after w block _ (restartListener h n f i p r))
+      (fresh (restartListenerRefusal n f i p r) _ h (offerOf w) e (offering.listens-again n f i p r))
+  opened-holds (hears k s) o e = absurd o
+  opened-holds (hearsBatch s room) o e = absurd o
+  opened-holds closes o e = absurd o
+  opened-holds adopts o e = absurd o
+  opened-holds (sets at x) o e = absurd o
 
 -- ---- hearing many
 
@@ -71,10 +100,10 @@ cut-bytes (suc m) s B = go (isWhole s) (cut-bytes m (behindFirst s) (drop-bytes 
     go true A = (take-bytes (frameLength s) (drop 1 s) (drop-bytes s 1 B), A)
     go false A = tt
 
-each-reached : (D : List Delivery) (h : Head) → AllOf D → Reachable h → Reachable (hearEach h D)
-unfolding hearEach
-each-reached [] h A R = R
-each-reached (d ∷ D) h A R = each-reached D _ (A .1) (reach.hears (d .link) (d .bytes) (A .0) R)
+each-offers : (D : List Delivery) (h : Head) (o : Offer) (x : LastKept) → AllOf D → Offering h o x → Offering (hearEach h D) (lapsedBy (answersTo h D) o) x
+unfolding hearEach answersTo lapsedBy
+each-offers [] h o x A O = O
+each-offers (d ∷ D) h o x A O = each-offers D _ _ x (A .1) (offering.hears (d .link) (d .bytes) (A .0) O)
 
 head-each : (D : List Delivery) (w : List ℕ) → IsBlock w → headOf (heardEach w D) ≡ hearEach (headOf w) D
 unfolding heardEach hearEach
@@ -87,26 +116,73 @@ head-each (d ∷ D) w block = head-each D _ (stays (hear (headOf w) (d .link) (d
 
 -- ---- any call
 
-module _ (w : List ℕ) (block : IsBlock w) (R : Reachable (headOf w)) where
+module _ (w : List ℕ) (block : IsBlock w) (H : Holds w) where
   abbrev g : Head
   g = headOf w
 
-  called-reached : (c : Call) → Bytes c → Reachable (headOf (blockAfter w c))
+  abbrev P : ProperHead g
+  P = proper-of H
+
+  adopts-holds : (o : Offer) → (x : LastKept) × Offering g o x → (x : LastKept) × Offering (adopt g o .head) (lapsed (adopt g o .refusal) o) x
+  adopts-holds Offer.Nothing K = moved (ap (λ (a : Answer). a .head) (adopts-nothing g)) (ap (λ (a : Answer). lapsed (a .refusal) Offer.Nothing) (adopts-nothing g)) K
+  adopts-holds (Offer.Standing k) K =
+      (LastKept.Range k, rw (offer-holds g k (K .0) (K .1) .1) (offering.adopts (K .1)))
+
+  called-holds : (c : Call) → Bytes c → Holds (blockAfter w c)
   unfolding blockAfter start restart startListener restartListener
-  called-reached (starts n f i v) B = rw (head-started w block n f i v) (either (startRefusal n f i v) _ g R (reach.starts n f i v))
-  called-reached (restarts n f i p r) B = rw (head-restarted w block n f i p r) (either (restartRefusal n f i p r) _ g R (reach.restarts n f i p r))
-  called-reached (startsListener n f i) B = rw (listener-started w block n f i) (either (startListenerRefusal n f i) _ g R (reach.listens n f i))
-  called-reached (restartsListener n f i p r) B =
-      rw (listener-restarted w block n f i p r) (either (restartListenerRefusal n f i p r) _ g R (reach.listens-again n f i p r))
-  called-reached (hears k s) B = rw (head-heard w block k s) (reach.hears k s B R)
-  called-reached (hearsBatch s room) B = go (batchRefusal s room)
+  called-holds (starts n f i v) B =
+      moved (head-started w block n f i v) (offer-after w block _ (start g n f i v)) (either (startRefusal n f i v) _ g (offerOf w) H (offering.starts n f i v))
+  called-holds (restarts n f i p r) B =
+      moved (head-restarted w block n f i p r) (offer-after w block _ (restart g n f i p r))
+      (either (restartRefusal n f i p r) _ g (offerOf w) H (offering.restarts n f i p r))
+  called-holds (startsListener n f i) B =
+      moved (listener-started w block n f i) (offer-after w block _ (startListener g n f i)) (either (startListenerRefusal n f i) _ g (offerOf w) H (offering.listens n f i))
+  called-holds (restartsListener n f i p r) B =
+      moved (listener-restarted w block n f i p r) (offer-after w block _ (restartListener g n f i p r))
+      (either (restartListenerRefusal n f i p r) _ g (offerOf w) H (offering.listens-again n f i p r))
+  called-holds (hears k s) B = moved (head-heard w block k s) (only-these-change w (hears k s) block .1 P) (H .0, offering.hears k s B (H .1))
+  called-holds (hearsBatch s room) B = go (batchRefusal s room)
     where
-      go : (c : ℕ) → Reachable (headOf (leaves c (heardEach w (entriesOf s)) w))
-      go zero = rw (head-each (entriesOf s) w block) (each-reached (entriesOf s) g (cut-bytes (length s) s B) R)
-      go (suc c) = R
-  called-reached closes B = rw (head-closed w block (demand-2 .proper g R)) (reach.closes R)
-  called-reached (sets at x) B = rw (head-set w block at x) R
+      D : List Delivery
+      D = entriesOf s
+
+      go : (c : ℕ) → Holds (leaves c (heardEach w D) w)
+      go zero = moved (head-each D w block) (offer-each D w block (P .seat .size .most)) (H .0, each-offers D g (offerOf w) (H .0) (cut-bytes (length s) s B) (H .1))
+      go (suc c) = H
+  called-holds closes B = moved (head-closed w block P) (only-these-change w closes block .1 P) (H .0, offering.closes (H .1))
+  called-holds adopts B = moved (head-adopted w block P) (only-these-change w adopts block .1 P) (adopts-holds (offerOf w) H)
+  called-holds (sets at x) B = moved (head-set w block at x) (only-these-change w (sets at x) block .1 P) H
+
+pub made-offers : MadeOffers
+made-offers w (made.opens v c block o e) = opened-holds v block c o e
+made-offers w (made.calls v c block B M) = called-holds v block (made-offers v M) c B
 
 pub made-reachable : MadeReachable
-made-reachable w (made.opens v c block o e) = opened-reached v block c o e
-made-reachable w (made.calls v c block B M) = called-reached v block (made-reachable v M) c B
+made-reachable w M = let H = made-offers w M in offering-reached (headOf w) (offerOf w) (H .0) (H .1) .0
+
+-- ---- closing and adopting
+
+pub made-closes : MadeCloses
+made-closes w k M block block₁ e =
+    let H = made-offers w M in
+    let Q = proper-of H in
+    let w₁ = blockAfter w closes in
+    let H₁ = made-offers w₁ (made.calls w closes block tt M) in
+    let head₁ : headOf w₁ ≡ headOf w = head-closed w block Q ∙ offer-stays (headOf w) e in
+    let offer₁ : offerOf w₁ ≡ Offer.Standing k = only-these-change w closes block .1 Q ∙ ap (λ (c : Closed). offered c (offerOf w)) e in
+    let O : Offering (headOf w) (Offer.Standing k) (H₁ .0) = rw (head₁, offer₁) at (H₁ .1) in
+    let (ends, adopted) = offer-holds (headOf w) k (H₁ .0) O in
+    let stays : close (headOf w) .head ≡ headOf w = offer-stays (headOf w) e in
+    let number : numberAfter w₁ adopts ≡ 0 = (λ t. adopt (head₁ t) (offer₁ t) .refusal) ∙ adopted in
+    let beside₁ : besideOf w₁ ≡ besideOf w = only-these-change w closes block .0 ∙ ap (λ (c : Closed). closedBeside c (besideOf w)) e in
+    record {
+      taken = number;
+      head =
+          head-adopted w₁ block₁ (proper-of H₁)
+          ∙ (λ t. adopt (head₁ t) (offer₁ t) .head)
+          ∙ sym (λ t. thenAdopt (e t) (stays t) .head)
+          ∙ ap (λ (c : Closing). c .head) (offer-then-adopt (headOf w));
+      closed = ap (λ (c : Closing). c .closed) ends;
+      beside = only-these-change w₁ adopts block₁ .0 ∙ (λ t. adoptedBeside (number t) (beside₁ t));
+      offer = only-these-change w₁ adopts block₁ .1 (proper-of H₁) ∙ ap (λ (c : ℕ). lapsed c (offerOf w₁)) number;
+    }

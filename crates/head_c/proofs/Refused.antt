@@ -9,15 +9,16 @@ use lib.ListN.{getD, set}
 use lib.Seq.{set-getD}
 use borrow.Author.Tests.{eq-eqb, ne-eqb}
 use Rattle.terms.proofs.Refusals.{unchanged}
+use Rattle.head_spec.specs.declared.Head.{Head}
 use Rattle.head_spec.specs.declared.Answer.{Answer}
 use Rattle.head_spec.specs.declared.Closed.{Closed}
-use Rattle.head_spec.specs.Calls.{start, restart, hear, close, startListener, restartListener}
+use Rattle.head_spec.specs.Calls.{start, restart, hear, close, adopt, startListener, restartListener}
 use Rattle.head_spec.specs.Batch.{batchRefusal}
-use Rattle.head_lent.specs.Answers.{closedNumber, closedAnswer}
+use Rattle.head_lent.specs.Answers.{closedNumber}
 use Rattle.head_window.specs.declared.Beside.{Beside}
 use Rattle.head_window.specs.Window.{closedBeside, setRefusal, setBeside}
-use Rattle.head_c.specs.Blocks.{headOf, withAnswer, besideOf, withBeside}
-use Rattle.head_c.specs.Events.{starts, restarts, startsListener, restartsListener, hears, hearsBatch, closes, sets, blockAfter, RefusedLeaves}
+use Rattle.head_c.specs.Blocks.{headOf, withAnswer, besideOf, withBeside, offerOf, withoutOffer, withClosing}
+use Rattle.head_c.specs.Events.{starts, restarts, startsListener, restartsListener, hears, hearsBatch, closes, adopts, sets, blockAfter, RefusedLeaves}
 
 -- what stands beside the head, put back where it stands
 pub same-put : (w : List ℕ) → withBeside (besideOf w) w ≡ w
@@ -52,21 +53,31 @@ module _ (w : List ℕ) where
   abbrev Leaves : ℕ → Beside → List ℕ → Type 0
   Leaves c b w′ = (w′ ≡ withBeside b w) × (c ≢ 25 → w′ ≡ w)
 
-  put-leaves : (a : Answer) (b : Beside) → a .refusal ≢ 0 → (a .refusal ≢ 25 → b ≡ besideOf w) → Leaves (a .refusal) b (withBeside b (withAnswer w a))
-  put-leaves a b h q =
-      let e = ap (withBeside b) (same-after w a h) in
-      (e, λ d. e ∙ ap (λ (x : Beside). withBeside x w) (q d) ∙ same-put w)
+  beside-leaves : (c : ℕ) (b : Beside) {w′ : List ℕ} → w′ ≡ withBeside b w → (c ≢ 25 → b ≡ besideOf w) → Leaves c b w′
+  beside-leaves c b e q = (e, λ d. e ∙ ap (λ (x : Beside). withBeside x w) (q d) ∙ same-put w)
+
+  put-leaves : (a : Answer) (b : Beside) → a .refusal ≢ 0 → b ≡ besideOf w
+      → Leaves (a .refusal) b (withoutOffer (a .refusal) (withBeside b (withAnswer w a)))
+  put-leaves a b h q = beside-leaves (a .refusal) b (sym (unchanged (a .refusal) _ _ h) ∙ ap (withBeside b) (same-after w a h)) (λ d. q)
+
+  closed-leaves : (c : Closed) (h : Head) → closedNumber c ≢ 0 → withClosing c h w ≡ w
+  closed-leaves (Closed.Refused c) h d = refl
+  closed-leaves Closed.Listed h d = absurd (d refl)
+  closed-leaves (Closed.Settled k) h d = absurd (d refl)
 
   heard-leaves : (c : ℕ) {w′ : List ℕ} → w ≡ w′ → Leaves c (besideOf w) w′
   heard-leaves c e = (sym e ∙ sym (same-put w), λ d. sym e)
 
 pub refused-leaves : RefusedLeaves
 unfolding blockAfter
-refused-leaves w (starts n f i v) h = put-leaves w (start (headOf w) n f i v) _ h (λ d. sym (unchanged _ _ _ h))
-refused-leaves w (restarts n f i p r) h = put-leaves w (restart (headOf w) n f i p r) _ h (λ d. sym (unchanged _ _ _ h))
-refused-leaves w (startsListener n f i) h = put-leaves w (startListener (headOf w) n f i) _ h (λ d. sym (unchanged _ _ _ h))
-refused-leaves w (restartsListener n f i p r) h = put-leaves w (restartListener (headOf w) n f i p r) _ h (λ d. sym (unchanged _ _ _ h))
-refused-leaves w closes h = put-leaves w (closedAnswer (close (headOf w))) _ h (closed-same (close (headOf w) .closed) (besideOf w) h)
+refused-leaves w (starts n f i v) h = put-leaves w (start (headOf w) n f i v) _ h (sym (unchanged _ _ _ h))
+refused-leaves w (restarts n f i p r) h = put-leaves w (restart (headOf w) n f i p r) _ h (sym (unchanged _ _ _ h))
+refused-leaves w (startsListener n f i) h = put-leaves w (startListener (headOf w) n f i) _ h (sym (unchanged _ _ _ h))
+refused-leaves w (restartsListener n f i p r) h = put-leaves w (restartListener (headOf w) n f i p r) _ h (sym (unchanged _ _ _ h))
+refused-leaves w adopts h = put-leaves w (adopt (headOf w) (offerOf w)) _ h (sym (unchanged _ _ _ h))
+refused-leaves w closes h =
+    let q = close (headOf w) in
+    beside-leaves w (closedNumber (q .closed)) _ (ap (withBeside _) (closed-leaves w (q .closed) (q .head) h)) (closed-same (q .closed) (besideOf w) h)
 refused-leaves w (sets at x) h = (refl, λ d. ap (λ (b : Beside). withBeside b w) (set-same at x (besideOf w) h) ∙ same-put w)
 refused-leaves w (hears k s) h = heard-leaves w (hear (headOf w) k s .refusal) (unchanged _ _ w h)
 refused-leaves w (hearsBatch s room) h = heard-leaves w (batchRefusal s room) (unchanged _ _ w h)

@@ -1,5 +1,5 @@
 -- A head as C keeps it: a block of 1,116 words, one for each number. Every block is a record, whatever it holds (`headOf`), and a record is put into
--- a block (`withHead`). Hearing changes a few words alone (`heardIn`). Words 14 to 23 are no part of a record. Words 16 and 17 are what
+-- a block (`withHead`). Hearing changes a few words alone (`heardIn`). Words 14 to 23 are no part of a record. Words 16 to 22 are what
 -- stands beside the head; each call leaves the others as they were.
 use mathlib.Core.Path.{_≡_}
 use mathlib.Core.Bool.{Bool, not, cond}
@@ -21,6 +21,8 @@ use Rattle.head_spec.specs.declared.LastKept.{LastKept}
 use Rattle.head_spec.specs.declared.Seat.{Seat}
 use Rattle.head_spec.specs.declared.Head.{Head}
 use Rattle.head_spec.specs.declared.Answer.{Answer}
+use Rattle.head_spec.specs.declared.Closed.{Closed}
+use Rattle.head_spec.specs.declared.Offer.{Offer}
 use Rattle.head_spec.specs.Calls.{saidTo, hear, Delivery}
 use Rattle.head_spec.specs.Batch.{entriesOf, batchRefusal, hearBatch, batchAnswers, batchCount}
 use Rattle.head_window.specs.declared.Beside.{Beside}
@@ -133,20 +135,51 @@ besideOf w = record { events = getD w place.events 0; mask = getD w place.mask 0
 abbrev pub withBeside : Beside → List ℕ → List ℕ
 withBeside b w = set (set w place.events (b .events)) place.mask (b .mask)
 
+-- ---- the offer beside it (document 02, A8). If word 18 is 0 none stands, and words 19 to 22 are not looked at.
+
+abbrev pub offerIn : ℕ → ℤ → ℤ → ℕ → ℤ → Offer
+offerIn zero low high trim middle = Offer.Nothing
+offerIn (suc x) low high trim middle = Offer.Standing (record { low = low; high = high; trim = trim; position = middle })
+
+unfoldable pub offerOf : List ℕ → Offer
+offerOf w =
+    offerIn (getD w place.offered 0) (signedOf (getD w place.offer-low 0)) (signedOf (getD w place.offer-high 0)) (getD w place.offer-trim 0 % 256)
+    (signedOf (getD w place.offer-middle 0))
+
+abbrev pub withOffer : Offer → List ℕ → List ℕ
+withOffer Offer.Nothing w = set w place.offered 0
+withOffer (Offer.Standing k) w =
+    set (set (set (set (set w place.offered 1) place.offer-low (wordOf (k .low))) place.offer-high (wordOf (k .high))) place.offer-trim (k .trim))
+    place.offer-middle (wordOf (k .position))
+
+-- after a call that answers c: one that is accepted ends it
+abbrev pub withoutOffer : ℕ → List ℕ → List ℕ
+withoutOffer c w = leaves c (withOffer Offer.Nothing w) w
+
+-- after a closing that answers c, with the record h: the record is put into the block if it ended a collection round; a position is only offered
+abbrev pub withClosing : Closed → Head → List ℕ → List ℕ
+withClosing (Closed.Refused c) h w = w
+withClosing Closed.Listed h w = withHead h w
+withClosing (Closed.Settled k) h w = withOffer (Offer.Standing k) w
+
 -- ---- hearing
 
 -- bit k of word i is set
 abbrev pub marked : ℕ → ℕ → List ℕ → List ℕ
 marked i k w = set w i (withMark (getD w i 0) k)
 
+-- link k is heard, and an offer lapses
+abbrev pub heardOn : ℕ → List ℕ → List ℕ
+heardOn k w = marked place.heard k (withOffer Offer.Nothing w)
+
 -- what a frame on link k changes, by what it says
 abbrev pub changed : List ℕ → ℕ → Meaning → List ℕ
 changed w k (refused c) = w
-changed w k (collected Entry.Null) = marked place.heard k w
-changed w k (collected (Entry.Position v)) = set (marked place.marks k (marked place.heard k w)) (place.entries + k) (wordOf v)
+changed w k (collected Entry.Null) = heardOn k w
+changed w k (collected (Entry.Position v)) = set (marked place.marks k (heardOn k w)) (place.entries + k) (wordOf v)
 changed w k (listed t) =
-    paste (set (marked place.listed k (marked place.heard k w)) (place.list-marks + k) (t .marks)) (place.lists + 32 * k) (wordsOf (t .entries)) 32
-changed w k confessed = marked place.confessed k (marked place.heard k w)
+    paste (set (marked place.listed k (heardOn k w)) (place.list-marks + k) (t .marks)) (place.lists + 32 * k) (wordsOf (t .entries)) 32
+changed w k confessed = marked place.confessed k (heardOn k w)
 
 -- what hearing link k changes: a block has words for links 0 to 31, and no ring has more
 unfoldable pub heardIn : List ℕ → ℕ → Meaning → List ℕ

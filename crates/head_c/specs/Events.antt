@@ -1,4 +1,5 @@
--- Document 02, A5: which calls change what stands beside a head: a start, a restart, a closing and a write to the window. Nothing else changes it.
+-- Document 02, A5 and A8: which calls change what stands beside a head. Events and mask: a start, a restart, a closing, an adoption and a write to the window. The
+-- offer: a start, a restart, an accepted frame, a closing and an adoption. Nothing else changes them.
 use mathlib.Core.Path.{_≡_}
 use mathlib.Core.Logic.{_≢_}
 use mathlib.Core.List.{List}
@@ -6,12 +7,15 @@ use Prim.Native.Nat.{ℕ}
 use lib.IntN.{ℤ}
 use Rattle.terms.specs.Refusals as refusal
 use Rattle.terms.specs.Refusals.{leaves}
-use Rattle.head_spec.specs.Calls.{start, restart, startListener, restartListener, hear, saidTo, close}
+use Rattle.head_spec.specs.Calls.{start, restart, startListener, restartListener, hear, saidTo, answersTo, close, adopt}
 use Rattle.head_spec.specs.Batch.{entriesOf, batchRefusal}
-use Rattle.head_lent.specs.Answers.{closedAnswer}
+use Rattle.head_spec.specs.Proper.{ProperHead}
+use Rattle.head_spec.specs.Offers.{lapsed, lapsedBy, offered}
+use Rattle.head_spec.specs.declared.Offer.{Offer}
+use Rattle.head_lent.specs.Answers.{closedNumber}
 use Rattle.head_window.specs.declared.Beside.{Beside}
-use Rattle.head_window.specs.Window.{startedBeside, restartedBeside, closedBeside, setRefusal, setBeside}
-use Rattle.head_c.specs.Blocks.{IsBlock, headOf, withAnswer, besideOf, withBeside, heardIn, heardEach}
+use Rattle.head_window.specs.Window.{startedBeside, restartedBeside, closedBeside, adoptedBeside, setRefusal, setBeside}
+use Rattle.head_c.specs.Blocks.{IsBlock, headOf, withAnswer, besideOf, withBeside, offerOf, withoutOffer, withClosing, heardIn, heardEach}
 
 -- a call that is lent the block to change; all others are lent it to read
 pub data Call : Type 0 where
@@ -22,6 +26,7 @@ pub data Call : Type 0 where
   hears : (link : ℕ) (frame : List ℕ) → Call
   hearsBatch : (batch : List ℕ) (room : ℕ) → Call
   closes : Call
+  adopts : Call
   sets : (at byte : ℕ) → Call
 
 -- the number that it answers
@@ -32,7 +37,8 @@ numberAfter w (startsListener n f i) = startListener (headOf w) n f i .refusal
 numberAfter w (restartsListener n f i p r) = restartListener (headOf w) n f i p r .refusal
 numberAfter w (hears k s) = hear (headOf w) k s .refusal
 numberAfter w (hearsBatch s room) = batchRefusal s room
-numberAfter w closes = closedAnswer (close (headOf w)) .refusal
+numberAfter w closes = closedNumber (close (headOf w) .closed)
+numberAfter w adopts = adopt (headOf w) (offerOf w) .refusal
 numberAfter w (sets at x) = setRefusal at
 
 -- what stands beside the head after it
@@ -44,23 +50,45 @@ besideAfter w (restartsListener n f i p r) = restartedBeside (restartListener (h
 besideAfter w (hears k s) = besideOf w
 besideAfter w (hearsBatch s room) = besideOf w
 besideAfter w closes = closedBeside (close (headOf w) .closed) (besideOf w)
+besideAfter w adopts = adoptedBeside (adopt (headOf w) (offerOf w) .refusal) (besideOf w)
 besideAfter w (sets at x) = setBeside at x (besideOf w)
 
 -- the block after it, as its contract has it
 unfoldable pub blockAfter : List ℕ → Call → List ℕ
-blockAfter w (starts n f i v) = withBeside (besideAfter w (starts n f i v)) (withAnswer w (start (headOf w) n f i v))
-blockAfter w (restarts n f i p r) = withBeside (besideAfter w (restarts n f i p r)) (withAnswer w (restart (headOf w) n f i p r))
-blockAfter w (startsListener n f i) = withBeside (besideAfter w (startsListener n f i)) (withAnswer w (startListener (headOf w) n f i))
+blockAfter w (starts n f i v) =
+    withoutOffer (numberAfter w (starts n f i v)) (withBeside (besideAfter w (starts n f i v)) (withAnswer w (start (headOf w) n f i v)))
+blockAfter w (restarts n f i p r) =
+    withoutOffer (numberAfter w (restarts n f i p r)) (withBeside (besideAfter w (restarts n f i p r)) (withAnswer w (restart (headOf w) n f i p r)))
+blockAfter w (startsListener n f i) =
+    withoutOffer (numberAfter w (startsListener n f i)) (withBeside (besideAfter w (startsListener n f i)) (withAnswer w (startListener (headOf w) n f i)))
 blockAfter w (restartsListener n f i p r) =
-    withBeside (besideAfter w (restartsListener n f i p r)) (withAnswer w (restartListener (headOf w) n f i p r))
+    withoutOffer (numberAfter w (restartsListener n f i p r))
+    (withBeside (besideAfter w (restartsListener n f i p r)) (withAnswer w (restartListener (headOf w) n f i p r)))
 blockAfter w (hears k s) = leaves (hear (headOf w) k s .refusal) (heardIn w k (saidTo (headOf w .seat) k s)) w
 blockAfter w (hearsBatch s room) = leaves (batchRefusal s room) (heardEach w (entriesOf s)) w
-blockAfter w closes = withBeside (besideAfter w closes) (withAnswer w (closedAnswer (close (headOf w))))
+blockAfter w closes = withBeside (besideAfter w closes) (withClosing (close (headOf w) .closed) (close (headOf w) .head) w)
+blockAfter w adopts =
+    withoutOffer (numberAfter w adopts) (withBeside (besideAfter w adopts) (withAnswer w (adopt (headOf w) (offerOf w))))
 blockAfter w (sets at x) = withBeside (besideAfter w (sets at x)) w
 
--- the theorem: of any block, after any call, what stands beside the head is this
+-- the offer after it: a start, a restart, an accepted frame and an adoption end it, closing a confession round makes it
+abbrev pub offerAfter : List ℕ → Call → Offer
+offerAfter w (starts n f i v) = lapsed (numberAfter w (starts n f i v)) (offerOf w)
+offerAfter w (restarts n f i p r) = lapsed (numberAfter w (restarts n f i p r)) (offerOf w)
+offerAfter w (startsListener n f i) = lapsed (numberAfter w (startsListener n f i)) (offerOf w)
+offerAfter w (restartsListener n f i p r) = lapsed (numberAfter w (restartsListener n f i p r)) (offerOf w)
+offerAfter w (hears k s) = lapsed (numberAfter w (hears k s)) (offerOf w)
+offerAfter w (hearsBatch s room) = leaves (batchRefusal s room) (lapsedBy (answersTo (headOf w) (entriesOf s)) (offerOf w)) (offerOf w)
+offerAfter w closes = offered (close (headOf w) .closed) (offerOf w)
+offerAfter w adopts = lapsed (numberAfter w adopts) (offerOf w)
+offerAfter w (sets at x) = offerOf w
+
+-- the theorem: of any block, after any call, what stands beside the head is this; and the offer, if the record is a proper one: its links have words in the block,
+-- and what it offers fits its words
 abbrev pub OnlyTheseChange : Type 0
-OnlyTheseChange = (w : List ℕ) (c : Call) → IsBlock w → besideOf (blockAfter w c) ≡ besideAfter w c
+OnlyTheseChange =
+    (w : List ℕ) (c : Call) → IsBlock w
+    → (besideOf (blockAfter w c) ≡ besideAfter w c) × (ProperHead (headOf w) → offerOf (blockAfter w c) ≡ offerAfter w c)
 
 -- demand 1 of these calls: one that is refused changes nothing but what stands beside the head, and that only if it is refused 25
 abbrev pub RefusedLeaves : Type 0

@@ -47,13 +47,29 @@ trim = 12
 abbrev pub middle : ℕ
 middle = 13
 
--- ---- what C keeps beside a head: pending events and mask (document 02, A5); 18 to 23 are room for more
+-- ---- what C keeps beside a head: pending events and mask (document 02, A5), and an offer (A8); 23 is room for more
 
 abbrev pub events : ℕ
 events = 16
 
 abbrev pub mask : ℕ
 mask = 17
+
+-- whether an offer stands; its lowest and highest kept entry, its trim and its position
+abbrev pub offered : ℕ
+offered = 18
+
+abbrev pub offer-low : ℕ
+offer-low = 19
+
+abbrev pub offer-high : ℕ
+offer-high = 20
+
+abbrev pub offer-trim : ℕ
+offer-trim = 21
+
+abbrev pub offer-middle : ℕ
+offer-middle = 22
 
 -- ---- what was heard
 

@@ -11,21 +11,26 @@ ghost use lib.IntN.{pos};
 ghost use Rattle.fields.specs.Bytes.{signedOf, wordOf};
 ghost use Rattle.frame_spec.specs.Said.{collected, listed, confessed, restField, tableIn, saidOf, meant};
 ghost use Rattle.head_spec.specs.Record.{opened};
-ghost use Rattle.head_spec.specs.Calls.{start, restart, startListener, restartListener, hearEach, answersTo, writeAnswer, writeBuffer, close};
+ghost use Rattle.head_spec.specs.Calls.{start, restart, startListener, restartListener, hearEach, answersTo, writeAnswer, writeBuffer, close, adopt};
 ghost use Rattle.head_spec.specs.Batch.{isBatch, entriesOf};
 ghost use Rattle.head_hear.specs.Steps.{linkRefusal, saidOn};
-ghost use Rattle.head_lent.specs.Answers.{closedAnswer, writtenNumber, writtenOr, heldNumber, heldOr, rangeNumber, rangeOr};
+ghost use Rattle.head_lent.specs.Answers.{closedNumber, writtenNumber, writtenOr, heldNumber, heldOr, rangeNumber, rangeOr, offerNumber, offerOr};
+ghost use Rattle.head_spec.specs.declared.Closed.{Closed};
+ghost use Rattle.head_spec.specs.declared.Offer.{Offer};
 ghost use Rattle.head_window.specs.Window.{startedBeside, restartedBeside};
 ghost use Rattle.head_c.specs.Places as place;
 ghost use Rattle.head_c.specs.Blocks.{IsBlock, upTo, entryIn, rangeIn, numbersAt, listAt, seatOf, headOf};
-ghost use Rattle.head_c.specs.Blocks.{wordsOf, keptOf, seatWords, withHead, withAnswer, besideOf, withBeside};
-ghost use Rattle.head_c.specs.Blocks.{marked, changed, Hears, heardEach, HearsBatch};
-ghost use Rattle.head_c.specs.Events.{starts, restarts, startsListener, restartsListener, closes, blockAfter};
+ghost use Rattle.head_c.specs.Blocks.{wordsOf, keptOf, seatWords, withHead, withAnswer, besideOf, withBeside, offerOf, withOffer, withoutOffer, withClosing};
+ghost use Rattle.head_c.specs.Blocks.{marked, heardOn, changed, Hears, heardEach, HearsBatch};
+ghost use Rattle.head_c.specs.Events.{starts, restarts, startsListener, restartsListener, closes, adopts, blockAfter};
 ghost use Rattle.head_c.specs.Steps.{numberOf};
 use frame_spec::Said;
 use head_spec::Answer;
+use head_spec::Closed;
+use head_spec::Closing;
 use head_spec::Head;
 use head_spec::LastKept;
+use head_spec::Offer;
 use head_spec::Row;
 use head_spec::Seat;
 use head_window::Beside;
@@ -327,21 +332,83 @@ fn put_beside(h: &mut [u32], b: Beside)
     h[place::MASK] = b.mask;
 }
 
-// Leaves what a call answers in the block, and what stands beside the head after it, and gives its number.
+// Leaves what a start, a restart or an adoption answers in the block, and what stands beside the head after it, and gives its number. It ends an offer, unless it is
+// refused.
 fn put_call(h: &mut [u32], a: Answer, b: Beside) -> u8
     requires { ⌜ IsBlock (now h) × (a .refusal ≡ 0 → a .head ≡ opened (a .head .seat) (a .head .list)) ⌝ }
-    ensures { λ r. ⌜ (r ≡ a .refusal) × (now (h .exit) ≡ withBeside b (withAnswer (now (h .entry)) a)) ⌝ }
+    ensures { λ r. ⌜ (r ≡ a .refusal) × (now (h .exit) ≡ withoutOffer (a .refusal) (withBeside b (withAnswer (now (h .entry)) a))) ⌝ }
 {
     let number = put_answer(h, a);
     put_beside(h, b);
+    end_offer(h, number);
     number
+}
+
+// ---- The offer beside it.
+
+fn offer_in(h: &[u32]) -> Offer
+    requires { ⌜ IsBlock (now h) ⌝ }
+    ensures { λ r. ⌜ r ≡ offerOf (now (h .entry)) ⌝ }
+{
+    if h[place::OFFERED] == 0 {
+        return Offer::Nothing;
+    }
+    Offer::Standing(Kept {
+        low: fields::signed(h[place::OFFER_LOW]),
+        high: fields::signed(h[place::OFFER_HIGH]),
+        trim: (h[place::OFFER_TRIM] % 256) as u8,
+        position: fields::signed(h[place::OFFER_MIDDLE]),
+    })
+}
+
+fn put_offer(h: &mut [u32], kept: Kept)
+    requires { ⌜ IsBlock (now h) ⌝ }
+    ensures { λ _. ⌜ now (h .exit) ≡ withOffer (Offer.Standing kept) (now (h .entry)) ⌝ }
+{
+    h[place::OFFERED] = 1;
+    h[place::OFFER_LOW] = fields::unsigned(kept.low);
+    h[place::OFFER_HIGH] = fields::unsigned(kept.high);
+    h[place::OFFER_TRIM] = kept.trim as u32;
+    h[place::OFFER_MIDDLE] = fields::unsigned(kept.position);
+}
+
+// Ends an offer after a call that answers this number, unless it is refused.
+fn end_offer(h: &mut [u32], number: u8)
+    requires { ⌜ IsBlock (now h) ⌝ }
+    ensures { λ _. ⌜ now (h .exit) ≡ withoutOffer number (now (h .entry)) ⌝ }
+{
+    if number == 0 {
+        h[place::OFFERED] = 0;
+    }
+}
+
+// Leaves what a closing answers: the record if it ended a collection round, or the offer; and gives its number.
+fn put_closing(h: &mut [u32], out: Closing) -> u8
+    requires { ⌜ IsBlock (now h) × (out .closed ≡ Closed.Listed → out .head ≡ opened (out .head .seat) (out .head .list)) ⌝ }
+    ensures { λ r. ⌜ (r ≡ closedNumber (out .closed)) × (now (h .exit) ≡ withClosing (out .closed) (out .head) (now (h .entry))) ⌝ }
+{
+    let closed = out.closed;
+    let head = out.head;
+    match closed {
+        Closed::Refused(number) => number,
+        Closed::Listed => {
+            let seat = head.seat;
+            let list = head.list;
+            put_opened(h, seat, list);
+            0
+        }
+        Closed::Settled(kept) => {
+            put_offer(h, kept);
+            0
+        }
+    }
 }
 
 // Leaves what a start answers: what stood beside the head is cleared, unless it is refused.
 fn put_start(h: &mut [u32], a: Answer) -> u8
     requires { ⌜ IsBlock (now h) × (a .refusal ≡ 0 → a .head ≡ opened (a .head .seat) (a .head .list)) ⌝ }
     ensures { λ r. ⌜ (r ≡ a .refusal)
-        × (now (h .exit) ≡ withBeside (startedBeside (a .refusal) (besideOf (now (h .entry)))) (withAnswer (now (h .entry)) a)) ⌝ }
+        × (now (h .exit) ≡ withoutOffer (a .refusal) (withBeside (startedBeside (a .refusal) (besideOf (now (h .entry)))) (withAnswer (now (h .entry)) a))) ⌝ }
 {
     let b = head_window::after_start(a.refusal, beside_in(h));
     put_call(h, a, b)
@@ -351,7 +418,7 @@ fn put_start(h: &mut [u32], a: Answer) -> u8
 fn put_restart(h: &mut [u32], a: Answer) -> u8
     requires { ⌜ IsBlock (now h) × (a .refusal ≡ 0 → a .head ≡ opened (a .head .seat) (a .head .list)) ⌝ }
     ensures { λ r. ⌜ (r ≡ a .refusal)
-        × (now (h .exit) ≡ withBeside (restartedBeside (a .refusal) (besideOf (now (h .entry)))) (withAnswer (now (h .entry)) a)) ⌝ }
+        × (now (h .exit) ≡ withoutOffer (a .refusal) (withBeside (restartedBeside (a .refusal) (besideOf (now (h .entry)))) (withAnswer (now (h .entry)) a))) ⌝ }
 {
     let b = head_window::after_restart(a.refusal, beside_in(h));
     put_call(h, a, b)
@@ -367,12 +434,21 @@ fn put_mark(h: &mut [u32], at: usize, k: usize)
     h[at] = marks::with_mark(h[at], k);
 }
 
+// Link k is heard, and an offer lapses.
+fn put_heard(h: &mut [u32], k: usize)
+    requires { ⌜ IsBlock (now h) ⌝ }
+    ensures { λ _. ⌜ now (h .exit) ≡ heardOn k (now (h .entry)) ⌝ }
+{
+    h[place::OFFERED] = 0;
+    put_mark(h, place::HEARD, k);
+}
+
 // Takes an entry of link k.
 fn take_entry(h: &mut [u32], k: usize, e: Entry)
     requires { ⌜ IsBlock (now h) × (k < 32) ⌝ }
     ensures { λ _. ⌜ now (h .exit) ≡ changed (now (h .entry)) k (collected e) ⌝ }
 {
-    put_mark(h, place::HEARD, k);
+    put_heard(h, k);
     match e {
         Entry::Null => {}
         Entry::Position(v) => {
@@ -387,7 +463,7 @@ fn take_list(h: &mut [u32], k: usize, t: Table)
     requires { ⌜ IsBlock (now h) × (k < 32) ⌝ }
     ensures { λ _. ⌜ now (h .exit) ≡ changed (now (h .entry)) k (listed t) ⌝ }
 {
-    put_mark(h, place::HEARD, k);
+    put_heard(h, k);
     put_mark(h, place::LISTED, k);
     h[place::LIST_MARKS + k] = t.marks;
     put_numbers(h, place::LISTS + 32 * k, &t.entries);
@@ -398,7 +474,7 @@ fn take_confession(h: &mut [u32], k: usize)
     requires { ⌜ IsBlock (now h) × (k < 32) ⌝ }
     ensures { λ _. ⌜ now (h .exit) ≡ changed (now (h .entry)) k confessed ⌝ }
 {
-    put_mark(h, place::HEARD, k);
+    put_heard(h, k);
     put_mark(h, place::CONFESSED, k);
 }
 
@@ -578,16 +654,43 @@ pub extern "C" fn focus_head_hear_batch(
     0
 }
 
-// Closes the round: 0, or 26, 25.
+// Closes the round: 0, or 26, 25. It ends a collection round; in a confession round it only offers the position.
 #[no_mangle]
 pub extern "C" fn focus_head_close(h: &mut Block) -> u8
-    ensures { λ r. ⌜ (r ≡ closedAnswer (close (headOf (now (h .entry)))) .refusal)
+    ensures { λ r. ⌜ (r ≡ closedNumber (close (headOf (now (h .entry))) .closed))
         × (now (h .exit) ≡ blockAfter (now (h .entry)) closes) ⌝ }
 {
     let out = head_calls::close(head_of(h));
     let closed = out.closed;
     let b = head_window::after_close(closed, beside_in(h));
-    put_call(h, head_lent::closed_answer(out), b)
+    let number = put_closing(h, out);
+    put_beside(h, b);
+    number
+}
+
+// Adopts what is offered, and ends the phase: 0, or 27, 26.
+#[no_mangle]
+pub extern "C" fn focus_head_adopt(h: &mut Block) -> u8
+    ensures { λ r. ⌜ (r ≡ adopt (headOf (now (h .entry))) (offerOf (now (h .entry))) .refusal)
+        × (now (h .exit) ≡ blockAfter (now (h .entry)) adopts) ⌝ }
+{
+    let a = head_calls::adopt(head_of(h), offer_in(h));
+    let b = head_window::after_adopt(a.refusal, beside_in(h));
+    put_call(h, a, b)
+}
+
+// What is offered, where it was lent: the lowest kept entry, the highest, the trim and the position. 1, or 0 if no offer stands.
+#[no_mangle]
+pub extern "C" fn focus_head_offer(h: &Block, kept: &mut [i32; 4]) -> u8
+    ensures { λ r. ⌜ (r ≡ offerNumber (offerOf (now (h .entry)))) × (now (kept .exit) ≡ offerOr (offerOf (now (h .entry))) (now (kept .entry))) ⌝ }
+{
+    match offer_in(h) {
+        Offer::Nothing => 0,
+        Offer::Standing(o) => {
+            *kept = [o.low, o.high, o.trim as i32, o.position];
+            1
+        }
+    }
 }
 
 // Writes what the head has to say at the front of the buffer, and the frame's length: 0, or 26, 17, 24.

@@ -29,10 +29,20 @@ pub const TRIM: usize = 12;
 
 pub const MIDDLE: usize = 13;
 
-// What C keeps beside a head: pending events and mask; 18 to 23 are room for more.
+// What C keeps beside a head: pending events and mask, and an offer; 23 is room for more.
 pub const EVENTS: usize = 16;
 
 pub const MASK: usize = 17;
+
+pub const OFFERED: usize = 18; // an offer stands: its lowest and highest kept entry, its trim and its position
+
+pub const OFFER_LOW: usize = 19;
+
+pub const OFFER_HIGH: usize = 20;
+
+pub const OFFER_TRIM: usize = 21;
+
+pub const OFFER_MIDDLE: usize = 22;
 
 // Of what was heard.
 pub const HEARD: usize = 24; // the links heard in this round

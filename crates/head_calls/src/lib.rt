@@ -1,11 +1,12 @@
-// The calls on a head's or a listener's record, by value, other than hearing and closing: start, restart, write. Each promise is one equation with a
+// The calls on a head's or a listener's record, by value, other than hearing: start, restart, write, close, adopt. Each promise is one equation with a
 // definition of record's specs/Calls.antt; a refusal gives its number and leaves the record as it was.
 ghost use mathlib.Core.Path.{_≡_};
 ghost use Rattle.terms.specs.Refusals.{check};
 ghost use Rattle.head_spec.specs.Record.{noEntries, opened, rows};
 ghost use Rattle.head_spec.specs.Seats.{healedSeat, confessionSeat, nextSeat};
 ghost use Rattle.head_spec.specs.Calls.{isTime, start, restart, startListener, restartListener, writeAnswer, writeBuffer};
-ghost use Rattle.head_spec.specs.Calls.{closedCollection, closedPhase, closeIn, close};
+ghost use Rattle.head_spec.specs.Calls.{closedCollection, closedPhase, closeIn, close, adopt};
+ghost use Rattle.head_spec.specs.Offers.{lapsed, offered};
 ghost use Rattle.head_calls.specs.Steps.{isMember, checkMember, openingSeat, startAs, restartAs, saidBy};
 use frame_spec::Said;
 use frame_spec::Written;
@@ -14,6 +15,7 @@ use head_spec::Closed;
 use head_spec::Closing;
 use head_spec::Head;
 use head_spec::LastKept;
+use head_spec::Offer;
 use head_spec::Row;
 use head_spec::Seat;
 use settle_midpoint::Kept;
@@ -299,7 +301,7 @@ fn closed_phase(h: Head, kept: Kept) -> Head
     opened(next_seat(seat, kept), no_entries())
 }
 
-// Closes a confession round.
+// Closes a confession round: the position is offered, and the record stays as it is.
 fn close_confession(h: Head) -> Closing
     ensures { λ r. ⌜ r ≡ closeIn 1 h ⌝ }
 {
@@ -312,17 +314,14 @@ fn close_confession(h: Head) -> Closing
             closed: Closed::Refused(refused),
             head: h,
         },
-        Settled::New(kept) => {
-            let head = closed_phase(h, kept);
-            Closing {
-                closed: Closed::Settled(kept),
-                head,
-            }
-        }
+        Settled::New(kept) => Closing {
+            closed: Closed::Settled(kept),
+            head: h,
+        },
     }
 }
 
-// Closes the round.
+// Closes the round: it ends a collection round, and offers the position of a confession round.
 pub fn close(h: Head) -> Closing
     ensures { λ r. ⌜ r ≡ close h ⌝ }
 {
@@ -341,4 +340,50 @@ pub fn close(h: Head) -> Closing
         };
     }
     close_confession(h)
+}
+
+// ---- The offer beside a head (document 02, A8).
+
+// Adopts what is offered, and ends the phase: 0, or 27, 26.
+pub fn adopt(h: Head, offer: Offer) -> Answer
+    ensures { λ r. ⌜ r ≡ adopt h offer ⌝ }
+{
+    let seat = h.seat;
+    match offer {
+        Offer::Nothing => Answer {
+            refusal: refusal::NO_OFFER,
+            head: h,
+        },
+        Offer::Standing(kept) => {
+            if seat.ended {
+                return Answer {
+                    refusal: refusal::ENDED,
+                    head: h,
+                };
+            }
+            let head = closed_phase(h, kept);
+            Answer { refusal: 0, head }
+        }
+    }
+}
+
+// The offer after a start, a restart, a hearing or an adoption that answered this number.
+pub fn lapsed(number: u8, offer: Offer) -> Offer
+    ensures { λ r. ⌜ r ≡ lapsed number offer ⌝ }
+{
+    if number == 0 {
+        return Offer::Nothing;
+    }
+    offer
+}
+
+// The offer after a closing that answered c.
+pub fn offered(c: Closed, offer: Offer) -> Offer
+    ensures { λ r. ⌜ r ≡ offered c offer ⌝ }
+{
+    match c {
+        Closed::Refused(_) => offer,
+        Closed::Listed => offer,
+        Closed::Settled(kept) => Offer::Standing(kept),
+    }
 }

@@ -1,9 +1,14 @@
--- The head's own record, as it is lent.
+-- The head's own record, as it is lent, and an offer, as it is passed beside it.
 use Rattle.head_spec.specs.declared.Answer.{Answer}
 use Rattle.head_spec.proofs.Head as Head
 use Rattle.head_spec.proofs.Head.Laws as Head′
 use Rattle.head_spec.proofs.Answer as Answer′
+use Rattle.head_spec.proofs.Offer as Offer
+use Rattle.head_spec.proofs.Offer.Laws as Offer′
+use denote.Enum.Laws as enum
+use denote.Exit.{yes}
 use Rattle.head_lent_logic.proofs.Lending.{Lending}
+use Rattle.head_lent_logic.proofs.ChangeMeets.{Copied}
 
 abbrev pub heads : Lending
 heads = record {
@@ -17,4 +22,13 @@ heads = record {
   number = λ r. r .refusal;
   next = λ r. r .head;
   one = Answer′.the-type .to-one;
+}
+
+abbrev pub offers : Copied Offer.the-row
+offers = record {
+  vals = enum.vals Offer.the-type Offer′.the-laws;
+  tells = enum.tells Offer.the-type Offer′.the-laws;
+  lawful = λ 𝓤 H A W. enum.lawful Offer.the-type Offer′.the-laws 𝓤 H A W tt;
+  copy = λ 𝓤 H A W. enum.copy Offer.the-type Offer′.the-copy 𝓤 H A W;
+  still = enum.still Offer.the-type Offer′.the-copy yes;
 }

@@ -5,18 +5,14 @@ use lib.IntN.{ℤ, pos}
 use Rattle.terms.specs.declared.Entry.{Entry}
 use Rattle.frame_spec.specs.declared.Written.{Written}
 use Rattle.head_spec.specs.declared.LastKept.{LastKept}
-use Rattle.head_spec.specs.declared.Answer.{Answer}
 use Rattle.head_spec.specs.declared.Closed.{Closed}
-use Rattle.head_spec.specs.declared.Closing.{Closing}
+use Rattle.head_spec.specs.declared.Offer.{Offer}
 
 -- 0 if the round is closed
 abbrev pub closedNumber : Closed → ℕ
 closedNumber (Closed.Refused c) = c
 closedNumber Closed.Listed = 0
 closedNumber (Closed.Settled k) = 0
-
-abbrev pub closedAnswer : Closing → Answer
-closedAnswer c = record { refusal = closedNumber (c .closed); head = c .head }
 
 -- 0 if a frame was written
 abbrev pub writtenNumber : Written → ℕ
@@ -41,6 +37,16 @@ heldOr (Entry.Position v) old = v
 abbrev pub rangeNumber : LastKept → ℕ
 rangeNumber LastKept.Nothing = 0
 rangeNumber (LastKept.Range k) = 1
+
+-- 1 if an offer stands
+abbrev pub offerNumber : Offer → ℕ
+offerNumber Offer.Nothing = 0
+offerNumber (Offer.Standing k) = 1
+
+-- the lowest kept entry, the highest, the trim and the position
+abbrev pub offerOr : Offer → List ℤ → List ℤ
+offerOr Offer.Nothing old = old
+offerOr (Offer.Standing k) old = k .low ∷ k .high ∷ pos (k .trim) ∷ k .position ∷ []
 
 -- its lowest entry, its highest, its trim and its position
 abbrev pub rangeOr : LastKept → List ℤ → List ℤ

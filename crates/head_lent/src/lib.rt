@@ -3,13 +3,12 @@
 ghost use mathlib.Core.Path.{_≡_};
 ghost use lib.ListN.{length};
 ghost use Rattle.head_spec.specs.Batch.{hearBatch, batchAnswers, batchCount};
-ghost use Rattle.head_spec.specs.Calls.{start, restart, startListener, restartListener, hear, writeAnswer, writeBuffer, close};
-ghost use Rattle.head_lent.specs.Answers.{closedNumber, closedAnswer, writtenNumber, writtenOr, heldNumber, heldOr};
+ghost use Rattle.head_spec.specs.Calls.{start, restart, startListener, restartListener, hear, writeAnswer, writeBuffer, close, adopt};
+ghost use Rattle.head_lent.specs.Answers.{writtenNumber, writtenOr, heldNumber, heldOr};
 use frame_spec::Written;
-use head_spec::Answer;
 use head_spec::Closed;
-use head_spec::Closing;
 use head_spec::Head;
+use head_spec::Offer;
 use terms::Entry;
 
 // Starts the record with a position, in phase 1: 0, or 1, 2, 3, 4.
@@ -71,40 +70,21 @@ pub fn hear_batch(h: &mut Head, batch: &[u8], answers: &mut [u8], count: &mut us
     out.refusal
 }
 
-// What a closing answers, as a number and the record.
-pub fn closed_answer(out: Closing) -> Answer
-    ensures { λ r. ⌜ r ≡ closedAnswer out ⌝ }
+// Closes the round, or refuses 26, 25: it ends a collection round, and answers the position of a confession round, which is the offer that stands beside the record
+// then. `head_calls::offered` and `head_calls::lapsed` say what becomes of an offer.
+pub fn close(h: &mut Head) -> Closed
+    ensures { λ r. ⌜ (r ≡ close (now (h .entry)) .closed) × (now (h .exit) ≡ close (now (h .entry)) .head) ⌝ }
 {
-    let c = out.closed;
-    let g = out.head;
-    match c {
-        Closed::Refused(number) => Answer {
-            refusal: number,
-            head: g,
-        },
-        Closed::Listed => Answer {
-            refusal: 0,
-            head: g,
-        },
-        Closed::Settled(_) => Answer {
-            refusal: 0,
-            head: g,
-        },
-    }
+    let out = head_calls::close(*h);
+    *h = out.head;
+    out.closed
 }
 
-// What closing by value answers, as a number and the record.
-pub fn closed(h: Head) -> Answer
-    ensures { λ r. ⌜ r ≡ closedAnswer (close h) ⌝ }
+// Adopts what is offered, and ends the phase: 0, or 27, 26.
+pub fn adopt(h: &mut Head, offer: Offer) -> u8
+    ensures { λ r. ⌜ (r ≡ adopt (now (h .entry)) offer .refusal) × (now (h .exit) ≡ adopt (now (h .entry)) offer .head) ⌝ }
 {
-    closed_answer(head_calls::close(h))
-}
-
-// Closes the round: 0, or 26, 25.
-pub fn close(h: &mut Head) -> u8
-    ensures { λ r. ⌜ (r ≡ closedNumber (close (now (h .entry)) .closed)) × (now (h .exit) ≡ close (now (h .entry)) .head) ⌝ }
-{
-    let out = closed(*h);
+    let out = head_calls::adopt(*h, offer);
     *h = out.head;
     out.refusal
 }

@@ -1,5 +1,5 @@
--- Demand 2 holds. Calls make proper records only, since start and restart make one and hearing and closing keep it so; and of a proper record the laws of
--- this crate say the rest.
+-- Demand 2 holds. Calls make proper records only, since start and restart make one and hearing and the ends of rounds keep it so; and of a proper record
+-- the laws of this crate say the rest.
 use mathlib.Core.Path.{_≡_, refl, ap, _∙_}
 use mathlib.Core.Bool.{false}
 use mathlib.Core.List.{List}
@@ -17,14 +17,15 @@ use Rattle.frame_spec.proofs.OneMeaning.{one-meaning}
 use Rattle.head_spec.specs.declared.Seat.{Seat}
 use Rattle.head_spec.specs.declared.Head.{Head}
 use Rattle.head_spec.specs.declared.Closing.{Closing}
-use Rattle.head_spec.specs.Record.{given, givenOf, trustedBy}
-use Rattle.head_spec.specs.Calls.{Delivery, hearEach, closedCollection, closeSettled}
+use Rattle.head_spec.specs.Record.{given, givenOf}
+use Rattle.head_spec.specs.Calls.{Delivery, hearEach, closedCollection, settlingOf, endSettled, offerSettled}
 use Rattle.head_spec.specs.Proper.{ProperHead}
-use Rattle.head_spec.specs.Demand2.{Reachable, starts, restarts, listens, listens-again, hears, closes, firstSaid, settledFrom, FollowsCC, AlgorithmCC, Demand2}
+use Rattle.head_spec.specs.Demand2.{Reachable, starts, restarts, listens, listens-again, hears, ends, firstSaid, settledFrom, FollowsCC, AlgorithmCC, Demand2}
 use Rattle.head_spec.proofs.Proper.{proper-started, proper-restarted, proper-started-listener, proper-restarted-listener}
 use Rattle.head_spec.proofs.Taking.{proper-hear}
 use Rattle.head_spec.proofs.Hearing.{Fresh, each-keep, gave-first, listed-first}
-use Rattle.head_spec.proofs.RoundEnd.{closes-collection, closes-confession, proper-close}
+use Rattle.head_spec.proofs.RoundEnd.{ends-collection, ends-confession, proper-end}
+use Rattle.head_spec.proofs.RoundClose.{closes-confession}
 use Rattle.head_spec.proofs.Speaking.{spoken-reads-back, written-reads-back}
 
 reached-proper : {h : Head} → Reachable h → ProperHead h
@@ -33,7 +34,7 @@ reached-proper (restarts n f i p r e) = proper-restarted n f i p r e
 reached-proper (listens n f i e) = proper-started-listener n f i e
 reached-proper (listens-again n f i p r e) = proper-restarted-listener n f i p r e
 reached-proper (hears {h} k s B R) = proper-hear h k s (reached-proper R)
-reached-proper (closes {h} R) = proper-close h (reached-proper R)
+reached-proper (ends {h} R) = proper-end h (reached-proper R)
 
 module _ (h : Head) (F : Fresh h) (D : List Delivery) where
   abbrev T : Head
@@ -51,7 +52,7 @@ module _ (h : Head) (F : Fresh h) (D : List Delivery) where
   round : {r : ℕ} → h .seat .round ≡ r → T .seat .round ≡ r
   round e = ap (λ (x : Seat). x .round) kept ∙ e
 
-  settled : settling (rounding (T .seat .phase)) (T .seat .n) (twoRounds (T .seat .f)) (trustedBy T) ≡ settledFrom (h .seat) D
+  settled : settlingOf T ≡ settledFrom (h .seat) D
   settled =
       let n = h .seat .n in
       let f = h .seat .f in
@@ -63,8 +64,9 @@ module _ (h : Head) (F : Fresh h) (D : List Delivery) where
   follows =
       record {
         list =
-            λ r k l. ap (λ (c : Closing). tableAt (c .head .list) k) (closes-collection T runs (round r)) ∙ listed-first h F D r k l;
-        settles = λ r. closes-confession T runs (round r) ∙ ap (λ (s : Settled). closeSettled s T) settled;
+            λ r k l. ap (λ (c : Closing). tableAt (c .head .list) k) (ends-collection T runs (round r)) ∙ listed-first h F D r k l;
+        settles = λ r. ends-confession T runs (round r) ∙ ap (λ (s : Settled). endSettled s T) settled;
+        offers = λ r. closes-confession T runs (round r) ∙ ap (λ (s : Settled). offerSettled s T) settled;
       }
 
 algorithm-cc : AlgorithmCC

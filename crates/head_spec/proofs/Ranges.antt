@@ -1,4 +1,4 @@
--- A head holds the kept range that was passed on last: only a closing that settles puts one there, and it puts the one that it answers. The position lies in
+-- A head holds the kept range that was passed on last: only a phase end puts one there, and it puts the one that it answers. The position lies in
 -- it, since half the sum of the lowest and the highest kept lies between them. Nothing else puts a position in a listener's record.
 use mathlib.Core.Path.{_≡_, refl, ap, sym, _∙_}
 use mathlib.Core.Bool.{Bool, true, false, cond, true≢false}
@@ -19,7 +19,7 @@ use Rattle.head_spec.specs.declared.Seat.{Seat}
 use Rattle.head_spec.specs.declared.Head.{Head}
 use Rattle.head_spec.specs.declared.Closed.{Closed}
 use Rattle.head_spec.specs.Record.{trustedBy}
-use Rattle.head_spec.specs.Calls.{started, restarted, startedListener, closedCollection, closedPhase, closing, closeSettled, closeIn, close}
+use Rattle.head_spec.specs.Calls.{started, restarted, startedListener, closedCollection, closedPhase, closing, endSettled, endIn, endRound}
 use Rattle.head_spec.specs.Demand2.{Reachable}
 use Rattle.head_spec.specs.Demand2 as reachable
 use Rattle.head_spec.specs.Ranges.{passing, Passed, HoldsPassed, InRange, PassedInRange, ListenerHoldsNone}
@@ -31,11 +31,11 @@ use Rattle.head_spec.proofs.Demand2.{demand-2}
 
 -- ---- which range is held
 
-held-closing : (c : Closed) (h h′ : Head) (x : LastKept) → Answers c h h′ → h .seat .last ≡ x → h′ .seat .last ≡ passing c x
+held-ending : (c : Closed) (h h′ : Head) (x : LastKept) → Answers c h h′ → h .seat .last ≡ x → h′ .seat .last ≡ passing c x
 unfolding closedCollection closedPhase
-held-closing (Closed.Refused c) h h′ x a e = ap (λ (y : Head). y .seat .last) a ∙ e
-held-closing Closed.Listed h h′ x a e = ap (λ (y : Head). y .seat .last) a ∙ e
-held-closing (Closed.Settled k) h h′ x a e = ap (λ (y : Head). y .seat .last) a
+held-ending (Closed.Refused c) h h′ x a e = ap (λ (y : Head). y .seat .last) a ∙ e
+held-ending Closed.Listed h h′ x a e = ap (λ (y : Head). y .seat .last) a ∙ e
+held-ending (Closed.Settled k) h h′ x a e = ap (λ (y : Head). y .seat .last) a
 
 pub holds-passed : HoldsPassed
 unfolding started restarted startedListener
@@ -44,17 +44,17 @@ holds-passed h x (passed.restarts n f i p r e) = refl
 holds-passed h x (passed.listens n f i e) = refl
 holds-passed h x (passed.listens-again n f i p r e) = refl
 holds-passed h x (passed.hears {h = y} k s bytes P) = rw (hear-keeps y k s) (holds-passed y x P)
-holds-passed h x (passed.closes {h = y} {x = z} P) = held-closing (close y .closed) y (close y .head) z (answers y) (holds-passed y z P)
+holds-passed h x (passed.ends {h = y} {x = z} P) = held-ending (endRound y .closed) y (endRound y .head) z (answers y) (holds-passed y z P)
 
 -- ---- the position lies in it
 
-reached : {h : Head} {x : LastKept} → Passed h x → Reachable h
+pub reached : {h : Head} {x : LastKept} → Passed h x → Reachable h
 reached (passed.starts n f i v e) = reachable.starts n f i v e
 reached (passed.restarts n f i p r e) = reachable.restarts n f i p r e
 reached (passed.listens n f i e) = reachable.listens n f i e
 reached (passed.listens-again n f i p r e) = reachable.listens-again n f i p r e
 reached (passed.hears k s bytes P) = reachable.hears k s bytes (reached P)
-reached (passed.closes P) = reachable.closes (reached P)
+reached (passed.ends P) = reachable.ends (reached P)
 
 abbrev Sound : LastKept → Type 0
 Sound LastKept.Nothing = Unit {0}
@@ -68,15 +68,15 @@ module _ (h : Head) (P : ProperHead h) where
       let (above, below) = in-kept (h .seat .n) (h .seat .f) (P .seat .size .limit) (trustedBy h) few (rounding (h .seat .phase)) (rounding-le (h .seat .phase)) in
       record { above = above; below = below }
 
-  closed-sound : Sound (h .seat .last) → Sound (close h .head .seat .last)
-  unfolding close settling closedCollection closedPhase
-  closed-sound s = go (h .seat .ended) (h .seat .round)
+  ended-sound : Sound (h .seat .last) → Sound (endRound h .head .seat .last)
+  unfolding endRound settling closedCollection closedPhase
+  ended-sound s = go (h .seat .ended) (h .seat .round)
     where
-      settles : (c : Bool) → enoughTrusted h ≡ c → Sound (closeSettled (cond c (Settled.New (settledBy h)) (Settled.Refused refusal.trusted)) h .head .seat .last)
+      settles : (c : Bool) → enoughTrusted h ≡ c → Sound (endSettled (cond c (Settled.New (settledBy h)) (Settled.Refused refusal.trusted)) h .head .seat .last)
       settles true e = settled-sound e
       settles false e = s
 
-      go : (b : Bool) (r : ℕ) → Sound (cond b (closing (Closed.Refused refusal.ended) h) (closeIn r h) .head .seat .last)
+      go : (b : Bool) (r : ℕ) → Sound (cond b (closing (Closed.Refused refusal.ended) h) (endIn r h) .head .seat .last)
       go true r = s
       go false zero = s
       go false (suc r) = settles (enoughTrusted h) refl
@@ -88,7 +88,7 @@ sound (passed.restarts n f i p r e) = tt
 sound (passed.listens n f i e) = tt
 sound (passed.listens-again n f i p r e) = tt
 sound (passed.hears {h = x} k s bytes P) = rw (hear-keeps x k s) (sound P)
-sound (passed.closes {h = x} P) = closed-sound x (demand-2 .proper x (reached P)) (sound P)
+sound (passed.ends {h = x} P) = ended-sound x (demand-2 .proper x (reached P)) (sound P)
 
 pub passed-in-range : PassedInRange
 passed-in-range h k P = rw (holds-passed h (LastKept.Range k) P) at (sound P)
@@ -99,11 +99,11 @@ passed-in-range h k P = rw (holds-passed h (LastKept.Range k) P) at (sound P)
 abbrev None : Seat → Type 0
 None s = isListener (s .number) ≡ true → s .position ≡ Entry.Null
 
-none-closing : (c : Closed) (h h′ : Head) (x : LastKept) → Answers c h h′ → passing c x ≡ LastKept.Nothing → (x ≡ LastKept.Nothing → None (h .seat)) → None (h′ .seat)
+none-ending : (c : Closed) (h h′ : Head) (x : LastKept) → Answers c h h′ → passing c x ≡ LastKept.Nothing → (x ≡ LastKept.Nothing → None (h .seat)) → None (h′ .seat)
 unfolding closedCollection
-none-closing (Closed.Refused c) h h′ x a e none = rw a (none e)
-none-closing Closed.Listed h h′ x a e none = rw a (none e)
-none-closing (Closed.Settled k) h h′ x a e none = let z : _≡_ {A = ℕ} 0 1 = cc in absurd (omega arith)
+none-ending (Closed.Refused c) h h′ x a e none = rw a (none e)
+none-ending Closed.Listed h h′ x a e none = rw a (none e)
+none-ending (Closed.Settled k) h h′ x a e none = let z : _≡_ {A = ℕ} 0 1 = cc in absurd (omega arith)
 
 none-held : {h : Head} {x : LastKept} → Passed h x → x ≡ LastKept.Nothing → None (h .seat)
 unfolding started restarted startedListener
@@ -112,7 +112,7 @@ none-held (passed.restarts n f i p r c) e = λ l. refl
 none-held (passed.listens n f i c) e = λ l. refl
 none-held (passed.listens-again n f i p r c) e = λ l. refl
 none-held (passed.hears {h = y} k s bytes P) e = rw (hear-keeps y k s) (none-held P e)
-none-held (passed.closes {h = y} {x = z} P) e = none-closing (close y .closed) y (close y .head) z (answers y) e (λ q. none-held P q)
+none-held (passed.ends {h = y} {x = z} P) e = none-ending (endRound y .closed) y (endRound y .head) z (answers y) e (λ q. none-held P q)
 
 pub listener-holds-none : ListenerHoldsNone
 listener-holds-none h P = none-held P refl

@@ -1,5 +1,5 @@
--- Closing a round. A collection round is never refused. A confession round is refused 25 exactly if too few entries are trusted, and else the record
--- holds the position that was answered. What closing makes is a round just opened, and a proper record stays proper.
+-- The end of a round. A collection round is never refused. A confession round is refused 25 exactly if too few entries are trusted, and else the record
+-- holds the position that was answered. What the end makes is a round just opened, and a proper record stays proper.
 use mathlib.Core.Path.{_≡_, refl, ap}
 use mathlib.Core.Bool.{Bool, true, false, cond}
 use Prim.Native.Nat.{ℕ, zero, suc, _+_, _≤_, _<_}
@@ -20,7 +20,7 @@ use Rattle.head_spec.specs.declared.Head.{Head}
 use Rattle.head_spec.specs.declared.Closed.{Closed}
 use Rattle.head_spec.specs.Record.{trustedBy}
 use Rattle.head_spec.specs.Seats.{confessionSeat, isLast, nextSeat}
-use Rattle.head_spec.specs.Calls.{closedCollection, closedPhase, closing, closeSettled, closeIn, close}
+use Rattle.head_spec.specs.Calls.{closedCollection, closedPhase, closing, settlingOf, endSettled, endIn, endRound}
 use Rattle.head_spec.proofs.Proper.{ProperKept, ProperSeat, ProperHead, no-entries, no-entry, proper-opened}
 use Rattle.head_spec.proofs.Hearing.{Fresh}
 use Rattle.head_spec.proofs.Range.{kept-proper, trusted-positions}
@@ -34,21 +34,21 @@ abbrev pub enoughTrusted : Head → Bool
 enoughTrusted h = enough (h .seat .n) (twoRounds (h .seat .f)) (trustedBy h)
 
 module _ (h : Head) (runs : h .seat .ended ≡ false) where
-  pub closes-collection : h .seat .round ≡ 0 → close h ≡ closing Closed.Listed (closedCollection h)
-  unfolding close
-  closes-collection r = rw (runs, r)
+  pub ends-collection : h .seat .round ≡ 0 → endRound h ≡ closing Closed.Listed (closedCollection h)
+  unfolding endRound
+  ends-collection r = rw (runs, r)
 
   module _ (confession : h .seat .round ≡ 1) where
-    pub closes-confession : close h ≡ closeSettled (settling (rounding (h .seat .phase)) (h .seat .n) (twoRounds (h .seat .f)) (trustedBy h)) h
-    unfolding close
-    closes-confession = rw (runs, confession)
+    pub ends-confession : endRound h ≡ endSettled (settlingOf h) h
+    unfolding endRound
+    ends-confession = rw (runs, confession)
 
-    pub closes-phase : enoughTrusted h ≡ true → close h ≡ closing (Closed.Settled (settledBy h)) (closedPhase h (settledBy h))
-    unfolding close settling
-    closes-phase e = rw (runs, confession, e)
+    pub ends-phase : enoughTrusted h ≡ true → endRound h ≡ closing (Closed.Settled (settledBy h)) (closedPhase h (settledBy h))
+    unfolding endRound settling
+    ends-phase e = rw (runs, confession, e)
 
-    pub too-few-trusted : enoughTrusted h ≡ false → close h ≡ closing (Closed.Refused refusal.trusted) h
-    unfolding close settling
+    pub too-few-trusted : enoughTrusted h ≡ false → endRound h ≡ closing (Closed.Refused refusal.trusted) h
+    unfolding endRound settling
     too-few-trusted e = rw (runs, confession, e)
 
 -- the new position is the midpoint
@@ -68,32 +68,32 @@ Answers (Closed.Refused c) h h′ = h′ ≡ h
 Answers Closed.Listed h h′ = h′ ≡ closedCollection h
 Answers (Closed.Settled k) h h′ = h′ ≡ closedPhase h k
 
-pub answers : (h : Head) → Answers (close h .closed) h (close h .head)
-unfolding close
+pub answers : (h : Head) → Answers (endRound h .closed) h (endRound h .head)
+unfolding endRound
 answers h = go (h .seat .ended) (h .seat .round)
   where
-    settles : (s : Settled) → Answers (closeSettled s h .closed) h (closeSettled s h .head)
+    settles : (s : Settled) → Answers (endSettled s h .closed) h (endSettled s h .head)
     settles (Settled.Refused c) = refl
     settles (Settled.New k) = refl
 
-    go : (b : Bool) (r : ℕ) → let a = cond b (closing (Closed.Refused refusal.ended) h) (closeIn r h) in Answers (a .closed) h (a .head)
+    go : (b : Bool) (r : ℕ) → let a = cond b (closing (Closed.Refused refusal.ended) h) (endIn r h) in Answers (a .closed) h (a .head)
     go true r = refl
     go false zero = refl
-    go false (suc r) = settles (settling (rounding (h .seat .phase)) (h .seat .n) (twoRounds (h .seat .f)) (trustedBy h))
+    go false (suc r) = settles (settlingOf h)
 
--- a closing that settles: the record holds the position answered, with its kept range
-pub settled-held : (h : Head) {k : Kept} → close h .closed ≡ Closed.Settled k → close h .head .seat .position ≡ Entry.Position (k .position)
+-- an end that settles: the record holds the position answered, with its kept range
+pub settled-held : (h : Head) {k : Kept} → endRound h .closed ≡ Closed.Settled k → endRound h .head .seat .position ≡ Entry.Position (k .position)
 unfolding closedPhase
 settled-held h e = ap (λ (x : Head). x .seat .position) (rw e at (answers h))
 
-pub settled-range : (h : Head) {k : Kept} → close h .closed ≡ Closed.Settled k → close h .head .seat .last ≡ LastKept.Range k
+pub settled-range : (h : Head) {k : Kept} → endRound h .closed ≡ Closed.Settled k → endRound h .head .seat .last ≡ LastKept.Range k
 unfolding closedPhase
 settled-range h e = ap (λ (x : Head). x .seat .last) (rw e at (answers h))
 
-pub refused-kept : (h : Head) {c : ℕ} → close h .closed ≡ Closed.Refused c → close h .head ≡ h
+pub refused-kept : (h : Head) {c : ℕ} → endRound h .closed ≡ Closed.Refused c → endRound h .head ≡ h
 refused-kept h e = rw e at (answers h)
 
--- ---- a proper record stays proper, and a round that is closed opens the next
+-- ---- a proper record stays proper, and a round that is ended opens the next
 
 proper-confession : {s : Seat} → ProperSeat s → ProperSeat (confessionSeat s)
 proper-confession P =
@@ -127,26 +127,26 @@ proper-next {s} k P K =
     times false e = let more = leb-false 65535 (s .phase) e in (omega arith, omega arith, omega arith)
 
 module _ (h : Head) (P : ProperHead h) where
-  proper-collection : ProperHead (closedCollection h)
+  pub proper-collection : ProperHead (closedCollection h)
   unfolding closedCollection
   proper-collection = proper-opened (proper-confession (P .seat)) (P .list) (λ r. absurd (omega arith))
 
-  proper-phase : (k : Kept) → ProperKept (h .seat .f) k → ProperHead (closedPhase h k)
+  pub proper-phase : (k : Kept) → ProperKept (h .seat .f) k → ProperHead (closedPhase h k)
   unfolding closedPhase
   proper-phase k K = proper-opened (proper-next k (P .seat) K) (no-entries (h .seat .n)) (λ r. no-entry)
 
-  settled-proper : ProperKept (h .seat .f) (settledBy h)
+  pub settled-proper : ProperKept (h .seat .f) (settledBy h)
   settled-proper = kept-proper (rounding (h .seat .phase)) (h .seat .n) (h .seat .f) _ (trustedBy h) (rounding-le (h .seat .phase)) (trusted-positions h P)
 
-  pub proper-close : ProperHead (close h .head)
-  unfolding close settling
-  proper-close = go (h .seat .ended) (h .seat .round)
+  pub proper-end : ProperHead (endRound h .head)
+  unfolding endRound settling
+  proper-end = go (h .seat .ended) (h .seat .round)
     where
-      settles : (c : Bool) → ProperHead (closeSettled (cond c (Settled.New (settledBy h)) (Settled.Refused refusal.trusted)) h .head)
+      settles : (c : Bool) → ProperHead (endSettled (cond c (Settled.New (settledBy h)) (Settled.Refused refusal.trusted)) h .head)
       settles true = proper-phase (settledBy h) settled-proper
       settles false = P
 
-      go : (b : Bool) (r : ℕ) → ProperHead (cond b (closing (Closed.Refused refusal.ended) h) (closeIn r h) .head)
+      go : (b : Bool) (r : ℕ) → ProperHead (cond b (closing (Closed.Refused refusal.ended) h) (endIn r h) .head)
       go true r = P
       go false zero = proper-collection
       go false (suc r) = settles (enoughTrusted h)

@@ -1,5 +1,6 @@
 -- Stops of the calls, straight from their definitions: a refusal leaves the record, start and restart do not look at the record that was, and once
--- phase 65,535 has ended hearing, writing and closing are refused 26 before all else. Before that, a listener's writing is refused 17.
+-- phase 65,535 has ended hearing, writing and closing are refused 26 before all else, and so is adopting an offer. Before that, a listener's writing is
+-- refused 17.
 use mathlib.Core.Path.{_≡_, refl}
 use mathlib.Core.Logic.{_≢_}
 use mathlib.Core.Bool.{true, false}
@@ -8,11 +9,14 @@ use Prim.Native.Nat.{ℕ, zero, suc}
 use lib.IntN.{ℤ}
 use Rattle.terms.specs.Refusals as refusal
 use Rattle.terms.specs.Sizes.{isListener}
+use Rattle.settle_midpoint.specs.declared.Kept.{Kept}
 use Rattle.frame_spec.specs.declared.Written.{Written}
 use Rattle.head_spec.specs.declared.Head.{Head}
 use Rattle.head_spec.specs.declared.Answer.{Answer}
 use Rattle.head_spec.specs.declared.Closed.{Closed}
-use Rattle.head_spec.specs.Calls.{answer, startRefusal, started, start, restartRefusal, restarted, restart, startListenerRefusal, startedListener, startListener, restartListenerRefusal, restartListener, hearRefusal, hear, writeAnswer, writeBuffer, closing, close}
+use Rattle.head_spec.specs.declared.Offer.{Offer}
+use Rattle.head_spec.specs.Calls.{answer, startRefusal, started, start, restartRefusal, restarted, restart, startListenerRefusal, startedListener, startListener, restartListenerRefusal, restartListener}
+use Rattle.head_spec.specs.Calls.{hearRefusal, hear, writeAnswer, writeBuffer, closing, closedPhase, close, adopt}
 
 -- start, restart and hearing answer so: the refusal, the new record if it is 0, and else the record that was
 pub answer-refusal : (c : ℕ) (new old : Head) → answer c new old .refusal ≡ c
@@ -55,6 +59,16 @@ pub listener-writes : (h : Head) → h .seat .ended ≡ false → isListener (h 
 unfolding writeAnswer writeBuffer
 listener-writes h runs listens buffer = (rw (runs, listens), rw (runs, listens))
 
+-- ---- adopting
+
+pub adopts-nothing : (h : Head) → adopt h Offer.Nothing ≡ record { refusal = refusal.no-offer; head = h }
+unfolding adopt
+adopts-nothing h = refl
+
+pub adopts-offer : (h : Head) (k : Kept) → h .seat .ended ≡ false → adopt h (Offer.Standing k) ≡ takes (closedPhase h k)
+unfolding adopt
+adopts-offer h k runs = rw runs
+
 -- ---- phase 65,535 has ended
 
 module _ (h : Head) (over : h .seat .ended ≡ true) where
@@ -69,3 +83,7 @@ module _ (h : Head) (over : h .seat .ended ≡ true) where
   pub ended-closes : close h ≡ closing (Closed.Refused refusal.ended) h
   unfolding close
   ended-closes = rw over
+
+  pub ended-adopts : (k : Kept) → adopt h (Offer.Standing k) ≡ record { refusal = refusal.ended; head = h }
+  unfolding adopt
+  ended-adopts k = rw over

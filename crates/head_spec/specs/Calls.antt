@@ -28,6 +28,7 @@ use Rattle.head_spec.specs.declared.Head.{Head}
 use Rattle.head_spec.specs.declared.Answer.{Answer}
 use Rattle.head_spec.specs.declared.Closed.{Closed}
 use Rattle.head_spec.specs.declared.Closing.{Closing}
+use Rattle.head_spec.specs.declared.Offer.{Offer}
 use Rattle.head_spec.specs.Record.{noEntries, opened, trustedBy}
 use Rattle.head_spec.specs.Seats.{firstSeat, listenerSeat, healedSeat, confessionSeat, nextSeat}
 
@@ -164,7 +165,7 @@ writeAnswer h buffer =
 unfoldable pub writeBuffer : Head → List ℕ → List ℕ
 writeBuffer h buffer = cond (h .seat .ended) buffer (cond (isListener (h .seat .number)) buffer (buffered (frameFor h) buffer))
 
--- ---- closing; checks 26, 25
+-- ---- the end of a round, as document 01 has it: after a collection round the list stands; a confession round settles a position, and the phase ends
 
 -- the collection round is closed: the list stands
 unfoldable pub closedCollection : Head → Head
@@ -177,13 +178,43 @@ closedPhase h k = opened (nextSeat (h .seat) k) noEntries
 abbrev pub closing : Closed → Head → Closing
 closing c h = record { closed = c; head = h }
 
-abbrev pub closeSettled : Settled → Head → Closing
-closeSettled (settled.Refused c) h = closing (Closed.Refused c) h
-closeSettled (settled.New k) h = closing (Closed.Settled k) (closedPhase h k)
+-- what a confession round settles
+abbrev pub settlingOf : Head → Settled
+settlingOf h = settling (rounding (h .seat .phase)) (h .seat .n) (twoRounds (h .seat .f)) (trustedBy h)
+
+abbrev pub endSettled : Settled → Head → Closing
+endSettled (settled.Refused c) h = closing (Closed.Refused c) h
+endSettled (settled.New k) h = closing (Closed.Settled k) (closedPhase h k)
+
+abbrev pub endIn : ℕ → Head → Closing
+endIn zero h = closing Closed.Listed (closedCollection h)
+endIn (suc r) h = endSettled (settlingOf h) h
+
+unfoldable pub endRound : Head → Closing
+endRound h = cond (h .seat .ended) (closing (Closed.Refused refusal.ended) h) (endIn (h .seat .round) h)
+
+-- ---- closing; checks 26, 25. It ends a collection round; in a confession round it only offers the position, and the record stays as it is (document 02, A8)
+
+abbrev pub offerSettled : Settled → Head → Closing
+offerSettled (settled.Refused c) h = closing (Closed.Refused c) h
+offerSettled (settled.New k) h = closing (Closed.Settled k) h
 
 abbrev pub closeIn : ℕ → Head → Closing
 closeIn zero h = closing Closed.Listed (closedCollection h)
-closeIn (suc r) h = closeSettled (settling (rounding (h .seat .phase)) (h .seat .n) (twoRounds (h .seat .f)) (trustedBy h)) h
+closeIn (suc r) h = offerSettled (settlingOf h) h
 
 unfoldable pub close : Head → Closing
 close h = cond (h .seat .ended) (closing (Closed.Refused refusal.ended) h) (closeIn (h .seat .round) h)
+
+-- ---- adopting; checks 27, 26. What stands beside the head as an offer becomes its position, and the phase ends
+
+abbrev pub adoptRefusal : Head → Offer → ℕ
+adoptRefusal h Offer.Nothing = refusal.no-offer
+adoptRefusal h (Offer.Standing k) = check (not (h .seat .ended)) refusal.ended 0
+
+abbrev pub adopted : Head → Offer → Head
+adopted h Offer.Nothing = h
+adopted h (Offer.Standing k) = closedPhase h k
+
+unfoldable pub adopt : Head → Offer → Answer
+adopt h o = answer (adoptRefusal h o) (adopted h o) h

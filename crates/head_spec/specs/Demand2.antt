@@ -22,17 +22,17 @@ use Rattle.frame_spec.specs.declared.Written.{Written}
 use Rattle.head_spec.specs.declared.Seat.{Seat}
 use Rattle.head_spec.specs.declared.Head.{Head}
 use Rattle.head_spec.specs.Record.{heardEntry, givenOf}
-use Rattle.head_spec.specs.Calls.{startRefusal, started, restartRefusal, restarted, startListenerRefusal, startedListener, restartListenerRefusal, saidTo, hear, Delivery, hearEach, spoken, frameFor, writeAnswer, writeBuffer, closeSettled, close}
+use Rattle.head_spec.specs.Calls.{startRefusal, started, restartRefusal, restarted, startListenerRefusal, startedListener, restartListenerRefusal, saidTo, hear, Delivery, hearEach, spoken, frameFor, writeAnswer, writeBuffer, endSettled, endRound, offerSettled, close}
 use Rattle.head_spec.specs.Proper.{ProperHead}
 
--- The records that calls can reach: started or restarted, as a head or as a listener, and then heard on and closed, with any arguments, whatever is refused on the way.
+-- The records that calls can reach: started or restarted, as a head or as a listener, and then heard on and their rounds ended, with any arguments, whatever is refused on the way.
 pub data Reachable : Head → Type 0 where
   starts : (n f i : ℕ) (v : ℤ) → startRefusal n f i v ≡ 0 → Reachable (started n f i v)
   restarts : (n f i p r : ℕ) → restartRefusal n f i p r ≡ 0 → Reachable (restarted n f i p r)
   listens : (n f i : ℕ) → startListenerRefusal n f i ≡ 0 → Reachable (startedListener n f i)
   listens-again : (n f i p r : ℕ) → restartListenerRefusal n f i p r ≡ 0 → Reachable (restarted n f i p r)
   hears : {h : Head} (k : ℕ) (s : List ℕ) → AllBytes s → Reachable h → Reachable (hear h k s .head)
-  closes : {h : Head} → Reachable h → Reachable (close h .head)
+  ends : {h : Head} → Reachable h → Reachable (endRound h .head)
 
 abbrev pub EveryProper : Type 0
 EveryProper = (h : Head) → Reachable h → ProperHead h
@@ -76,13 +76,15 @@ firstSaid x k (d ∷ D) = cond (eqb (d .link) k) (orElse (saidTo x k (d .bytes))
 abbrev pub settledFrom : Seat → List Delivery → Settled
 settledFrom x D = settling (rounding (x .phase)) (x .n) (twoRounds (x .f)) (trusted (x .n) (x .f) (λ k. givenOf (firstSaid x k D)))
 
--- A round of the head h, which has heard nothing in it: D is all that is delivered, on any links in any order, and then the round is closed.
+-- A round of the head h, which has heard nothing in it: D is all that is delivered, on any links in any order, and then the round is ended.
 pub record FollowsCC (h : Head) (D : List Delivery) : Type 0 where
   -- "fills its list, one entry per link: the position heard, else null"
   pub list : h .seat .round ≡ 0
-      → Each (h .seat .n) (λ k. tableAt (close (hearEach h D) .head .list) k ≡ heardEntry (firstSaid (h .seat) k D))
+      → Each (h .seat .n) (λ k. tableAt (endRound (hearEach h D) .head .list) k ≡ heardEntry (firstSaid (h .seat) k D))
   -- what is settled is answered, and the head holds the position
-  pub settles : h .seat .round ≡ 1 → close (hearEach h D) ≡ closeSettled (settledFrom (h .seat) D) (hearEach h D)
+  pub settles : h .seat .round ≡ 1 → endRound (hearEach h D) ≡ endSettled (settledFrom (h .seat) D) (hearEach h D)
+  -- the same is offered, by a closing that leaves the head as it is (document 02, A8)
+  pub offers : h .seat .round ≡ 1 → close (hearEach h D) ≡ offerSettled (settledFrom (h .seat) D) (hearEach h D)
 
 abbrev pub AlgorithmCC : Type 0
 AlgorithmCC = (h : Head) → Reachable h → h .heard ≡ 0 → h .seat .ended ≡ false → (D : List Delivery) → FollowsCC h D

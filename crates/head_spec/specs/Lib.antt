@@ -7,3 +7,4 @@ pub mod Batch
 pub mod Proper
 pub mod Demand2
 pub mod Ranges
+pub mod Offers

@@ -13,9 +13,9 @@ use Rattle.frame_spec.specs.Proper.{AllBytes}
 use Rattle.head_spec.specs.declared.LastKept.{LastKept}
 use Rattle.head_spec.specs.declared.Head.{Head}
 use Rattle.head_spec.specs.declared.Closed.{Closed}
-use Rattle.head_spec.specs.Calls.{startRefusal, started, restartRefusal, restarted, startListenerRefusal, startedListener, restartListenerRefusal, hear, close}
+use Rattle.head_spec.specs.Calls.{startRefusal, started, restartRefusal, restarted, startListenerRefusal, startedListener, restartListenerRefusal, hear, endRound}
 
--- what was passed on last, after a closing that answered c; before it x was
+-- what was passed on last, after a round's end that answered c; before it x was
 abbrev pub passing : Closed → LastKept → LastKept
 passing (Closed.Refused c) x = x
 passing Closed.Listed x = x
@@ -28,7 +28,7 @@ pub data Passed : Head → LastKept → Type 0 where
   listens : (n f i : ℕ) → startListenerRefusal n f i ≡ 0 → Passed (startedListener n f i) LastKept.Nothing
   listens-again : (n f i p r : ℕ) → restartListenerRefusal n f i p r ≡ 0 → Passed (restarted n f i p r) LastKept.Nothing
   hears : {h : Head} {x : LastKept} (k : ℕ) (s : List ℕ) → AllBytes s → Passed h x → Passed (hear h k s .head) x
-  closes : {h : Head} {x : LastKept} → Passed h x → Passed (close h .head) (passing (close h .closed) x)
+  ends : {h : Head} {x : LastKept} → Passed h x → Passed (endRound h .head) (passing (endRound h .closed) x)
 
 abbrev pub HoldsPassed : Type 0
 HoldsPassed = (h : Head) (x : LastKept) → Passed h x → h .seat .last ≡ x

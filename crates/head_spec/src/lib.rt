@@ -16,6 +16,12 @@ pub enum LastKept {
     Range(Kept),
 }
 
+// What stands beside a head between the two calls that end a phase (document 02, A8): what closing offered, with its kept range, or nothing.
+pub enum Offer {
+    Nothing,
+    Standing(Kept),
+}
+
 // Where a head stands: its ring, its number, the phase and round, and the position that it holds.
 pub struct Seat {
     pub n: u8,
@@ -44,7 +50,7 @@ pub struct Answer {
     pub head: Head,
 }
 
-// What closing answers: the collection round is closed, a position is settled, or a refusal.
+// What closing answers: the collection round is closed, a position is settled and offered, or a refusal.
 pub enum Closed {
     Refused(u8),
     Listed,

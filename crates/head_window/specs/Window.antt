@@ -45,11 +45,15 @@ startedBeside c b = leaves c (record { events = 0; mask = 0 }) b
 abbrev pub restartedBeside : ℕ → Beside → Beside
 restartedBeside c b = leaves c (withEvent strikeOver b) b
 
--- a closing that ends a phase sets that event, and so does one that is refused 25: the one exception from demand 1
+-- a closing that is refused 25 sets that event: the one exception from demand 1; an offer sets none
 abbrev pub closedBeside : Closed → Beside → Beside
 closedBeside (Closed.Refused c) b = cond (eqb c refusal.trusted) (withEvent tooFew b) b
 closedBeside Closed.Listed b = b
-closedBeside (Closed.Settled k) b = withEvent phaseOver b
+closedBeside (Closed.Settled k) b = b
+
+-- an adoption ends a phase (document 02, A8)
+abbrev pub adoptedBeside : ℕ → Beside → Beside
+adoptedBeside c b = leaves c (withEvent phaseOver b) b
 
 -- ---- the sixteen bytes
 

@@ -4,7 +4,7 @@ ghost use mathlib.Core.Bool.{not, _&&_};
 ghost use Prim.Native.Nat.{_+_, _*_};
 ghost use Rattle.convergence.specs.Counting.{bit};
 ghost use Rattle.marks.specs.Marks.{bitOf};
-ghost use Rattle.head_window.specs.Window.{withEvent, startedBeside, restartedBeside, closedBeside};
+ghost use Rattle.head_window.specs.Window.{withEvent, startedBeside, restartedBeside, closedBeside, adoptedBeside};
 ghost use Rattle.head_window.specs.Window.{three, isHeld, positionWord, statusBits, window, readRefusal, setRefusal, setBeside, isUp};
 use head_spec::Closed;
 use head_spec::Seat;
@@ -65,7 +65,7 @@ pub fn after_restart(number: u8, b: Beside) -> Beside
     with_event(STRIKE_OVER, b)
 }
 
-// After a closing: the phase has ended, or too few entries were trusted.
+// After a closing: too few entries were trusted. An offer is no event.
 pub fn after_close(c: Closed, b: Beside) -> Beside
     ensures { λ r. ⌜ r ≡ closedBeside c b ⌝ }
 {
@@ -77,8 +77,18 @@ pub fn after_close(c: Closed, b: Beside) -> Beside
             b
         }
         Closed::Listed => b,
-        Closed::Settled(_) => with_event(PHASE_END, b),
+        Closed::Settled(_) => b,
     }
+}
+
+// After an adoption that answers this number: the phase has ended.
+pub fn after_adopt(number: u8, b: Beside) -> Beside
+    ensures { λ r. ⌜ r ≡ adoptedBeside number b ⌝ }
+{
+    if number != 0 {
+        return b;
+    }
+    with_event(PHASE_END, b)
 }
 
 // ---- The sixteen bytes.

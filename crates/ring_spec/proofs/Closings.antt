@@ -16,8 +16,8 @@ use Rattle.head_spec.specs.declared.Head.{Head}
 use Rattle.head_spec.specs.declared.Closed.{Closed}
 use Rattle.head_spec.specs.declared.Closing.{Closing}
 use Rattle.head_spec.specs.Record.{given}
-use Rattle.head_spec.specs.Calls.{closing, closedCollection, closedPhase, close}
-use Rattle.head_spec.proofs.RoundEnd.{settledBy, closes-collection, closes-phase, settled-midpoint, fresh-collection, fresh-phase}
+use Rattle.head_spec.specs.Calls.{closing, closedCollection, closedPhase, endRound}
+use Rattle.head_spec.proofs.RoundEnd.{settledBy, ends-collection, ends-phase, settled-midpoint, fresh-collection, fresh-phase}
 use Rattle.ring_spec.specs.Rounds.{Round, Ring, closedAt, phaseThen, roundThen, afterRound}
 use Rattle.ring_spec.proofs.Receivers.{Hears}
 use Rattle.ring_spec.proofs.OneRound.{SeatedAt, Ready, RingReady, heardAt, heard-proper, heard-at}
@@ -30,13 +30,13 @@ module _ (n f : ℕ) (R : Ring) (w : Round) (S : RingReady n f R) where
     A : SeatedAt n f i (R .phase) (R .round) (bitOf (R .before) i) (T .seat)
     A = heard-at n f R w S i l q
 
-    closed-is : (c : Closed) (h : Head) → close T ≡ closing c h → closedAt n f R w i ≡ h
+    closed-is : (c : Closed) (h : Head) → endRound T ≡ closing c h → closedAt n f R w i ≡ h
     unfolding closedAt
     closed-is c h e = rw q (ap (λ (x : Closing). x .head) e)
 
     module _ (collection : R .round ≡ 0) where
-      pub collection-closes : close T ≡ closing Closed.Listed (closedCollection T)
-      collection-closes = closes-collection T (A .runs) (A .round ∙ collection)
+      pub collection-closes : endRound T ≡ closing Closed.Listed (closedCollection T)
+      collection-closes = ends-collection T (A .runs) (A .round ∙ collection)
 
       pub collection-closed : closedAt n f R w i ≡ closedCollection T
       collection-closed = closed-is Closed.Listed (closedCollection T) collection-closes
@@ -53,8 +53,8 @@ module _ (n f : ℕ) (R : Ring) (w : Round) (S : RingReady n f R) where
 
     -- a confession round in which enough entries are trusted
     module _ (confession : R .round ≡ 1) (calm : enough n (twoRounds f) (trusted n f (given T)) ≡ true) where
-      pub confession-closes : close T ≡ closing (Closed.Settled (settledBy T)) (closedPhase T (settledBy T))
-      confession-closes = closes-phase T (A .runs) (A .round ∙ confession) (rw (A .count, A .limit) calm)
+      pub confession-closes : endRound T ≡ closing (Closed.Settled (settledBy T)) (closedPhase T (settledBy T))
+      confession-closes = ends-phase T (A .runs) (A .round ∙ confession) (rw (A .count, A .limit) calm)
 
       confession-closed : closedAt n f R w i ≡ closedPhase T (settledBy T)
       confession-closed = closed-is (Closed.Settled (settledBy T)) (closedPhase T (settledBy T)) confession-closes

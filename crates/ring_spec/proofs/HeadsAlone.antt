@@ -29,7 +29,7 @@ pub record SameHeads (n : ℕ) (R R′ : Ring) : Type 0 where
   pub heads : Each n (λ i. R .heads i ≡ R′ .heads i)
 
 -- what is heard is what the links carry
-links-same : (g g′ : ℕ → List ℕ) (m i : ℕ) → ((j : ℕ) → j < m + i → g j ≡ g′ j) → onLinks g i m ≡ onLinks g′ i m
+pub links-same : (g g′ : ℕ → List ℕ) (m i : ℕ) → ((j : ℕ) → j < m + i → g j ≡ g′ j) → onLinks g i m ≡ onLinks g′ i m
 links-same g g′ zero i h = refl
 links-same g g′ (suc m) i h =
     ap₂ (λ (s : List ℕ) (D : List Delivery). record { link = i; bytes = s } ∷ D) (h i (omega arith)) (links-same g g′ m (suc i) (λ j l. h j (omega arith)))

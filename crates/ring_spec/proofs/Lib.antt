@@ -7,4 +7,5 @@ pub mod OnePhase
 pub mod Counts
 pub mod HeadsAlone
 pub mod Demand3
+pub mod Late
 pub mod Unrefused

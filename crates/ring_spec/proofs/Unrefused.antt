@@ -18,7 +18,7 @@ use Rattle.convergence.proofs.Ends.{AllHold, held-position}
 use Rattle.frame_spec.specs.Said.{said}
 use Rattle.head_spec.specs.declared.Closed.{Closed}
 use Rattle.head_spec.specs.declared.Closing.{Closing}
-use Rattle.head_spec.specs.Calls.{restartRefusal, restartListenerRefusal, spoken, close}
+use Rattle.head_spec.specs.Calls.{restartRefusal, restartListenerRefusal, spoken, endRound}
 use Rattle.head_spec.proofs.Proper.{Sized, restart-accepted, restart-listener-accepted}
 use Rattle.ring_spec.specs.Rounds.{Round, Ring, openedAt, carried, receivers, asEnd, ringAfter, endsAfter, mostRounds}
 use Rattle.ring_spec.specs.Converges.{FewStruckIn, noEnd}
@@ -55,7 +55,7 @@ module _ (n f : ℕ) (v : ℕ → ℤ) (ws : List Round) (most : n ≤ 32) (limi
       module _ (few : AtMost f n (bitOf (w .struck))) (i : ℕ) (m : Hears n i) (q : bitOf (w .struck) i ≡ false) where
         -- the closing of receiver i, when it has heard all links
         abbrev closes : Closing
-        closes = close (heardAt n f R w i)
+        closes = endRound (heardAt n f R w i)
 
         pub never-refused : (c : ℕ) → closes .closed ≢ Closed.Refused c
         never-refused c e = go (R .round) refl

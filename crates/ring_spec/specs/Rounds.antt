@@ -8,7 +8,7 @@ use Rattle.terms.specs.declared.Entry.{Entry}
 use Rattle.marks.specs.Marks.{bitOf}
 use Rattle.convergence.specs.Phases.{End}
 use Rattle.head_spec.specs.Record.{noEntries, opened}
-use Rattle.head_spec.specs.Calls.{started, startedListener, restarted, hearAll, frameFor, close}
+use Rattle.head_spec.specs.Calls.{started, startedListener, restarted, hearAll, frameFor, endRound}
 use Rattle.head_spec.specs.declared.LastKept.{LastKept}
 use Rattle.head_spec.specs.declared.Seat.{Seat}
 use Rattle.head_spec.specs.declared.Head.{Head}
@@ -72,7 +72,7 @@ module _ (n f : ℕ) (R : Ring) (w : Round) where
 
   -- record i as the round is closed: every unstruck receiver has heard all n links, a head its own too
   unfoldable pub closedAt : ℕ → Head
-  closedAt i = cond (bitOf (w .struck) i) lost (close (hearAll (openedAt i) (carried i) n) .head)
+  closedAt i = cond (bitOf (w .struck) i) lost (endRound (hearAll (openedAt i) (carried i) n) .head)
 
 -- A phase has two rounds, collection and confession: of rounds counted from 1, round k belongs to phase `phaseOf k`, and ends it if `endsPhase k`. The start,
 -- k = 0, counts as an end.

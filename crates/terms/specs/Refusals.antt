@@ -109,3 +109,7 @@ trusted = 25
 -- phase 65,535 has ended
 abbrev pub ended : ℕ
 ended = 26
+
+-- adopting with no offer standing (document 02, A8)
+abbrev pub no-offer : ℕ
+no-offer = 27

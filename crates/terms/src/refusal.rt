@@ -47,3 +47,5 @@ pub const BUFFER: u8 = 24; // buffer too short for the frame
 pub const TRUSTED: u8 = 25; // too few trusted
 
 pub const ENDED: u8 = 26; // phase 65,535 has ended
+
+pub const NO_OFFER: u8 = 27; // adopting with no offer standing

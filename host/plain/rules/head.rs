@@ -137,28 +137,45 @@ impl Head {
         Ok(frame.len())
     }
 
-    /// 26, 25.
-    pub fn close(&mut self) -> Result<(), u8> {
+    /// 26, 25. A collection round ends; of a confession round the position is only offered (document 02, A8).
+    pub fn close(&mut self) -> Result<Option<Kept>, u8> {
         if self.ended {
             return Err(26);
         }
-        if self.round == 0 {
-            let entry = |said: &Option<Said>| if let Some(Said::Position(v)) = said { Some(*v) } else { None };
-            self.list = self.heard.iter().map(entry).collect();
-            self.round = 1;
-        } else {
+        if self.round == 1 {
             let trusted: Vec<_> = (0..self.n).map(|j| self.trusted(j)).collect();
-            let kept = settle(self.f, self.phase, &trusted)?;
-            (self.position, self.kept) = (Some(kept.position), Some(kept));
-            self.list = vec![None; self.n];
-            self.ended = self.phase == LAST_PHASE;
-            if !self.ended {
-                self.phase += 1;
-                self.round = 0;
-            }
+            return settle(self.f, self.phase, &trusted).map(Some);
         }
+        let entry = |said: &Option<Said>| if let Some(Said::Position(v)) = said { Some(*v) } else { None };
+        self.list = self.heard.iter().map(entry).collect();
+        self.round = 1;
+        self.open();
+        Ok(None)
+    }
+
+    /// What was offered becomes the position, and the phase ends.
+    pub fn adopt(&mut self, kept: Kept) {
+        (self.position, self.kept) = (Some(kept.position), Some(kept));
+        self.list = vec![None; self.n];
+        self.ended = self.phase == LAST_PHASE;
+        if !self.ended {
+            self.phase += 1;
+            self.round = 0;
+        }
+        self.open();
+    }
+
+    /// Nothing is heard yet in this round.
+    fn open(&mut self) {
         self.healed = false;
         self.heard = vec![None; self.n];
+    }
+
+    /// Closes the round, and adopts what is offered at once. 26, 25.
+    pub fn end_round(&mut self) -> Result<(), u8> {
+        if let Some(kept) = self.close()? {
+            self.adopt(kept);
+        }
         Ok(())
     }
 

@@ -1,6 +1,7 @@
-//! Document 02, A5: a head as sixteen bytes on a bus, with the pending events and the mask that stand beside it.
+//! Document 02, A5: a head as sixteen bytes on a bus, with the pending events and the mask that stand beside it, and the offer that does (A8).
 
 use super::head::Head;
+use super::midpoint::Kept;
 
 /// Bits of a pending event, and of the mask.
 const PHASE_END: u8 = 1;
@@ -12,45 +13,75 @@ pub struct Device {
     pub head: Head,
     pub events: u8,
     pub mask: u8,
+    /// What a closing offered, while it stands.
+    pub offer: Option<Kept>,
 }
 
 impl Device {
     /// A start clears events and mask.
     pub fn start(&mut self, n: usize, f: usize, number: usize, position: i32) -> Result<(), u8> {
         self.head = Head::start(n, f, number, position)?;
-        (self.events, self.mask) = (0, 0);
+        (self.events, self.mask, self.offer) = (0, 0, None);
         Ok(())
     }
 
     pub fn restart(&mut self, n: usize, f: usize, number: usize, phase: usize, round: usize) -> Result<(), u8> {
         self.head = Head::restart(n, f, number, phase, round)?;
         self.events |= STRIKE_OVER;
+        self.offer = None;
         Ok(())
     }
 
     /// A listener's start and restart change events and mask as a head's do.
     pub fn start_listener(&mut self, n: usize, f: usize, number: usize) -> Result<(), u8> {
         self.head = Head::start_listener(n, f, number)?;
-        (self.events, self.mask) = (0, 0);
+        (self.events, self.mask, self.offer) = (0, 0, None);
         Ok(())
     }
 
     pub fn restart_listener(&mut self, n: usize, f: usize, number: usize, phase: usize, round: usize) -> Result<(), u8> {
         self.head = Head::restart_listener(n, f, number, phase, round)?;
         self.events |= STRIKE_OVER;
+        self.offer = None;
         Ok(())
     }
 
-    /// A phase end is an event, and so is refusal 25.
-    pub fn close(&mut self) -> Result<(), u8> {
-        let last_round = self.head.round == 1;
-        let closed = self.head.close();
-        match closed {
-            Ok(()) if last_round => self.events |= PHASE_END,
-            Err(25) => self.events |= TOO_FEW,
-            _ => {}
+    /// An accepted frame ends an offer.
+    pub fn hear(&mut self, link: usize, frame: &[u8]) -> Result<(), u8> {
+        self.head.hear(link, frame)?;
+        self.offer = None;
+        Ok(())
+    }
+
+    pub fn hear_batch(&mut self, batch: &[u8], answers: &mut [u8]) -> Result<usize, u8> {
+        let count = self.head.hear_batch(batch, answers)?;
+        if answers[..count].contains(&0) {
+            self.offer = None;
         }
-        closed
+        Ok(count)
+    }
+
+    /// Refusal 25 is an event; an offer is none.
+    pub fn close(&mut self) -> Result<(), u8> {
+        match self.head.close() {
+            Ok(None) => Ok(()),
+            Ok(offer) => {
+                self.offer = offer;
+                Ok(())
+            }
+            Err(number) => {
+                self.events |= if number == 25 { TOO_FEW } else { 0 };
+                Err(number)
+            }
+        }
+    }
+
+    /// 27. A phase end is an event.
+    pub fn adopt(&mut self) -> Result<(), u8> {
+        let kept = self.offer.take().ok_or(27)?;
+        self.head.adopt(kept);
+        self.events |= PHASE_END;
+        Ok(())
     }
 
     pub fn bytes(&self) -> [u8; 16] {

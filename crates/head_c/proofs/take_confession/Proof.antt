@@ -8,7 +8,7 @@ use Rattle.head_c.proofs.take_confession.Tie as tie
 returns : tie.Need-returns
 returns c =
     let one = c .before .before .before .before .before .before in
-    c .before .before .put-mark2 .ensures ∙ ap (marked 58 (one .before .before .before .args .k)) (one .put-mark .ensures)
+    c .before .before .put-mark .ensures ∙ ap (marked 58 (one .before .before .before .args .k)) (one .put-heard .ensures)
 
 pub take-confession-spec : {M : Type 1} → statement M
 take-confession-spec =

@@ -18,12 +18,12 @@ returns : tie.Need-returns
 returns c =
     let one = c .before .before .before .before in
     let a = one .before .before .before .args in
-    one .put-mark .ensures ∙ ap (λ (e : Entry). changed (now (a .h)) (a .k) (collected e)) (sym (c .enum-told .given .1))
+    one .put-heard .ensures ∙ ap (λ (e : Entry). changed (now (a .h)) (a .k) (collected e)) (sym (c .enum-told .given .1))
 
 same-length-2 : tie.Need-same-length-2
 same-length-2 c =
     let two = c .before .before .before in
-    simp length-set (two .put-mark2 .kept .0 ∙ two .before .before .before .before .before .before .before .put-mark .kept .0)
+    simp length-set (two .put-mark .kept .0 ∙ two .before .before .before .before .before .before .before .put-heard .kept .0)
 
 returns-2 : tie.Need-returns-2
 returns-2 c =
@@ -32,7 +32,7 @@ returns-2 c =
     let one = t .before .before .before .before .before in
     let a = one .before .before .before .args in
     let v = toZ-ofZ {w = w32} (record { sfits = t .known-told .given .0 .1 }) in
-    let marks = two .put-mark2 .ensures ∙ ap (marked 25 (a .k)) (one .put-mark .ensures) in
+    let marks = two .put-mark .ensures ∙ ap (marked 25 (a .k)) (one .put-heard .ensures) in
     ap₂ (λ (l : List ℕ) (x : ℕ). set l (26 + a .k) x) marks (c .unsigned .ensures ∙ ap wordOf v)
     ∙ ap (λ (e : Entry). changed (now (a .h)) (a .k) (collected e)) (sym (t .before .e .given .1))
 

@@ -11,10 +11,10 @@ use Rattle.head_c.proofs.take_list.Statement.{statement}
 use Rattle.head_c.proofs.take_list.Tie as tie
 
 -- after both marks
-long : (c : tie.After-put-mark2) → IsBlock (c .put-mark2 .last .0)
+long : (c : tie.After-put-mark) → IsBlock (c .put-mark .last .0)
 long c =
     let one = c .before .before .before .before in
-    c .put-mark2 .kept .0 ∙ one .put-mark .kept .0 ∙ one .before .before .before .pre .0
+    c .put-mark .kept .0 ∙ one .put-heard .kept .0 ∙ one .before .before .before .pre .0
 
 put-numbers-requires : tie.Need-put-numbers-requires
 put-numbers-requires c κs = simp length-set (omega (arith, long (c .before .before .before .before .before)))
@@ -32,7 +32,7 @@ returns c =
     let two = p .before .before .before .before .before .before in
     let one = two .before .before .before .before in
     let a = one .before .before .before .args in
-    let marks = two .put-mark2 .ensures ∙ ap (marked 59 (a .k)) (one .put-mark .ensures) in
+    let marks = two .put-mark .ensures ∙ ap (marked 59 (a .k)) (one .put-heard .ensures) in
     p .put-numbers .ensures ∙ ap (λ (l : List ℕ). paste (set l (60 + a .k) (a .t3 .marks)) (92 + 32 * a .k) (wordsOf (a .t3 .entries)) 32) marks
 
 pub take-list-spec : {M : Type 1} → statement M

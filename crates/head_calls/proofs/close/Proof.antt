@@ -7,7 +7,7 @@ use borrow.Author.Needs.{needs}
 use Rattle.head_spec.specs.declared.Head.{Head}
 use Rattle.head_spec.specs.Calls.{closeIn, close}
 use Rattle.head_spec.proofs.Stops.{ended-closes}
-use Rattle.head_spec.proofs.RoundEnd.{closes-collection}
+use Rattle.head_spec.proofs.RoundClose.{closes-collection}
 use Rattle.head_calls.proofs.Answers.{runs-on}
 use Rattle.head_calls.proofs.close.Statement.{statement}
 use Rattle.head_calls.proofs.close.Tie as tie

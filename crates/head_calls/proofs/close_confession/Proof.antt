@@ -1,4 +1,4 @@
--- What is settled from the lists, laid out, is what closing settles, rounded as the phase rounds.
+-- What is settled from the lists, laid out, is what closing offers, rounded as the phase rounds.
 use mathlib.Core.Path.{_≡_}
 use mathlib.Core.List.{List}
 use Prim.Native.Nat.{ℕ}
@@ -34,9 +34,8 @@ returns c =
 
 returns-2 : tie.Need-returns-2
 returns-2 c =
-    let t = c .before .before in
-    let e = settled (t .before .before) in
-    rw (← e, t .kept .given .1, c .closed-phase .ensures)
+    let e = settled (c .before .before .before) in
+    rw (← e, c .before .kept .given .1)
 
 pub close-confession-spec : {M : Type 1} → statement M
 close-confession-spec =
@@ -47,6 +46,5 @@ close-confession-spec =
     (λ c κs. search needs)
     (λ c. search needs)
     (λ c. search needs)
-    (λ c κs. search needs)
     returns
     returns-2)

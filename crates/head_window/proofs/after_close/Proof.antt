@@ -10,19 +10,7 @@ returns c = rw (c .with-event .ensures, c .before .before .before .c .given .1, 
 returns-2 : tie.Need-returns-2
 returns-2 c = rw (c .before .before .c .given .1, ne-eqb _ 25 (c .if1 .left))
 
-returns-4 : tie.Need-returns-4
-returns-4 c = rw (c .with-event2 .ensures, c .before .enum-told2 .given .1)
-
 pub after-close-spec : {M : Type 1} → statement M
 after-close-spec =
     tie.close
-    (tie.spec
-    (λ c. search needs)
-    (λ c κs. search needs)
-    returns
-    (λ c. search needs)
-    (λ c. search needs)
-    (λ c κs. search needs)
-    returns-2
-    (λ c. search needs)
-    returns-4)
+    (tie.spec (λ c. search needs) (λ c κs. search needs) returns (λ c. search needs) (λ c. search needs) returns-2 (λ c. search needs) (λ c. search needs))
