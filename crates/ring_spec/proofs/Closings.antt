@@ -17,6 +17,7 @@ use Rattle.head_spec.specs.declared.Closed.{Closed}
 use Rattle.head_spec.specs.declared.Closing.{Closing}
 use Rattle.head_spec.specs.Record.{given}
 use Rattle.head_spec.specs.Calls.{closing, closedCollection, closedPhase, endRound}
+use Rattle.head_spec.proofs.Offers.{offer-then-adopt}
 use Rattle.head_spec.proofs.RoundEnd.{settledBy, ends-collection, ends-phase, settled-midpoint, fresh-collection, fresh-phase}
 use Rattle.ring_spec.specs.Rounds.{Round, Ring, closedAt, phaseThen, roundThen, afterRound}
 use Rattle.ring_spec.proofs.Receivers.{Hears}
@@ -32,7 +33,7 @@ module _ (n f : ℕ) (R : Ring) (w : Round) (S : RingReady n f R) where
 
     closed-is : (c : Closed) (h : Head) → endRound T ≡ closing c h → closedAt n f R w i ≡ h
     unfolding closedAt
-    closed-is c h e = rw q (ap (λ (x : Closing). x .head) e)
+    closed-is c h e = rw q (ap (λ (x : Closing). x .head) (offer-then-adopt T ∙ e))
 
     module _ (collection : R .round ≡ 0) where
       pub collection-closes : endRound T ≡ closing Closed.Listed (closedCollection T)

@@ -11,15 +11,17 @@ use Rattle.terms.specs.Positions.{isPosition}
 use Rattle.marks.specs.Marks.{bitOf}
 use Rattle.convergence.specs.Counting.{Each}
 use Rattle.convergence.specs.Demand3.{AcceptedSize}
-use Rattle.head_spec.specs.Calls.{restarted, hearAll, frameFor, endRound}
+use Rattle.head_spec.specs.Calls.{restarted, hearAll, frameFor}
 use Rattle.head_spec.specs.declared.Head.{Head}
-use Rattle.ring_spec.specs.Rounds.{Round, planted, lost, Ring, phaseThen, roundThen, mostRounds, PhaseEnd, phaseEnd, withEnd, firstHeads, firstEnd}
+use Rattle.ring_spec.specs.Rounds.{Round, planted, lost, Ring, roundEnded, phaseThen, roundThen, mostRounds, PhaseEnd, phaseEnd, withEnd, firstHeads, firstEnd}
 use Rattle.ring_spec.specs.Converges.{FewStruckIn, AnyTwo}
 
--- A round whose mark word has the struck receivers and the late ones; late: which of those that it marks are only late.
+-- A round whose mark word has the struck receivers and the late ones; late: which of those that it marks are only late; left: the records that these are left with,
+-- whatever they are: the record as it was when the round was heard, with an offer beside it or with none, or any other.
 pub record LateRound : Type 0 where
   pub round : Round
   pub late : ℕ → Bool
+  pub left : ℕ → Head
 
 -- the mark words of late rounds as those of rounds: who is counted as struck
 unfoldable pub roundsOf : List LateRound → List Round
@@ -44,11 +46,9 @@ module _ (n f : ℕ) (R : Ring) (w : LateRound) where
   unfoldable pub carriedLate : ℕ → ℕ → List ℕ
   carriedLate i k = cond (isTrulyStruck k) (planted (w .round .plants) k i) (frameFor (openedLate k))
 
-  -- a late receiver has heard all links, and its round is not ended
+  -- the round of a late receiver is not ended
   unfoldable pub closedLate : ℕ → Head
-  closedLate i =
-      cond (isTrulyStruck i) lost
-      (cond (isCounted i) (hearAll (openedLate i) (carriedLate i) n) (endRound (hearAll (openedLate i) (carriedLate i) n) .head))
+  closedLate i = cond (isTrulyStruck i) lost (cond (isCounted i) (w .left i) (roundEnded (hearAll (openedLate i) (carriedLate i) n)))
 
 unfoldable pub afterLate : ℕ → ℕ → Ring → LateRound → Ring
 afterLate n f R w =

@@ -8,7 +8,8 @@ use Rattle.terms.specs.declared.Entry.{Entry}
 use Rattle.marks.specs.Marks.{bitOf}
 use Rattle.convergence.specs.Phases.{End}
 use Rattle.head_spec.specs.Record.{noEntries, opened}
-use Rattle.head_spec.specs.Calls.{started, startedListener, restarted, hearAll, frameFor, endRound}
+use Rattle.head_spec.specs.Calls.{started, startedListener, restarted, hearAll, frameFor, close}
+use Rattle.head_spec.specs.Offers.{thenAdopt}
 use Rattle.head_spec.specs.declared.LastKept.{LastKept}
 use Rattle.head_spec.specs.declared.Seat.{Seat}
 use Rattle.head_spec.specs.declared.Head.{Head}
@@ -57,6 +58,10 @@ pub record Ring : Type 0 where
   pub before : ℕ
   pub heads : ℕ → Head
 
+-- a receiver ends its round by the calls that it has: it closes it, and adopts at once what that offers (document 02, A8)
+abbrev pub roundEnded : Head → Head
+roundEnded h = thenAdopt (close h .closed) (close h .head) .head
+
 -- ---- a round w of n heads
 
 module _ (n f : ℕ) (R : Ring) (w : Round) where
@@ -72,7 +77,7 @@ module _ (n f : ℕ) (R : Ring) (w : Round) where
 
   -- record i as the round is closed: every unstruck receiver has heard all n links, a head its own too
   unfoldable pub closedAt : ℕ → Head
-  closedAt i = cond (bitOf (w .struck) i) lost (endRound (hearAll (openedAt i) (carried i) n) .head)
+  closedAt i = cond (bitOf (w .struck) i) lost (roundEnded (hearAll (openedAt i) (carried i) n))
 
 -- A phase has two rounds, collection and confession: of rounds counted from 1, round k belongs to phase `phaseOf k`, and ends it if `endsPhase k`. The start,
 -- k = 0, counts as an end.

@@ -19,7 +19,7 @@ use Rattle.frame_spec.specs.Written.{entryBytes}
 use Rattle.settle_midpoint.specs.Answers.{settling}
 use Rattle.settle_trust.specs.Received.{givenBy}
 use Rattle.head_spec.specs.Record.{noEntries, noLinks, noLists}
-use Rattle.head_spec.specs.Calls.{started, startedListener, restarted, hearRefusal, hear, hearAll, hearEach, spoken, closedCollection, closedPhase, endRound}
+use Rattle.head_spec.specs.Calls.{started, startedListener, restarted, hearRefusal, hear, hearAll, hearEach, spoken, closedCollection, closedPhase, close, adopt}
 use Rattle.ring_spec.specs.Rounds.{lost, openedAt, carried, closedAt, afterRound, firstHeads, ringAfter, endsAfter}
 use Rattle.run_spec.specs.RunFile.{unread, positionsFit, fewMarks, pairFits, judged, readOn, step, feed, ending, roundsPlayed, endsPlayed}
 use Rattle.run_spec.specs.Listing.{digits, size, decimal, hex, title, line, lines, listingOf, listing}
@@ -77,7 +77,7 @@ pub examples : Printed
 unfolding file printed heard heardPrinted unread feed step readOn judged isCount isLimit positionsFit isPosition signedOf wordOf fewMarks marksBelow bitOf
     withMark sum ending roundsPlayed endsPlayed listingOf title lines line digits size decimal hex lowest highest spread gap endsAfter
     ringAfter firstHeads afterRound closedAt carried openedAt lost started startedListener restarted hearAll hearEach hear hearRefusal refusalOf
-    checkFrame said tableIn entriesFit numbers zeros entryAt entryBytes eqZ spoken endRound closedCollection closedPhase settling enough
+    checkFrame said tableIn entriesFit numbers zeros entryAt entryBytes eqZ spoken close adopt closedCollection closedPhase settling enough
     nulls trim ordered insert lowKept highKept middle midpoint half floorDiv rounding trusted support confessions seen givenBy
     noEntries noLinks noLists pairFits
 examples = record { paper = refl; listeners = refl }
