@@ -5,7 +5,7 @@ use crate::exported::{self, Block, SIZE};
 use crate::random::Random;
 use crate::rules::frames::{self, Said};
 use crate::rules::head::Head;
-use crate::rules::midpoint::{self, Entry, LIMIT};
+use crate::rules::midpoint::{self, Entry, Kept, LIMIT};
 use crate::rules::scale;
 use crate::rules::window::Device;
 
@@ -230,6 +230,30 @@ impl Heard {
         let close_heads = |heads: &mut Vec<Head>| heads.iter_mut().map(|head| number(head.close().map(drop))).sum();
         row(wanted, name, MANY, (&blocks, &close_blocks), (&heads, &close_heads))
     }
+
+    /// Adopting what a closing offered (document 02, A8).
+    fn adopting(&self, wanted: Wanted) -> Option<Row> {
+        let name = format!("adopting, ({},{})", self.n, self.f);
+        let blocks = || {
+            let mut ready = (self.blocks(), self.frames.clone());
+            self.tell_blocks(&mut ready);
+            ready.0.iter_mut().for_each(|block| assert_eq!(block.close(), 0));
+            ready.0
+        };
+        let heads = || {
+            let mut heads = self.heads();
+            self.tell_heads(&mut heads);
+            heads.into_iter().map(|mut head| (head.close().expect("a closing that is taken").expect("an offer"), head)).collect::<Vec<_>>()
+        };
+        let adopt_blocks = |blocks: &mut Vec<Block>| blocks.iter_mut().map(|block| block.adopt() as u64).sum();
+        let adopt_heads = |heads: &mut Vec<(Kept, Head)>| {
+            heads.iter_mut().map(|(kept, head)| {
+                head.adopt(*kept);
+                0
+            }).sum()
+        };
+        row(wanted, name, MANY, (&blocks, &adopt_blocks), (&heads, &adopt_heads))
+    }
 }
 
 /// The rows that are wanted.
@@ -245,6 +269,7 @@ pub fn rows(wanted: Wanted) -> Vec<Row> {
         rows.push(collection.closing(wanted, "a collection round"));
         rows.push(confession.closing(wanted, "a confession round, lists that agree"));
         rows.push(lies.closing(wanted, "a confession round, f confessions and f liars"));
+        rows.push(confession.adopting(wanted));
     }
     rows.into_iter().flatten().collect()
 }

@@ -119,10 +119,17 @@ uint8_t focus_play(const uint8_t *file, size_t bytes, uint8_t *out, size_t out_s
  * defines the calls */
 
 /* A head's block: 1,116 words all shift, of which each call changes those that it must, in place. Words 16 and 17 are
- * the pending events and the mask of its window; 14, 15 and 18 to 23 are room for later calls: no call changes them.
- * Every content is some record, so no block makes a call undefined, not even one that was never started; a block of
- * zeros is a head of no ring. Promised of each call: crates/head_c/specs/Blocks.antt says which record a block is,
- * crates/head_c/specs/Events.antt what stands beside it after a call, and crates/head_c/src which words change. */
+ * the pending events and the mask of its window, words 18 to 22 what is offered (word 18 is 0 if no offer stands, and
+ * 19 to 22 are not looked at then); 14, 15 and 23 are room for later calls: no call changes them.
+ *
+ * A block is made by focus_head_start, focus_head_restart, focus_listener_start or focus_listener_restart that
+ * answers 0, of whatever it held. Of such a block, after any calls: its record is one that the paper's calls can
+ * reach, so demand 2 holds of it, and what it offers is what its round settles (crates/head_c/specs/Made.antt). Every
+ * other content is some record too, so no block makes a call undefined; but nothing is promised of the ring then. A
+ * block of zeros is a head of a ring of no heads, in phase 0: hearing is refused 3, and closing is taken (0), so a
+ * forgotten start is not noticed there.
+ * Promised of each call: crates/head_c/specs/Blocks.antt says which record a block is, crates/head_c/specs/Events.antt
+ * what stands beside it after a call, and crates/head_c/src which words change. */
 typedef struct focus_head {
     uint32_t opaque[1116];
 } focus_head;
@@ -148,7 +155,9 @@ uint8_t focus_listener_start(focus_head *head, uint32_t n, uint32_t f, uint32_t 
 /* Restarts a listener whose strike is over, as focus_head_restart does a head. Refusals 1, 2, 3, 5. */
 uint8_t focus_listener_restart(focus_head *head, uint32_t n, uint32_t f, uint32_t number, uint32_t phase, uint32_t round);
 
-/* Hears the bytes of one frame on a link. Refusals 26, 3, 21, 6, 7, 8, 22, 9, 23, 10, 11. */
+/* Hears the bytes of one frame on a link. An accepted frame ends an offer. Refusals 26, 3, 21, 6, 7, 8, 22, 9, 23, 10,
+ * 11. (A block that no start made may say n above 32: a frame on a link from 32 on is accepted then and changes
+ * nothing, since a block has no words for it.) */
 uint8_t focus_head_hear(focus_head *head, uint32_t link, const uint8_t *frame, size_t length);
 
 /* Hears a round's frames in one call, each as a link byte and then the frame, in order, going on past a refused one:
@@ -165,23 +174,31 @@ uint8_t focus_head_hear_batch(focus_head *head, const uint8_t *batch, size_t len
  * Refusals 26, 17 for a listener, 24. */
 uint8_t focus_head_write(const focus_head *head, uint8_t *buffer, size_t room, size_t *length);
 
-/* Closes the round: after collection its list stands; after confession a new position is offered, and the head stays as
- * it is until that is adopted. Refusals 26, 25, of which 25 is an event and changes nothing else. */
+/* Closes the round. A collection round ends: its list stands, and the confession round is open. A confession round only
+ * offers a new position (document 02, A8): the head stays as it is in every way, phase, round, position, kept range and
+ * window, until the offer is adopted. Closing again offers the same again. Refusals 26, 25, of which 25 is an event and
+ * changes nothing else. */
 uint8_t focus_head_close(focus_head *head);
 
-/* Adopts what is offered: the head holds the new position and the next phase is open, which is an event. An offer ends
- * when it is adopted, when a frame is accepted, and when the head is started or restarted; a refused call leaves it.
- * Refusal 27. */
+/* Adopts what is offered: the head holds the new position and its kept range, the next phase is open, and the event of
+ * a phase end is set. Closing and then adopting is what closing a confession round was before A8. An offer ends when it
+ * is adopted, when a frame is accepted, and when the head is started or restarted; a refused call leaves it, and so do
+ * writing, the window and closing again.
+ * Refusals 27 if no offer stands, before all else, then 26. A block that calls made offers nothing after phase 65,535,
+ * so it answers 27 there; 26 is for blocks that no start made.
+ * Who has not adopted when the first frame of the next round is sent counts as struck in the round that it did not end:
+ * its host restarts it before it sends or hears (host/c/look_first.c). */
 uint8_t focus_head_adopt(focus_head *head);
 
-/* No refusal: 1 and what is offered in *kept, or 0 if no offer stands, with *kept as it was. */
+/* For the person who looks: 1 and what is offered in *kept, the new position with its kept range and trim; or 0 if no
+ * offer stands, with *kept as it was. No refusal. */
 uint8_t focus_head_offer(const focus_head *head, focus_kept *kept);
 
 /* No refusal: 1 and the head's position in *position, or 0 if it holds none, with *position as it was. */
 uint8_t focus_head_position(const focus_head *head, int32_t *position);
 
 /* No refusal: 1 and what the head's last phase end kept in *kept, or 0 if it passed none since it was started or
- * restarted, with *kept as it was. */
+ * restarted, with *kept as it was. An offer does not show here until it is adopted. */
 uint8_t focus_head_kept(const focus_head *head, focus_kept *kept);
 
 /* ---- the head as a register window of sixteen bytes (document 02, A5): crates/head_c/src/window.rt has what its calls
@@ -192,9 +209,9 @@ uint8_t focus_head_kept(const focus_head *head, focus_kept *kept);
  * lowest byte first. After the last phase end phase and bit 2 stay, and bit 1 is 0. Byte 10 is the pending events, byte
  * 11 the mask. All else is 0. Refusal 26 is not checked here: the window goes on after the last phase end.
  *
- * Events and mask stand beside the head. A start clears both, a restart sets FOCUS_EVENT_STRIKE_OVER, a closing that ends
- * a phase sets FOCUS_EVENT_PHASE_END, and one that is refused 25 sets FOCUS_EVENT_TOO_FEW and changes nothing else. Only
- * these and the two writes change them: `OnlyTheseChange` (crates/head_c/specs/Events.antt). */
+ * Events and mask stand beside the head. A start clears both, a restart sets FOCUS_EVENT_STRIKE_OVER, an adoption, which
+ * ends a phase, sets FOCUS_EVENT_PHASE_END, and a closing that is refused 25 sets FOCUS_EVENT_TOO_FEW and changes nothing
+ * else. Only these and the two writes change them: `OnlyTheseChange` (crates/head_c/specs/Events.antt). */
 enum focus_event {
     FOCUS_EVENT_PHASE_END = 1,
     FOCUS_EVENT_TOO_FEW = 2, /* a closing was refused 25 */
