@@ -5,51 +5,32 @@ use mathlib.Core.Bool.{Bool, true, false, cond}
 use mathlib.Core.List.{List, []}
 use Prim.Native.Nat.{ℕ, _+_, _*_, _%_, _^_, _<_}
 use native.Mathlib.Omega.{arith}
-use native.Mathlib.Decide.{ℕ-discrete}
 use lib.ListN.{length, set}
 use lib.Seq.{getD-set-same, getD-set-other}
 use lib.IntN.{ℤ}
 use borrow.Author.Tests.{lt-ltb}
 use Rattle.terms.specs.declared.Entry.{Entry}
-use Rattle.terms.specs.declared.Entry.the-variants.{Null, Position}
+use Rattle.terms.specs.declared.Entry.the-variants.{Null}
 use Rattle.terms.specs.declared.Table.{Table}
 use Rattle.marks.specs.Marks.{bitOf}
 use Rattle.entries.specs.Tables.{mark, number, marksOf, numbersOf, tableOf}
 use Rattle.entries.proofs.Tables.{marks-same, numbers-same, table-same, put, put-same, put-other, numbers-put, marks-sum, marks-room}
-use Rattle.convergence.specs.Counting.{Each}
-use Rattle.frame_spec.specs.Said.{Meaning, collected, said}
+use Rattle.frame_spec.specs.Said.{collected, said}
 use Rattle.frame_spec.specs.Written.{frameOf}
-use Rattle.frame_spec.specs.Proper.{Proper}
 use Rattle.frame_spec.proofs.ReadsBack.{reads-back}
-use Rattle.frame_spec.proofs.Senders.{said-alike}
 use Rattle.head_spec.specs.Record.{heardEntry}
 use Rattle.ring_round.specs.declared.Stage.{Stage}
-use Rattle.ring_round.specs.Memory.{heads, hears, ToldAlike, sends, listEntry, rowIn}
-use Rattle.ring_collection.specs.Inner.{sayable, ownEntry, sent, sentBy, heardOf, heardWith, Shared}
+use Rattle.ring_round.specs.Memory.{heads, ToldAlike, sends, InRange, listEntry, rowIn}
+use Rattle.ring_collection.specs.Inner.{ownEntry, sentBy, heardOf, heardWith, Shared}
 use Rattle.ring_round.proofs.Filling.{filledTo, Filled, filled-none, filled-passed, filled-stored, filled-yet}
 
 -- ---- what is heard
 
--- n: the heads that are played; bytes: the frame of the entry e; r: the entry that was read of it
-pub written-is : (s : Stage) (k : ℕ) (e : Entry) {n : ℕ} {r : Entry} {bytes : List ℕ} → n ≡ heads s
-    → bytes ≡ frameOf (heads s) k (s .phase) (collected e) → r ≡ heardEntry (said n (s .phase) 0 k bytes) → r ≡ heardOf s (frameOf (heads s) k (s .phase) (collected e)) k
-unfolding heardOf
-written-is s k e p f q = q ∙ rw (f, p)
-
--- e: what head k sends
-module _ (s : Stage) (positions : List ℤ) (k : ℕ) {e : Entry} (own : e ≡ ownEntry s positions k) where
-  pub sent-written : {r : Entry} → r ≡ heardOf s (frameOf (heads s) k (s .phase) (collected e)) k → r ≡ sent s positions k
-  unfolding heardOf sent
-  sent-written q = q ∙ rw own
-
-  -- what a frame can say is heard as it is
-  pub sent-as-is : s .phase < 65536 → sayable e ≡ true → e ≡ sent s positions k
-  unfolding sent
-  sent-as-is small h = sym (ap heardEntry (reads-back (heads s) k (s .phase) (collected e) (omega arith) small (proper e h))) ∙ rw own
-    where
-      proper : (x : Entry) → sayable x ≡ true → Proper (heads s) (collected x)
-      proper Null q = tt
-      proper (Position v) q = q
+-- what a head sends is heard as it is
+pub sent-as-is : (s : Stage) (positions : List ℤ) → s .phase < 65536 → InRange s positions → (k : ℕ) → k < heads s
+    → ownEntry s positions k ≡ heardEntry (said (heads s) (s .phase) 0 k (frameOf (heads s) k (s .phase) (sends s positions k)))
+sent-as-is s positions small fit k l =
+    sym (ap heardEntry (reads-back (heads s) k (s .phase) (collected (ownEntry s positions k)) (omega arith) small (fit k l)))
 
 pub sent-none : (s : Stage) (positions : List ℤ) (k : ℕ) → bitOf (s .struck) k ≡ true → sentBy s positions k ≡ Null
 unfolding sentBy
@@ -58,17 +39,16 @@ sent-none s positions k b = rw b
 abbrev pub sent-shared : (s : Stage) (positions : List ℤ) {t : Table} → t ≡ tableOf (heads s) (sentBy s positions) → Shared s t
 sent-shared s positions e = record { entry = sentBy s positions; is = e; none = sent-none s positions }
 
-pub heard-list : (s : Stage) (positions : List ℤ) (plant : ℕ → ℕ → List ℕ) (i : ℕ)
+pub heard-list : (s : Stage) (positions : List ℤ) → s .phase < 65536 → InRange s positions → (plant : ℕ → ℕ → List ℕ) (i : ℕ)
     → tableOf (heads s) (heardWith s (sentBy s positions) plant i) ≡ tableOf (heads s) (listEntry s positions plant i)
-unfolding heardWith heardOf sentBy sent listEntry
-heard-list s positions plant i = table-same (heads s) _ _ (λ k l. go k (bitOf (s .struck) k))
+unfolding heardWith heardOf sentBy listEntry
+heard-list s positions small fit plant i = table-same (heads s) _ _ (λ k l. go k (bitOf (s .struck) k) (sent-as-is s positions small fit k l))
   where
-    go : (k : ℕ) (b : Bool)
-        → cond b (heardEntry (said (heads s) (s .phase) 0 k (plant k i)))
-        (cond b Null (heardEntry (said (heads s) (s .phase) 0 k (frameOf (heads s) k (s .phase) (sends s positions k)))))
+    go : (k : ℕ) (b : Bool) → ownEntry s positions k ≡ heardEntry (said (heads s) (s .phase) 0 k (frameOf (heads s) k (s .phase) (sends s positions k)))
+        → cond b (heardEntry (said (heads s) (s .phase) 0 k (plant k i))) (cond b Null (ownEntry s positions k))
         ≡ heardEntry (said (heads s) (s .phase) 0 k (cond b (plant k i) (frameOf (heads s) k (s .phase) (sends s positions k))))
-    go k true = refl
-    go k false = refl
+    go k true e = refl
+    go k false e = e
 
 -- heads told alike fill the same list
 pub told-list : (s : Stage) (E : ℕ → Entry) (plant : ℕ → ℕ → List ℕ) (i m : ℕ) → ToldAlike s plant i m
@@ -126,13 +106,6 @@ module _ (s : Stage) {t : Table} (S : Shared s t) (plant : ℕ → ℕ → List 
   heard-last e h =
       let (p, q) = rw e at h in
       ap₂ (λ (a : ℕ) (b : List ℤ). record { marks = a; entries = b }) p q ∙ table-same (heads s) _ _ (λ j l. rw (lt-ltb j (heads s) l))
-
--- heads that send the same are heard the same
-pub sent-alike : (s : Stage) (positions : List ℤ) (k m : ℕ) → sends s positions k ≡ sends s positions m → sent s positions k ≡ sent s positions m
-unfolding sent
-sent-alike s positions k m e =
-    ap (λ (x : Meaning). heardEntry (said (heads s) (s .phase) 0 k (frameOf (heads s) k (s .phase) x))) e
-    ∙ ap heardEntry (said-alike (heads s) (s .phase) 0 k m (sends s positions m))
 
 -- ---- the memory
 

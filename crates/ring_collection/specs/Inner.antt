@@ -1,34 +1,22 @@
 -- What the private functions promise each other. Readers of the public promises do not need this file.
 use mathlib.Core.Path.{_≡_}
-use mathlib.Core.Bool.{Bool, true, cond}
+use mathlib.Core.Bool.{true, cond}
 use mathlib.Core.List.{List}
 use Prim.Native.Nat.{ℕ}
 use lib.ListN.{getD}
 use lib.IntN.{ℤ, pos}
-use Rattle.terms.specs.Positions.{isPosition}
 use Rattle.terms.specs.declared.Entry.{Entry}
-use Rattle.terms.specs.declared.Entry.the-variants.{Null, Position}
 use Rattle.terms.specs.declared.Table.{Table}
 use Rattle.marks.specs.Marks.{bitOf}
 use Rattle.entries.specs.Tables.{tableOf}
 use Rattle.frame_spec.specs.Said.{said}
-use Rattle.frame_spec.specs.Written.{frameOf}
 use Rattle.head_spec.specs.Record.{heardEntry}
 use Rattle.ring_round.specs.declared.Stage.{Stage}
-use Rattle.ring_round.specs.Memory.{heads, sends}
-
--- whether a frame can say an entry
-abbrev pub sayable : Entry → Bool
-sayable Null = true
-sayable (Position v) = isPosition v
+use Rattle.ring_round.specs.Memory.{heads}
 
 -- what head k sends
 abbrev pub ownEntry : Stage → List ℤ → ℕ → Entry
 ownEntry s positions k = cond (bitOf (s .before) k) Entry.Null (Entry.Position (getD positions k (pos 0)))
-
--- what is heard of head k, if it is not struck
-unfoldable pub sent : Stage → List ℤ → ℕ → Entry
-sent s positions k = heardEntry (said (heads s) (s .phase) 0 k (frameOf (heads s) k (s .phase) (sends s positions k)))
 
 -- what is heard of head k, if these bytes come from it
 unfoldable pub heardOf : Stage → List ℕ → ℕ → Entry
@@ -36,7 +24,7 @@ heardOf s bytes k = heardEntry (said (heads s) (s .phase) 0 k bytes)
 
 -- what all hear alike: of the unstruck heads what they sent, of the struck ones nothing
 unfoldable pub sentBy : Stage → List ℤ → ℕ → Entry
-sentBy s positions k = cond (bitOf (s .struck) k) Entry.Null (sent s positions k)
+sentBy s positions k = cond (bitOf (s .struck) k) Entry.Null (ownEntry s positions k)
 
 -- what head i hears of head k, with E for the unstruck heads
 unfoldable pub heardWith : Stage → (ℕ → Entry) → (ℕ → ℕ → List ℕ) → ℕ → ℕ → Entry

@@ -1,15 +1,14 @@
 // A collection round of a whole ring, played on the heads' memory: the list of each head that is not struck. What all unstruck heads say is heard once.
-ghost use mathlib.Core.Bool.{true, cond};
+ghost use mathlib.Core.Bool.{cond};
 ghost use mathlib.Core.Path.{_≡_};
 ghost use Prim.Native.Nat.{ℕ, _<_};
 ghost use lib.ListN.{length};
 ghost use Rattle.entries.specs.Tables.{tableOf, mark, number};
-ghost use Rattle.frame_spec.specs.Said.{said, collected};
-ghost use Rattle.frame_spec.specs.Written.{frameOf};
+ghost use Rattle.frame_spec.specs.Said.{said};
 ghost use Rattle.head_spec.specs.Record.{heardEntry};
-ghost use Rattle.ring_round.specs.Memory.{heads, hears, sends, listEntry, rowIn};
+ghost use Rattle.ring_round.specs.Memory.{heads, hears, InRange, listEntry, rowIn};
 ghost use Rattle.frame_slots.specs.Slots.{plantedIn};
-ghost use Rattle.ring_collection.specs.Inner.{sayable, ownEntry, sent, sentBy, heardOf, heardWith, Shared};
+ghost use Rattle.ring_collection.specs.Inner.{ownEntry, sentBy, heardOf, heardWith, Shared};
 use frame_spec::Said;
 use ring_round::Stage;
 use terms::Entry;
@@ -41,68 +40,6 @@ fn own_entry(s: Stage, positions: &Positions, k: usize) -> Entry
     Entry::Position(positions[k])
 }
 
-// Whether a frame can say an entry: null, or a position in range.
-fn is_sayable(e: Entry) -> bool
-    ensures { λ r. ⌜ r ≡ sayable e ⌝ }
-{
-    match e {
-        Entry::Null => true,
-        Entry::Position(v) => steps::is_position(v),
-    }
-}
-
-// What is heard of head k if it sends this entry in a frame.
-fn entry_written(s: Stage, own: Entry, k: usize) -> Entry
-    requires { ⌜ k < 32 ⌝ }
-    ensures { λ r. ⌜ r ≡ heardOf s (frameOf (heads s) k (s .phase) (collected own)) k ⌝ }
-{
-    let n = ring_round::head_count(s);
-    let entries = [0i32; 32];
-    let table = Table { marks: 0, entries };
-    let mut buffer = [0u8; 140];
-    let len = ring_round::write_frame(Said::Collection(own), table, s, k as u8, &mut buffer);
-    entry_in(&buffer[..len], n, s.phase, k as u8)
-}
-
-// What each unstruck head hears of head k, if that is not struck either. What a frame can say is heard as it is, so no frame is written.
-fn entry_sent(s: Stage, positions: &Positions, k: usize) -> Entry
-    requires { ⌜ k < 32 ⌝ }
-    ensures { λ r. ⌜ r ≡ sent s (now (positions .entry)) k ⌝ }
-{
-    let own = own_entry(s, positions, k);
-    if is_sayable(own) {
-        return own;
-    }
-    entry_written(s, own, k)
-}
-
-// Whether heads i and m send the same position.
-fn sends_alike(s: Stage, positions: &Positions, i: usize, m: usize) -> bool
-    requires { ⌜ (i < 32) × (m < 32) ⌝ }
-    ensures { λ r. ⌜ (r ≡ true → sends s (now (positions .entry)) i ≡ sends s (now (positions .entry)) m) ⌝ }
-{
-    if marks::marked(s.before, i) {
-        return false;
-    }
-    if marks::marked(s.before, m) {
-        return false;
-    }
-    positions[i] == positions[m]
-}
-
-// What is heard of head k, after `told` was heard of head `last`, or first if that is 32: heads that send the same are heard the same.
-fn entry_after(s: Stage, positions: &Positions, k: usize, last: usize, told: Entry) -> Entry
-    requires { ⌜ (k < 32) × (last < 32 → told ≡ sent s (now positions) last) ⌝ }
-    ensures { λ r. ⌜ r ≡ sent s (now (positions .entry)) k ⌝ }
-{
-    if last < 32 {
-        if sends_alike(s, positions, k, last) {
-            return told;
-        }
-    }
-    entry_sent(s, positions, k)
-}
-
 // The mark of an entry.
 fn mark_of(e: Entry) -> u32
     ensures { λ r. ⌜ r ≡ mark e ⌝ }
@@ -123,22 +60,18 @@ fn number_of(e: Entry) -> i32
     }
 }
 
-// What each unstruck head hears of the unstruck heads, with null for the struck ones.
+// What the unstruck heads send, with null for the struck ones.
 fn entries_sent(s: Stage, positions: &Positions) -> Table
     ensures { λ r. ⌜ r ≡ tableOf (heads s) (sentBy s (now (positions .entry))) ⌝ }
 {
     let n = ring_round::head_count(s) as usize;
     let mut marks: u32 = 0;
     let mut entries = [0i32; 32];
-    let mut told = Entry::Null;
-    let mut last: usize = 32;
     let mut k: usize = 0;
     while k < n {
         let mut e = Entry::Null;
         if !marks::marked(s.struck, k) {
-            told = entry_after(s, positions, k, last, told);
-            last = k;
-            e = told;
+            e = own_entry(s, positions, k);
         }
         marks += mark_of(e) << k;
         entries[k] = number_of(e);
@@ -234,7 +167,8 @@ fn fill_lists(
     }
 }
 
-// A collection round: the list of each head that is not struck, from the positions and what is planted. The other lists stay as they were.
+// A collection round: the list of each head that is not struck, from the positions, which are in range, and what is planted. The other lists stay as they
+// were. An honest frame reads back as what it says, so none is written.
 pub fn collect(
     s: Stage,
     positions: &Positions,
@@ -243,7 +177,7 @@ pub fn collect(
     marks: &mut Words,
     lists: &mut Lists,
 )
-    ensures { λ _. ⌜ ((i : ℕ) → rowIn (now (marks .exit)) (now (lists .exit)) i
+    ensures { λ _. ⌜ (InRange s (now (positions .entry)) → (i : ℕ) → rowIn (now (marks .exit)) (now (lists .exit)) i
         ≡ cond (hears s i)
         (tableOf (heads s) (listEntry s (now (positions .entry)) (plantedIn (now (planted .entry)) (now (lengths .entry))) i))
         (rowIn (now (marks .entry)) (now (lists .entry)) i)) ⌝ }

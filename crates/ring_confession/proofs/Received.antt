@@ -7,14 +7,12 @@ use mathlib.Core.List.{List, []}
 use Prim.Native.Nat.{ℕ, _+_, _<_}
 use native.Mathlib.Omega.{arith}
 use native.Mathlib.Decide.{ℕ-discrete}
-use lib.ListN.{length, getD, set, replicate, length-set}
+use lib.ListN.{length, set, length-set}
 use lib.Seq.{getD-set-same, getD-set-other}
 use lib.IntN.{ℤ}
 use Rattle.terms.specs.declared.Entry.{Entry}
-use Rattle.terms.specs.declared.Table.{Table}
-use Rattle.entries.specs.Tables.{tableAt}
 use Rattle.marks.specs.Marks.{bitOf}
-use Rattle.marks.proofs.Marks.{bit-none, with-same, with-other}
+use Rattle.marks.proofs.Marks.{with-same, with-other}
 use Rattle.convergence.specs.Trust as trust
 use Rattle.convergence.specs.Trust.{Given, nothing, gave, hasConfessed}
 use Rattle.frame_spec.specs.Said.{Meaning, refused, collected, listed, confessed}
@@ -22,7 +20,7 @@ use Rattle.settle_trust.specs.declared.Links.{Links}
 use Rattle.settle_trust.specs.Received.{givenBy}
 use Rattle.settle_trust.proofs.Received.{confessed-given}
 use Rattle.head_spec.specs.Record.{givenOf}
-use Rattle.ring_confession.specs.Inner.{linksWith, rowsWith, heardOn, Received}
+use Rattle.ring_confession.specs.Inner.{linksWith, rowsWith, Received}
 use Rattle.ring_round.proofs.Filling.{filledTo, filled-none, filled-passed, filled-stored, filled-yet}
 
 -- ---- one link
@@ -79,21 +77,7 @@ module _ (g : Links) (rows : List (List ℤ)) (k : ℕ) where
       go j (yes q) = rw q (unread (bitOf (g .confessed) k) (bitOf (g .listed) k) _ _ e)
       go j (no d) = rw (getD-set-other rows k j (t .entries) [] d)
 
--- what was heard on a link gives what the link gave
-pub heard-given : (g : Links) (rows : List (List ℤ)) (k : ℕ) → givenOf (heardOn g rows k) ≡ givenBy g rows k
-unfolding givenBy
-heard-given g rows k = go (bitOf (g .confessed) k) (bitOf (g .listed) k) (record { marks = getD (g .marks) k 0; entries = getD rows k [] })
-  where
-    go : (a b : Bool) (t : Table) → givenOf (cond a confessed (cond b (listed t) (refused 0))) ≡ cond a trust.confessed (cond b (gave (tableAt t)) nothing)
-    go true b t = refl
-    go false true t = refl
-    go false false t = refl
-
 -- ---- link by link
-
-pub received-none : (rows : List (List ℤ)) → length rows ≡ 32 → Received (record { confessed = 0; listed = 0; marks = replicate 32 0 }) rows (λ j. nothing)
-unfolding givenBy
-received-none rows l = record { marks-long = refl; rows-long = l; gives = λ j. rw (bit-none j) }
 
 pub received-start : (picked : ℕ → Bool) (new old : ℕ → Given) (g : Links) (rows : List (List ℤ)) → Received g rows old → Received g rows (filledTo picked new old 0)
 received-start picked new old g rows h =

@@ -9,7 +9,6 @@ use lib.IntN.{ℤ}
 use borrow.Author.Tests.{lt-ltb}
 use Rattle.terms.specs.Positions.{isPosition}
 use Rattle.terms.specs.declared.Entry.the-variants.{Position}
-use Rattle.terms.specs.declared.Table.{Table}
 use Rattle.marks.specs.Marks.{bitOf}
 use Rattle.convergence.specs.Settling.{twoRounds}
 use Rattle.convergence.specs.Trust.{Given, nothing, saysOf, trusted}
@@ -17,38 +16,17 @@ use Rattle.convergence.specs.Phases.{rounding}
 use Rattle.convergence.proofs.Support.{not-null}
 use Rattle.settle_midpoint.specs.Answers.{settling}
 use Rattle.settle_midpoint.specs.declared.Settled.{Settled}
-use Rattle.frame_spec.specs.declared.Said.{Said}
-use Rattle.frame_spec.specs.Said.{Meaning, listed, confessed, said, meant}
+use Rattle.frame_spec.specs.Said.{said}
 use Rattle.frame_spec.specs.Written.{frameOf}
-use Rattle.frame_spec.proofs.Senders.{said-alike}
 use Rattle.settle_trust.specs.declared.Links.{Links}
 use Rattle.settle_trust.specs.Received.{givenBy}
 use Rattle.head_spec.specs.Record.{givenOf}
 use Rattle.ring_round.specs.declared.Stage.{Stage}
-use Rattle.ring_round.specs.Memory.{heads, hears, rowIn, replies, givenEntry, positionOf, newPosition}
+use Rattle.ring_round.specs.Memory.{heads, hears, replies, givenEntry, positionOf, newPosition}
 use Rattle.ring_shared.specs.Planted.{isStruck, givenOrPlanted, positionSettled, Alike}
 use Rattle.ring_shared.proofs.Settling.{settled-same}
 use Rattle.ring_shared.proofs.Told.{given-positions}
-use Rattle.ring_confession.specs.Inner.{ownReply, replied, Received, RowsKept, givenAlike, Untold}
-
--- ---- what an unstruck head replies
-
-reply-is : (b : Bool) (t : Table) → meant (cond b Said.Confession Said.List) t ≡ cond b confessed (listed t)
-reply-is true t = refl
-reply-is false t = refl
-
--- x: what head k replies; bytes: its frame
-pub replied-is : (s : Stage) (marks : List ℕ) (lists : List (List ℤ)) (k : ℕ) {n : ℕ} {x : Said} {bytes : List ℕ} → n ≡ heads s → x ≡ ownReply s k
-    → bytes ≡ frameOf (heads s) k (s .phase) (meant x (rowIn marks lists k)) → said n (s .phase) 1 k bytes ≡ replied s marks lists k
-unfolding replied
-replied-is s marks lists k p q f = rw (f, q, p, reply-is (bitOf (s .before) k) (rowIn marks lists k))
-
--- heads that reply the same are heard the same
-pub replied-alike : (s : Stage) (marks : List ℕ) (lists : List (List ℤ)) (k m : ℕ) → replies s marks lists k ≡ replies s marks lists m
-    → replied s marks lists k ≡ replied s marks lists m
-unfolding replied
-replied-alike s marks lists k m e =
-    ap (λ (x : Meaning). said (heads s) (s .phase) 1 k (frameOf (heads s) k (s .phase) x)) e ∙ said-alike (heads s) (s .phase) 1 k m (replies s marks lists m)
+use Rattle.ring_confession.specs.Inner.{replied, Received, RowsKept, givenAlike, Untold}
 
 -- ---- what is settled
 
@@ -104,7 +82,3 @@ module _ (s : Stage) (marks : List ℕ) (lists : List (List ℤ)) (g : Links) (r
     pub new-settled : positionSettled s (givenOrPlanted s (givenBy g rows) plant i) ≡ newPosition s marks lists plant i
     unfolding positionSettled newPosition
     new-settled = settled-same s _ _ given-same
-
-pub alike-untold : (s : Stage) (marks : List ℕ) (lists : List (List ℤ)) (g : Links) (rows : List (List ℤ)) → Received g rows (givenAlike s marks lists) → Untold s g rows
-alike-untold s marks lists g rows h =
-    record { marks-long = h .marks-long; rows-long = h .rows-long; untold = untold-given s marks lists g rows (h .gives) }

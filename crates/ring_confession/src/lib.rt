@@ -1,104 +1,23 @@
 // A confession round of a whole ring, played on the heads' memory: each receiver, head or listener, that is not struck settles by the same functions that the
 // head's calls are made of. What all unstruck heads say is read once.
-ghost use mathlib.Core.Bool.{true, false, cond};
+ghost use mathlib.Core.Bool.{cond};
 ghost use mathlib.Core.Path.{_≡_};
-ghost use Prim.Native.Nat.{ℕ, _≤_, _<_};
+ghost use Prim.Native.Nat.{ℕ, _<_};
 ghost use lib.ListN.{length, getD};
 ghost use lib.IntN.{pos};
-ghost use Rattle.terms.specs.Positions.{isPosition};
-ghost use Rattle.marks.specs.Marks.{bitOf};
-ghost use Rattle.convergence.specs.Counting.{Each};
 ghost use Rattle.frame_spec.specs.Said.{said};
 ghost use Rattle.settle_trust.specs.Received.{givenBy};
-ghost use Rattle.head_spec.specs.Record.{givenOf};
-ghost use Rattle.ring_round.specs.Memory.{settles, replies, newPosition};
+ghost use Rattle.ring_round.specs.Memory.{settles, Sayable, newPosition};
 ghost use Rattle.frame_slots.specs.Slots.{plantedIn};
-ghost use Rattle.ring_confession.specs.Inner.{ownReply, replied, linksWith, rowsWith, heardOn, Heard, Received, RowsKept, givenAlike, Untold, ListFits, ListsFit, OwnLinks, ConfessedAll, ConfessesAll};
+ghost use Rattle.ring_confession.specs.Inner.{linksWith, rowsWith, Received, RowsKept, Untold, OwnLinks};
 ghost use Rattle.ring_shared.specs.Planted.{givenOrPlanted, positionSettled};
 use frame_spec::Said;
 use ring_round::Stage;
 use settle_midpoint::Settled;
 use settle_trust::Links;
 use terms::Lists;
-use terms::Numbers;
 use terms::Positions;
-use terms::Table;
 use terms::Words;
-
-// ---- Lists that a frame can say. They are heard as they are, so no frame is written.
-
-// Whether the first n numbers of a list are positions. All are looked at, without a branch, so that many are tested at once.
-fn all_positions(list: &Numbers, n: usize) -> bool
-    requires { ⌜ n ≤ 32 ⌝ }
-    ensures { λ r. ⌜ (r ≡ true → Each n (λ j. isPosition (getD (now (list .entry)) j (pos 0)) ≡ true)) ⌝ }
-{
-    let mut fit = true;
-    let mut j: usize = 0;
-    while j < n {
-        if !steps::is_position(list[j]) {
-            fit = false;
-        }
-        j += 1;
-    }
-    fit
-}
-
-// Whether the number v may stand at entry j: if that is not marked, 0 alone.
-fn is_spared(m: u32, j: usize, v: i32) -> bool
-    ensures { λ r. ⌜ (r ≡ true → bitOf m j ≡ false → v ≡ pos 0) ⌝ }
-{
-    if marks::marked(m, j) { true } else { v == 0 }
-}
-
-// Whether those of the first n numbers of a list that are not marked are 0.
-fn nulls_zero(m: u32, list: &Numbers, n: usize) -> bool
-    requires { ⌜ n ≤ 32 ⌝ }
-    ensures { λ r. ⌜ (r ≡ true → Each n (λ j. bitOf m j ≡ false → getD (now (list .entry)) j (pos 0) ≡ pos 0)) ⌝ }
-{
-    let mut fit = true;
-    let mut j: usize = 0;
-    while j < n {
-        if !is_spared(m, j, list[j]) {
-            fit = false;
-        }
-        j += 1;
-    }
-    fit
-}
-
-// Whether a list of n entries is one that a frame can say.
-fn list_fits(m: u32, list: &Numbers, n: usize) -> bool
-    requires { ⌜ n ≤ 32 ⌝ }
-    ensures { λ r. ⌜ (r ≡ true → ListFits n m (now (list .entry))) ⌝ }
-{
-    if !marks::marks_below(m, n) {
-        return false;
-    }
-    if !all_positions(list, n) {
-        return false;
-    }
-    if marks::all_marked(m, n) {
-        return true;
-    }
-    nulls_zero(m, list, n)
-}
-
-// Whether each list that is to be said is one that a frame can say.
-fn all_fit(marks: &Words, lists: &Lists, listed: u32, n: usize) -> bool
-    requires { ⌜ n ≤ 32 ⌝ }
-    ensures { λ r. ⌜ (r ≡ true → ListsFit n listed (now (marks .entry)) (now (lists .entry))) ⌝ }
-{
-    let mut k: usize = 0;
-    while k < n {
-        if marks::marked(listed, k) {
-            if !list_fits(marks[k], &lists[k], n) {
-                return false;
-            }
-        }
-        k += 1;
-    }
-    true
-}
 
 // What the unstruck heads say, beside their lists: a healed head a confession, any other its list.
 fn links_of(s: Stage, marks: &Words) -> Links
@@ -125,35 +44,6 @@ fn links_of(s: Stage, marks: &Words) -> Links
     }
 }
 
-// Settles all receivers from the lists as they are. Answers no, and leaves the positions as they were, if no head is struck, if a list is none that a frame can say,
-// or if what all hear does not decide.
-fn confess_own(
-    s: Stage,
-    marks: &Words,
-    lists: &Lists,
-    planted: &[u8],
-    lengths: &[u8],
-    positions: &mut Positions,
-) -> bool
-    ensures { λ r. ⌜ ConfessesAll r s (now (marks .entry)) (now (lists .entry)) (plantedIn (now (planted .entry)) (now (lengths .entry))) (now (positions .entry)) (now (positions .exit)) ⌝ }
-{
-    if s.struck == 0 {
-        return false;
-    }
-    let links = links_of(s, marks);
-    if !all_fit(
-        marks,
-        lists,
-        links.listed,
-        ring_round::head_count(s) as usize,
-    ) {
-        return false;
-    }
-    ring_shared::settle_all(s, lists, links, planted, lengths, positions)
-}
-
-// ---- Lists that are said in frames.
-
 // Hears a confession frame on link k: a list goes to its row.
 fn hear(links: Links, rows: &mut Lists, k: usize, frame: &[u8], n: u8, phase: u16) -> Links
     requires { ⌜ k < 32 ⌝ }
@@ -177,141 +67,6 @@ fn hear(links: Links, rows: &mut Lists, k: usize, frame: &[u8], n: u8, phase: u1
         }
     }
     out
-}
-
-// What head k replies: a healed head a confession, any other its list.
-fn own_reply(s: Stage, k: usize) -> Said
-    ensures { λ r. ⌜ r ≡ ownReply s k ⌝ }
-{
-    if !marks::marked(s.before, k) {
-        return Said::List;
-    }
-    Said::Confession
-}
-
-// Hears what head k replies to each receiver, if it is not struck.
-fn hear_reply(
-    s: Stage,
-    marks: &Words,
-    lists: &Lists,
-    k: usize,
-    links: Links,
-    rows: &mut Lists,
-) -> Links
-    requires { ⌜ k < 32 ⌝ }
-    ensures links { λ r. ⌜ r ≡ linksWith links k (replied s (now (marks .entry)) (now (lists .entry)) k) ⌝ }
-    ensures rows { λ r. ⌜ now (rows .exit) ≡ rowsWith (now (rows .entry)) k (replied s (now (marks .entry)) (now (lists .entry)) k) ⌝ }
-{
-    let n = ring_round::head_count(s);
-    let entries = lists[k];
-    let table = Table {
-        marks: marks[k],
-        entries,
-    };
-    let mut buffer = [0u8; 140];
-    let len = ring_round::write_frame(own_reply(s, k), table, s, k as u8, &mut buffer);
-    hear(links, rows, k, &buffer[..len], n, s.phase)
-}
-
-// Whether two lists have the same numbers. All are looked at, without a branch, so that many are compared at once.
-fn is_same_row(a: &[i32], b: &[i32]) -> bool
-    ensures { λ r. ⌜ (r ≡ true → now (a .entry) ≡ now (b .entry)) ⌝ }
-{
-    let len = a.len();
-    if b.len() != len {
-        return false;
-    }
-    let mut same = true;
-    let mut j: usize = 0;
-    while j < len {
-        if a[j] != b[j] {
-            same = false;
-        }
-        j += 1;
-    }
-    same
-}
-
-// Whether heads k and m reply the same list.
-fn replies_alike(s: Stage, marks: &Words, lists: &Lists, k: usize, m: usize) -> bool
-    requires { ⌜ (k < 32) × (m < 32) ⌝ }
-    ensures { λ r. ⌜ (r ≡ true → replies s (now (marks .entry)) (now (lists .entry)) k ≡ replies s (now (marks .entry)) (now (lists .entry)) m) ⌝ }
-{
-    if marks::marked(s.before, k) {
-        return false;
-    }
-    if marks::marked(s.before, m) {
-        return false;
-    }
-    if marks[k] != marks[m] {
-        return false;
-    }
-    is_same_row(&lists[k], &lists[m])
-}
-
-// Hears on link k what was heard on link m.
-fn hear_again(links: Links, rows: &mut Lists, k: usize, m: usize) -> Links
-    requires { ⌜ (k < 32) × (m < 32) ⌝ }
-    ensures links { λ r. ⌜ r ≡ linksWith links k (heardOn links (now (rows .entry)) m) ⌝ }
-    ensures rows { λ r. ⌜ now (rows .exit) ≡ rowsWith (now (rows .entry)) k (heardOn links (now (rows .entry)) m) ⌝ }
-{
-    let mut out = links;
-    if marks::marked(links.confessed, m) {
-        out.confessed = marks::with_mark(links.confessed, k);
-        return out;
-    }
-    if marks::marked(links.listed, m) {
-        let entries = rows[m];
-        rows[k] = entries;
-        out.marks[k] = links.marks[m];
-        out.listed = marks::with_mark(links.listed, k);
-    }
-    out
-}
-
-// Hears what head k replies, after head `last`, or first if that is 32: if both reply the same list, what was heard of the one is heard of the other.
-fn hear_after(
-    s: Stage,
-    marks: &Words,
-    lists: &Lists,
-    k: usize,
-    links: Links,
-    rows: &mut Lists,
-    last: usize,
-) -> Links
-    requires { ⌜ (k < 32) × (last < 32 → givenBy links (now rows) last ≡ givenOf (replied s (now marks) (now lists) last)) ⌝ }
-    ensures { λ r. ⌜ Heard links (now (rows .entry)) k (givenOf (replied s (now (marks .entry)) (now (lists .entry)) k)) r (now (rows .exit)) ⌝ }
-{
-    if last < 32 {
-        if replies_alike(s, marks, lists, k, last) {
-            return hear_again(links, rows, k, last);
-        }
-    }
-    hear_reply(s, marks, lists, k, links, rows)
-}
-
-// Hears what the unstruck heads reply to each receiver.
-fn hear_replies(s: Stage, marks: &Words, lists: &Lists, rows: &mut Lists) -> Links
-    requires { ⌜ length (now rows) ≡ 32 ⌝ }
-    ensures { λ r. ⌜ Received r (now (rows .exit)) (givenAlike s (now (marks .entry)) (now (lists .entry))) ⌝ }
-{
-    let n = ring_round::head_count(s) as usize;
-    let words = [0u32; 32];
-    let mut links = Links {
-        confessed: 0,
-        listed: 0,
-        marks: words,
-    };
-    let mut last: usize = 32;
-    let mut k: usize = 0;
-    while k < n {
-        if !marks::marked(s.struck, k) {
-            links = hear_after(s, marks, lists, k, links, rows, last);
-            last = k;
-        }
-        k += 1;
-    }
-    links
 }
 
 // Hears what is planted from the struck heads to receiver i, on links that gave nothing. Their rows may hold what was planted to another: no one reads them.
@@ -435,27 +190,15 @@ fn fill_positions(
     }
 }
 
-// Settles all receivers from what they hear in frames.
-fn confess_heard(
-    s: Stage,
-    marks: &Words,
-    lists: &Lists,
-    planted: &[u8],
-    lengths: &[u8],
-    positions: &mut Positions,
-)
-    ensures { λ _. ⌜ ConfessedAll s (now (marks .entry)) (now (lists .entry)) (plantedIn (now (planted .entry)) (now (lengths .entry))) (now (positions .entry)) (now (positions .exit)) ⌝ }
+// The same lists, to be changed.
+fn copied(lists: &Lists) -> Lists
+    ensures { λ r. ⌜ r ≡ now (lists .entry) ⌝ }
 {
-    let none = [0i32; 32];
-    let mut rows = [none; 32];
-    let links = hear_replies(s, marks, lists, &mut rows);
-    if ring_shared::settle_all(s, &rows, links, planted, lengths, positions) {
-        return;
-    }
-    fill_positions(s, planted, lengths, links, &mut rows, positions);
+    *lists
 }
 
-// A confession round: the new position of each receiver that is not struck, from the lists and what is planted. The other positions stay as they were.
+// A confession round: the new position of each receiver that is not struck, from the lists, which are such that a frame can say them, and what is planted. The
+// other positions stay as they were. An honest frame reads back as what it says, so none is written.
 pub fn confess(
     s: Stage,
     marks: &Words,
@@ -464,13 +207,15 @@ pub fn confess(
     lengths: &[u8],
     positions: &mut Positions,
 )
-    ensures { λ _. ⌜ ((i : ℕ) → getD (now (positions .exit)) i (pos 0)
+    ensures { λ _. ⌜ (Sayable s (now (marks .entry)) (now (lists .entry)) → (i : ℕ) → getD (now (positions .exit)) i (pos 0)
         ≡ cond (settles s i)
         (newPosition s (now (marks .entry)) (now (lists .entry)) (plantedIn (now (planted .entry)) (now (lengths .entry))) i)
         (getD (now (positions .entry)) i (pos 0))) ⌝ }
 {
-    if confess_own(s, marks, lists, planted, lengths, positions) {
+    let links = links_of(s, marks);
+    if ring_shared::settle_all(s, lists, links, planted, lengths, positions) {
         return;
     }
-    confess_heard(s, marks, lists, planted, lengths, positions);
+    let mut rows = copied(lists);
+    fill_positions(s, planted, lengths, links, &mut rows, positions);
 }

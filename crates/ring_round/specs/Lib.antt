@@ -1,3 +1,2 @@
--- What a round played on the heads' memory promises, and a frame at the front of a buffer.
+-- What a round played on the heads' memory promises.
 pub mod Memory
-pub mod Frames

@@ -10,11 +10,13 @@ use lib.IntN.{ℤ, pos}
 use Rattle.terms.specs.declared.Entry.{Entry}
 use Rattle.terms.specs.declared.Table.{Table}
 use Rattle.marks.specs.Marks.{bitOf}
+use Rattle.convergence.specs.Counting.{Each}
 use Rattle.convergence.specs.Settling.{twoRounds}
 use Rattle.convergence.specs.Trust.{Given, trusted}
 use Rattle.convergence.specs.Phases.{rounding}
 use Rattle.frame_spec.specs.Said.{Meaning, collected, listed, confessed, said}
 use Rattle.frame_spec.specs.Written.{frameOf}
+use Rattle.frame_spec.specs.Proper.{Proper}
 use Rattle.settle_midpoint.specs.Answers.{settling}
 use Rattle.settle_midpoint.specs.declared.Settled.{Settled}
 use Rattle.settle_midpoint.specs.declared.Settled.the-variants.{Refused, New}
@@ -60,6 +62,10 @@ ToldAlike s plant i m = (k : ℕ) → k < heads s → bitOf (s .struck) k ≡ tr
 abbrev pub sends : Stage → List ℤ → ℕ → Meaning
 sends s positions k = collected (cond (bitOf (s .before) k) Entry.Null (Entry.Position (getD positions k (pos 0))))
 
+-- what each head sends is what a frame can say: a position is in range
+abbrev pub InRange : Stage → List ℤ → Type 0
+InRange s positions = Each (heads s) (λ k. Proper (heads s) (sends s positions k))
+
 -- entry k of the list that head i fills
 unfoldable pub listEntry : Stage → List ℤ → (ℕ → ℕ → List ℕ) → ℕ → ℕ → Entry
 listEntry s positions plant i k = heardEntry (said (heads s) (s .phase) 0 k (carries s plant i k (sends s positions k)))
@@ -73,6 +79,10 @@ rowIn marks lists k = record { marks = getD marks k 0; entries = getD lists k []
 -- a healed head sends a confession, any other its list
 abbrev pub replies : Stage → List ℕ → List (List ℤ) → ℕ → Meaning
 replies s marks lists k = cond (bitOf (s .before) k) confessed (listed (rowIn marks lists k))
+
+-- what each head sends is what a frame can say: the entries of a list are positions if they are marked, and else 0
+abbrev pub Sayable : Stage → List ℕ → List (List ℤ) → Type 0
+Sayable s marks lists = Each (heads s) (λ k. Proper (heads s) (replies s marks lists k))
 
 -- what link k gives receiver i
 unfoldable pub givenEntry : Stage → List ℕ → List (List ℤ) → (ℕ → ℕ → List ℕ) → ℕ → ℕ → Given

@@ -1,16 +1,10 @@
-// A round of a whole ring, played on the heads' memory: what each head says is heard as its frame reads back, planted bytes are heard as they are.
-// `collection` and `confession` play the two rounds; here is what both need.
+// A round of a whole ring, played on the heads' memory: what an unstruck head says is heard as it is, and planted bytes are read as frames. `ring_collection` and
+// `ring_confession` play the two rounds; here is what both need.
 ghost use mathlib.Core.Bool.{true};
 ghost use mathlib.Core.Path.{_≡_};
 ghost use Prim.Native.Nat.{_<_};
 ghost use Rattle.frame_slots.specs.Slots.{plantedIn};
-ghost use Rattle.frame_spec.specs.Said.{meant};
-ghost use Rattle.frame_spec.specs.Written.{frameOf};
 ghost use Rattle.ring_round.specs.Memory.{heads, listeners, receiverEnd, settles, ToldAlike};
-ghost use Rattle.ring_round.specs.Frames.{Front};
-use frame_spec::Said;
-use frame_spec::Written;
-use terms::Table;
 
 // The ring in a round: its size, the phase, the heads struck in the round before and those struck in this one; how many listeners there are, and those struck in
 // this round, bit j for listener 32 + j.
@@ -64,16 +58,6 @@ pub fn settles(s: Stage, i: usize) -> bool
         return !marks::marked(s.away, j);
     }
     false
-}
-
-// Writes the frame in which head k says `what` (a list with `table`) at the front of the buffer, and answers its length.
-pub fn write_frame(what: Said, table: Table, s: Stage, k: u8, buffer: &mut [u8; 140]) -> usize
-    ensures { λ r. ⌜ Front (frameOf (heads s) k (s .phase) (meant what table)) r (now (buffer .exit)) ⌝ }
-{
-    match frame_codec::write(what, table, head_count(s), k, s.phase, buffer) {
-        Written::Length(len) => len,
-        Written::Refused(_) => 0,
-    }
 }
 
 // Whether the same is planted from each struck head to receivers i and m: what the one hears of them, the other does too.

@@ -31,7 +31,8 @@ use Rattle.ring_spec.proofs.OneRound.{heard-proper, heard-seat, heard-at, heard
 use Rattle.ring_spec.proofs.Closings.{collection-closed, confession-settles, after-collection, after-confession}
 use Rattle.ring_spec.proofs.Demand3.{Playable}
 use Rattle.ring_round.specs.declared.Stage.{Stage}
-use Rattle.ring_round.specs.Memory.{heads, hears, settles, sends, listEntry, rowIn, replies, givenEntry, positionOf, newPosition}
+use Rattle.frame_spec.specs.Proper.{Proper}
+use Rattle.ring_round.specs.Memory.{heads, hears, settles, sends, InRange, listEntry, rowIn, replies, Sayable, givenEntry, positionOf, newPosition}
 use Rattle.run_state.specs.Memory.{Memory}
 use Rattle.run_state.specs.Heads.{HeadsOf}
 use Rattle.entries.proofs.Tables.{table-same}
@@ -96,6 +97,32 @@ module _ {n m f : ℕ} {R : Ring} {w : Round} {s : Stage} {plant : ℕ → ℕ �
 
   abbrev lists : List (List ℤ)
   lists = M .lists
+
+  -- ---- what memory holds is what a frame can say
+
+  module _ (S : RingReady n f R) where
+    pub in-range : R .round ≡ 0 → InRange s positions
+    in-range c k l = go (bitOf (s .before) k) refl
+      where
+        go : (b : Bool) → bitOf (s .before) k ≡ b → Proper (heads s) (collected (cond b Entry.Null (Entry.Position (getD positions k (pos 0)))))
+        go true e = tt
+        go false e =
+            let l′ : k < n = rw (heads-are P S) at l in
+            let q : bitOf (R .before) k ≡ false = sym (P .before k (omega arith)) ∙ e in
+            let T : Proper (R .heads k .seat .n) (collected (Entry.Position (getD positions k (pos 0)))) = rw (K .collection c k l′ q) at (S .heads k (inl l′) q .fresh .proper .seat .position) in
+            T
+
+    pub sayable : R .round ≡ 1 → Sayable s marks lists
+    sayable c k l = go (bitOf (s .before) k) refl
+      where
+        go : (b : Bool) → bitOf (s .before) k ≡ b → Proper (heads s) (cond b confessed (listed (rowIn marks lists k)))
+        go true e = tt
+        go false e =
+            let l′ : k < n = rw (heads-are P S) at l in
+            let q : bitOf (R .before) k ≡ false = sym (P .before k (omega arith)) ∙ e in
+            let H = S .heads k (inl l′) q in
+            let T : Proper n (listed (R .heads k .list)) = rw (H .seat .count) at (H .fresh .proper .list) in
+            rw (heads-are P S, ← K .confession c k l′ q) T
 
   -- ---- a collection round
 

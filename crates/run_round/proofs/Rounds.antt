@@ -17,7 +17,7 @@ use Rattle.run_spec.specs.Listing.{lines}
 use Rattle.run_spec.proofs.Reached.{Reached}
 use Rattle.run_spec.proofs.Streaming.{roundLine, lines-next}
 use Rattle.ring_round.specs.declared.Stage.{Stage}
-use Rattle.ring_round.specs.Memory.{heads, hears, settles, listEntry, rowIn, newPosition}
+use Rattle.ring_round.specs.Memory.{heads, hears, settles, InRange, listEntry, rowIn, Sayable, newPosition}
 use Rattle.frame_slots.specs.Slots.{plantedIn}
 use Rattle.run_listing.specs.declared.Text.{Text}
 use Rattle.run_listing.specs.Texts.{bytesOf, endLine}
@@ -28,7 +28,7 @@ use Rattle.run_state.specs.State.{ringBefore, PlayerOf, MemoryOf}
 use Rattle.run_round.specs.Played.{Played}
 use Rattle.run_round.specs.Inner.{stageOf}
 use Rattle.run_round.proofs.Carried.{Plays}
-use Rattle.run_round.proofs.Keeping.{collect-keeps, confess-positions, confess-keeps}
+use Rattle.run_round.proofs.Keeping.{in-range, sayable, collect-keeps, confess-positions, confess-keeps}
 use Rattle.run_round.proofs.Waiting.{waiting-playable}
 use Rattle.run_round.proofs.Shown.{collection-line, confession-line, madeBy}
 use Rattle.run_listing.proofs.Writing.{empty-text}
@@ -77,13 +77,14 @@ module _ {F : File} {p : Player} {s : Stage} {M : Memory}
     collection = next-opens (F .setup .n) (F .setup .f) (F .setup .first) (F .rounds .played) (ap endsPhase number ∙ opens)
 
     pub collection-played : {t : Text} {M′ : Memory} → M′ .positions ≡ M .positions
-        → ((i : ℕ) → rowIn (M′ .marks) (M′ .lists) i
+        → (InRange s (M .positions) → (i : ℕ) → rowIn (M′ .marks) (M′ .lists) i
         ≡ cond (hears s i) (tableOf (heads s) (listEntry s (M .positions) plant i)) (rowIn (M .marks) (M .lists) i))
         → t .len ≡ 0
         → Played F t M′
     collection-played {t} same new none =
+        let S = waiting-playable F I pending .ready in
         record {
-          keeps = collect-keeps plays (H .keeps begun) (waiting-playable F I pending .ready) collection same new;
+          keeps = collect-keeps plays (H .keeps begun) S collection same (new (in-range plays (H .keeps begun) S collection));
           shows = shows (collection-line (F .setup .n) (F .setup .listeners) (F .setup .f) R (F .rounds .last) collection ∙ sym (empty-text t none));
           room = omega arith;
         }
@@ -93,13 +94,14 @@ module _ {F : File} {p : Player} {s : Stage} {M : Memory}
     confession = next-ends (F .setup .n) (F .setup .f) (F .setup .first) (F .rounds .played) (ap endsPhase number ∙ ends)
 
     pub confession-played : {t : Text} {M′ : Memory}
-        → ((i : ℕ) → getD (M′ .positions) i (pos 0)
+        → (Sayable s (M .marks) (M .lists) → (i : ℕ) → getD (M′ .positions) i (pos 0)
         ≡ cond (settles s i) (newPosition s (M .marks) (M .lists) plant i) (getD (M .positions) i (pos 0)))
         → bytesOf t ≡ endLine (p .n) (p .listeners) (s .phase) (M′ .positions) (p .before) (p .struck)
         → t .len ≤ 64
         → Played F t M′
-    confession-played {t} {M′} new text room =
+    confession-played {t} {M′} settled text room =
         let A = waiting-playable F I pending in
+        let new = settled (sayable plays (H .keeps begun) (A .ready) confession) in
         let few = I .waiting pending .few in
         let held = confess-positions plays (H .keeps begun) A few confession M′ new in
         let is-line = line-is (F .setup .n) (F .setup .listeners) (R .phase) (madeBy (F .setup .n) (F .setup .listeners) (F .setup .f) R (F .rounds .last) R) (M′ .positions) refl held in

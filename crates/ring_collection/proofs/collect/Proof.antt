@@ -6,6 +6,7 @@ use borrow.Author.Needs.{needs}
 use Rattle.terms.specs.declared.Table.{Table}
 use Rattle.ring_round.specs.Memory.{hears, rowIn}
 use Rattle.frame_slots.specs.Slots.{plantedIn}
+use Rattle.ring_round.proofs.Frames.{phase-small}
 use Rattle.ring_collection.proofs.Lists.{sent-shared, heard-list}
 use Rattle.ring_collection.proofs.collect.Statement.{statement}
 use Rattle.ring_collection.proofs.collect.Tie as tie
@@ -20,10 +21,10 @@ returns : tie.Need-returns
 returns c =
     let e = c .before .before .before in
     let a = c .before .before .before .before .before .before .args in
-    λ i.
+    λ fit i.
     c .fill-lists .ensures (sent-shared (a .s) (now (a .positions)) (e .entries-sent .ensures)) i
     ∙ ap (λ (t : Table). cond (hears (a .s) i) t (rowIn (now (a .marks)) (now (a .lists)) i))
-    (heard-list (a .s) (now (a .positions)) (plantedIn (now (a .planted)) (now (a .lengths))) i)
+    (heard-list (a .s) (now (a .positions)) (phase-small (a .s) (c .before .before .before .before .before .before .good .0)) fit (plantedIn (now (a .planted)) (now (a .lengths))) i)
 
 pub collect-spec : {M : Type 1} → statement M
 collect-spec = tie.close (tie.spec (λ c κs. search needs) fill-lists-requires returns)

@@ -1,4 +1,4 @@
--- `ring_collection::entries_sent` meets its contract: before head k the marks and the numbers are those of the heads below k, and `told` is the entry of `last`.
+-- `ring_collection::entries_sent` meets its contract: before head k the marks and the numbers are those of the heads below k.
 use mathlib.Core.Path.{_≡_, refl, ap, sym, _∙_}
 use mathlib.Core.Logic.{⊎-elim}
 use Prim.Native.Nat.{_-_, _≤_, _<_}
@@ -10,25 +10,21 @@ use borrow.Author.Tests.{not-true, not-false}
 use Rattle.entries.specs.Entries.{zeros}
 use Rattle.entries.specs.Tables.{mark, number, marksOf, numbersOf}
 use Rattle.entries.proofs.Tables.{marks-next, marks-fit, numbers-next}
-use Rattle.ring_collection.specs.Inner.{sent, sentBy}
+use Rattle.ring_collection.specs.Inner.{sentBy}
 use Rattle.entries.proofs.Tables.{table-filled}
 use Rattle.ring_collection.proofs.entries_sent.Statement.{statement}
 use Rattle.ring_collection.proofs.entries_sent.Tie as tie
 
 abbrev Inv-loop : tie.InvT-loop
-Inv-loop s positions n marks₀ entries₀ told₀ last₀ k₀ marks entries told last k =
+Inv-loop s positions n marks₀ entries₀ k₀ marks entries k =
     (k ≤ n) × (marks ≡ marksOf k (sentBy s positions)) × (entries ≡ numbersOf k (sentBy s positions))
-    × (last < 32 → told ≡ sent s positions last)
 
 abbrev μ-loop : tie.MeasureT-loop
-μ-loop s positions n marks₀ entries₀ told₀ last₀ k₀ marks entries told last k = n - k
+μ-loop s positions n marks₀ entries₀ k₀ marks entries k = n - k
 
 loop-holds : tie.Need-loop-holds Inv-loop μ-loop
 unfolding marksOf numbersOf zeros
-loop-holds c = (search needs, refl, refl, λ l. absurd (omega arith))
-
-entry-after-requires : tie.Need-entry-after-requires Inv-loop μ-loop
-entry-after-requires c κs = (search needs, c .before .before .before .loop .inv .3)
+loop-holds c = (search needs, refl, refl)
 
 module _ (c : tie.Joined1 Inv-loop μ-loop) where
   abbrev here : tie.At-loop Inv-loop μ-loop
@@ -44,7 +40,7 @@ module _ (c : tie.Joined1 Inv-loop μ-loop) where
   unfolding sentBy
   entry-is =
       let m = sym (c .before .marked .ensures) in
-      ⊎-elim (λ w. rw (m ∙ not-true _ (w .0 .taken)) (w .4 ∙ w .1 .ensures)) (λ w. rw (m ∙ not-false _ (w .0 .left)) (w .3)) (c .if1 .came)
+      ⊎-elim (λ w. rw (m ∙ not-true _ (w .0 .taken)) (w .2 ∙ w .1 .ensures)) (λ w. rw (m ∙ not-false _ (w .0 .left)) (w .1)) (c .if1 .came)
 
 add-marks : tie.Need-add-marks Inv-loop μ-loop
 add-marks c =
@@ -60,7 +56,6 @@ loop-again c =
       search needs,
       marks-next _ (l .k) (below j) (l .inv .1) (m .mark-of .ensures ∙ ap mark (entry-is j)),
       numbers-next _ (l .k) (l .inv .2) (toZ-ofZ (record { sfits = c .number-of .ok }) ∙ c .number-of .ensures ∙ ap number (entry-is j)),
-      ⊎-elim (λ w. rw (w .2, w .3) (λ small. w .1 .ensures)) (λ w. rw (w .1, w .2) (l .inv .3)) (j .if1 .came),
     )
 
 returns : tie.Need-returns Inv-loop μ-loop
@@ -78,7 +73,7 @@ entries-sent-spec =
     (λ c. search needs)
     loop-holds
     (λ c κs. search needs)
-    entry-after-requires
+    (λ c κs. search needs)
     (λ c κs. search needs)
     (λ c. search needs)
     (λ c. search needs)
