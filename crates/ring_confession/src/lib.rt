@@ -1,6 +1,7 @@
 // A confession round of a whole ring, played on the heads' memory: each receiver, head or listener, that is not struck settles by the same functions that the
 // head's calls are made of. What all unstruck heads say is read once.
 ghost use mathlib.Core.Bool.{cond};
+ghost use mathlib.Core.List.{List};
 ghost use mathlib.Core.Path.{_≡_};
 ghost use Prim.Native.Nat.{ℕ, _<_};
 ghost use lib.ListN.{length, getD};
@@ -10,7 +11,7 @@ ghost use Rattle.settle_trust.specs.Received.{givenBy};
 ghost use Rattle.ring_round.specs.Memory.{settles, Sayable, newPosition};
 ghost use Rattle.frame_slots.specs.Slots.{plantedIn};
 ghost use Rattle.ring_confession.specs.Inner.{linksWith, rowsWith, Received, RowsKept, Untold, OwnLinks};
-ghost use Rattle.ring_shared.specs.Planted.{givenOrPlanted, positionSettled};
+ghost use Rattle.ring_shared.specs.Planted.{givenOrPlanted, positionSettled, AllSettled};
 use frame_spec::Said;
 use ring_round::Stage;
 use settle_midpoint::Settled;
@@ -190,6 +191,30 @@ fn fill_positions(
     }
 }
 
+// Stores one position for each unstruck receiver.
+fn fill_alike(s: Stage, told: i32, positions: &mut [i32])
+    requires { ⌜ length (now positions) ≡ 48 ⌝ }
+    ensures { λ _. ⌜ ((i : ℕ) → getD (now (positions .exit)) i (pos 0) ≡ cond (settles s i) told (getD (now (positions .entry)) i (pos 0))) ⌝ }
+{
+    let end = ring_round::receiver_end(s);
+    let mut i: usize = 0;
+    while i < end {
+        if ring_round::settles(s, i) {
+            positions[i] = told;
+        }
+        i += 1;
+    }
+}
+
+// Settles all receivers if no head is struck: they hear the same, so once.
+fn settle_quiet(s: Stage, lists: &Lists, links: Links, positions: &mut Positions)
+    ensures { λ _. ⌜ (s .struck ≡ 0 → (plant : ℕ → ℕ → List ℕ)
+        → AllSettled s (givenBy links (now (lists .entry))) plant (now (positions .entry)) (now (positions .exit))) ⌝ }
+{
+    let told = settled(s, lists, links, first_listed(links.listed));
+    fill_alike(s, told, positions);
+}
+
 // The same lists, to be changed.
 fn copied(lists: &Lists) -> Lists
     ensures { λ r. ⌜ r ≡ now (lists .entry) ⌝ }
@@ -213,6 +238,10 @@ pub fn confess(
         (getD (now (positions .entry)) i (pos 0))) ⌝ }
 {
     let links = links_of(s, marks);
+    if s.struck == 0 {
+        settle_quiet(s, lists, links, positions);
+        return;
+    }
     if ring_shared::settle_all(s, lists, links, planted, lengths, positions) {
         return;
     }

@@ -43,30 +43,37 @@ module _ (c : tie.After-links-of) where
         let a = start .args in
         ap (λ (x : ℤ). cond (settles (a .s) i) x v) (new-settled (a .s) (now (a .marks)) (now (a .lists)) links (now (a .lists)) own plant i)
 
+-- no head is struck
 returns : tie.Need-returns
 returns c fit i =
-    let t = c .before in
+    let t = c .before .before in
     let l = t .before .before in
+    c .settle-quiet .ensures (t .if1 .taken) (plant l) i ∙ new-is l fit i (getD (now (start l .args .positions)) i (pos 0))
+
+returns-2 : tie.Need-returns-2
+returns-2 c fit i =
+    let t = c .before in
+    let l = t .before .before .before .before in
     let a = start l .args in
-    t .settle-all .ensures .settles (c .if1 .taken) (alike-given (a .s) (now (a .marks)) (now (a .lists)) (links l) (now (a .lists)) (own l fit)) i
+    t .settle-all .ensures .settles (c .if2 .taken) (alike-given (a .s) (now (a .marks)) (now (a .lists)) (links l) (now (a .lists)) (own l fit)) i
     ∙ new-is l fit i (getD (now (a .positions)) i (pos 0))
 
 fill-positions-requires : tie.Need-fill-positions-requires
 fill-positions-requires c κs =
-    let l = c .before .before .before .before .before .before in
+    let l = c .before .before .before .before .before .before .before .before in
     let a = start l .args in
     let m : length (links l .marks) ≡ 32 = search needs in
     let r : length (c .before .before .copied .result) ≡ 32 = search needs in
     (rw (c .before .before .copied .ensures) (own-untold (a .s) (now (a .marks)) (now (a .lists)) (links l) (l .links-of .ensures) m (rw (c .before .before .copied .ensures) at r)), c .fill-positions-arg .given .0 .1)
 
-returns-2 : tie.Need-returns-2
-returns-2 c fit i =
+returns-3 : tie.Need-returns-3
+returns-3 c fit i =
     let k = c .before .before .before in
     let e = k .before in
     let t = e .before in
-    let l = t .before .before in
+    let l = t .before .before .before .before in
     let a = start l .args in
-    c .fill-positions .ensures i ∙ rw (k .copied .ensures, t .settle-all .ensures .stays (e .if1 .left)) (new-is l fit i (getD (now (a .positions)) i (pos 0)))
+    c .fill-positions .ensures i ∙ rw (k .copied .ensures, t .settle-all .ensures .stays (e .if2 .left)) (new-is l fit i (getD (now (a .positions)) i (pos 0)))
 
 pub confess-spec : {M : Type 1} → statement M
-confess-spec = tie.close (tie.spec (λ c κs. search needs) (λ c κs. search needs) returns (λ c κs. search needs) fill-positions-requires returns-2)
+confess-spec = tie.close (tie.spec (λ c κs. search needs) (λ c κs. search needs) returns (λ c κs. search needs) returns-2 (λ c κs. search needs) fill-positions-requires returns-3)
