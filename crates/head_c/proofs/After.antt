@@ -1,20 +1,17 @@
 -- What start, restart, closing and adopting leave in a block, from the call by value on the record that the block is: a record with nothing heard, or the block
 -- as it was.
-use mathlib.Core.Path.{_≡_, refl, ap, sym, _∙_}
+use mathlib.Core.Path.{_≡_, refl, ap, _∙_}
 use mathlib.Core.List.{List}
 use Prim.Native.Nat.{ℕ, zero, suc}
 use native.Mathlib.Omega.{arith}
 use lib.IntN.{ℤ}
 use Rattle.head_spec.specs.declared.Head.{Head}
 use Rattle.head_spec.specs.declared.Answer.{Answer}
-use Rattle.head_spec.specs.declared.Closed.{Closed}
-use Rattle.head_spec.specs.declared.Closing.{Closing}
 use Rattle.head_spec.specs.declared.Offer.{Offer}
 use Rattle.head_spec.specs.Record.{opened}
 use Rattle.head_spec.specs.Calls.{answer, startRefusal, started, start, restartRefusal, restarted, restart}
 use Rattle.head_spec.specs.Calls.{startListenerRefusal, startedListener, startListener, restartListenerRefusal, restartListener}
-use Rattle.head_spec.specs.Calls.{closedCollection, closedPhase, close, adoptRefusal, adopt}
-use Rattle.head_spec.proofs.RoundClose.{closes}
+use Rattle.head_spec.specs.Calls.{closedPhase, adoptRefusal, adopt}
 use Rattle.head_window.specs.declared.Beside.{Beside}
 use Rattle.head_c.specs.Blocks.{withAnswer, withBeside, withoutOffer}
 
@@ -62,10 +59,3 @@ adopt-opens h (Offer.Standing k) z = answer-opens (adoptRefusal h (Offer.Standin
 
 pub opens-as : {a b : Answer} → a ≡ b → Opens b → Opens a
 opens-as e p = rw e p
-
--- and so does a closing that ends a collection round
-pub close-opens : (h : Head) {q : Closing} → q ≡ close h → q .closed ≡ Closed.Listed → q .head ≡ opened (q .head .seat) (q .head .list)
-unfolding closedCollection
-close-opens h e z =
-    let c : close h .closed ≡ Closed.Listed = sym (ap (λ (x : Closing). x .closed) e) ∙ z in
-    rw (e, (rw c at (closes h)) .0)

@@ -12,4 +12,5 @@ pub mod Beside
 pub mod Lapsing
 pub mod Events
 pub mod Refused
+pub mod Closing
 pub mod Made

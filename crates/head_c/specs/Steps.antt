@@ -1,6 +1,11 @@
 -- What the private functions promise each other. Readers of the public promises do not need this file.
+use mathlib.Core.Path.{_≡_}
+use mathlib.Core.List.{List}
 use Prim.Native.Nat.{ℕ}
 use Rattle.frame_spec.specs.declared.Said.{Said}
+use Rattle.head_spec.specs.declared.Closed.{Closed}
+use Rattle.head_spec.specs.declared.Closing.{Closing}
+use Rattle.head_c.specs.Blocks.{withClosing}
 
 -- the number of a refusal, 0 if something is said
 abbrev pub numberOf : Said → ℕ
@@ -8,3 +13,7 @@ numberOf (Said.Refused c) = c
 numberOf (Said.Collection e) = 0
 numberOf Said.List = 0
 numberOf Said.Confession = 0
+
+-- the block w becomes w′ and r is answered, where closing by value answers c
+abbrev pub ClosesIn : Closing → List ℕ → Closed → List ℕ → Type 0
+ClosesIn c w r w′ = (r ≡ c .closed) × (w′ ≡ withClosing (c .closed) (c .head) w)

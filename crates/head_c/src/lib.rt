@@ -10,24 +10,22 @@ ghost use lib.Seq.{paste};
 ghost use lib.IntN.{pos};
 ghost use Rattle.fields.specs.Bytes.{signedOf, wordOf};
 ghost use Rattle.frame_spec.specs.Said.{collected, listed, confessed, restField, tableIn, saidOf, meant};
-ghost use Rattle.head_spec.specs.Record.{opened};
-ghost use Rattle.head_spec.specs.Calls.{start, restart, startListener, restartListener, hearEach, answersTo, writeAnswer, writeBuffer, close, adopt};
+ghost use Rattle.head_spec.specs.Record.{opened, rows};
+ghost use Rattle.head_spec.specs.Calls.{start, restart, startListener, restartListener, hearEach, answersTo, writeAnswer, writeBuffer, closedCollection, settlingOf, closeIn, close, adopt};
 ghost use Rattle.head_spec.specs.Batch.{isBatch, entriesOf};
 ghost use Rattle.head_hear.specs.Steps.{linkRefusal, saidOn};
 ghost use Rattle.head_lent.specs.Answers.{closedNumber, writtenNumber, writtenOr, heldNumber, heldOr, rangeNumber, rangeOr, offerNumber, offerOr};
-ghost use Rattle.head_spec.specs.declared.Closed.{Closed};
 ghost use Rattle.head_spec.specs.declared.Offer.{Offer};
 ghost use Rattle.head_window.specs.Window.{startedBeside, restartedBeside};
 ghost use Rattle.head_c.specs.Places as place;
 ghost use Rattle.head_c.specs.Blocks.{IsBlock, upTo, entryIn, rangeIn, numbersAt, listAt, seatOf, headOf};
-ghost use Rattle.head_c.specs.Blocks.{wordsOf, keptOf, seatWords, withHead, withAnswer, besideOf, withBeside, offerOf, withOffer, withoutOffer, withClosing};
+ghost use Rattle.head_c.specs.Blocks.{wordsOf, keptOf, seatWords, withHead, withAnswer, besideOf, withBeside, offerOf, withOffer, withoutOffer};
 ghost use Rattle.head_c.specs.Blocks.{marked, heardOn, changed, Hears, heardEach, HearsBatch};
 ghost use Rattle.head_c.specs.Events.{starts, restarts, startsListener, restartsListener, closes, adopts, blockAfter};
-ghost use Rattle.head_c.specs.Steps.{numberOf};
+ghost use Rattle.head_c.specs.Steps.{numberOf, ClosesIn};
 use frame_spec::Said;
 use head_spec::Answer;
 use head_spec::Closed;
-use head_spec::Closing;
 use head_spec::Head;
 use head_spec::LastKept;
 use head_spec::Offer;
@@ -35,8 +33,10 @@ use head_spec::Row;
 use head_spec::Seat;
 use head_window::Beside;
 use settle_midpoint::Kept;
+use settle_midpoint::Settled;
 use settle_trust::Links;
 use terms::Entry;
+use terms::Lists;
 use terms::Table;
 use terms::refusal;
 
@@ -382,28 +382,6 @@ fn end_offer(h: &mut [u32], number: u8)
     }
 }
 
-// Leaves what a closing answers: the record if it ended a collection round, or the offer; and gives its number.
-fn put_closing(h: &mut [u32], out: Closing) -> u8
-    requires { ⌜ IsBlock (now h) × (out .closed ≡ Closed.Listed → out .head ≡ opened (out .head .seat) (out .head .list)) ⌝ }
-    ensures { λ r. ⌜ (r ≡ closedNumber (out .closed)) × (now (h .exit) ≡ withClosing (out .closed) (out .head) (now (h .entry))) ⌝ }
-{
-    let closed = out.closed;
-    let head = out.head;
-    match closed {
-        Closed::Refused(number) => number,
-        Closed::Listed => {
-            let seat = head.seat;
-            let list = head.list;
-            put_opened(h, seat, list);
-            0
-        }
-        Closed::Settled(kept) => {
-            put_offer(h, kept);
-            0
-        }
-    }
-}
-
 // Leaves what a start answers: what stood beside the head is cleared, unless it is refused.
 fn put_start(h: &mut [u32], a: Answer) -> u8
     requires { ⌜ IsBlock (now h) × (a .refusal ≡ 0 → a .head ≡ opened (a .head .seat) (a .head .list)) ⌝ }
@@ -569,6 +547,86 @@ fn hear_entries(h: &mut [u32], batch: &[u8], answers: &mut [u8])
     }
 }
 
+// ---- Closing, on the block itself.
+
+// The lists received, without their marks, as settling takes them.
+fn rows_in(h: &[u32]) -> Lists
+    requires { ⌜ IsBlock (now h) ⌝ }
+    ensures { λ r. ⌜ r ≡ rows (headOf (now (h .entry)) .lists) ⌝ }
+{
+    let zeros = [0i32; 32];
+    let mut out = [zeros; 32];
+    let mut k: usize = 0;
+    while k < 32 {
+        let entries = numbers_in(h, place::LISTS + 32 * k);
+        out[k] = entries;
+        k += 1;
+    }
+    out
+}
+
+// What the links gave in a confession round, settled.
+fn settled_in(h: &[u32]) -> Settled
+    requires { ⌜ IsBlock (now h) ⌝ }
+    ensures { λ r. ⌜ r ≡ settlingOf (headOf (now (h .entry))) ⌝ }
+{
+    let seat = seat_in(h);
+    let links = links_in(h);
+    let lists = rows_in(h);
+    let up = steps::rounds_up(seat.phase);
+    settle_position::settle_by(&lists, links, 0, seat.n, seat.f, up)
+}
+
+// Closes a collection round: the list stands.
+fn close_collection(h: &mut [u32])
+    requires { ⌜ IsBlock (now h) ⌝ }
+    ensures { λ _. ⌜ now (h .exit) ≡ withHead (closedCollection (headOf (now (h .entry)))) (now (h .entry)) ⌝ }
+{
+    let seat = seat_in(h);
+    let list = list_in(h);
+    put_opened(h, head_calls::confession_seat(seat), list);
+}
+
+// Closes a confession round: what it settles is offered.
+fn close_confession(h: &mut [u32]) -> Closed
+    requires { ⌜ IsBlock (now h) ⌝ }
+    ensures { λ r. ⌜ ClosesIn (closeIn 1 (headOf (now (h .entry)))) (now (h .entry)) r (now (h .exit)) ⌝ }
+{
+    match settled_in(h) {
+        Settled::Refused(number) => Closed::Refused(number),
+        Settled::New(kept) => {
+            put_offer(h, kept);
+            Closed::Settled(kept)
+        }
+    }
+}
+
+// Closes the round.
+fn close_in(h: &mut [u32]) -> Closed
+    requires { ⌜ IsBlock (now h) ⌝ }
+    ensures { λ r. ⌜ ClosesIn (close (headOf (now (h .entry)))) (now (h .entry)) r (now (h .exit)) ⌝ }
+{
+    if h[place::ENDED] != 0 {
+        return Closed::Refused(refusal::ENDED);
+    }
+    if h[place::ROUND] % 256 == 0 {
+        close_collection(h);
+        return Closed::Listed;
+    }
+    close_confession(h)
+}
+
+// The number of a closing.
+fn closed_number(c: Closed) -> u8
+    ensures { λ r. ⌜ r ≡ closedNumber c ⌝ }
+{
+    match c {
+        Closed::Refused(number) => number,
+        Closed::Listed => 0,
+        Closed::Settled(_) => 0,
+    }
+}
+
 // ---- The calls.
 
 // Starts the head with a position, in phase 1: 0, or 1, 2, 3, 4.
@@ -660,12 +718,11 @@ pub extern "C" fn focus_head_close(h: &mut Block) -> u8
     ensures { λ r. ⌜ (r ≡ closedNumber (close (headOf (now (h .entry))) .closed))
         × (now (h .exit) ≡ blockAfter (now (h .entry)) closes) ⌝ }
 {
-    let out = head_calls::close(head_of(h));
-    let closed = out.closed;
-    let b = head_window::after_close(closed, beside_in(h));
-    let number = put_closing(h, out);
+    let old = beside_in(h);
+    let closed = close_in(h);
+    let b = head_window::after_close(closed, old);
     put_beside(h, b);
-    number
+    closed_number(closed)
 }
 
 // Adopts what is offered, and ends the phase: 0, or 27, 26.

@@ -94,7 +94,7 @@ fn healed_seat(n: u8, f: u8, number: u8, phase: u16, round: u8) -> Seat
 }
 
 // The collection round is closed.
-fn confession_seat(seat: Seat) -> Seat
+pub fn confession_seat(seat: Seat) -> Seat
     ensures { λ r. ⌜ r ≡ confessionSeat seat ⌝ }
 {
     let mut next = seat;
