@@ -23,13 +23,13 @@ use Rattle.run_state.specs.Memory.{Memory}
 use Rattle.run_state.specs.Changes.{halted}
 use Rattle.run_state.specs.State.{PlayerOf, MemoryOf}
 use Rattle.run_state.proofs.Told.{part-tells, allowed-as}
-use Rattle.run_record.specs.Next.{Next, NextQuiet, afterPlant}
+use Rattle.run_record.specs.Next.{allowedTo, recordTaken, plantTaken, Next, NextQuiet, afterPlant}
 use Rattle.run_listing.proofs.Writing.{empty-text}
 use Rattle.run_round.proofs.Converging.{held-converges}
-use Rattle.run_record.proofs.Records.{stopped-next, plant-place}
+use Rattle.run_record.proofs.Records.{stopped-next, plant-place, taken-allowed, plant-taken}
 use Rattle.run_piece.specs.declared.FeedResult.{FeedResult}
 use Rattle.run_piece.specs.Advances.{StateAt, Advances, GrownTo, AdvancesOnce}
-use Rattle.run_piece.specs.Inner.{Missing, allowedTo, BeginsWhole, Plants, Waits, withLast, headedTo, Quiet, RecordTaken, Used}
+use Rattle.run_piece.specs.Inner.{Missing, BeginsWhole, Plants, Waits, withLast, headedTo, Quiet, RecordTaken, Used}
 use Rattle.run_piece.proofs.Growing.{grown-none, judged-grown}
 
 -- from the player p and the memory M: no record was accepted by which F became G, so that the memory M′ is the same, and the player q but for part and fault
@@ -58,15 +58,20 @@ pub used-as : {a : List ℕ} {p q : Player} {text carry : List ℕ} {M M′ : Me
     → AdvancesOnce a (take n rest) p M q text carry M′ → AdvancesOnce a (take m rest) p M q text carry M′
 used-as rest e f = rw e f
 
--- what `run_record::take_record` promises of a record b
+-- a whole record b that is allowed is judged
 abbrev Judges : Player → List ℕ → RecordResult → Memory → Memory → Type 0
 Judges p b t M M′ =
     (a : List ℕ) → PlayerOf p (readFile a) → MemoryOf (readFile a) M → stands (readFile a) b ≡ true → length b ≡ lengthIn b
     → Next (readFile a) (judged (kindIn b) (readFile a) b) p M t M′
 
+-- so it is by what `run_record::take_record` promises of any bytes b
+pub judges : {p : Player} {t : RecordResult} {M M′ : Memory} (b : List ℕ)
+    → ((a : List ℕ) → PlayerOf p (readFile a) → MemoryOf (readFile a) M → Next (readFile a) (recordTaken (readFile a) b) p M t M′) → Judges p b t M M′
+judges b N a T H may all = rw (← taken-allowed (readFile a) b all may) (N a T H)
+
 -- what `run_record::plant_record` promises of a record b
 abbrev JudgesPlant : Player → List ℕ → Player → Memory → Memory → Type 0
-JudgesPlant p b q M M′ = (F : File) → length b ≤ 146 → PlayerOf p F → MemoryOf F M → NextQuiet F (judged plant F b) p M q M′
+JudgesPlant p b q M M′ = (F : File) → PlayerOf p F → MemoryOf F M → NextQuiet F (plantTaken F b) p M q M′
 
 -- bytes that are not there
 pub none-there : {a : List ℕ} {p : Player} {carry : List ℕ} {M : Memory} → StateAt a p carry M → AdvancesOnce a [] p M p [] carry M
@@ -184,7 +189,7 @@ module _ {a : List ℕ} {p : Player} {before : List ℕ} {M : Memory} (L : State
       pub plant-left : (c : ℕ) → (c ≡ 0 → ⊥) → JudgesPlant p b (afterPlant p c b) M M′ → AdvancesOnce a [] p M (withLast p pair) [] before M′
       plant-left zero h N = absurd (h refl)
       plant-left (suc c) h N =
-          let n = N F (plant-short P e) (L .player) (L .memory) (record { len = 0; bytes = [] }) refl in
+          let n = N F (L .player) (L .memory) (record { len = 0; bytes = [] }) refl in
           rw (n .refused (λ z. omega (arith, n .player .fault)) .0) none-passed
 
       -- any other is taken
@@ -201,7 +206,7 @@ module _ {a : List ℕ} {p : Player} {before : List ℕ} {M : Memory} (L : State
           let s =
           stands-there {r = record { player = q; used = used; text = t }} {t = record { player = q; text = t }} {carry = before} {M′ = M′} rest (W .sound)
           (record { player = refl; used = refl; text = refl })
-          (λ a′ T H may all. rw (kind, ← is) (N (readFile a′) (plant-short P e) T H t refl))
+          (λ a′ T H may all. rw (kind, ← is, ← plant-taken (readFile a′) b (plant-short P e)) (N (readFile a′) T H t refl))
           (plant-whole P W) (P .long) e in
           rw (empty-text t refl) at s
 

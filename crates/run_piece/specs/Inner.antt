@@ -12,7 +12,7 @@ use Rattle.run_state.specs.declared.Player.{Player}
 use Rattle.run_record.specs.declared.RecordResult.{RecordResult}
 use Rattle.run_state.specs.Memory.{Memory, withSlots}
 use Rattle.run_state.specs.Changes.{halted}
-use Rattle.run_state.specs.Places.{firstOf, bareOf}
+use Rattle.run_record.specs.Next.{allowedTo}
 use Rattle.run_piece.specs.declared.FeedResult.{FeedResult}
 use Rattle.run_piece.specs.declared.PassResult.{PassResult}
 use Rattle.run_piece.specs.Advances.{StateAt, AdvancesOnce}
@@ -22,10 +22,6 @@ pub record Missing (have : ℕ) (carry : List ℕ) (r : ℕ) : Type 0 where
   pub some : 0 < r
   pub header : have < 4 → have + r ≡ 4
   pub rest : 4 ≤ have → have < lengthIn carry → have + r ≡ lengthIn carry
-
--- whether the record that s begins is allowed, by the player's numbers
-abbrev pub allowedTo : Player → List ℕ → Bool
-allowedTo p s = allowedWhen (kindIn s) (p .begun) (firstOf p) (p .pending) (bareOf p) (lengthIn s)
 
 -- a piece begins with a whole record that is allowed
 pub record BeginsWhole (p : Player) (s : List ℕ) : Type 0 where

@@ -7,7 +7,8 @@ ghost use Prim.Native.Nat.{_+_, _≤_, _<_, min};
 ghost use lib.ListN.{length, take};
 ghost use Rattle.run_state.specs.Memory.{memoryBefore, memoryAfter};
 ghost use Rattle.run_state.specs.Changes.{halted};
-ghost use Rattle.run_piece.specs.Inner.{Missing, allowedTo, BeginsWhole, Plants, Waits, withLast, headedTo, Quiet, RecordTaken, Used, Reads, Passes};
+ghost use Rattle.run_record.specs.Next.{allowedTo};
+ghost use Rattle.run_piece.specs.Inner.{Missing, BeginsWhole, Plants, Waits, withLast, headedTo, Quiet, RecordTaken, Used, Reads, Passes};
 use frame_slots::PlantedBytes;
 use frame_slots::PlantedLengths;
 use run_listing::Text;
@@ -55,20 +56,6 @@ fn gather(carry: &mut [u8], have: usize, bytes: &[u8])
     fields::put_bytes(carry, have, bytes);
 }
 
-// Whether the record whose header these bytes begin with is allowed.
-fn stands(p: Player, bytes: &[u8]) -> bool
-    ensures { λ r. ⌜ r ≡ allowedTo p (now (bytes .entry)) ⌝ }
-{
-    run_judge::is_allowed(
-        fields::half_at(bytes, 2),
-        fields::half_at(bytes, 0),
-        p.begun,
-        run_state::is_first(p),
-        p.pending,
-        run_state::is_bare(p),
-    )
-}
-
 // Whether a piece begins with a whole record that is allowed.
 fn is_whole(p: Player, bytes: &[u8]) -> bool
     ensures { λ r. ⌜ (r ≡ true → BeginsWhole p (now (bytes .entry))) ⌝ }
@@ -79,7 +66,7 @@ fn is_whole(p: Player, bytes: &[u8]) -> bool
     if bytes.len() < fields::half_at(bytes, 0) as usize {
         return false;
     }
-    stands(p, bytes)
+    run_record::stands(p, bytes)
 }
 
 // The player with more of a record that is not whole.
@@ -95,7 +82,7 @@ fn holding(p: Player, have: usize) -> Player
 fn headed(p: Player, bytes: &[u8]) -> Player
     ensures { λ r. ⌜ r ≡ headedTo p (allowedTo p (now (bytes .entry))) ⌝ }
 {
-    if stands(p, bytes) {
+    if run_record::stands(p, bytes) {
         return holding(p, 4);
     }
     run_state::stop(p, refusal::RUN_RECORD)
@@ -198,7 +185,8 @@ fn plant_size(bytes: &[u8]) -> usize
     size as usize
 }
 
-// Takes the planted record at the front of a piece, if a whole one stands there that has no fault. It shows nothing.
+// Takes the planted record at the front of a piece, if a whole one stands there that has no fault. It shows nothing. Whether one is taken is free: a record
+// that is left is taken by `advance`.
 pub fn pass_plant(
     n: u8,
     m: u8,
@@ -230,7 +218,8 @@ pub fn pass_plant(
     PlantResult { used, last }
 }
 
-// One step: a whole record, or bytes of one that is cut. After a fault nothing is read.
+// One step: a whole record, or bytes of one that is cut. After a fault nothing is read. How many bytes it takes is free: one at least, if there are any, and no
+// more than show one line.
 pub fn advance(
     p: Player,
     rest: &[u8],

@@ -7,13 +7,14 @@ use native.Mathlib.Omega.{arith}
 use lib.Dec.{eqb, leb}
 use lib.ListN.{length, getD, drop}
 use lib.IntN.{pos}
-use borrow.Author.Tests.{leb-true, ltb-true, not-true}
+use borrow.Author.Tests.{leb-true, ltb-true, eqb-true, not-true, le-leb, lt-leb, eq-eqb}
+use Rattle.terms.specs.Refusals as refusal
 use Rattle.terms.specs.Sizes.{isCount}
 use Rattle.convergence.specs.Counting.{Each}
 use Rattle.terms.proofs.Booleans.{and-both}
 use Rattle.head_spec.proofs.Proper.{both-passed}
 use Rattle.ring_spec.specs.Rounds.{Round, Ring, ringAfter, mostRounds}
-use Rattle.run_spec.specs.RunFile.{File, roundsGiven, RecordKind, start, round, plant, listeners, strikes, allowedWhen, isAllowed, isFirst, isBare, listenerCountIn, listenersIn, headCountIn, limitIn, positionIn, struckIn, fewMarks, senderIn, receiverIn, plantFault, recordFault, withRecord, stopped, judged, ringFrom}
+use Rattle.run_spec.specs.RunFile.{File, roundsGiven, RecordKind, start, round, plant, listeners, strikes, allowedWhen, lengthIn, kindIn, isAllowed, isFirst, isBare, listenerCountIn, listenersIn, headCountIn, limitIn, positionIn, struckIn, fewMarks, senderIn, receiverIn, plantFault, recordFault, withRecord, stopped, judged, ringFrom}
 use Rattle.run_spec.specs.declared.Pair.{Pair}
 use Rattle.run_spec.specs.Listing.{title, shown}
 use Rattle.run_spec.proofs.Bytes.{first-begun}
@@ -29,11 +30,11 @@ use Rattle.run_state.specs.Heads.{HeadsOf}
 use Rattle.run_state.specs.Changes.{freshPlayer, halted, withRoundGiven, withPairPlanted, withListenersGiven, withStrikesGiven}
 use Rattle.run_state.specs.State.{ringBefore, PlayerOf, MemoryOf}
 use Rattle.run_round.specs.Played.{Played}
-use Rattle.run_record.specs.Next.{Next, afterPlant}
-use Rattle.run_record.specs.Inner.{Turned}
+use Rattle.run_record.specs.Next.{recordTaken, plantTaken, Next, afterPlant}
+use Rattle.run_record.specs.Inner.{dueTo, Turned}
 use Rattle.run_round.proofs.Keeping.{start-positions, start-keeps, start-keeps-any}
 use Rattle.run_listing.proofs.Writing.{empty-text}
-use Rattle.run_state.proofs.Told.{start-tells, stop-tells, round-tells, plant-tells, listeners-tells, strikes-tells, plant-fault-as}
+use Rattle.run_state.proofs.Told.{start-tells, stop-tells, round-tells, plant-tells, listeners-tells, strikes-tells, allowed-as, plant-fault-as}
 
 shows-none : (l : List ℕ) (t : Text) → t .len ≡ 0 → l ≡ l ++ bytesOf t
 shows-none l t e = rw (empty-text t e) (sym (append-nil l))
@@ -76,6 +77,32 @@ start-small F s sound =
 
 pub round-room : (F : File) (s : List ℕ) → recordFault round F s ≡ 0 → roundsGiven F < mostRounds
 round-room F s sound = ltb-true (roundsGiven F) _ (both-passed (fewMarks (F .setup .n) (F .setup .f) (struckIn s)) _ 13 25 sound .1)
+
+-- ---- the two ways of bytes that are taken as a record
+
+module _ (F : File) (s : List ℕ) where
+  pub taken-allowed : length s ≡ lengthIn s → isAllowed (kindIn s) F (lengthIn s) ≡ true → recordTaken F s ≡ judged (kindIn s) F s
+  unfolding recordTaken
+  taken-allowed whole may = rw (eq-eqb _ _ whole, may)
+
+  pub plant-taken : length s ≤ 146 → plantTaken F s ≡ judged plant F s
+  unfolding plantTaken
+  plant-taken few = rw (le-leb _ _ few)
+
+  pub plant-refused : 146 < length s → plantTaken F s ≡ stopped F refusal.run-record
+  unfolding plantTaken
+  plant-refused many = rw (lt-leb _ _ many)
+
+-- whether it is judged, by the player's numbers
+module _ {F : File} {p : Player} (T : PlayerOf p F) (s : List ℕ) where
+  pub due-whole : dueTo p s ≡ true → (isAllowed (kindIn s) F (lengthIn s) ≡ true) × (length s ≡ lengthIn s)
+  due-whole e =
+      let (whole, may) = and-both (eqb (length s) (lengthIn s)) _ e in
+      (allowed-as T (kindIn s) (lengthIn s) ∙ may, eqb-true _ _ whole)
+
+  pub not-due : dueTo p s ≡ false → recordTaken F s ≡ stopped F refusal.run-record
+  unfolding recordTaken
+  not-due e = rw (allowed-as T (kindIn s) (lengthIn s), e)
 
 -- ---- a planted record
 

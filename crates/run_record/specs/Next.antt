@@ -1,8 +1,12 @@
 -- What a record changes: the player, its memory, and the listing.
+use mathlib.Core.Bool.{Bool, cond, _&&_}
 use mathlib.Core.List.{List, _++_}
 use mathlib.Core.Path.{_≡_}
 use Prim.Native.Nat.{ℕ, zero, suc, _≤_}
-use Rattle.run_spec.specs.RunFile.{File, senderIn, receiverIn}
+use lib.Dec.{eqb, leb}
+use lib.ListN.{length}
+use Rattle.terms.specs.Refusals as refusal
+use Rattle.run_spec.specs.RunFile.{File, plant, lengthIn, kindIn, allowedWhen, isAllowed, senderIn, receiverIn, stopped, judged}
 use Rattle.run_spec.specs.Listing.{shown}
 use Rattle.run_listing.specs.declared.Text.{Text}
 use Rattle.run_listing.specs.Texts.{bytesOf}
@@ -10,7 +14,20 @@ use Rattle.run_state.specs.declared.Player.{Player}
 use Rattle.run_record.specs.declared.RecordResult.{RecordResult}
 use Rattle.run_state.specs.Memory.{Memory}
 use Rattle.run_state.specs.Changes.{halted, withPairPlanted}
+use Rattle.run_state.specs.Places.{firstOf, bareOf}
 use Rattle.run_state.specs.State.{PlayerOf, MemoryOf}
+
+-- whether the record that s begins is allowed, by the player's numbers
+abbrev pub allowedTo : Player → List ℕ → Bool
+allowedTo p s = allowedWhen (kindIn s) (p .begun) (firstOf p) (p .pending) (bareOf p) (lengthIn s)
+
+-- what the bytes s make of the file F, taken as a record: it is judged if it is whole and allowed, and stops the file with 13 otherwise
+unfoldable pub recordTaken : File → List ℕ → File
+recordTaken F s = cond (eqb (length s) (lengthIn s) && isAllowed (kindIn s) F (lengthIn s)) (judged (kindIn s) F s) (stopped F refusal.run-record)
+
+-- the same of bytes that are known to be a planted record, which has 146 at most
+unfoldable pub plantTaken : File → List ℕ → File
+plantTaken F s = cond (leb (length s) 146) (judged plant F s) (stopped F refusal.run-record)
 
 -- a record is taken, by which the file F becomes G: from the player p and its memory M to the player after it, its memory M′, and the text by which the listing
 -- grows. A record that is refused leaves the memory as it was, and the player but for its fault.

@@ -8,8 +8,8 @@ ghost use lib.IntN.{pos};
 ghost use Rattle.run_spec.specs.RunFile.{File, roundsGiven, readFile, start, round, plant, listeners, strikes, isFirst, isBare, kindIn, lengthIn, isAllowed, judged, stopped};
 ghost use Rattle.run_state.specs.Memory.{Memory, memoryBefore, memoryAfter, withPositions, withSlots};
 ghost use Rattle.run_state.specs.State.{PlayerOf, MemoryOf};
-ghost use Rattle.run_record.specs.Next.{Next, NextQuiet, afterPlant};
-ghost use Rattle.run_record.specs.Inner.{Turned};
+ghost use Rattle.run_record.specs.Next.{allowedTo, recordTaken, plantTaken, Next, NextQuiet, afterPlant};
+ghost use Rattle.run_record.specs.Inner.{dueTo, Turned};
 use frame_slots::PlantedBytes;
 use frame_slots::PlantedLengths;
 use run_listing::Text;
@@ -38,7 +38,7 @@ fn refuse(p: Player, number: u8) -> RecordResult
     }
 }
 
-// Stores the positions of the heads; those of listeners stay as they were.
+// Stores the positions of the heads. Those of listeners are free before their first phase end.
 fn store_heads(first: &Numbers, positions: &mut [i32])
     requires { ⌜ 32 ≤ length (now positions) ⌝ }
     ensures { λ _. ⌜ ((j : ℕ) → j < 32 → getD (now (positions .exit)) j (pos 0) ≡ getD (now (first .entry)) j (pos 0)) ⌝ }
@@ -147,7 +147,7 @@ fn take_round(
     }
 }
 
-// A planted record, judged by the numbers of the player, and planted if it has no fault. Answers the number of its fault, 0 for none.
+// A planted record, judged by the numbers of the player, and planted if it has no fault. Answers the number of its fault, 0 for none; 13 if it is longer than any.
 pub fn plant_record(
     bytes: &[u8],
     n: u8,
@@ -157,11 +157,14 @@ pub fn plant_record(
     planted: &mut PlantedBytes,
     lengths: &mut PlantedLengths,
 ) -> u8
-    ensures { λ r. ⌜ ((F : File) (M : Memory) (p : Player) → p .n ≡ n → p .listeners ≡ m → p .struck ≡ struck → p .last ≡ last → length (now (bytes .entry)) ≤ 146 → PlayerOf p F
+    ensures { λ r. ⌜ ((F : File) (M : Memory) (p : Player) → p .n ≡ n → p .listeners ≡ m → p .struck ≡ struck → p .last ≡ last → PlayerOf p F
         → MemoryOf F (withSlots M (now (planted .entry)) (now (lengths .entry)))
-        → NextQuiet F (judged plant F (now (bytes .entry))) p (withSlots M (now (planted .entry)) (now (lengths .entry)))
+        → NextQuiet F (plantTaken F (now (bytes .entry))) p (withSlots M (now (planted .entry)) (now (lengths .entry)))
         (afterPlant p r (now (bytes .entry))) (withSlots M (now (planted .exit)) (now (lengths .exit)))) ⌝ }
 {
+    if 146 < bytes.len() {
+        return refusal::RUN_RECORD;
+    }
     let fault = run_judge::plant_fault(bytes, n, m, struck, last);
     if fault != 0 {
         return fault;
@@ -191,8 +194,8 @@ fn take_plant(
     planted: &mut PlantedBytes,
     lengths: &mut PlantedLengths,
 ) -> RecordResult
-    ensures { λ r. ⌜ ((F : File) (M : Memory) → length (now (bytes .entry)) ≤ 146 → PlayerOf p F → MemoryOf F (withSlots M (now (planted .entry)) (now (lengths .entry)))
-        → Next F (judged plant F (now (bytes .entry))) p (withSlots M (now (planted .entry)) (now (lengths .entry))) r (withSlots M (now (planted .exit)) (now (lengths .exit)))) ⌝ }
+    ensures { λ r. ⌜ ((F : File) (M : Memory) → PlayerOf p F → MemoryOf F (withSlots M (now (planted .entry)) (now (lengths .entry)))
+        → Next F (plantTaken F (now (bytes .entry))) p (withSlots M (now (planted .entry)) (now (lengths .entry))) r (withSlots M (now (planted .exit)) (now (lengths .exit)))) ⌝ }
     ensures { λ r. ⌜ r .text .len ≤ 64 ⌝ }
 {
     let fault = plant_record(bytes, p.n, p.listeners, p.struck, p.last, planted, lengths);
@@ -202,8 +205,8 @@ fn take_plant(
     }
 }
 
-// A whole record that is allowed.
-pub fn take_record(
+// A whole record that is allowed, by its kind.
+fn take_allowed(
     p: Player,
     bytes: &[u8],
     positions: &mut Positions,
@@ -228,4 +231,50 @@ pub fn take_record(
         run_judge::STRIKES => take_strikes(p, bytes),
         _ => refuse(p, refusal::RUN_RECORD),
     }
+}
+
+// Whether the record whose header these bytes begin with is allowed.
+pub fn stands(p: Player, bytes: &[u8]) -> bool
+    ensures { λ r. ⌜ r ≡ allowedTo p (now (bytes .entry)) ⌝ }
+{
+    run_judge::is_allowed(
+        fields::half_at(bytes, 2),
+        fields::half_at(bytes, 0),
+        p.begun,
+        run_state::is_first(p),
+        p.pending,
+        run_state::is_bare(p),
+    )
+}
+
+// Whether these bytes are a whole record that is allowed.
+fn is_due(p: Player, bytes: &[u8]) -> bool
+    ensures { λ r. ⌜ r ≡ dueTo p (now (bytes .entry)) ⌝ }
+{
+    if bytes.len() != fields::half_at(bytes, 0) as usize {
+        return false;
+    }
+    stands(p, bytes)
+}
+
+// A record. Bytes that are not a whole record, or one that is not allowed, stop the file with 13.
+pub fn take_record(
+    p: Player,
+    bytes: &[u8],
+    positions: &mut Positions,
+    marks: &mut Words,
+    lists: &mut Lists,
+    planted: &mut PlantedBytes,
+    lengths: &mut PlantedLengths,
+) -> RecordResult
+    ensures { λ r. ⌜ ((a : List ℕ) → PlayerOf p (readFile a)
+        → MemoryOf (readFile a) (memoryBefore positions marks lists planted lengths)
+        → Next (readFile a) (recordTaken (readFile a) (now (bytes .entry)))
+        p (memoryBefore positions marks lists planted lengths) r (memoryAfter positions marks lists planted lengths)) ⌝ }
+    ensures { λ r. ⌜ r .text .len ≤ 64 ⌝ }
+{
+    if !is_due(p, bytes) {
+        return refuse(p, refusal::RUN_RECORD);
+    }
+    take_allowed(p, bytes, positions, marks, lists, planted, lengths)
 }

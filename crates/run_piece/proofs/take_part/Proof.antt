@@ -5,7 +5,7 @@ use native.Mathlib.Omega.{arith}
 use lib.ListN.{length, length-take}
 use denote.Ref.{now}
 use borrow.Author.Needs.{needs}
-use Rattle.run_piece.proofs.Feeding.{Gathered, put-all, uses, uses-all, has-room, overfull, grows, heads, ends}
+use Rattle.run_piece.proofs.Feeding.{Gathered, put-all, uses, uses-all, has-room, judges, overfull, grows, heads, ends}
 use Rattle.run_piece.proofs.take_part.Statement.{statement}
 use Rattle.run_piece.proofs.take_part.Tie as tie
 
@@ -69,7 +69,7 @@ returns-4 c =
     let T = c .taken .ensures in (
       uses (gathered g) (T .used) (has-room T (t .1)),
       λ a L.
-          ends L (gathered g) (s .pre) (e .if3 .left) (e .before .if2 .left) (c .before .before .before .before .before .before .before .front2 .ensures) T (t .0),
+          ends L (gathered g) (s .pre) (e .if3 .left) (e .before .if2 .left) (c .before .before .before .before .before .before .before .front2 .ensures) T (judges _ (t .0)),
     )
 
 pub take-part-spec : {M : Type 1} → statement M

@@ -6,28 +6,34 @@ use lib.ListN.{length, drop, length-drop}
 use denote.Ref.{now}
 use borrow.Author.Needs.{needs}
 use Rattle.run_spec.specs.RunFile.{plant}
-use Rattle.run_record.proofs.Records.{judged-stopped, judged-taken, stopped-next, plant-next, plant-told, after-stopped}
+use Rattle.run_record.proofs.Records.{judged-stopped, judged-taken, plant-taken, plant-refused, stopped-next, plant-next, plant-told, after-stopped}
 use Rattle.run_record.proofs.plant_record.Statement.{statement}
 use Rattle.run_record.proofs.plant_record.Tie as tie
 
 returns : tie.Need-returns
 returns c =
-    let t = c .before in
-    let s = now (t .before .before .args .bytes) in
-    λ F M p a b d e few T H x none.
-    rw (judged-stopped plant F s _ (t .plant-fault .ensures ∙ plant-told T a b d e s) (c .if1 .taken))
-    (stopped-next T H (after-stopped p _ s (c .if1 .taken)) none)
+    let s = now (c .before .before .args .bytes) in
+    λ F M p a b d e T H x none. rw (plant-refused F s (c .if1 .taken)) (stopped-next T H refl none)
 
 returns-2 : tie.Need-returns-2
 returns-2 c =
+    let t = c .before in
+    let s = now (t .before .before .before .args .bytes) in
+    λ F M p a b d e T H x none.
+    rw (plant-taken F s (t .before .if1 .left) ∙ judged-stopped plant F s _ (t .plant-fault .ensures ∙ plant-told T a b d e s) (c .if2 .taken))
+    (stopped-next T H (after-stopped p _ s (c .if2 .taken)) none)
+
+returns-3 : tie.Need-returns-3
+returns-3 c =
     let x = c .before in
     let i = x .before .before .before in
     let k = i .before in
     let t = k .before in
-    let s = now (t .before .before .before .args .bytes) in
-    λ F M p a b d e few T H z none.
-    let short : length (drop 6 s) ≤ 140 = omega (arith, length-drop 6 s) in
-    rw (judged-taken plant F s (t .before .plant-fault .ensures ∙ plant-told T a b d e s) (t .if1 .left))
+    let v = t .before in
+    let s = now (v .before .before .before .args .bytes) in
+    λ F M p a b d e T H z none.
+    let short : length (drop 6 s) ≤ 140 = omega (arith, length-drop 6 s, v .before .if1 .left) in
+    rw (plant-taken F s (v .before .if1 .left) ∙ judged-taken plant F s (v .plant-fault .ensures ∙ plant-told T a b d e s) (t .if2 .left))
     (plant-next s H short
     (λ m j m-below j-below fits. rw (← k .byte-at .ensures, ← i .byte-at2 .ensures, ← x .bytes-from .ensures)
     (c .plant .ensures .1 .1 (rw (x .bytes-from .ensures) short) m j m-below j-below fits))
@@ -37,10 +43,11 @@ pub plant-record-spec : {M : Type 1} → statement M
 plant-record-spec =
     tie.close
     (tie.spec
-    (λ c κs. search needs)
     returns
     (λ c κs. search needs)
+    returns-2
     (λ c κs. search needs)
     (λ c κs. search needs)
     (λ c κs. search needs)
-    returns-2)
+    (λ c κs. search needs)
+    returns-3)

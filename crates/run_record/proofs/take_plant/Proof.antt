@@ -8,7 +8,7 @@ use Rattle.run_record.proofs.take_plant.Tie as tie
 returns : tie.Need-returns
 returns c =
     let f = c .before in (
-      λ F M few T H. rw (f .after-plant .ensures) (f .before .plant-record .ensures F M _ refl refl refl refl few T H (c .empty .result) (c .empty .ensures)),
+      λ F M T H. rw (f .after-plant .ensures) (f .before .plant-record .ensures F M _ refl refl refl refl T H (c .empty .result) (c .empty .ensures)),
       omega (arith, c .empty .ensures),
     )
 

@@ -1,7 +1,7 @@
--- `run_piece::stands` meets its contract, which is that of `run_judge::is_allowed`.
+-- `run_record::stands` meets its contract, which is that of `run_judge::is_allowed`.
 use borrow.Author.Needs.{needs}
-use Rattle.run_piece.proofs.stands.Statement.{statement}
-use Rattle.run_piece.proofs.stands.Tie as tie
+use Rattle.run_record.proofs.stands.Statement.{statement}
+use Rattle.run_record.proofs.stands.Tie as tie
 
 returns : tie.Need-returns
 returns c =
