@@ -111,7 +111,7 @@ fn spread_of(low: Entry, high: Entry) -> u32
 
 // ---- The texts of a listing: its first line, a line for a phase end, and its last line.
 
-// A text of up to 64 bytes: the first len of bytes.
+// A text of up to 64 bytes: the first len of bytes. The others are free.
 pub struct Text {
     pub len: usize,
     pub bytes: [u8; 64],

@@ -9,6 +9,7 @@ ghost use Rattle.run_state.specs.Memory.{memoryBefore, memoryAfter, Memory};
 ghost use Rattle.run_piece.specs.Advances.{StateAt, AdvancesOnce, Advances};
 ghost use Rattle.run_piece.specs.Inner.{Used, Reads, Waits, withLast, Passes};
 ghost use Rattle.run_stream.specs.Ends.{Ends, EndsWith};
+ghost use Rattle.run_stream.specs.Pages.{Fills};
 ghost use Rattle.run_spec.specs.Listing.{title};
 ghost use Rattle.run_stream.specs.Inner.{endingOf};
 use frame_slots::PlantedBytes;
@@ -121,7 +122,7 @@ fn step(
     )
 }
 
-// Takes bytes up to the first that show a line, or all of them.
+// Takes bytes up to the first that show a line, or all of them. How many it takes is free: one at least, if there are any, and no more than show one line.
 pub fn feed(
     p: Player,
     bytes: &[u8],
@@ -232,7 +233,7 @@ fn put(page: &mut [u8], len: usize, t: Text) -> usize
     len + count
 }
 
-// Takes bytes of a piece as long as the page has room for a line. What the page holds after its first `len` bytes is free.
+// Takes bytes of a piece as long as the page has room for a line. How many it takes when the page is full is free. What the page holds after its first `len` bytes is free.
 pub fn fill(
     p: Player,
     bytes: &[u8],
@@ -244,7 +245,7 @@ pub fn fill(
     planted: &mut PlantedBytes,
     lengths: &mut PlantedLengths,
 ) -> FillResult
-    ensures { λ r. ⌜ (r .used ≤ length (now (bytes .entry))) × (0 < length (now (bytes .entry)) → 0 < r .used) × (r .len ≤ 4096) ⌝ }
+    ensures { λ r. ⌜ Fills (now (bytes .entry)) r ⌝ }
     ensures { λ r. ⌜ ((a : List ℕ) → StateAt a p (now (carry .entry)) (memoryBefore positions marks lists planted lengths)
         → Advances a (take (r .used) (now (bytes .entry))) p (memoryBefore positions marks lists planted lengths)
         (r .player) (take (r .len) (now (page .exit))) (now (carry .exit)) (memoryAfter positions marks lists planted lengths)) ⌝ }

@@ -33,7 +33,7 @@ moves c =
     let i = c .before .before .before .before .before .before .before .before .before in
     let l = i .before in
     let e = c .fill .ensures .0 in
-    moved (l .loop .at) (c .fill .result .used) (now (l .before .before .before .args .bytes)) (i .loop-test .taken) (e .0) (e .1)
+    moved (l .loop .at) (c .fill .result .used) (now (l .before .before .before .args .bytes)) (i .loop-test .taken) (e .within) (e .some)
 
 add-at : tie.Need-add-at Inv-loop μ-loop
 add-at c =

@@ -61,12 +61,12 @@ loop-again c =
 returns : tie.Need-returns Inv-loop μ-loop
 returns c =
     let l = c .before .before .loop in
-    ((l .inv .0 .within, λ h. l .inv .2 (omega (arith, leb-false)), l .inv .1), l .inv .0 .advances)
+    (record { within = l .inv .0 .within; some = λ h. l .inv .2 (omega (arith, leb-false)); room = l .inv .1; full = λ h. omega (arith, leb-false) }, l .inv .0 .advances)
 
 returns-2 : tie.Need-returns-2 Inv-loop μ-loop
 returns-2 c =
     let l = c .before .loop in
-    ((l .inv .0 .within, λ h. omega arith, l .inv .1), l .inv .0 .advances)
+    (record { within = l .inv .0 .within; some = λ h. omega arith; room = l .inv .1; full = λ h. absurd (omega arith) }, l .inv .0 .advances)
 
 pub fill-spec : {M : Type 1} → statement M
 fill-spec =

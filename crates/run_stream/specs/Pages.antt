@@ -1,0 +1,12 @@
+-- How much of a piece a page takes.
+use mathlib.Core.List.{List}
+use Prim.Native.Nat.{ℕ, _≤_, _<_}
+use lib.ListN.{length}
+use Rattle.run_stream.specs.declared.FillResult.{FillResult}
+
+-- of these bytes: all of them, or so many that the page has no room for another line, which has 64 bytes at most
+pub record Fills (bytes : List ℕ) (r : FillResult) : Type 0 where
+  pub within : r .used ≤ length bytes
+  pub some : 0 < length bytes → 0 < r .used
+  pub room : r .len ≤ 4096
+  pub full : r .used < length bytes → 4032 < r .len
