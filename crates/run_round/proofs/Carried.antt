@@ -15,8 +15,8 @@ use Rattle.head_spec.specs.declared.Head.{Head}
 use Rattle.head_spec.specs.Calls.{spoken, frameFor}
 use Rattle.ring_spec.specs.Rounds.{Round, planted, Ring, receivers, isReceiver, openedAt, carried}
 use Rattle.ring_spec.proofs.OneRound.{RingReady, saidIn, opened-ready}
-use Rattle.ring_round.specs.declared.Stage.{Stage}
-use Rattle.ring_round.specs.Memory.{heads, listeners, hears, isAway, settles, carries}
+use Rattle.ring_play.specs.declared.Stage.{Stage}
+use Rattle.ring_play.specs.Memory.{heads, listeners, hears, isAway, settles, carries}
 
 -- the stage s and the planted bytes stand for round w of the ring R
 pub record Plays (n m f : ℕ) (R : Ring) (w : Round) (s : Stage) (plant : ℕ → ℕ → List ℕ) : Type 0 where

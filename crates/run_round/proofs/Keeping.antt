@@ -30,9 +30,9 @@ use Rattle.ring_spec.proofs.OneRound.{RingReady, says-entry, says-list, heardAt
 use Rattle.ring_spec.proofs.OneRound.{heard-proper, heard-seat, heard-at, heard-given, heard-list}
 use Rattle.ring_spec.proofs.Closings.{collection-closed, confession-settles, after-collection, after-confession}
 use Rattle.ring_spec.proofs.Demand3.{Playable}
-use Rattle.ring_round.specs.declared.Stage.{Stage}
+use Rattle.ring_play.specs.declared.Stage.{Stage}
 use Rattle.frame_spec.specs.Proper.{Proper}
-use Rattle.ring_round.specs.Memory.{heads, hears, settles, sends, InRange, listEntry, rowIn, replies, Sayable, givenEntry, positionOf, newPosition}
+use Rattle.ring_play.specs.Memory.{heads, hears, settles, sends, InRange, listEntry, rowIn, replies, Sayable, givenEntry, positionOf, newPosition}
 use Rattle.run_state.specs.Memory.{Memory}
 use Rattle.run_state.specs.Heads.{HeadsOf}
 use Rattle.entries.proofs.Tables.{table-same}

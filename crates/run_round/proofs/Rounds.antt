@@ -16,8 +16,8 @@ use Rattle.run_spec.specs.RunFile.{File, endsFrom}
 use Rattle.run_spec.specs.Listing.{lines}
 use Rattle.run_spec.proofs.Reached.{Reached}
 use Rattle.run_spec.proofs.Streaming.{roundLine, lines-next}
-use Rattle.ring_round.specs.declared.Stage.{Stage}
-use Rattle.ring_round.specs.Memory.{heads, hears, settles, InRange, listEntry, rowIn, Sayable, newPosition}
+use Rattle.ring_play.specs.declared.Stage.{Stage}
+use Rattle.ring_play.specs.Memory.{heads, hears, settles, InRange, listEntry, rowIn, Sayable, newPosition}
 use Rattle.frame_slots.specs.Slots.{plantedIn}
 use Rattle.run_listing.specs.declared.Text.{Text}
 use Rattle.run_listing.specs.Texts.{bytesOf, endLine}

@@ -10,7 +10,7 @@ ghost use Rattle.run_round.specs.Played.{Played};
 ghost use Rattle.run_round.specs.Inner.{stageOf};
 use frame_slots::PlantedBytes;
 use frame_slots::PlantedLengths;
-use ring_round::Stage;
+use ring_play::Stage;
 use run_listing::Text;
 use run_state::Player;
 use terms::Lists;
@@ -48,9 +48,9 @@ pub fn play_round(
 {
     let s = stage_of(p);
     if !run_state::ends_phase(p.given) {
-        ring_collection::collect(s, positions, planted, lengths, marks, lists);
+        ring_play::collect(s, positions, planted, lengths, marks, lists);
         return run_listing::empty();
     }
-    ring_confession::confess(s, marks, lists, planted, lengths, positions);
+    ring_play::confess(s, marks, lists, planted, lengths, positions);
     run_listing::end_line(s.phase, positions, p.n, p.listeners, p.before, p.struck)
 }

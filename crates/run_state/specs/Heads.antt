@@ -9,7 +9,7 @@ use Rattle.terms.specs.declared.Entry.{Entry}
 use Rattle.marks.specs.Marks.{bitOf}
 use Rattle.convergence.specs.Counting.{Each}
 use Rattle.ring_spec.specs.Rounds.{Ring, receivers, isReceiver}
-use Rattle.ring_round.specs.Memory.{rowIn}
+use Rattle.ring_play.specs.Memory.{rowIn}
 use Rattle.run_state.specs.Memory.{Memory}
 
 -- of the heads that were not struck in the round before: a collection round finds each with a position; a head healed in it has none in the confession round

@@ -1,0 +1,2 @@
+-- Laws: the lists of a collection round.
+pub mod Lists

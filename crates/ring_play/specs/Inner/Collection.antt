@@ -1,0 +1,37 @@
+-- What head i hears in a collection round: of the unstruck heads what all hear, of the struck ones what is planted to it.
+use mathlib.Core.Path.{_≡_}
+use mathlib.Core.Bool.{true, cond}
+use mathlib.Core.List.{List}
+use Prim.Native.Nat.{ℕ}
+use lib.ListN.{getD}
+use lib.IntN.{ℤ, pos}
+use Rattle.terms.specs.declared.Entry.{Entry}
+use Rattle.terms.specs.declared.Table.{Table}
+use Rattle.marks.specs.Marks.{bitOf}
+use Rattle.entries.specs.Tables.{tableOf}
+use Rattle.frame_spec.specs.Said.{said}
+use Rattle.head_spec.specs.Record.{heardEntry}
+use Rattle.ring_play.specs.declared.Stage.{Stage}
+use Rattle.ring_play.specs.Memory.{heads}
+
+-- what head k sends
+abbrev pub ownEntry : Stage → List ℤ → ℕ → Entry
+ownEntry s positions k = cond (bitOf (s .before) k) Entry.Null (Entry.Position (getD positions k (pos 0)))
+
+-- what is heard of head k, if these bytes come from it
+unfoldable pub heardOf : Stage → List ℕ → ℕ → Entry
+heardOf s bytes k = heardEntry (said (heads s) (s .phase) 0 k bytes)
+
+-- what all hear alike: of the unstruck heads what they sent, of the struck ones nothing
+unfoldable pub sentBy : Stage → List ℤ → ℕ → Entry
+sentBy s positions k = cond (bitOf (s .struck) k) Entry.Null (ownEntry s positions k)
+
+-- what head i hears of head k, with E for the unstruck heads
+unfoldable pub heardWith : Stage → (ℕ → Entry) → (ℕ → ℕ → List ℕ) → ℕ → ℕ → Entry
+heardWith s E plant i k = cond (bitOf (s .struck) k) (heardOf s (plant k i) k) (E k)
+
+-- a table of entries, of which those of the struck heads are null
+pub record Shared (s : Stage) (t : Table) : Type 0 where
+  pub entry : ℕ → Entry
+  pub is : t ≡ tableOf (heads s) entry
+  pub none : (k : ℕ) → bitOf (s .struck) k ≡ true → entry k ≡ Entry.Null

@@ -1,0 +1,60 @@
+-- What a receiver counts and settles, from what is shared and what is planted to it.
+use mathlib.Core.Path.{_≡_}
+use mathlib.Core.Bool.{cond, false}
+use mathlib.Core.List.{List}
+use Prim.Native.Nat.{ℕ, _+_, _-_, _<_}
+use lib.ListN.{getD}
+use lib.IntN.{ℤ, pos}
+use Rattle.terms.specs.declared.Entry.{Entry}
+use Rattle.marks.specs.Marks.{bitOf, withMark, markedTo}
+use Rattle.convergence.specs.Counting.{Each, sum}
+use Rattle.convergence.specs.Settling.{twoRounds}
+use Rattle.convergence.specs.Trust.{Given, hasConfessed, confessions, trusted}
+use Rattle.convergence.specs.Phases.{rounding}
+use Rattle.frame_spec.specs.Said.{said}
+use Rattle.settle_midpoint.specs.Answers.{settling}
+use Rattle.ring_play.specs.Inner.Codes.{entryOf, MarksOf, holds}
+use Rattle.ring_play.specs.Inner.Shares.{Shares}
+use Rattle.head_spec.specs.Record.{givenOf}
+use Rattle.ring_play.specs.declared.Stage.{Stage}
+use Rattle.ring_play.specs.Memory.{heads, positionOf}
+use Rattle.ring_play.specs.Inner.Planted.{isStruck, Alike, positionSettled}
+
+-- what is planted on the link from k to i gives
+abbrev pub plantedGiven : Stage → (ℕ → ℕ → List ℕ) → ℕ → ℕ → Given
+plantedGiven s plant i k = givenOf (said (heads s) (s .phase) 1 k (plant k i))
+
+-- link k gave g: how many lists have the codes, and which links confessed
+pub record Counted (n : ℕ) (codes : List ℤ) (k : ℕ) (g : Given) (same : List ℕ) (confessed : ℕ) (same′ : List ℕ) (confessed′ : ℕ) : Type 0 where
+  pub counts : Each n (λ j. getD same j 0 < 4294967295 → getD same′ j 0 ≡ getD same j 0 + holds j (getD codes j (pos 0)) g)
+  pub confesses : confessed′ ≡ cond (hasConfessed g) (withMark confessed k) confessed
+
+-- the struck links gave receiver i what is planted
+pub record Told (s : Stage) (plant : ℕ → ℕ → List ℕ) (i : ℕ) (codes : List ℤ) (same same′ : List ℕ) (confessed : ℕ) : Type 0 where
+  pub counts : Each (heads s) (λ j. getD same′ j 0
+      ≡ getD same j 0 + sum (heads s) (λ k. cond (bitOf (s .struck) k) (holds j (getD codes j (pos 0)) (plantedGiven s plant i k)) 0))
+  pub confesses : (k : ℕ) → bitOf confessed k ≡ cond (isStruck s k) (hasConfessed (plantedGiven s plant i k)) false
+
+-- G, what is given all alike, shows these codes, with their marks, and counts, and so many lists are needed
+pub record SharedBy (s : Stage) (need word : ℕ) (codes : List ℤ) (counts : List ℕ) (G : ℕ → Given) : Type 0 where
+  pub shares : Shares (heads s) (s .f) (markedTo (s .struck) (heads s)) G codes counts
+  pub needed : need ≡ heads s - s .f - confessions (heads s) G
+  pub alike : Alike s G
+  pub marked : MarksOf (heads s) codes word
+
+-- the codes are those of the trusted entries of a receiver to which its links give G
+abbrev pub CodesOf : Stage → (ℕ → Given) → List ℤ → Type 0
+CodesOf s G codes = Each (heads s) (λ j. entryOf (getD codes j (pos 0)) ≡ trusted (heads s) (s .f) G j)
+
+-- the position that a receiver settles, from its trusted entries
+unfoldable pub settledBy : Stage → (ℕ → Entry) → ℤ
+settledBy s E = positionOf (settling (rounding (s .phase)) (heads s) (twoRounds (s .f)) E)
+
+-- from their codes
+abbrev pub settledAt : Stage → List ℤ → ℤ
+settledAt s codes = settledBy s (λ j. entryOf (getD codes j (pos 0)))
+
+-- a receiver to which its links give G settled this position, from these codes
+pub record SettledLast (s : Stage) (G : ℕ → Given) (codes : List ℤ) (position : ℤ) : Type 0 where
+  pub from : position ≡ positionSettled s G
+  pub by : position ≡ settledAt s codes

@@ -1,0 +1,354 @@
+// What all receivers of a confession round share: the lists that every head hears are compared once, and each receiver adds what it alone was told.
+ghost use mathlib.Core.Path.{_≡_};
+ghost use mathlib.Core.Bool.{true, false, cond};
+ghost use Prim.Native.Nat.{_+_, _-_, _*_, _≤_, _<_};
+ghost use lib.Dec.{eqb, leb};
+ghost use lib.IntN.{pos};
+ghost use lib.ListN.{length, getD};
+ghost use Rattle.terms.specs.Positions.{eqZ};
+ghost use Rattle.marks.specs.Marks.{bitOf};
+ghost use Rattle.convergence.specs.Counting.{Each, sum, bit};
+ghost use Rattle.convergence.specs.Settling.{twoRounds};
+ghost use Rattle.settle_trust.specs.Received.{givenBy};
+ghost use Rattle.settle_midpoint.specs.Answers.{settling};
+ghost use Rattle.ring_play.specs.Inner.Codes.{noCode, entryOf, codeAt, codeTaken, MarksOf, holds, Tallied};
+ghost use Rattle.ring_play.specs.Inner.Shares.{Shares};
+ghost use Rattle.ring_play.specs.Inner.Votes.{Voted, Leads, givesList};
+use settle_position::Deciding;
+use settle_trust::Links;
+use terms::Lists;
+use terms::Numbers;
+use terms::Words;
+
+// A number that is no position: the code of a null entry.
+const NONE: i32 = 1000001;
+
+// ---- Lists as codes.
+
+// The code of an entry with the number v, by its mark.
+fn code(m: u32, j: usize, v: i32) -> i32
+    ensures { λ r. ⌜ r ≡ cond (bitOf m j) v noCode ⌝ }
+{
+    if marks::marked(m, j) { v } else { NONE }
+}
+
+// The codes of the first n entries of a list.
+fn codes_of(m: u32, list: &Numbers, n: usize) -> Numbers
+    requires { ⌜ n ≤ 32 ⌝ }
+    ensures { λ r. ⌜ Each n (λ j. getD r j (pos 0) ≡ codeAt m (now (list .entry)) j) ⌝ }
+{
+    let mut codes = [0i32; 32];
+    let mut j: usize = 0;
+    while j < n {
+        let v = code(m, j, list[j]);
+        codes[j] = v;
+        j += 1;
+    }
+    codes
+}
+
+// One more for each of the first n entries of a list that has the code.
+fn count_codes(m: u32, list: &Numbers, codes: &Numbers, same: &mut [u32], n: usize)
+    requires { ⌜ (n ≤ 32) × (length (now same) ≡ 32) ⌝ }
+    ensures { λ _. ⌜ Tallied n m (now (list .entry)) (now (codes .entry)) (now (same .entry)) (now (same .exit)) ⌝ }
+{
+    let mut j: usize = 0;
+    while j < n {
+        let x = code(m, j, list[j]);
+        same[j] = std::num::wrapping_add_u32(same[j], (x == codes[j]) as u32);
+        j += 1;
+    }
+}
+
+// The same of a list without nulls, whose codes are its numbers.
+fn count_numbers(m: u32, list: &Numbers, codes: &Numbers, same: &mut [u32], n: usize)
+    requires { ⌜ (n ≤ 32) × (length (now same) ≡ 32) × Each n (λ j. bitOf m j ≡ true) ⌝ }
+    ensures { λ _. ⌜ Tallied n m (now (list .entry)) (now (codes .entry)) (now (same .entry)) (now (same .exit)) ⌝ }
+{
+    let mut j: usize = 0;
+    while j < n {
+        same[j] = std::num::wrapping_add_u32(same[j], (list[j] == codes[j]) as u32);
+        j += 1;
+    }
+}
+
+// The same of any list.
+fn tally_to(m: u32, list: &Numbers, codes: &Numbers, same: &mut [u32], n: usize)
+    requires { ⌜ (n ≤ 32) × (length (now same) ≡ 32) ⌝ }
+    ensures { λ _. ⌜ Tallied n m (now (list .entry)) (now (codes .entry)) (now (same .entry)) (now (same .exit)) ⌝ }
+{
+    if marks::all_marked(m, n) {
+        count_numbers(m, list, codes, same, n);
+    } else {
+        count_codes(m, list, codes, same, n);
+    }
+}
+
+// One more for each entry of a list of n entries that has the code.
+pub(crate) fn tally(m: u32, list: &Numbers, codes: &Numbers, same: &mut Words, n: u8)
+    ensures { λ _. ⌜ (n ≤ 32 → Tallied n m (now (list .entry)) (now (codes .entry)) (now (same .entry)) (now (same .exit))) ⌝ }
+{
+    let count = n as usize;
+    if count <= 32 {
+        tally_to(m, list, codes, same, count);
+    }
+}
+
+// ---- The code that most lists have, by a majority vote.
+
+// The code that leads after a vote for x, if c led by l.
+fn leader(x: i32, c: i32, l: u32) -> i32
+    ensures { λ r. ⌜ r ≡ cond (eqb l 0) x c ⌝ }
+{
+    if l == 0 { x } else { c }
+}
+
+// By how much it leads then.
+fn lead(x: i32, c: i32, l: u32) -> u32
+    requires { ⌜ l < 4294967295 ⌝ }
+    ensures { λ r. ⌜ r ≡ cond (eqb l 0) 1 (cond (eqZ x c) (l + 1) (l - 1)) ⌝ }
+{
+    if l == 0 {
+        return 1;
+    }
+    if x == c {
+        return l + 1;
+    }
+    l - 1
+}
+
+// A row of codes votes at each of the first n entries.
+fn vote(row: &Numbers, codes: &mut [i32], leads: &mut [u32], n: usize)
+    requires { ⌜ (n ≤ 32) × (length (now codes) ≡ 32) × (length (now leads) ≡ 32) × Each n (λ j. getD (now leads) j 0 < 4294967295) ⌝ }
+    ensures { λ _. ⌜ (length (now (codes .exit)) ≡ 32) × (length (now (leads .exit)) ≡ 32)
+        × Each n (λ j. Voted (getD (now (row .entry)) j (pos 0)) (getD (now (codes .entry)) j (pos 0)) (getD (now (leads .entry)) j 0)
+        (getD (now (codes .exit)) j (pos 0)) (getD (now (leads .exit)) j 0)) ⌝ }
+{
+    let mut j: usize = 0;
+    while j < n {
+        let x = row[j];
+        let c = codes[j];
+        let l = leads[j];
+        let v = leader(x, c, l);
+        codes[j] = v;
+        leads[j] = lead(x, c, l);
+        j += 1;
+    }
+}
+
+// A list votes.
+fn vote_for(m: u32, list: &Numbers, codes: &mut [i32], leads: &mut [u32], n: usize)
+    requires { ⌜ (n ≤ 32) × (length (now codes) ≡ 32) × (length (now leads) ≡ 32) × Each n (λ j. getD (now leads) j 0 < 4294967295) ⌝ }
+    ensures { λ _. ⌜ (length (now (codes .exit)) ≡ 32) × (length (now (leads .exit)) ≡ 32)
+        × Each n (λ j. Voted (codeAt m (now (list .entry)) j) (getD (now (codes .entry)) j (pos 0)) (getD (now (leads .entry)) j 0)
+        (getD (now (codes .exit)) j (pos 0)) (getD (now (leads .exit)) j 0)) ⌝ }
+{
+    if marks::all_marked(m, n) {
+        vote(list, codes, leads, n);
+    } else {
+        let row = codes_of(m, list, n);
+        vote(&row, codes, leads, n);
+    }
+}
+
+// ---- The lists that all receivers hear.
+
+// Whether link k gives a list.
+fn gives_list(confessed: u32, listed: u32, k: usize) -> bool
+    ensures { λ r. ⌜ r ≡ givesList confessed listed k ⌝ }
+{
+    if marks::marked(confessed, k) {
+        return false;
+    }
+    marks::marked(listed, k)
+}
+
+// Each list votes; answers how many there are.
+fn vote_all(lists: &Lists, links: Links, n: usize, codes: &mut [i32], leads: &mut [u32]) -> usize
+    requires { ⌜ (n ≤ 32) × (length (now codes) ≡ 32) × (length (now leads) ≡ 32) × Each n (λ j. getD (now leads) j 0 ≡ 0) ⌝ }
+    ensures { λ r. ⌜ (length (now (codes .exit)) ≡ 32) × (length (now (leads .exit)) ≡ 32) × (r ≤ n)
+        × Each n (λ j. Leads (λ w. sum n (λ k. holds j w (givenBy links (now (lists .entry)) k))) r
+        (getD (now (codes .exit)) j (pos 0)) (getD (now (leads .exit)) j 0)) ⌝ }
+{
+    let mut count: usize = 0;
+    let mut k: usize = 0;
+    while k < n {
+        if gives_list(links.confessed, links.listed, k) {
+            vote_for(links.marks[k], &lists[k], codes, leads, n);
+            count += 1;
+        }
+        k += 1;
+    }
+    count
+}
+
+// For each entry, how many lists have the code.
+fn tally_all(lists: &Lists, links: Links, n: usize, codes: &Numbers, same: &mut [u32])
+    requires { ⌜ (n ≤ 32) × (length (now same) ≡ 32) × Each n (λ j. getD (now same) j 0 ≡ 0) ⌝ }
+    ensures { λ _. ⌜ (length (now (same .exit)) ≡ 32)
+        × Each n (λ j. getD (now (same .exit)) j 0
+        ≡ sum n (λ k. holds j (getD (now (codes .entry)) j (pos 0)) (givenBy links (now (lists .entry)) k))) ⌝ }
+{
+    let mut k: usize = 0;
+    while k < n {
+        if gives_list(links.confessed, links.listed, k) {
+            tally_to(links.marks[k], &lists[k], codes, same, n);
+        }
+        k += 1;
+    }
+}
+
+fn wide(x: u32) -> usize
+    ensures { λ r. ⌜ (r ≡ x) × (r < 4294967296) ⌝ }
+{
+    x as usize
+}
+
+// Whether the codes that lead leave all others with fewer than `most` of `count` lists. Entries of links that confessed are never trusted.
+fn are_alone(leads: &Words, confessed: u32, n: usize, count: usize, most: usize) -> bool
+    requires { ⌜ (n ≤ 32) × (most ≤ 255) ⌝ }
+    ensures { λ r. ⌜ (r ≡ true → Each n (λ j. bitOf confessed j ≡ false → count < getD (now (leads .entry)) j 0 + 2 * most)) ⌝ }
+{
+    let mut j: usize = 0;
+    while j < n {
+        if !marks::marked(confessed, j) {
+            if wide(leads[j]) + 2 * most <= count {
+                return false;
+            }
+        }
+        j += 1;
+    }
+    true
+}
+
+// No code for the entries of links that confessed.
+fn drop_confessed(codes: &mut [i32], confessed: u32, n: usize)
+    requires { ⌜ (n ≤ 32) × (length (now codes) ≡ 32) ⌝ }
+    ensures { λ _. ⌜ (length (now (codes .exit)) ≡ 32)
+        × Each n (λ j. getD (now (codes .exit)) j (pos 0) ≡ cond (bitOf confessed j) noCode (getD (now (codes .entry)) j (pos 0))) ⌝ }
+{
+    let mut j: usize = 0;
+    while j < n {
+        if marks::marked(confessed, j) {
+            codes[j] = NONE;
+        }
+        j += 1;
+    }
+}
+
+// What the links gave all receivers alike shows of the trusted entries, if `struck` links give each receiver something else: for each entry the code that most
+// lists have, and how many have it. Answers no if another position could be trusted too.
+pub(crate) fn share(
+    lists: &Lists,
+    links: Links,
+    n: u8,
+    f: u8,
+    struck: usize,
+    codes: &mut Numbers,
+    same: &mut Words,
+) -> bool
+    ensures { λ r. ⌜ (r ≡ true → Shares n f struck (givenBy links (now (lists .entry))) (now (codes .exit)) (now (same .exit))) ⌝ }
+{
+    let heads = n as usize;
+    if 32 < heads {
+        return false;
+    }
+    let need = settle_trust::lists_needed(links.confessed, n, f);
+    if need <= struck {
+        return false;
+    }
+    let mut leads = [0u32; 32];
+    let count = vote_all(lists, links, heads, codes, &mut leads);
+    if !are_alone(&leads, links.confessed, heads, count, need - struck) {
+        return false;
+    }
+    *same = [0u32; 32];
+    tally_all(lists, links, heads, codes, same);
+    drop_confessed(codes, links.confessed, heads);
+    true
+}
+
+// ---- A receiver.
+
+// The code of each entry that enough lists have, and no code for any other.
+fn pick(codes: &Numbers, same: &Words, need: usize, n: usize, out: &mut [i32])
+    requires { ⌜ (n ≤ 32) × (length (now out) ≡ 32) ⌝ }
+    ensures { λ _. ⌜ (length (now (out .exit)) ≡ 32)
+        × Each n (λ j. getD (now (out .exit)) j (pos 0) ≡ cond (leb need (getD (now (same .entry)) j 0)) (getD (now (codes .entry)) j (pos 0)) noCode) ⌝ }
+{
+    let mut j: usize = 0;
+    while j < n {
+        let v = picked(codes[j], need, same[j]);
+        out[j] = v;
+        j += 1;
+    }
+}
+
+// The code c, if s lists have it and no more are needed; else no code.
+fn picked(c: i32, need: usize, s: u32) -> i32
+    ensures { λ r. ⌜ r ≡ cond (leb need s) c noCode ⌝ }
+{
+    if need <= s as usize { c } else { NONE }
+}
+
+// The codes of a receiver's trusted entries: of those that enough lists have, but for the entries of links that confessed.
+pub(crate) fn trust_codes(
+    codes: &Numbers,
+    same: &Words,
+    need: usize,
+    confessed: u32,
+    n: u8,
+    out: &mut Numbers,
+)
+    ensures { λ _. ⌜ (n ≤ 32 → Each n (λ j. getD (now (out .exit)) j (pos 0) ≡ codeTaken (now (codes .entry)) (now (same .entry)) need confessed j)) ⌝ }
+{
+    let count = terms::at_most_32(n as usize);
+    pick(codes, same, need, count, out);
+    if confessed != 0 {
+        drop_confessed(out, confessed, count);
+    }
+}
+
+// The marks of the first n codes: set for a position, and not for a null entry.
+pub(crate) fn marks_of(codes: &Numbers, n: u8) -> u32
+    ensures { λ r. ⌜ (n ≤ 32 → MarksOf n (now (codes .entry)) r) ⌝ }
+{
+    let count = terms::at_most_32(n as usize);
+    let mut word: u32 = 0;
+    let mut j: usize = 0;
+    while j < count {
+        if codes[j] != NONE {
+            word = marks::with_mark(word, j);
+        }
+        j += 1;
+    }
+    word
+}
+
+// The new position of a receiver, its entries decided and put in order one by one, as a head does that closes a round: by the shared codes, their
+// marks, and how many lists it counted for each. There is no list more to search, so none of `lists` is looked at: they are lent since an empty table
+// would be filled at each call. `up`: whether an odd sum is rounded up.
+pub(crate) fn settle_counted(
+    lists: &Lists,
+    codes: &Numbers,
+    word: u32,
+    same: &Words,
+    need: usize,
+    confessed: u32,
+    n: u8,
+    f: u8,
+    up: bool,
+) -> settle_midpoint::Settled
+    ensures { λ r. ⌜ (n ≤ 32 → need ≤ 32 → (0 < n → 0 < need) → MarksOf n (now (codes .entry)) word
+        → r ≡ settling (bit up) n (twoRounds f) (λ j. entryOf (codeTaken (now (codes .entry)) (now (same .entry)) need confessed j))) ⌝ }
+{
+    let d = Deciding {
+        count: 0,
+        need: terms::at_most_32(need) as u8,
+        confessed,
+        word,
+        alike: 0,
+        apart: 0,
+    };
+    settle_position::settle_entries(lists, same, codes, same, d, n, f, up)
+}

@@ -1,0 +1,188 @@
+// A collection round of a whole ring, played on the heads' memory: the list of each head that is not struck. What all unstruck heads say is heard once.
+ghost use mathlib.Core.Bool.{cond};
+ghost use mathlib.Core.Path.{_≡_};
+ghost use Prim.Native.Nat.{ℕ, _<_};
+ghost use lib.ListN.{length};
+ghost use Rattle.entries.specs.Tables.{tableOf, mark, number};
+ghost use Rattle.frame_spec.specs.Said.{said};
+ghost use Rattle.head_spec.specs.Record.{heardEntry};
+ghost use Rattle.ring_play.specs.Memory.{heads, hears, InRange, listEntry, rowIn};
+ghost use Rattle.frame_slots.specs.Slots.{plantedIn};
+ghost use Rattle.ring_play.specs.Inner.Collection.{ownEntry, sentBy, heardOf, heardWith, Shared};
+use crate::Stage;
+use crate::round;
+use frame_spec::Said;
+use terms::Entry;
+use terms::Lists;
+use terms::Positions;
+use terms::Table;
+use terms::Words;
+
+// The entry that a collection frame says; null if it says none.
+fn entry_in(frame: &[u8], n: u8, phase: u16, k: u8) -> Entry
+    ensures { λ r. ⌜ r ≡ heardEntry (said n phase 0 k (now (frame .entry))) ⌝ }
+{
+    match frame_codec::read(frame, n, phase, 0, k) {
+        Said::Refused(_) => Entry::Null,
+        Said::Collection(e) => e,
+        Said::List => Entry::Null,
+        Said::Confession => Entry::Null,
+    }
+}
+
+// What head k sends: a healed head silence, a healthy one its position.
+fn own_entry(s: Stage, positions: &Positions, k: usize) -> Entry
+    requires { ⌜ k < 32 ⌝ }
+    ensures { λ r. ⌜ r ≡ ownEntry s (now (positions .entry)) k ⌝ }
+{
+    if marks::marked(s.before, k) {
+        return Entry::Null;
+    }
+    Entry::Position(positions[k])
+}
+
+// The mark of an entry.
+fn mark_of(e: Entry) -> u32
+    ensures { λ r. ⌜ r ≡ mark e ⌝ }
+{
+    match e {
+        Entry::Null => 0,
+        Entry::Position(_) => 1,
+    }
+}
+
+// The number of an entry, 0 if it is null.
+fn number_of(e: Entry) -> i32
+    ensures { λ r. ⌜ r ≡ number e ⌝ }
+{
+    match e {
+        Entry::Null => 0,
+        Entry::Position(v) => v,
+    }
+}
+
+// What the unstruck heads send, with null for the struck ones.
+fn entries_sent(s: Stage, positions: &Positions) -> Table
+    ensures { λ r. ⌜ r ≡ tableOf (heads s) (sentBy s (now (positions .entry))) ⌝ }
+{
+    let n = round::head_count(s) as usize;
+    let mut marks: u32 = 0;
+    let mut entries = [0i32; 32];
+    let mut k: usize = 0;
+    while k < n {
+        let mut e = Entry::Null;
+        if !marks::marked(s.struck, k) {
+            e = own_entry(s, positions, k);
+        }
+        marks += mark_of(e) << k;
+        entries[k] = number_of(e);
+        k += 1;
+    }
+    Table { marks, entries }
+}
+
+// What head i hears of head k, which is struck: what is planted.
+fn entry_planted(s: Stage, planted: &[u8], lengths: &[u8], k: usize, i: usize) -> Entry
+    requires { ⌜ (k < 32) × (i < 32) ⌝ }
+    ensures { λ r. ⌜ r ≡ heardOf s (plantedIn (now (planted .entry)) (now (lengths .entry)) k i) k ⌝ }
+{
+    let frame = frame_slots::planted(planted, lengths, k as u8, i as u8);
+    entry_in(frame, round::head_count(s), s.phase, k as u8)
+}
+
+// The list of head i: what all hear alike, with what is planted to it.
+fn list_for(s: Stage, sent: Table, planted: &[u8], lengths: &[u8], i: usize) -> Table
+    requires { ⌜ (i < 32) × Shared s sent ⌝ }
+    ensures { λ r. ⌜ ((S : Shared s sent) → r ≡ tableOf (heads s) (heardWith s (S .entry) (plantedIn (now (planted .entry)) (now (lengths .entry))) i)) ⌝ }
+{
+    let n = round::head_count(s) as usize;
+    let mut marks = sent.marks;
+    let mut entries = sent.entries;
+    let mut k: usize = 0;
+    while k < n {
+        if marks::marked(s.struck, k) {
+            let e = entry_planted(s, planted, lengths, k, i);
+            marks += mark_of(e) << k;
+            entries[k] = number_of(e);
+        }
+        k += 1;
+    }
+    Table { marks, entries }
+}
+
+// The list of head i, after the list of head `last` was stored, or first if that is 32: heads that are told alike fill the same.
+fn list_after(
+    s: Stage,
+    sent: Table,
+    planted: &[u8],
+    lengths: &[u8],
+    i: usize,
+    last: usize,
+    marks: &[u32],
+    lists: &[[i32; 32]],
+) -> Table
+    requires { ⌜ (i < 32) × (length (now marks) ≡ 32) × (length (now lists) ≡ 32) × Shared s sent ⌝ }
+    ensures { λ r. ⌜ ((S : Shared s sent)
+        → (last < 32 → rowIn (now (marks .entry)) (now (lists .entry)) last ≡ tableOf (heads s) (heardWith s (S .entry) (plantedIn (now (planted .entry)) (now (lengths .entry))) last))
+        → r ≡ tableOf (heads s) (heardWith s (S .entry) (plantedIn (now (planted .entry)) (now (lengths .entry))) i)) ⌝ }
+{
+    if last < 32 {
+        if round::is_told_alike(s, planted, lengths, i, last) {
+            let entries = lists[last];
+            return Table {
+                marks: marks[last],
+                entries,
+            };
+        }
+    }
+    list_for(s, sent, planted, lengths, i)
+}
+
+// Stores the list of each unstruck head.
+fn fill_lists(
+    s: Stage,
+    sent: Table,
+    planted: &[u8],
+    lengths: &[u8],
+    marks: &mut [u32],
+    lists: &mut [[i32; 32]],
+)
+    requires { ⌜ (length (now marks) ≡ 32) × (length (now lists) ≡ 32) × Shared s sent ⌝ }
+    ensures { λ _. ⌜ ((S : Shared s sent) (i : ℕ) → rowIn (now (marks .exit)) (now (lists .exit)) i
+        ≡ cond (hears s i)
+        (tableOf (heads s) (heardWith s (S .entry) (plantedIn (now (planted .entry)) (now (lengths .entry))) i))
+        (rowIn (now (marks .entry)) (now (lists .entry)) i)) ⌝ }
+{
+    let n = round::head_count(s) as usize;
+    let mut last: usize = 32;
+    let mut i: usize = 0;
+    while i < n {
+        if !marks::marked(s.struck, i) {
+            let list = list_after(s, sent, planted, lengths, i, last, marks, lists);
+            last = i;
+            let entries = list.entries;
+            marks[i] = list.marks;
+            lists[i] = entries;
+        }
+        i += 1;
+    }
+}
+
+// A collection round: the list of each head that is not struck, from the positions, which are in range, and what is planted. The other lists stay as they
+// were. An honest frame reads back as what it says, so none is written.
+pub fn collect(
+    s: Stage,
+    positions: &Positions,
+    planted: &[u8],
+    lengths: &[u8],
+    marks: &mut Words,
+    lists: &mut Lists,
+)
+    ensures { λ _. ⌜ (InRange s (now (positions .entry)) → (i : ℕ) → rowIn (now (marks .exit)) (now (lists .exit)) i
+        ≡ cond (hears s i)
+        (tableOf (heads s) (listEntry s (now (positions .entry)) (plantedIn (now (planted .entry)) (now (lengths .entry))) i))
+        (rowIn (now (marks .entry)) (now (lists .entry)) i)) ⌝ }
+{
+    let sent = entries_sent(s, positions);
+    fill_lists(s, sent, planted, lengths, marks, lists);
+}

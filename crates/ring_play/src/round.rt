@@ -1,0 +1,80 @@
+// What both rounds need: how many heads and listeners are played, who settles, and who is told the same.
+ghost use mathlib.Core.Bool.{true};
+ghost use mathlib.Core.Path.{_≡_};
+ghost use Prim.Native.Nat.{_<_};
+ghost use Rattle.frame_slots.specs.Slots.{plantedIn};
+ghost use Rattle.ring_play.specs.Memory.{heads, listeners, receiverEnd, settles, ToldAlike};
+use crate::Stage;
+
+// How many heads are played.
+pub(crate) fn head_count(s: Stage) -> u8
+    ensures { λ r. ⌜ r ≡ heads s ⌝ }
+{
+    terms::at_most_32(s.n as usize) as u8
+}
+
+// How many listeners are played.
+pub(crate) fn listener_count(s: Stage) -> u8
+    ensures { λ r. ⌜ r ≡ listeners s ⌝ }
+{
+    if s.listeners < 16 { s.listeners } else { 16 }
+}
+
+// The number after the last receiver that is played: without listeners, how many heads are.
+pub(crate) fn receiver_end(s: Stage) -> usize
+    ensures { λ r. ⌜ r ≡ receiverEnd s ⌝ }
+{
+    let m = listener_count(s) as usize;
+    if m == 0 {
+        return head_count(s) as usize;
+    }
+    32 + m
+}
+
+// Whether receiver i is played and not struck.
+pub(crate) fn settles(s: Stage, i: usize) -> bool
+    ensures { λ r. ⌜ r ≡ settles s i ⌝ }
+{
+    if i < 32 {
+        if i < head_count(s) as usize {
+            return !marks::marked(s.struck, i);
+        }
+        return false;
+    }
+    let j = i - 32;
+    if j < listener_count(s) as usize {
+        return !marks::marked(s.away, j);
+    }
+    false
+}
+
+// Whether the same is planted from each struck head to receivers i and m: what the one hears of them, the other does too.
+fn hears_alike(s: Stage, planted: &[u8], lengths: &[u8], i: usize, m: usize) -> bool
+    requires { ⌜ (i < 48) × (m < 48) ⌝ }
+    ensures { λ r. ⌜ (r ≡ true → ToldAlike s (plantedIn (now (planted .entry)) (now (lengths .entry))) i m) ⌝ }
+{
+    if s.struck == 0 {
+        return true;
+    }
+    let n = head_count(s) as usize;
+    let mut k: usize = 0;
+    while k < n {
+        if marks::marked(s.struck, k)
+            && !frame_slots::is_alike(planted, lengths, k as u8, i as u8, m as u8)
+        {
+            return false;
+        }
+        k += 1;
+    }
+    true
+}
+
+// The same of any two numbers: from 48 on there is no receiver, and the answer is no.
+pub(crate) fn is_told_alike(s: Stage, planted: &[u8], lengths: &[u8], i: usize, m: usize) -> bool
+    ensures { λ r. ⌜ (r ≡ true → ToldAlike s (plantedIn (now (planted .entry)) (now (lengths .entry))) i m) ⌝ }
+{
+    if i < 48 && m < 48 {
+        return hears_alike(s, planted, lengths, i, m);
+    }
+    false
+}

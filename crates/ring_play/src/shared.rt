@@ -1,0 +1,249 @@
+// A confession round of a whole ring, from what the unstruck heads give all receivers alike: their lists are compared once, and each receiver adds what is planted to
+// it alone.
+ghost use mathlib.Core.Bool.{true, false};
+ghost use mathlib.Core.Path.{_≡_};
+ghost use Prim.Native.Nat.{ℕ, _-_, _≤_, _<_};
+ghost use lib.ListN.{length, getD};
+ghost use lib.IntN.{pos};
+ghost use Rattle.marks.specs.Marks.{markedTo};
+ghost use Rattle.convergence.specs.Counting.{Each};
+ghost use Rattle.convergence.specs.Trust.{Given};
+ghost use Rattle.frame_spec.specs.Said.{said};
+ghost use Rattle.frame_slots.specs.Slots.{plantedIn};
+ghost use Rattle.settle_trust.specs.Received.{givenBy};
+ghost use Rattle.head_spec.specs.Record.{givenOf};
+ghost use Rattle.ring_play.specs.Memory.{heads};
+ghost use Rattle.ring_play.specs.Inner.Planted.{AllSettled, SettlesAll, givenOrPlanted};
+ghost use Rattle.ring_play.specs.Inner.Codes.{entryOf, codeTaken, MarksOf};
+ghost use Rattle.ring_play.specs.Inner.Told.{Counted, Told, SharedBy, settledBy, SettledLast};
+use crate::Stage;
+use crate::codes;
+use crate::round;
+use frame_spec::Said;
+use settle_midpoint::Settled;
+use settle_trust::Links;
+use terms::Lists;
+use terms::Numbers;
+use terms::Positions;
+use terms::Words;
+
+// Hears a confession frame on link k: a list counts for each entry at which it has the code, a confession is marked.
+fn count_frame(
+    frame: &[u8],
+    n: u8,
+    phase: u16,
+    k: usize,
+    codes: &Numbers,
+    same: &mut Words,
+    confessed: u32,
+) -> u32
+    requires { ⌜ (n ≤ 32) × (k < 32) ⌝ }
+    ensures { λ r. ⌜ Counted n (now (codes .entry)) k (givenOf (said n phase 1 k (now (frame .entry)))) (now (same .entry)) confessed (now (same .exit)) r ⌝ }
+{
+    match frame_codec::read(frame, n, phase, 1, k as u8) {
+        Said::Refused(_) => confessed,
+        Said::Collection(_) => confessed,
+        Said::List => {
+            let table = frame_codec::table_in(frame, n);
+            let entries = table.entries;
+            codes::tally(table.marks, &entries, codes, same, n);
+            confessed
+        }
+        Said::Confession => marks::with_mark(confessed, k),
+    }
+}
+
+// Hears what is planted from the struck heads to receiver i. Answers which of them confessed.
+fn count_planted(
+    s: Stage,
+    planted: &[u8],
+    lengths: &[u8],
+    i: usize,
+    codes: &Numbers,
+    same: &mut Words,
+) -> u32
+    requires { ⌜ (i < 48) × Each (heads s) (λ j. getD (now same) j 0 ≤ 32) ⌝ }
+    ensures { λ r. ⌜ Told s (plantedIn (now (planted .entry)) (now (lengths .entry))) i (now (codes .entry)) (now (same .entry)) (now (same .exit)) r ⌝ }
+{
+    let n = round::head_count(s);
+    let count = n as usize;
+    let mut confessed: u32 = 0;
+    let mut k: usize = 0;
+    while k < count {
+        if marks::marked(s.struck, k) {
+            let frame = frame_slots::planted(planted, lengths, k as u8, i as u8);
+            confessed = count_frame(frame, n, s.phase, k, codes, same, confessed);
+        }
+        k += 1;
+    }
+    confessed
+}
+
+// How many lists are needed, with so many more confessions.
+fn need_after(need: usize, confessed: u32, n: usize) -> usize
+    ensures { λ r. ⌜ r ≡ need - markedTo confessed n ⌝ }
+{
+    let c = marks::marked_to(confessed, n);
+    if need <= c { 0 } else { need - c }
+}
+
+// The position that a receiver settles, by the shared codes with their marks, how many lists it counted for each, how many are needed, and who confessed to it; 0 if it
+// is refused.
+fn position_from(
+    s: Stage,
+    rows: &Lists,
+    codes: &Numbers,
+    word: u32,
+    same: &Words,
+    need: usize,
+    confessed: u32,
+) -> i32
+    ensures { λ r. ⌜ (need ≤ 32 → (0 < heads s → 0 < need) → MarksOf (heads s) (now (codes .entry)) word
+        → r ≡ settledBy s (λ j. entryOf (codeTaken (now (codes .entry)) (now (same .entry)) need confessed j))) ⌝ }
+{
+    let n = round::head_count(s);
+    let up = steps::rounds_up(s.phase);
+    match codes::settle_counted(rows, codes, word, same, need, confessed, n, s.f, up) {
+        Settled::Refused(_) => 0,
+        Settled::New(kept) => kept.position,
+    }
+}
+
+// Whether the first n codes are the same. All are looked at, without a branch, so that many are compared at once.
+fn is_same_front(a: &Numbers, b: &Numbers, n: usize) -> bool
+    requires { ⌜ n ≤ 32 ⌝ }
+    ensures { λ r. ⌜ (r ≡ true → Each n (λ j. getD (now (a .entry)) j (pos 0) ≡ getD (now (b .entry)) j (pos 0))) ⌝ }
+{
+    let mut same = true;
+    let mut j: usize = 0;
+    while j < n {
+        if a[j] != b[j] {
+            same = false;
+        }
+        j += 1;
+    }
+    same
+}
+
+// The new position of receiver i, after receiver `last` settled `told` from the codes `settled`, or first if that is 48. Receivers that are told alike, or have the
+// same trusted entries, settle the same.
+fn position_after(
+    s: Stage,
+    rows: &Lists,
+    planted: &[u8],
+    lengths: &[u8],
+    i: usize,
+    need: usize,
+    codes: &Numbers,
+    word: u32,
+    counts: &Words,
+    settled: &mut Numbers,
+    last: usize,
+    told: i32,
+) -> i32
+    requires { ⌜ (i < 48) × Each (heads s) (λ j. getD (now counts) j 0 ≤ 32) ⌝ }
+    ensures { λ r. ⌜ ((G : ℕ → Given) → SharedBy s need word (now (codes .entry)) (now (counts .entry)) G
+        → (last < 48 → SettledLast s (givenOrPlanted s G (plantedIn (now (planted .entry)) (now (lengths .entry))) last) (now (settled .entry)) told)
+        → SettledLast s (givenOrPlanted s G (plantedIn (now (planted .entry)) (now (lengths .entry))) i) (now (settled .exit)) r) ⌝ }
+{
+    if last < 48 {
+        if round::is_told_alike(s, planted, lengths, i, last) {
+            return told;
+        }
+    }
+    let n = round::head_count(s);
+    let mut same = *counts;
+    let confessed = count_planted(s, planted, lengths, i, codes, &mut same);
+    let left = need_after(need, confessed, n as usize);
+    let mut own = [0i32; 32];
+    codes::trust_codes(codes, &same, left, confessed, n, &mut own);
+    if last < 48 {
+        if is_same_front(&own, settled, n as usize) {
+            return told;
+        }
+    }
+    *settled = own;
+    position_from(s, rows, codes, word, &same, left, confessed)
+}
+
+// Stores the new position of each unstruck receiver.
+fn fill_positions(
+    s: Stage,
+    rows: &Lists,
+    planted: &[u8],
+    lengths: &[u8],
+    need: usize,
+    codes: &Numbers,
+    word: u32,
+    counts: &Words,
+    positions: &mut [i32],
+)
+    requires { ⌜ (length (now positions) ≡ 48) × Each (heads s) (λ j. getD (now counts) j 0 ≤ 32) ⌝ }
+    ensures { λ _. ⌜ ((G : ℕ → Given) → SharedBy s need word (now (codes .entry)) (now (counts .entry)) G
+        → AllSettled s G (plantedIn (now (planted .entry)) (now (lengths .entry))) (now (positions .entry)) (now (positions .exit))) ⌝ }
+{
+    let end = round::receiver_end(s);
+    let mut settled = [0i32; 32];
+    let mut last: usize = 48;
+    let mut told: i32 = 0;
+    let mut i: usize = 0;
+    while i < end {
+        if round::settles(s, i) {
+            told = position_after(
+                s,
+                rows,
+                planted,
+                lengths,
+                i,
+                need,
+                codes,
+                word,
+                counts,
+                &mut settled,
+                last,
+                told,
+            );
+            last = i;
+            positions[i] = told;
+        }
+        i += 1;
+    }
+}
+
+// Stores the new position of each unstruck receiver, from what the links give all of them alike and from what is planted. Answers no, and leaves the positions as they
+// were, if no head is struck or if what is given alike does not decide which positions can be trusted.
+pub(crate) fn settle_all(
+    s: Stage,
+    rows: &Lists,
+    links: Links,
+    planted: &[u8],
+    lengths: &[u8],
+    positions: &mut Positions,
+) -> bool
+    ensures { λ r. ⌜ SettlesAll r s (givenBy links (now (rows .entry))) (plantedIn (now (planted .entry)) (now (lengths .entry))) (now (positions .entry)) (now (positions .exit)) ⌝ }
+{
+    if s.struck == 0 {
+        return false;
+    }
+    let n = round::head_count(s);
+    let struck = marks::marked_to(s.struck, n as usize);
+    let mut codes = [0i32; 32];
+    let mut counts = [0u32; 32];
+    if !codes::share(rows, links, n, s.f, struck, &mut codes, &mut counts) {
+        return false;
+    }
+    let need = settle_trust::lists_needed(links.confessed, n, s.f);
+    let word = codes::marks_of(&codes, n);
+    fill_positions(
+        s,
+        rows,
+        planted,
+        lengths,
+        need,
+        &codes,
+        word,
+        &counts,
+        positions,
+    );
+    true
+}

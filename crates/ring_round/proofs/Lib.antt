@@ -1,4 +1,0 @@
--- Laws of the crate: frames cut, written and read; a memory filled head by head; who settles.
-pub mod Frames
-pub mod Filling
-pub mod Receivers

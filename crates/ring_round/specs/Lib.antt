@@ -1,2 +1,0 @@
--- What a round played on the heads' memory promises.
-pub mod Memory
