@@ -1,6 +1,7 @@
 // Frames side by side: a slot of 140 bytes and a length for each. The bytes planted in a round have a slot for each link.
 ghost use mathlib.Core.Bool.{true};
 ghost use mathlib.Core.List.{List, []};
+ghost use mathlib.Core.Logic.{_↔_};
 ghost use mathlib.Core.Path.{_≡_};
 ghost use Prim.Native.Nat.{ℕ, _+_, _*_, _≤_, _<_};
 ghost use lib.ListN.{length, getD, set};
@@ -46,7 +47,7 @@ pub fn planted<'a, 'b>(bytes: &'a [u8], lengths: &'b [u8], k: u8, i: u8) -> &'a 
 
 // Whether two slices have the same bytes. All are looked at, without a branch, so that many are compared at once.
 fn is_same(a: &[u8], b: &[u8]) -> bool
-    ensures { λ r. ⌜ (r ≡ true → now (a .entry) ≡ now (b .entry)) ⌝ }
+    ensures { λ r. ⌜ (r ≡ true) ↔ (now (a .entry) ≡ now (b .entry)) ⌝ }
 {
     let len = a.len();
     if b.len() != len {
@@ -65,7 +66,7 @@ fn is_same(a: &[u8], b: &[u8]) -> bool
 
 // Whether the same is planted on the links from k to i and from k to m.
 pub fn is_alike(bytes: &[u8], lengths: &[u8], k: u8, i: u8, m: u8) -> bool
-    ensures { λ r. ⌜ (r ≡ true → plantedIn (now (bytes .entry)) (now (lengths .entry)) k i ≡ plantedIn (now (bytes .entry)) (now (lengths .entry)) k m) ⌝ }
+    ensures { λ r. ⌜ (r ≡ true) ↔ (plantedIn (now (bytes .entry)) (now (lengths .entry)) k i ≡ plantedIn (now (bytes .entry)) (now (lengths .entry)) k m) ⌝ }
 {
     is_same(planted(bytes, lengths, k, i), planted(bytes, lengths, k, m))
 }

@@ -73,7 +73,7 @@ fn count_numbers(m: u32, list: &Numbers, codes: &Numbers, same: &mut [u32], n: u
 }
 
 // The same of any list.
-fn tally_to(m: u32, list: &Numbers, codes: &Numbers, same: &mut [u32], n: usize)
+pub(crate) fn tally(m: u32, list: &Numbers, codes: &Numbers, same: &mut [u32], n: usize)
     requires { ⌜ (n ≤ 32) × (length (now same) ≡ 32) ⌝ }
     ensures { λ _. ⌜ Tallied n m (now (list .entry)) (now (codes .entry)) (now (same .entry)) (now (same .exit)) ⌝ }
 {
@@ -81,16 +81,6 @@ fn tally_to(m: u32, list: &Numbers, codes: &Numbers, same: &mut [u32], n: usize)
         count_numbers(m, list, codes, same, n);
     } else {
         count_codes(m, list, codes, same, n);
-    }
-}
-
-// One more for each entry of a list of n entries that has the code.
-pub(crate) fn tally(m: u32, list: &Numbers, codes: &Numbers, same: &mut Words, n: u8)
-    ensures { λ _. ⌜ (n ≤ 32 → Tallied n m (now (list .entry)) (now (codes .entry)) (now (same .entry)) (now (same .exit))) ⌝ }
-{
-    let count = n as usize;
-    if count <= 32 {
-        tally_to(m, list, codes, same, count);
     }
 }
 
@@ -192,7 +182,7 @@ fn tally_all(lists: &Lists, links: Links, n: usize, codes: &Numbers, same: &mut 
     let mut k: usize = 0;
     while k < n {
         if gives_list(links.confessed, links.listed, k) {
-            tally_to(links.marks[k], &lists[k], codes, same, n);
+            tally(links.marks[k], &lists[k], codes, same, n);
         }
         k += 1;
     }
@@ -237,7 +227,8 @@ fn drop_confessed(codes: &mut [i32], confessed: u32, n: usize)
 }
 
 // What the links gave all receivers alike shows of the trusted entries, if `struck` links give each receiver something else: for each entry the code that most
-// lists have, and how many have it. Answers no if another position could be trusted too.
+// lists have, and how many have it. Answers no if another position could be trusted too. When it answers no is free: a receiver then settles by itself, and that
+// shows in the time alone.
 pub(crate) fn share(
     lists: &Lists,
     links: Links,
@@ -247,12 +238,10 @@ pub(crate) fn share(
     codes: &mut Numbers,
     same: &mut Words,
 ) -> bool
+    requires { ⌜ n ≤ 32 ⌝ }
     ensures { λ r. ⌜ (r ≡ true → Shares n f struck (givenBy links (now (lists .entry))) (now (codes .exit)) (now (same .exit))) ⌝ }
 {
     let heads = n as usize;
-    if 32 < heads {
-        return false;
-    }
     let need = settle_trust::lists_needed(links.confessed, n, f);
     if need <= struck {
         return false;
@@ -297,26 +286,26 @@ pub(crate) fn trust_codes(
     same: &Words,
     need: usize,
     confessed: u32,
-    n: u8,
+    n: usize,
     out: &mut Numbers,
 )
-    ensures { λ _. ⌜ (n ≤ 32 → Each n (λ j. getD (now (out .exit)) j (pos 0) ≡ codeTaken (now (codes .entry)) (now (same .entry)) need confessed j)) ⌝ }
+    requires { ⌜ n ≤ 32 ⌝ }
+    ensures { λ _. ⌜ Each n (λ j. getD (now (out .exit)) j (pos 0) ≡ codeTaken (now (codes .entry)) (now (same .entry)) need confessed j) ⌝ }
 {
-    let count = terms::at_most_32(n as usize);
-    pick(codes, same, need, count, out);
+    pick(codes, same, need, n, out);
     if confessed != 0 {
-        drop_confessed(out, confessed, count);
+        drop_confessed(out, confessed, n);
     }
 }
 
 // The marks of the first n codes: set for a position, and not for a null entry.
-pub(crate) fn marks_of(codes: &Numbers, n: u8) -> u32
-    ensures { λ r. ⌜ (n ≤ 32 → MarksOf n (now (codes .entry)) r) ⌝ }
+pub(crate) fn marks_of(codes: &Numbers, n: usize) -> u32
+    requires { ⌜ n ≤ 32 ⌝ }
+    ensures { λ r. ⌜ MarksOf n (now (codes .entry)) r ⌝ }
 {
-    let count = terms::at_most_32(n as usize);
     let mut word: u32 = 0;
     let mut j: usize = 0;
-    while j < count {
+    while j < n {
         if codes[j] != NONE {
             word = marks::with_mark(word, j);
         }
@@ -339,12 +328,12 @@ pub(crate) fn settle_counted(
     f: u8,
     up: bool,
 ) -> settle_midpoint::Settled
-    ensures { λ r. ⌜ (n ≤ 32 → need ≤ 32 → (0 < n → 0 < need) → MarksOf n (now (codes .entry)) word
-        → r ≡ settling (bit up) n (twoRounds f) (λ j. entryOf (codeTaken (now (codes .entry)) (now (same .entry)) need confessed j))) ⌝ }
+    requires { ⌜ (n ≤ 32) × (need ≤ 32) × (0 < n → 0 < need) × MarksOf n (now codes) word ⌝ }
+    ensures { λ r. ⌜ r ≡ settling (bit up) n (twoRounds f) (λ j. entryOf (codeTaken (now (codes .entry)) (now (same .entry)) need confessed j)) ⌝ }
 {
     let d = Deciding {
         count: 0,
-        need: terms::at_most_32(need) as u8,
+        need: need as u8,
         confessed,
         word,
         alike: 0,

@@ -1,5 +1,6 @@
 // What both rounds need: how many heads and listeners are played, who settles, and who is told the same.
 ghost use mathlib.Core.Bool.{true};
+ghost use mathlib.Core.Logic.{_↔_};
 ghost use mathlib.Core.Path.{_≡_};
 ghost use Prim.Native.Nat.{_<_};
 ghost use Rattle.frame_slots.specs.Slots.{plantedIn};
@@ -49,9 +50,9 @@ pub(crate) fn settles(s: Stage, i: usize) -> bool
 }
 
 // Whether the same is planted from each struck head to receivers i and m: what the one hears of them, the other does too.
-fn hears_alike(s: Stage, planted: &[u8], lengths: &[u8], i: usize, m: usize) -> bool
+pub(crate) fn is_told_alike(s: Stage, planted: &[u8], lengths: &[u8], i: usize, m: usize) -> bool
     requires { ⌜ (i < 48) × (m < 48) ⌝ }
-    ensures { λ r. ⌜ (r ≡ true → ToldAlike s (plantedIn (now (planted .entry)) (now (lengths .entry))) i m) ⌝ }
+    ensures { λ r. ⌜ (r ≡ true) ↔ ToldAlike s (plantedIn (now (planted .entry)) (now (lengths .entry))) i m ⌝ }
 {
     if s.struck == 0 {
         return true;
@@ -67,14 +68,4 @@ fn hears_alike(s: Stage, planted: &[u8], lengths: &[u8], i: usize, m: usize) -> 
         k += 1;
     }
     true
-}
-
-// The same of any two numbers: from 48 on there is no receiver, and the answer is no.
-pub(crate) fn is_told_alike(s: Stage, planted: &[u8], lengths: &[u8], i: usize, m: usize) -> bool
-    ensures { λ r. ⌜ (r ≡ true → ToldAlike s (plantedIn (now (planted .entry)) (now (lengths .entry))) i m) ⌝ }
-{
-    if i < 48 && m < 48 {
-        return hears_alike(s, planted, lengths, i, m);
-    }
-    false
 }

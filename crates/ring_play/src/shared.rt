@@ -2,18 +2,17 @@
 // it alone.
 ghost use mathlib.Core.Bool.{true, false};
 ghost use mathlib.Core.Path.{_≡_};
-ghost use Prim.Native.Nat.{ℕ, _-_, _≤_, _<_};
+ghost use Prim.Native.Nat.{_-_, _≤_, _<_};
 ghost use lib.ListN.{length, getD};
 ghost use lib.IntN.{pos};
 ghost use Rattle.marks.specs.Marks.{markedTo};
 ghost use Rattle.convergence.specs.Counting.{Each};
-ghost use Rattle.convergence.specs.Trust.{Given};
 ghost use Rattle.frame_spec.specs.Said.{said};
 ghost use Rattle.frame_slots.specs.Slots.{plantedIn};
 ghost use Rattle.settle_trust.specs.Received.{givenBy};
 ghost use Rattle.head_spec.specs.Record.{givenOf};
 ghost use Rattle.ring_play.specs.Memory.{heads};
-ghost use Rattle.ring_play.specs.Inner.Planted.{AllSettled, SettlesAll, givenOrPlanted};
+ghost use Rattle.ring_play.specs.Inner.Planted.{Alike, AllSettled, SettlesAll, givenOrPlanted};
 ghost use Rattle.ring_play.specs.Inner.Codes.{entryOf, codeTaken, MarksOf};
 ghost use Rattle.ring_play.specs.Inner.Told.{Counted, Told, SharedBy, settledBy, SettledLast};
 use crate::Stage;
@@ -46,7 +45,7 @@ fn count_frame(
         Said::List => {
             let table = frame_codec::table_in(frame, n);
             let entries = table.entries;
-            codes::tally(table.marks, &entries, codes, same, n);
+            codes::tally(table.marks, &entries, codes, same, n as usize);
             confessed
         }
         Said::Confession => marks::with_mark(confessed, k),
@@ -98,8 +97,8 @@ fn position_from(
     need: usize,
     confessed: u32,
 ) -> i32
-    ensures { λ r. ⌜ (need ≤ 32 → (0 < heads s → 0 < need) → MarksOf (heads s) (now (codes .entry)) word
-        → r ≡ settledBy s (λ j. entryOf (codeTaken (now (codes .entry)) (now (same .entry)) need confessed j))) ⌝ }
+    requires { ⌜ (need ≤ 32) × (0 < heads s → 0 < need) × MarksOf (heads s) (now codes) word ⌝ }
+    ensures { λ r. ⌜ r ≡ settledBy s (λ j. entryOf (codeTaken (now (codes .entry)) (now (same .entry)) need confessed j)) ⌝ }
 {
     let n = round::head_count(s);
     let up = steps::rounds_up(s.phase);
@@ -141,10 +140,10 @@ fn position_after(
     last: usize,
     told: i32,
 ) -> i32
-    requires { ⌜ (i < 48) × Each (heads s) (λ j. getD (now counts) j 0 ≤ 32) ⌝ }
-    ensures { λ r. ⌜ ((G : ℕ → Given) → SharedBy s need word (now (codes .entry)) (now (counts .entry)) G
-        → (last < 48 → SettledLast s (givenOrPlanted s G (plantedIn (now (planted .entry)) (now (lengths .entry))) last) (now (settled .entry)) told)
-        → SettledLast s (givenOrPlanted s G (plantedIn (now (planted .entry)) (now (lengths .entry))) i) (now (settled .exit)) r) ⌝ }
+    requires { ⌜ (i < 48) × SharedBy s need word (now codes) (now counts) ⌝ }
+    ensures { λ r. ⌜ ((S : SharedBy s need word (now (codes .entry)) (now (counts .entry))) → Alike s (S .given)
+        → (last < 48 → SettledLast s (givenOrPlanted s (S .given) (plantedIn (now (planted .entry)) (now (lengths .entry))) last) (now (settled .entry)) told)
+        → SettledLast s (givenOrPlanted s (S .given) (plantedIn (now (planted .entry)) (now (lengths .entry))) i) (now (settled .exit)) r) ⌝ }
 {
     if last < 48 {
         if round::is_told_alike(s, planted, lengths, i, last) {
@@ -156,7 +155,7 @@ fn position_after(
     let confessed = count_planted(s, planted, lengths, i, codes, &mut same);
     let left = need_after(need, confessed, n as usize);
     let mut own = [0i32; 32];
-    codes::trust_codes(codes, &same, left, confessed, n, &mut own);
+    codes::trust_codes(codes, &same, left, confessed, n as usize, &mut own);
     if last < 48 {
         if is_same_front(&own, settled, n as usize) {
             return told;
@@ -178,9 +177,9 @@ fn fill_positions(
     counts: &Words,
     positions: &mut [i32],
 )
-    requires { ⌜ (length (now positions) ≡ 48) × Each (heads s) (λ j. getD (now counts) j 0 ≤ 32) ⌝ }
-    ensures { λ _. ⌜ ((G : ℕ → Given) → SharedBy s need word (now (codes .entry)) (now (counts .entry)) G
-        → AllSettled s G (plantedIn (now (planted .entry)) (now (lengths .entry))) (now (positions .entry)) (now (positions .exit))) ⌝ }
+    requires { ⌜ (length (now positions) ≡ 48) × SharedBy s need word (now codes) (now counts) ⌝ }
+    ensures { λ _. ⌜ ((S : SharedBy s need word (now (codes .entry)) (now (counts .entry))) → Alike s (S .given)
+        → AllSettled s (S .given) (plantedIn (now (planted .entry)) (now (lengths .entry))) (now (positions .entry)) (now (positions .exit))) ⌝ }
 {
     let end = round::receiver_end(s);
     let mut settled = [0i32; 32];
@@ -211,7 +210,7 @@ fn fill_positions(
 }
 
 // Stores the new position of each unstruck receiver, from what the links give all of them alike and from what is planted. Answers no, and leaves the positions as they
-// were, if no head is struck or if what is given alike does not decide which positions can be trusted.
+// were, if no head is struck or if what is given alike does not decide which positions can be trusted. When it answers no is free, and shows in the time alone.
 pub(crate) fn settle_all(
     s: Stage,
     rows: &Lists,
@@ -233,7 +232,7 @@ pub(crate) fn settle_all(
         return false;
     }
     let need = settle_trust::lists_needed(links.confessed, n, s.f);
-    let word = codes::marks_of(&codes, n);
+    let word = codes::marks_of(&codes, n as usize);
     fill_positions(
         s,
         rows,

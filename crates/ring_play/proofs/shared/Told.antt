@@ -42,20 +42,22 @@ given-positions n p r k bytes size j l u q = go (said n p r k bytes) refl q
     go confessed e h = absurd (not-null refl h)
 
 -- g and rows hold what is given all alike; n: the heads played; struck: how many of them are struck
-pub shared-by : (s : Stage) (g : Links) (rows : List (List ℤ)) {n struck need word : ℕ} {codes : List ℤ} {counts : List ℕ} → n ≡ heads s
+abbrev pub shared-by : (s : Stage) (g : Links) (rows : List (List ℤ)) {n struck need word : ℕ} {codes : List ℤ} {counts : List ℕ} → n ≡ heads s
     → struck ≡ markedTo (s .struck) n → Shares n (s .f) struck (givenBy g rows) codes counts → need ≡ n - s .f - markedTo (g .confessed) (min n 32)
-    → MarksOf n codes word → Alike s (givenBy g rows) → SharedBy s need word codes counts (givenBy g rows)
-shared-by s g rows {n} p q S e M A =
+    → MarksOf n codes word → SharedBy s need word codes counts
+shared-by s g rows {n} p q S e M =
     let small : min n 32 ≡ heads s = omega arith in
     record {
+      given = givenBy g rows;
       shares = rw (q, p) at S;
       needed = e ∙ rw (small, p) (ap (λ (x : ℕ). heads s - s .f - x) (sym (confessions-marked (heads s) g rows)));
-      alike = A;
       marked = rw p at M;
     }
 
-module _ (s : Stage) (plant : ℕ → ℕ → List ℕ) (i : ℕ) (G : ℕ → Given) {need word : ℕ} {codes : List ℤ} {counts : List ℕ}
-    (S : SharedBy s need word codes counts G) where
+module _ (s : Stage) (plant : ℕ → ℕ → List ℕ) (i : ℕ) {need word : ℕ} {codes : List ℤ} {counts : List ℕ} (S : SharedBy s need word codes counts) where
+  abbrev G : ℕ → Given
+  G = S .given
+
   abbrev G′ : ℕ → Given
   G′ = givenOrPlanted s G plant i
 
@@ -70,75 +72,76 @@ module _ (s : Stage) (plant : ℕ → ℕ → List ℕ) (i : ℕ) (G : ℕ → G
   struck-count : sum (heads s) (λ k. bit (isStruck s k)) ≡ markedTo (s .struck) (heads s)
   struck-count = sum-same (heads s) _ _ (λ k l. ap (λ (b : Bool). bit (b && bitOf (s .struck) k)) (lt-ltb k (heads s) l))
 
-  tidy : Each (heads s) (λ k. Each (heads s) (λ j. saysOf j (G′ k) ≡ Position noCode → ⊥))
-  tidy k l j m q = go (isStruck s k) refl
+  abbrev n : ℕ
+  n = heads s
+
+  -- some lists are needed, since more are needed of what is given all alike than heads are struck
+  pub need-told : {same : List ℕ} {confessed left : ℕ} → Told s plant i codes counts same confessed → left ≡ need - markedTo confessed n → (0 < left) × (left ≤ 32)
+  need-told {confessed = w} T e =
+      let a : ℕ → ℕ = λ k. bit (bitOf w k) in
+      let b : ℕ → ℕ = λ k. bit (bitOf (s .struck) k) in
+      let few : markedTo w n ≤ markedTo (s .struck) n = omega (arith, sums-le n (a ∷ []) (b ∷ []) (λ k l. omega (arith, go k l))) in
+      (omega (arith, few, S .needed, S .shares .enough), omega (arith, S .needed, S .shares .small))
     where
-      go : (b : Bool) → isStruck s k ≡ b → ⊥
-      go true e = position-code noCode (given-positions (heads s) (s .phase) 1 k (plant k i) (omega arith) j m noCode (sym (ap (saysOf j) (planted k e)) ∙ q)) refl
-      go false e = position-code noCode (S .alike .ranged k l j m noCode (sym (ap (saysOf j) (kept k e)) ∙ q)) refl
+      pick : (b h : Bool) → bit (cond b h false) ≤ bit b
+      pick true true = omega arith
+      pick true false = omega arith
+      pick false h = omega arith
 
-  module _ {same : List ℕ} {confessed : ℕ} (T : Told s plant i codes counts same confessed) where
-    abbrev n : ℕ
-    n = heads s
+      go : Each n (λ k. bit (bitOf w k) ≤ bit (bitOf (s .struck) k))
+      go k l = rw (T .confesses k, lt-ltb k (heads s) l) (pick (bitOf (s .struck) k) (hasConfessed (plantedGiven s plant i k)))
 
-    confessed-here : (k : ℕ) → bit (hasConfessed (G′ k)) ≡ bit (hasConfessed (G k)) + bit (bitOf confessed k)
-    confessed-here k = go (isStruck s k) refl
+  module _ (A : Alike s G) where
+    tidy : Each (heads s) (λ k. Each (heads s) (λ j. saysOf j (G′ k) ≡ Position noCode → ⊥))
+    tidy k l j m q = go (isStruck s k) refl
       where
-        go : (b : Bool) → isStruck s k ≡ b → bit (hasConfessed (G′ k)) ≡ bit (hasConfessed (G k)) + bit (bitOf confessed k)
-        go true e = rw (T .confesses k, e, planted k e, S .alike .untold k e) (omega arith)
-        go false e = rw (T .confesses k, e, kept k e) (omega arith)
+        go : (b : Bool) → isStruck s k ≡ b → ⊥
+        go true e = position-code noCode (given-positions (heads s) (s .phase) 1 k (plant k i) (omega arith) j m noCode (sym (ap (saysOf j) (planted k e)) ∙ q)) refl
+        go false e = position-code noCode (A .ranged k l j m noCode (sym (ap (saysOf j) (kept k e)) ∙ q)) refl
 
-    confessions-here : confessions n G′ ≡ confessions n G + markedTo confessed n
-    unfolding confessions
-    confessions-here =
-        let a : ℕ → ℕ = λ k. bit (hasConfessed (G′ k)) in
-        let b : ℕ → ℕ = λ k. bit (hasConfessed (G k)) in
-        let c : ℕ → ℕ = λ k. bit (bitOf confessed k) in
-        omega (
-          arith,
-          sums-le n (a ∷ []) (b ∷ c ∷ []) (λ k l. omega (arith, confessed-here k)),
-          sums-le n (b ∷ c ∷ []) (a ∷ []) (λ k l. omega (arith, confessed-here k)),
-        )
+    module _ {same : List ℕ} {confessed : ℕ} (T : Told s plant i codes counts same confessed) where
+      confessed-here : (k : ℕ) → bit (hasConfessed (G′ k)) ≡ bit (hasConfessed (G k)) + bit (bitOf confessed k)
+      confessed-here k = go (isStruck s k) refl
+        where
+          go : (b : Bool) → isStruck s k ≡ b → bit (hasConfessed (G′ k)) ≡ bit (hasConfessed (G k)) + bit (bitOf confessed k)
+          go true e = rw (T .confesses k, e, planted k e, A .untold k e) (omega arith)
+          go false e = rw (T .confesses k, e, kept k e) (omega arith)
 
-    marked-here : (j : ℕ) → bitOf confessed j ≡ (isStruck s j && hasConfessed (G′ j))
-    marked-here j = T .confesses j ∙ go (isStruck s j) refl
-      where
-        go : (b : Bool) → isStruck s j ≡ b → cond b (hasConfessed (plantedGiven s plant i j)) false ≡ (b && hasConfessed (G′ j))
-        go true e = ap hasConfessed (sym (planted j e))
-        go false e = refl
+      confessions-here : confessions n G′ ≡ confessions n G + markedTo confessed n
+      unfolding confessions
+      confessions-here =
+          let a : ℕ → ℕ = λ k. bit (hasConfessed (G′ k)) in
+          let b : ℕ → ℕ = λ k. bit (hasConfessed (G k)) in
+          let c : ℕ → ℕ = λ k. bit (bitOf confessed k) in
+          omega (
+            arith,
+            sums-le n (a ∷ []) (b ∷ c ∷ []) (λ k l. omega (arith, confessed-here k)),
+            sums-le n (b ∷ c ∷ []) (a ∷ []) (λ k l. omega (arith, confessed-here k)),
+          )
 
-    added-here : (j : ℕ) (c : ℤ) → sum n (λ k. cond (bitOf (s .struck) k) (holds j c (plantedGiven s plant i k)) 0) ≡ sum n (λ k. cond (isStruck s k) (holds j c (G′ k)) 0)
-    added-here j c = sum-same n _ _ go
-      where
-        pick : (k : ℕ) (b : Bool) → isStruck s k ≡ b → cond b (holds j c (plantedGiven s plant i k)) 0 ≡ cond b (holds j c (G′ k)) 0
-        pick k true e = ap (holds j c) (sym (planted k e))
-        pick k false e = refl
+      marked-here : (j : ℕ) → bitOf confessed j ≡ (isStruck s j && hasConfessed (G′ j))
+      marked-here j = T .confesses j ∙ go (isStruck s j) refl
+        where
+          go : (b : Bool) → isStruck s j ≡ b → cond b (hasConfessed (plantedGiven s plant i j)) false ≡ (b && hasConfessed (G′ j))
+          go true e = ap hasConfessed (sym (planted j e))
+          go false e = refl
 
-        go : Each n (λ k. cond (bitOf (s .struck) k) (holds j c (plantedGiven s plant i k)) 0 ≡ cond (isStruck s k) (holds j c (G′ k)) 0)
-        go k l =
-            let q : isStruck s k ≡ bitOf (s .struck) k = rw (lt-ltb k (heads s) l) in
-            pick k (bitOf (s .struck) k) q ∙ ap (λ (b : Bool). cond b (holds j c (G′ k)) 0) (sym q)
+      added-here : (j : ℕ) (c : ℤ) → sum n (λ k. cond (bitOf (s .struck) k) (holds j c (plantedGiven s plant i k)) 0) ≡ sum n (λ k. cond (isStruck s k) (holds j c (G′ k)) 0)
+      added-here j c = sum-same n _ _ go
+        where
+          pick : (k : ℕ) (b : Bool) → isStruck s k ≡ b → cond b (holds j c (plantedGiven s plant i k)) 0 ≡ cond b (holds j c (G′ k)) 0
+          pick k true e = ap (holds j c) (sym (planted k e))
+          pick k false e = refl
 
-    -- left: how many lists are needed here
-    pub codes-told : {left : ℕ} (out : List ℤ) → left ≡ need - markedTo confessed n
-        → Each n (λ j. getD out j (pos 0) ≡ codeTaken codes same left confessed j) → CodesOf s G′ out
-    codes-told {left} out e h j l =
-        let needs : left ≡ n - s .f - confessions n G′ = omega (arith, e, S .needed, confessions-here) in
-        shared-trusted n (s .f) (markedTo (s .struck) n) G G′ (isStruck s) codes counts (S .shares) struck-count (λ k m. S .alike .untold k) (λ k m. kept k) tidy j l
-        needs (T .counts j l ∙ ap (λ (x : ℕ). getD counts j 0 + x) (added-here j (getD codes j (pos 0)))) (marked-here j) (h j l)
+          go : Each n (λ k. cond (bitOf (s .struck) k) (holds j c (plantedGiven s plant i k)) 0 ≡ cond (isStruck s k) (holds j c (G′ k)) 0)
+          go k l =
+              let q : isStruck s k ≡ bitOf (s .struck) k = rw (lt-ltb k (heads s) l) in
+              pick k (bitOf (s .struck) k) q ∙ ap (λ (b : Bool). cond b (holds j c (G′ k)) 0) (sym q)
 
-    -- some are, since more are needed of what is given all alike than heads are struck
-    pub need-told : {left : ℕ} → left ≡ need - markedTo confessed n → (0 < left) × (left ≤ 32)
-    need-told e =
-        let a : ℕ → ℕ = λ k. bit (bitOf confessed k) in
-        let b : ℕ → ℕ = λ k. bit (bitOf (s .struck) k) in
-        let few : markedTo confessed n ≤ markedTo (s .struck) n = omega (arith, sums-le n (a ∷ []) (b ∷ []) (λ k l. omega (arith, go k l))) in
-        (omega (arith, few, S .needed, S .shares .enough), omega (arith, S .needed, S .shares .small))
-      where
-        pick : (b h : Bool) → bit (cond b h false) ≤ bit b
-        pick true true = omega arith
-        pick true false = omega arith
-        pick false h = omega arith
-
-        go : Each n (λ k. bit (bitOf confessed k) ≤ bit (bitOf (s .struck) k))
-        go k l = rw (T .confesses k, lt-ltb k (heads s) l) (pick (bitOf (s .struck) k) (hasConfessed (plantedGiven s plant i k)))
+      -- left: how many lists are needed here
+      pub codes-told : {left : ℕ} (out : List ℤ) → left ≡ need - markedTo confessed n
+          → Each n (λ j. getD out j (pos 0) ≡ codeTaken codes same left confessed j) → CodesOf s G′ out
+      codes-told {left} out e h j l =
+          let needs : left ≡ n - s .f - confessions n G′ = omega (arith, e, S .needed, confessions-here) in
+          shared-trusted n (s .f) (markedTo (s .struck) n) G G′ (isStruck s) codes counts (S .shares) struck-count (λ k m. A .untold k) (λ k m. kept k) tidy j l
+          needs (T .counts j l ∙ ap (λ (x : ℕ). getD counts j 0 + x) (added-here j (getD codes j (pos 0)))) (marked-here j) (h j l)

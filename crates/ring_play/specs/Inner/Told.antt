@@ -18,7 +18,7 @@ use Rattle.ring_play.specs.Inner.Shares.{Shares}
 use Rattle.head_spec.specs.Record.{givenOf}
 use Rattle.ring_play.specs.declared.Stage.{Stage}
 use Rattle.ring_play.specs.Memory.{heads, positionOf}
-use Rattle.ring_play.specs.Inner.Planted.{isStruck, Alike, positionSettled}
+use Rattle.ring_play.specs.Inner.Planted.{isStruck, positionSettled}
 
 -- what is planted on the link from k to i gives
 abbrev pub plantedGiven : Stage → (ℕ → ℕ → List ℕ) → ℕ → ℕ → Given
@@ -35,11 +35,11 @@ pub record Told (s : Stage) (plant : ℕ → ℕ → List ℕ) (i : ℕ) (codes 
       ≡ getD same j 0 + sum (heads s) (λ k. cond (bitOf (s .struck) k) (holds j (getD codes j (pos 0)) (plantedGiven s plant i k)) 0))
   pub confesses : (k : ℕ) → bitOf confessed k ≡ cond (isStruck s k) (hasConfessed (plantedGiven s plant i k)) false
 
--- G, what is given all alike, shows these codes, with their marks, and counts, and so many lists are needed
-pub record SharedBy (s : Stage) (need word : ℕ) (codes : List ℤ) (counts : List ℕ) (G : ℕ → Given) : Type 0 where
-  pub shares : Shares (heads s) (s .f) (markedTo (s .struck) (heads s)) G codes counts
-  pub needed : need ≡ heads s - s .f - confessions (heads s) G
-  pub alike : Alike s G
+-- what is given all alike shows these codes, with their marks, and counts, and so many lists are needed
+pub record SharedBy (s : Stage) (need word : ℕ) (codes : List ℤ) (counts : List ℕ) : Type 0 where
+  pub given : ℕ → Given
+  pub shares : Shares (heads s) (s .f) (markedTo (s .struck) (heads s)) given codes counts
+  pub needed : need ≡ heads s - s .f - confessions (heads s) given
   pub marked : MarksOf (heads s) codes word
 
 -- the codes are those of the trusted entries of a receiver to which its links give G

@@ -15,21 +15,21 @@ use Rattle.ring_play.proofs.codes.marks_of.Statement.{statement}
 use Rattle.ring_play.proofs.codes.marks_of.Tie as tie
 
 abbrev Inv-loop : tie.InvT-loop
-Inv-loop codes n count word₀ j₀ word j = (j ≤ count) × MarksOf j codes word
+Inv-loop codes n word₀ j₀ word j = (j ≤ n) × MarksOf j codes word
 
 abbrev μ-loop : tie.MeasureT-loop
-μ-loop codes n count word₀ j₀ word j = count - j
+μ-loop codes n word₀ j₀ word j = n - j
 
 loop-holds : tie.Need-loop-holds Inv-loop μ-loop
-loop-holds c = (search needs, marks-none (now (c .before .args .codes)))
+loop-holds c = (search needs, marks-none (now (c .args .codes)))
 
 loop-again : tie.Need-loop-again Inv-loop μ-loop
 loop-again c =
     let r = c .before in
     let h = r .before .before in
     let l = h .loop in
-    let codes = now (h .before .before .args .codes) in
-    let below : l .j < 32 = omega (arith, h .before .at-most-32 .ensures) in
+    let codes = now (h .before .args .codes) in
+    let below : l .j < 32 = omega (arith, h .before .pre) in
     let fits = toZ-ofZ (record { sfits = r .if12 .given }) in
     ⊎-elim
     (λ w. (search needs, rw (w .2, w .1 .ensures) (marks-more codes (l .j) (l .word) (l .inv .1) below (bits-other (w .0 .taken)))))
@@ -37,10 +37,9 @@ loop-again c =
     (c .if1 .came)
 
 returns : tie.Need-returns Inv-loop μ-loop
-returns c small =
+returns c =
     let l = c .before in
-    let n = l .before .before .args .n in
-    let e : l .loop .j ≡ n = omega (arith, l .before .at-most-32 .ensures) in
+    let e : l .loop .j ≡ l .before .args .n = omega arith in
     rw e at (l .loop .inv .1)
 
 pub marks-of-spec : {M : Type 1} → statement M
@@ -49,7 +48,6 @@ marks-of-spec =
     (tie.spec
     Inv-loop
     μ-loop
-    (λ c κs. search needs)
     loop-holds
     (λ c. search needs)
     (λ c. search needs)

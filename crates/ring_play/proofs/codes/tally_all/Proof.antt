@@ -23,8 +23,8 @@ loop-holds : tie.Need-loop-holds Inv-loop μ-loop
 unfolding sum
 loop-holds c = (search needs, c .before .pre .1, c .before .pre .2)
 
-tally-to-requires : tie.Need-tally-to-requires Inv-loop μ-loop
-tally-to-requires c κs = search needs
+tally-requires : tie.Need-tally-requires Inv-loop μ-loop
+tally-requires c κs = search needs
 
 loop-again : tie.Need-loop-again Inv-loop μ-loop
 loop-again c =
@@ -64,7 +64,7 @@ tally-all-spec =
     (λ c. search needs)
     (λ c. search needs)
     (λ c. search needs)
-    tally-to-requires
+    tally-requires
     (λ c. search needs)
     (λ c. search needs)
     loop-again

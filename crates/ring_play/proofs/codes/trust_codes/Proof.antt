@@ -1,7 +1,6 @@
 -- `ring_play::codes::trust_codes` meets its contract: the codes are picked, and dropped if their links confessed; if none did, there is nothing to drop.
 use mathlib.Core.Path.{_≡_, ap, _∙_}
 use mathlib.Core.Bool.{cond}
-use native.Mathlib.Omega.{arith}
 use borrow.Author.Needs.{needs}
 use Rattle.marks.specs.Marks.{bitOf}
 use Rattle.marks.proofs.Marks.{bit-none}
@@ -10,20 +9,14 @@ use Rattle.ring_play.proofs.codes.trust_codes.Statement.{statement}
 use Rattle.ring_play.proofs.codes.trust_codes.Tie as tie
 
 returns : tie.Need-returns
-returns c small =
+returns c =
     let p = c .before .before .before in
-    let n = p .before .before in
-    let m : n .at-most-32 .result ≡ n .before .args .n = omega (arith, n .at-most-32 .ensures) in
-    λ j l. c .drop-confessed .ensures .1 j (rw m l) ∙ ap (cond (bitOf (n .before .args .confessed) j) noCode) (p .pick .ensures .1 j (rw m l))
+    λ j l. c .drop-confessed .ensures .1 j l ∙ ap (cond (bitOf (p .before .before .args .confessed) j) noCode) (p .pick .ensures .1 j l)
 
 returns-2 : tie.Need-returns-2
-returns-2 c small =
-    let p = c .before in
-    let n = p .before .before in
-    let m : n .at-most-32 .result ≡ n .before .args .n = omega (arith, n .at-most-32 .ensures) in
-    λ j l. p .pick .ensures .1 j (rw m l) ∙ rw (c .if1 .left, bit-none j)
+returns-2 c = λ j l. c .before .pick .ensures .1 j l ∙ rw (c .if1 .left, bit-none j)
 
 pub trust-codes-spec : {M : Type 1} → statement M
 trust-codes-spec =
     tie.close
-    (tie.spec (λ c κs. search needs) (λ c κs. search needs) (λ c κs. search needs) returns returns-2)
+    (tie.spec (λ c κs. search needs) (λ c κs. search needs) returns returns-2)

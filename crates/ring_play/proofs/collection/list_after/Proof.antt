@@ -12,7 +12,7 @@ returns c S row =
     let t = c .before .before in
     let k = t .before in
     let a = k .before .before .before .before .before .args in
-    row (search needs) ∙ told-list (a .s) (S .entry) (plantedIn (now (a .planted)) (now (a .lengths))) (a .i) (a .last) (k .is-told-alike .ensures (t .if2 .taken))
+    row (search needs) ∙ told-list (a .s) (S .entry) (plantedIn (now (a .planted)) (now (a .lengths))) (a .i) (a .last) (k .is-told-alike .ensures .0 (t .if2 .taken))
 
 list-for-requires : tie.Need-list-for-requires
 list-for-requires c κs = let p = c .before .before .before .before .pre in (p .0, p .3)

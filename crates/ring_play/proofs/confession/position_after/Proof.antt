@@ -15,7 +15,7 @@ returns c =
     let a = s .args in (
       toZ-ofZ (s .fits .told)
           ∙ s .pre .3 (search needs)
-          ∙ told-settled (a .s) (givenBy (a .base) (now (a .rows))) (plantedIn (now (a .planted)) (now (a .lengths))) (a .i) (a .last) (c .before .is-told-alike .ensures (c .if2 .taken)),
+          ∙ told-settled (a .s) (givenBy (a .base) (now (a .rows))) (plantedIn (now (a .planted)) (now (a .lengths))) (a .i) (a .last) (c .before .is-told-alike .ensures .0 (c .if2 .taken)),
       record { long = s .pre .1 .rows-long; gives = refl },
     )
 

@@ -24,7 +24,7 @@ returns-3 : tie.Need-returns-3
 returns-3 c =
     let t = c .before .before .before .before in
     let r = t .before .before .before in
-    rw (by-what r (t .before .enum-told3 .given .1), ← (t .table-in .ensures)) (counted-list _ _ _ _ _ (t .table-in .result) (c .tally .ensures (r .before .before .pre .0)))
+    rw (by-what r (t .before .enum-told3 .given .1), ← (t .table-in .ensures)) (counted-list _ _ _ _ _ (t .table-in .result) (c .tally .ensures))
 
 returns-4 : tie.Need-returns-4
 returns-4 c = rw (by-what (c .before .before .before) (c .before .enum-told4 .given .1), c .with-mark .ensures) (counted-confession _ _ _ _ _)

@@ -15,7 +15,7 @@ use Rattle.convergence.specs.Trust.{Given}
 use Rattle.frame_slots.specs.Slots.{plantedIn}
 use Rattle.ring_play.specs.Inner.Codes.{entryOf, codeTaken}
 use Rattle.ring_play.specs.Memory.{heads}
-use Rattle.ring_play.specs.Inner.Planted.{givenOrPlanted, positionSettled}
+use Rattle.ring_play.specs.Inner.Planted.{givenOrPlanted, positionSettled, Alike}
 use Rattle.ring_play.specs.Inner.Told.{SharedBy, settledAt}
 use Rattle.ring_play.proofs.shared.Settling.{settled-entries, settled-codes, codes-alike, told-settled}
 use Rattle.ring_play.proofs.shared.Told.{codes-told, need-told}
@@ -46,28 +46,28 @@ module _ (t : tie.After-trust-codes) where
       let a = start .args in
       let p = counted .count-planted in
       Each (heads (a .s)) (λ j. getD own j (pos 0) ≡ codeTaken (now (a .codes)) (p .last .1 .1 .1 .1 .1 .0) (left .need-after .result) (p .result) j)
-  taken j l = t .trust-codes .ensures (omega (arith, played .head-count .ensures)) j (omega (arith, played .head-count .ensures))
+  taken j l = t .trust-codes .ensures j (omega (arith, played .head-count .ensures))
 
-  settled-own : (G : ℕ → Given) → let a = start .args in SharedBy (a .s) (a .need) (a .word) (now (a .codes)) (now (a .counts)) G
-      → settledAt (a .s) own ≡ positionSettled (a .s) (givenOrPlanted (a .s) G (plantedIn (now (a .planted)) (now (a .lengths))) (a .i))
-  settled-own G S =
+  settled-own : let a = start .args in (S : SharedBy (a .s) (a .need) (a .word) (now (a .codes)) (now (a .counts))) → Alike (a .s) (S .given)
+      → settledAt (a .s) own ≡ positionSettled (a .s) (givenOrPlanted (a .s) (S .given) (plantedIn (now (a .planted)) (now (a .lengths))) (a .i))
+  settled-own S A =
       let a = start .args in
       let plant = plantedIn (now (a .planted)) (now (a .lengths)) in
-      settled-codes (a .s) _ own (codes-told (a .s) plant (a .i) G S (counted .count-planted .ensures) own needed taken)
+      settled-codes (a .s) _ own (codes-told (a .s) plant (a .i) S A (counted .count-planted .ensures) own needed taken)
 
 returns : tie.Need-returns
-returns c G S last =
+returns c S A last =
     let t = c .before in
     let s = t .before .before .before .before in
     let a = s .args in
     let L = last (search needs) in
     record {
-      from = toZ-ofZ (s .fits .told) ∙ L .from ∙ told-settled (a .s) G (plantedIn (now (a .planted)) (now (a .lengths))) (a .i) (a .last) (t .is-told-alike .ensures (c .if2 .taken));
+      from = toZ-ofZ (s .fits .told) ∙ L .from ∙ told-settled (a .s) (S .given) (plantedIn (now (a .planted)) (now (a .lengths))) (a .i) (a .last) (t .is-told-alike .ensures .0 (c .if2 .taken));
       by = toZ-ofZ (s .fits .told) ∙ L .by;
     }
 
 returns-2 : tie.Need-returns-2
-returns-2 c G S last =
+returns-2 c S A last =
     let f = c .before in
     let t = f .before .before .before .before in
     let s = start t in
@@ -75,16 +75,27 @@ returns-2 c G S last =
     let L = last (search needs) in
     let n = played t .head-count .ensures in
     let alike = codes-alike (a .s) (own t) (now (a .settled)) (λ j l. f .is-same-front .ensures (c .if4 .taken) j (omega (arith, n))) in
-    record { from = toZ-ofZ (s .fits .told) ∙ L .by ∙ sym alike ∙ settled-own t G S; by = toZ-ofZ (s .fits .told) ∙ L .by }
+    record { from = toZ-ofZ (s .fits .told) ∙ L .by ∙ sym alike ∙ settled-own t S A; by = toZ-ofZ (s .fits .told) ∙ L .by }
+
+count-planted-requires : tie.Need-count-planted-requires
+count-planted-requires c κs = let p = c .before .before .before .before .before .before .pre in (p .0, p .1 .shares .few)
+
+position-from-requires : tie.Need-position-from-requires
+position-from-requires c κs =
+    let t = c .before .before in
+    let s = start t in
+    let a = s .args in
+    let S = s .pre .1 in
+    let some = need-told (a .s) (plantedIn (now (a .planted)) (now (a .lengths))) (a .i) S (counted t .count-planted .ensures) (needed t) in
+    (some .1, λ l. some .0, S .marked)
 
 returns-3 : tie.Need-returns-3
-returns-3 c G S last =
+returns-3 c S A last =
     let t = c .before .before .before in
     let a = start t .args in
-    let some = need-told (a .s) (plantedIn (now (a .planted)) (now (a .lengths))) (a .i) G S (counted t .count-planted .ensures) (needed t) in
-    let e = toZ-ofZ (record { sfits = c .position-from .ok }) ∙ c .position-from .ensures (some .1) (λ l. some .0) (S .marked)
+    let e = toZ-ofZ (record { sfits = c .position-from .ok }) ∙ c .position-from .ensures
     ∙ settled-entries (a .s) _ (λ j. entryOf (getD (own t) j (pos 0))) (λ j l. ap entryOf (sym (taken t j l))) in
-    record { from = e ∙ settled-own t G S; by = e }
+    record { from = e ∙ settled-own t S A; by = e }
 
 pub position-after-spec : {M : Type 1} → statement M
 position-after-spec =
@@ -93,12 +104,13 @@ position-after-spec =
     (λ c κs. search needs)
     returns
     (λ c κs. search needs)
-    (λ c κs. search needs)
+    count-planted-requires
     (λ c. search needs)
     (λ c κs. search needs)
+    (λ c. search needs)
     (λ c κs. search needs)
     (λ c. search needs)
     (λ c κs. search needs)
     returns-2
-    (λ c κs. search needs)
+    position-from-requires
     returns-3)

@@ -1,13 +1,12 @@
 -- `ring_play::shared::position_from` meets its contract: a refusal leaves 0, and a settling its position.
 use mathlib.Core.Path.{_≡_, sym, _∙_}
-use Prim.Native.Nat.{ℕ, _≤_, _<_}
 use native.Mathlib.Omega.{arith}
 use denote.Ref.{now}
 use mir.Facts.{toZ-ofZ}
 use borrow.Author.Needs.{needs}
 use Rattle.settle_midpoint.specs.declared.Settled.{Settled}
-use Rattle.ring_play.specs.Inner.Codes.{entryOf, codeTaken, MarksOf}
-use Rattle.ring_play.specs.Memory.{heads, positionOf}
+use Rattle.ring_play.specs.Inner.Codes.{entryOf, codeTaken}
+use Rattle.ring_play.specs.Memory.{positionOf}
 use Rattle.ring_play.specs.Inner.Told.{settledBy}
 use Rattle.ring_play.proofs.shared.Settling.{at-entries}
 use Rattle.ring_play.proofs.shared.position_from.Statement.{statement}
@@ -20,22 +19,26 @@ module _ (c : tie.After-settle-counted) where
   -- what was settled, case by case
   position-is : {x : Settled} → c .settle-counted .result ≡ x →
       let a = start .args in
-      a .need ≤ 32 → (0 < heads (a .s) → 0 < a .need) → MarksOf (heads (a .s)) (now (a .codes)) (a .word)
-      → positionOf x ≡ settledBy (a .s) (λ j. entryOf (codeTaken (now (a .codes)) (now (a .same)) (a .need) (a .confessed) j))
-  position-is e few some M =
+      positionOf x ≡ settledBy (a .s) (λ j. entryOf (codeTaken (now (a .codes)) (now (a .same)) (a .need) (a .confessed) j))
+  position-is e =
       let a = start .args in
-      let n = c .before .before .head-count .ensures in
-      at-entries (a .s) _ n (c .before .rounds-up .ensures) (sym e ∙ c .settle-counted .ensures (omega (arith, n)) few (rw n some) (rw n M))
+      at-entries (a .s) _ (c .before .before .head-count .ensures) (c .before .rounds-up .ensures) (sym e ∙ c .settle-counted .ensures)
+
+settle-counted-requires : tie.Need-settle-counted-requires
+settle-counted-requires c κs =
+    let n = c .before .head-count .ensures in
+    let p = c .before .before .pre in
+    (omega (arith, n), p .0, rw n (p .1), rw n (p .2))
 
 returns : tie.Need-returns
 returns c = position-is (c .before .before) (c .enum-told .given .1)
 
 returns-2 : tie.Need-returns-2
-returns-2 c few some M =
+returns-2 c =
     let k = c .before .before in
-    toZ-ofZ (record { sfits = c .struct-told .given .1 .1 .1 .0 .1 }) ∙ position-is (k .before .before) (k .kept .given .1) few some M
+    toZ-ofZ (record { sfits = c .struct-told .given .1 .1 .1 .0 .1 }) ∙ position-is (k .before .before) (k .kept .given .1)
 
 pub position-from-spec : {M : Type 1} → statement M
 position-from-spec =
     tie.close
-    (tie.spec (λ c κs. search needs) (λ c κs. search needs) (λ c κs. search needs) (λ c. search needs) (λ c. search needs) returns returns-2)
+    (tie.spec (λ c κs. search needs) (λ c κs. search needs) settle-counted-requires (λ c. search needs) (λ c. search needs) returns returns-2)

@@ -1,9 +1,9 @@
--- `ring_play::codes::tally_to` meets its contract: a list without nulls has its numbers for codes.
+-- `ring_play::codes::tally` meets its contract: a list without nulls has its numbers for codes.
 use mathlib.Core.Path.{sym, _∙_}
 use borrow.Author.Needs.{needs}
 use Rattle.marks.proofs.Marks.{all-bits}
-use Rattle.ring_play.proofs.codes.tally_to.Statement.{statement}
-use Rattle.ring_play.proofs.codes.tally_to.Tie as tie
+use Rattle.ring_play.proofs.codes.tally.Statement.{statement}
+use Rattle.ring_play.proofs.codes.tally.Tie as tie
 
 count-numbers-requires : tie.Need-count-numbers-requires
 count-numbers-requires c κs =
@@ -17,8 +17,8 @@ returns c = search needs
 returns-2 : tie.Need-returns-2
 returns-2 c = search needs
 
-pub tally-to-spec : {M : Type 1} → statement M
-tally-to-spec =
+pub tally-spec : {M : Type 1} → statement M
+tally-spec =
     tie.close
     (tie.spec
     (λ c κs. search needs)
