@@ -49,7 +49,7 @@ abbrev pub spells : (Ts : List RattleType) → Copieds Ts → Spells Ts
 spells [] cs = tt
 spells (T ∷ Ts) cs = (cs .0 .vals, spells Ts (cs .1))
 
-tellss : (Ts : List RattleType) (cs : Copieds Ts) → Tellss Ts (Ises Ts) (spells Ts cs)
+pub tellss : (Ts : List RattleType) (cs : Copieds Ts) → Tellss Ts (Ises Ts) (spells Ts cs)
 tellss [] cs = tt
 tellss (T ∷ Ts) cs = (cs .0 .tells, tellss Ts (cs .1))
 
@@ -61,17 +61,17 @@ nothing-said : {D : Type 0} (e : Exit D) → e ≡ unchanged → (x : D) (w : La
 nothing-said {D} e p = subst (λ (f : Exit D). (x : D) (w : Last f x) → left f x w ≡ ftrue) (sym p) (λ x w. refl)
 
 module _ {M : Type 1} (𝓤 : URA M) (H : Heap 𝓤) (A : Atoms 𝓤) (W : Given 𝓤 H A) where
-  lawfuls : (Ts : List RattleType) → Copieds Ts → Lawfuls 𝓤 H A Ts
+  pub lawfuls : (Ts : List RattleType) → Copieds Ts → Lawfuls 𝓤 H A Ts
   lawfuls [] cs = tt
   lawfuls (T ∷ Ts) cs = (cs .0 .lawful 𝓤 H A W, lawfuls Ts (cs .1))
 
-  copying : (Ts : List RattleType) → Copieds Ts → Copies 𝓤 H A Ts
+  pub copying : (Ts : List RattleType) → Copieds Ts → Copies 𝓤 H A Ts
   copying [] cs = tt
   copying (T ∷ Ts) cs = (cs .0 .copy 𝓤 H A W, copying Ts (cs .1))
 
 -- the parameters after the record, in a function of n lifetimes
 module _ {n : ℕ} where
-  abbrev stays : (ss : List (Slot n)) → Stays ss (all yes ss)
+  abbrev pub stays : (ss : List (Slot n)) → Stays ss (all yes ss)
   stays [] = tt
   stays (s ∷ ss) = (stay-none (s .row) yes, stays ss)
 
@@ -82,19 +82,19 @@ module _ {n : ℕ} where
   bound κs [] cs a = tt
   bound κs (s ∷ ss) cs a = (nothing-bound (s .row κs .exit yes) (cs .0 .still) (a .0), bound κs ss (cs .1) (a .1))
 
-  fits : (κs : Lfts n) (ss : List (Slot n)) (a : Denots (typesAt ss κs)) (ws : Fins κs ss (all yes ss) a)
+  pub fits : (κs : Lfts n) (ss : List (Slot n)) (a : Denots (typesAt ss κs)) (ws : Fins κs ss (all yes ss) a)
       → fitsOf κs ss (all yes ss) (stays ss) a ws
   fits κs [] a ws = tt
   fits κs (s ∷ ss) a ws = (tt, fits κs ss (a .1) (ws .1))
 
   -- they are still owned at exit
-  owned-still : (κs : Lfts n) (ss : List (Slot n)) (a : Denots (typesAt ss κs)) (ws : Fins κs ss (all yes ss) a)
+  pub owned-still : (κs : Lfts n) (ss : List (Slot n)) (a : Denots (typesAt ss κs)) (ws : Fins κs ss (all yes ss) a)
       (vss : Valss (typesAt ss κs)) → owns (typesAt ss κs) a vss ≡ hasOf κs ss (all yes ss) (stays ss) a ws vss
   owned-still κs [] a ws vss = refl
   owned-still κs (s ∷ ss) a ws vss = ap (fsep (s .row κs .own (a .0) (vss .0))) (owned-still κs ss (a .1) (ws .1) (vss .1))
 
   module _ {M : Type 1} (𝓤 : URA M) (H : Heap 𝓤) (A : Atoms 𝓤) (W : Given 𝓤 H A) where
-    goes : (ss : List (Slot n)) → Kinds ss → AllGo 𝓤 H A W n ss (all yes ss) (stays ss)
+    pub goes : (ss : List (Slot n)) → Kinds ss → AllGo 𝓤 H A W n ss (all yes ss) (stays ss)
     goes [] cs = tt
     goes (s ∷ ss) cs =
         (goes-none 𝓤 H A W n (s .row) yes (λ κs. nothing-said (s .row κs .exit yes) (cs κs .0 .still)), goes ss (λ κs. cs κs .1))
