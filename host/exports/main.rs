@@ -2,6 +2,7 @@
 //! whole sequences of calls on a head's block against a head of that implementation.
 //!
 //!     exports COUNT [SEED]    at least COUNT calls, from the seed on
+//!     exports --script SEED   the calls of the seed on a head, written as a script for crates/headplay
 //!
 //! Return numbers and lent memory must be the same, and a refused call must leave every byte of the block, but for the event of refusal 25; after each
 //! call all sixteen bytes of the head's window and its interrupt line must be the same. The first difference prints its seed,
@@ -18,6 +19,7 @@ mod rounds;
 #[path = "../plain/rules/mod.rs"]
 #[allow(dead_code)]
 mod rules;
+mod script;
 #[path = "../compare/spoil.rs"]
 mod spoil;
 mod tally;
@@ -27,6 +29,7 @@ use exported::{Block, BESIDE, OFFERED, SIZE};
 use random::Random;
 use rules::head::Head;
 use rules::window::Device;
+use std::io::Write;
 use std::panic::{catch_unwind, AssertUnwindSafe};
 use std::process::ExitCode;
 use tally::{Tally, CALLS};
@@ -125,8 +128,19 @@ fn run(count: u64, first: u64) -> Result<Tally, String> {
     Ok(tally)
 }
 
+/// Writes the script of a seed to standard output.
+fn write_script(seed: &str) -> Result<(), String> {
+    let seed = seed.parse().map_err(|_| format!("no seed: {seed}"))?;
+    std::io::stdout().write_all(&script::script(seed)?).map_err(|error| error.to_string())
+}
+
 fn main() -> ExitCode {
     let words: Vec<String> = std::env::args().skip(1).collect();
+    if let [mode, seed] = &words[..] {
+        if mode == "--script" {
+            return write_script(seed).map_or_else(|what| { eprintln!("{what}"); ExitCode::FAILURE }, |()| ExitCode::SUCCESS);
+        }
+    }
     let numbers: Vec<u64> = words.iter().filter_map(|word| word.parse().ok()).collect();
     let done = match numbers[..] {
         [count] if words.len() == 1 => run(count, 1),

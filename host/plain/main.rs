@@ -1,13 +1,26 @@
 //! The second implementation: it reads a run file from standard input and prints its listing, by document 01's rules written once more, plainly. It
-//! shares nothing with the proved crates and serves to compare with them.
+//! shares nothing with the proved crates and serves to compare with them. `plain --shift` reads a script of calls on one head, and prints their lines.
 
 mod player;
 #[allow(dead_code)]
 mod rules;
+mod shift;
 
-use std::io::{self, BufReader, BufWriter, Write};
+use std::io::{self, BufReader, BufWriter, Read, Write};
+
+/// A script of calls on one head.
+fn shift() -> io::Result<()> {
+    let mut script = Vec::new();
+    io::stdin().lock().take(shift::MOST).read_to_end(&mut script)?;
+    let mut output = BufWriter::new(io::stdout().lock());
+    shift::play(&script, &mut output)?;
+    output.flush()
+}
 
 fn main() -> io::Result<()> {
+    if std::env::args().nth(1).as_deref() == Some("--shift") {
+        return shift();
+    }
     let input = BufReader::with_capacity(1 << 16, io::stdin().lock());
     let mut output = BufWriter::new(io::stdout().lock());
     player::play(input, &mut output)?;
