@@ -1,4 +1,5 @@
 -- What the private functions promise each other. Readers of the public promises do not need these files.
+pub mod Before
 pub mod Collection
 pub mod Codes
 pub mod Votes

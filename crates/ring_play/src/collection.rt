@@ -8,9 +8,11 @@ ghost use Rattle.frame_spec.specs.Said.{said};
 ghost use Rattle.head_spec.specs.Record.{heardEntry};
 ghost use Rattle.ring_play.specs.Memory.{heads, hears, InRange, listEntry, rowIn};
 ghost use Rattle.frame_slots.specs.Slots.{plantedIn};
+ghost use Rattle.ring_play.specs.Inner.Before.{SettlesBefore, HeldBefore};
 ghost use Rattle.ring_play.specs.Inner.Collection.{ownEntry, sentBy, heardOf, heardWith, Shared};
 use crate::Stage;
 use crate::round;
+use crate::round::Before;
 use frame_spec::Said;
 use terms::Entry;
 use terms::Lists;
@@ -110,32 +112,33 @@ fn list_for(s: Stage, sent: Table, planted: &[u8], lengths: &[u8], i: usize) -> 
     Table { marks, entries }
 }
 
-// The list of head i, after the list of head `last` was stored, or first if that is 32: heads that are told alike fill the same.
+// The list of head i, after those of the heads before it were stored: heads that are told alike fill the same.
 fn list_after(
     s: Stage,
     sent: Table,
     planted: &[u8],
     lengths: &[u8],
     i: usize,
-    last: usize,
+    last: Before,
     marks: &[u32],
     lists: &[[i32; 32]],
 ) -> Table
-    requires { ⌜ (i < 32) × (length (now marks) ≡ 32) × (length (now lists) ≡ 32) × Shared s sent ⌝ }
+    requires { ⌜ (i < 32) × SettlesBefore s i last × (length (now marks) ≡ 32) × (length (now lists) ≡ 32) × Shared s sent ⌝ }
     ensures { λ r. ⌜ ((S : Shared s sent)
-        → (last < 32 → rowIn (now (marks .entry)) (now (lists .entry)) last ≡ tableOf (heads s) (heardWith s (S .entry) (plantedIn (now (planted .entry)) (now (lengths .entry))) last))
+        → HeldBefore s i (λ m. tableOf (heads s) (heardWith s (S .entry) (plantedIn (now (planted .entry)) (now (lengths .entry))) m)) (rowIn (now (marks .entry)) (now (lists .entry)))
         → r ≡ tableOf (heads s) (heardWith s (S .entry) (plantedIn (now (planted .entry)) (now (lengths .entry))) i)) ⌝ }
 {
-    if last < 32 {
-        if round::is_told_alike(s, planted, lengths, i, last) {
-            let entries = lists[last];
-            return Table {
-                marks: marks[last],
+    match round::told_before(s, planted, lengths, i, last) {
+        Before::As(m) => {
+            let entries = lists[m];
+            let word = marks[m];
+            Table {
+                marks: word,
                 entries,
-            };
+            }
         }
+        Before::None => list_for(s, sent, planted, lengths, i),
     }
-    list_for(s, sent, planted, lengths, i)
 }
 
 // Stores the list of each unstruck head.
@@ -154,12 +157,12 @@ fn fill_lists(
         (rowIn (now (marks .entry)) (now (lists .entry)) i)) ⌝ }
 {
     let n = round::head_count(s) as usize;
-    let mut last: usize = 32;
+    let mut last = Before::None;
     let mut i: usize = 0;
     while i < n {
         if !marks::marked(s.struck, i) {
             let list = list_after(s, sent, planted, lengths, i, last, marks, lists);
-            last = i;
+            last = Before::As(i);
             let entries = list.entries;
             marks[i] = list.marks;
             lists[i] = entries;

@@ -10,10 +10,12 @@ ghost use Rattle.frame_spec.specs.Said.{said};
 ghost use Rattle.settle_trust.specs.Received.{givenBy};
 ghost use Rattle.ring_play.specs.Memory.{settles, Sayable, newPosition};
 ghost use Rattle.frame_slots.specs.Slots.{plantedIn};
+ghost use Rattle.ring_play.specs.Inner.Before.{SettlesBefore, HeldBefore};
 ghost use Rattle.ring_play.specs.Inner.Confession.{linksWith, rowsWith, Received, RowsKept, Untold, OwnLinks};
 ghost use Rattle.ring_play.specs.Inner.Planted.{givenOrPlanted, positionSettled, AllSettled};
 use crate::Stage;
 use crate::round;
+use crate::round::Before;
 use crate::shared;
 use frame_spec::Said;
 use settle_midpoint::Settled;
@@ -120,7 +122,7 @@ fn settled(s: Stage, rows: &Lists, links: Links, reference: usize) -> i32
     }
 }
 
-// The new position of receiver i.
+// The new position of receiver i. The reference is a list that all receivers hear.
 fn position_for(
     s: Stage,
     planted: &[u8],
@@ -128,17 +130,16 @@ fn position_for(
     i: usize,
     base: Links,
     rows: &mut Lists,
-    reference: usize,
 ) -> i32
-    requires { ⌜ (i < 48) × Untold s base (now rows) × (reference < 32) ⌝ }
+    requires { ⌜ (i < 48) × Untold s base (now rows) ⌝ }
     ensures position { λ r. ⌜ r ≡ positionSettled s (givenOrPlanted s (givenBy base (now (rows .entry))) (plantedIn (now (planted .entry)) (now (lengths .entry))) i) ⌝ }
     ensures kept { λ r. ⌜ RowsKept base (now (rows .entry)) (now (rows .exit)) ⌝ }
 {
     let links = hear_planted(s, planted, lengths, i, base, rows);
-    settled(s, rows, links, reference)
+    settled(s, rows, links, first_listed(base.listed))
 }
 
-// The same, after another receiver settled the position `told`: if both are told alike, both settle it. `last` is that receiver, or 48 before the first.
+// The same, after the positions of the receivers before it were stored: receivers that are told alike settle the same.
 fn position_after(
     s: Stage,
     planted: &[u8],
@@ -146,21 +147,18 @@ fn position_after(
     i: usize,
     base: Links,
     rows: &mut Lists,
-    reference: usize,
-    last: usize,
-    told: i32,
+    last: Before,
+    positions: &[i32],
 ) -> i32
-    requires { ⌜ (i < 48) × Untold s base (now rows) × (reference < 32)
-        × (last < 48 → told ≡ positionSettled s (givenOrPlanted s (givenBy base (now rows)) (plantedIn (now planted) (now lengths)) last)) ⌝ }
+    requires { ⌜ (i < 48) × Untold s base (now rows) × SettlesBefore s i last × (length (now positions) ≡ 48)
+        × HeldBefore s i (λ m. positionSettled s (givenOrPlanted s (givenBy base (now rows)) (plantedIn (now planted) (now lengths)) m)) (λ m. getD (now positions) m (pos 0)) ⌝ }
     ensures position { λ r. ⌜ r ≡ positionSettled s (givenOrPlanted s (givenBy base (now (rows .entry))) (plantedIn (now (planted .entry)) (now (lengths .entry))) i) ⌝ }
     ensures kept { λ r. ⌜ RowsKept base (now (rows .entry)) (now (rows .exit)) ⌝ }
 {
-    if last < 48 {
-        if round::is_told_alike(s, planted, lengths, i, last) {
-            return told;
-        }
+    match round::told_before(s, planted, lengths, i, last) {
+        Before::As(m) => positions[m],
+        Before::None => position_for(s, planted, lengths, i, base, rows),
     }
-    position_for(s, planted, lengths, i, base, rows, reference)
 }
 
 // Stores the new position of each unstruck receiver.
@@ -179,14 +177,12 @@ fn fill_positions(
         (getD (now (positions .entry)) i (pos 0))) ⌝ }
 {
     let end = round::receiver_end(s);
-    let reference = first_listed(base.listed);
-    let mut last: usize = 48;
-    let mut told: i32 = 0;
+    let mut last = Before::None;
     let mut i: usize = 0;
     while i < end {
         if round::settles(s, i) {
-            told = position_after(s, planted, lengths, i, base, rows, reference, last, told);
-            last = i;
+            let told = position_after(s, planted, lengths, i, base, rows, last, positions);
+            last = Before::As(i);
             positions[i] = told;
         }
         i += 1;

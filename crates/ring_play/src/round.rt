@@ -5,6 +5,7 @@ ghost use mathlib.Core.Path.{_≡_};
 ghost use Prim.Native.Nat.{_<_};
 ghost use Rattle.frame_slots.specs.Slots.{plantedIn};
 ghost use Rattle.ring_play.specs.Memory.{heads, listeners, receiverEnd, settles, ToldAlike};
+ghost use Rattle.ring_play.specs.Inner.Before.{SettlesBefore, AsBefore};
 use crate::Stage;
 
 // How many heads are played.
@@ -30,6 +31,12 @@ pub(crate) fn receiver_end(s: Stage) -> usize
         return head_count(s) as usize;
     }
     32 + m
+}
+
+// A receiver that settles before another; none before the first.
+pub(crate) enum Before {
+    None,
+    As(usize),
 }
 
 // Whether receiver i is played and not struck.
@@ -68,4 +75,24 @@ pub(crate) fn is_told_alike(s: Stage, planted: &[u8], lengths: &[u8], i: usize, 
         k += 1;
     }
     true
+}
+
+// The receiver `last`, which settles before i, if it is told the same: what is made of what the one hears, is made of what the other hears. To answer none is free,
+// and shows in the time alone.
+pub(crate) fn told_before(
+    s: Stage,
+    planted: &[u8],
+    lengths: &[u8],
+    i: usize,
+    last: Before,
+) -> Before
+    requires { ⌜ (i < 48) × SettlesBefore s i last ⌝ }
+    ensures { λ r. ⌜ AsBefore s (plantedIn (now (planted .entry)) (now (lengths .entry))) i r ⌝ }
+{
+    if let Before::As(m) = last {
+        if is_told_alike(s, planted, lengths, i, m) {
+            return Before::As(m);
+        }
+    }
+    Before::None
 }

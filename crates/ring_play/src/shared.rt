@@ -12,12 +12,13 @@ ghost use Rattle.frame_slots.specs.Slots.{plantedIn};
 ghost use Rattle.settle_trust.specs.Received.{givenBy};
 ghost use Rattle.head_spec.specs.Record.{givenOf};
 ghost use Rattle.ring_play.specs.Memory.{heads};
-ghost use Rattle.ring_play.specs.Inner.Planted.{Alike, AllSettled, SettlesAll, givenOrPlanted};
+ghost use Rattle.ring_play.specs.Inner.Planted.{Alike, AllSettled, SettlesAll};
 ghost use Rattle.ring_play.specs.Inner.Codes.{entryOf, codeTaken, MarksOf};
-ghost use Rattle.ring_play.specs.Inner.Told.{Counted, Told, SharedBy, settledBy, SettledLast};
+ghost use Rattle.ring_play.specs.Inner.Told.{Counted, Told, SharedBy, settledBy, settledAt, neededHere, takenHere, LastOf};
 use crate::Stage;
 use crate::codes;
 use crate::round;
+use crate::round::Before;
 use frame_spec::Said;
 use settle_midpoint::Settled;
 use settle_trust::Links;
@@ -25,6 +26,18 @@ use terms::Lists;
 use terms::Numbers;
 use terms::Positions;
 use terms::Words;
+
+// Beside the codes that all receivers share: how many lists have to have one, and the marks of the codes.
+struct Common {
+    need: usize,
+    word: u32,
+}
+
+// What was settled last; none before the first.
+enum Last {
+    None,
+    At(i32),
+}
 
 // Hears a confession frame on link k: a list counts for each entry at which it has the code, a confession is marked.
 fn count_frame(
@@ -124,45 +137,33 @@ fn is_same_front(a: &Numbers, b: &Numbers, n: usize) -> bool
     same
 }
 
-// The new position of receiver i, after receiver `last` settled `told` from the codes `settled`, or first if that is 48. Receivers that are told alike, or have the
-// same trusted entries, settle the same.
-fn position_after(
+// The position that a receiver settles, by what it counted and who confessed to it. `last` is what was settled last, from the codes `settled`: a receiver with the
+// same trusted entries settles the same.
+fn position_told(
     s: Stage,
     rows: &Lists,
-    planted: &[u8],
-    lengths: &[u8],
-    i: usize,
-    need: usize,
     codes: &Numbers,
-    word: u32,
-    counts: &Words,
+    same: &Words,
+    c: Common,
+    confessed: u32,
     settled: &mut Numbers,
-    last: usize,
-    told: i32,
+    last: Last,
 ) -> i32
-    requires { ⌜ (i < 48) × SharedBy s need word (now codes) (now counts) ⌝ }
-    ensures { λ r. ⌜ ((S : SharedBy s need word (now (codes .entry)) (now (counts .entry))) → Alike s (S .given)
-        → (last < 48 → SettledLast s (givenOrPlanted s (S .given) (plantedIn (now (planted .entry)) (now (lengths .entry))) last) (now (settled .entry)) told)
-        → SettledLast s (givenOrPlanted s (S .given) (plantedIn (now (planted .entry)) (now (lengths .entry))) i) (now (settled .exit)) r) ⌝ }
+    requires { ⌜ (0 < neededHere s c confessed) × (neededHere s c confessed ≤ 32) × MarksOf (heads s) (now codes) (c .word) × LastOf s last (now settled) ⌝ }
+    ensures position { λ r. ⌜ r ≡ settledBy s (takenHere s c (now (codes .entry)) (now (same .entry)) confessed) ⌝ }
+    ensures last { λ r. ⌜ r ≡ settledAt s (now (settled .exit)) ⌝ }
 {
-    if last < 48 {
-        if round::is_told_alike(s, planted, lengths, i, last) {
-            return told;
-        }
-    }
     let n = round::head_count(s);
-    let mut same = *counts;
-    let confessed = count_planted(s, planted, lengths, i, codes, &mut same);
-    let left = need_after(need, confessed, n as usize);
+    let left = need_after(c.need, confessed, n as usize);
     let mut own = [0i32; 32];
-    codes::trust_codes(codes, &same, left, confessed, n as usize, &mut own);
-    if last < 48 {
+    codes::trust_codes(codes, same, left, confessed, n as usize, &mut own);
+    if let Last::At(told) = last {
         if is_same_front(&own, settled, n as usize) {
             return told;
         }
     }
     *settled = own;
-    position_from(s, rows, codes, word, &same, left, confessed)
+    position_from(s, rows, codes, c.word, same, left, confessed)
 }
 
 // Stores the new position of each unstruck receiver.
@@ -171,39 +172,45 @@ fn fill_positions(
     rows: &Lists,
     planted: &[u8],
     lengths: &[u8],
-    need: usize,
     codes: &Numbers,
-    word: u32,
     counts: &Words,
+    c: Common,
     positions: &mut [i32],
 )
-    requires { ⌜ (length (now positions) ≡ 48) × SharedBy s need word (now codes) (now counts) ⌝ }
-    ensures { λ _. ⌜ ((S : SharedBy s need word (now (codes .entry)) (now (counts .entry))) → Alike s (S .given)
+    requires { ⌜ (length (now positions) ≡ 48) × SharedBy s c (now codes) (now counts) ⌝ }
+    ensures { λ _. ⌜ ((S : SharedBy s c (now (codes .entry)) (now (counts .entry))) → Alike s (S .given)
         → AllSettled s (S .given) (plantedIn (now (planted .entry)) (now (lengths .entry))) (now (positions .entry)) (now (positions .exit))) ⌝ }
 {
     let end = round::receiver_end(s);
     let mut settled = [0i32; 32];
-    let mut last: usize = 48;
-    let mut told: i32 = 0;
+    let mut last = Last::None;
+    let mut before = Before::None;
     let mut i: usize = 0;
     while i < end {
         if round::settles(s, i) {
-            told = position_after(
-                s,
-                rows,
-                planted,
-                lengths,
-                i,
-                need,
-                codes,
-                word,
-                counts,
-                &mut settled,
-                last,
-                told,
-            );
-            last = i;
-            positions[i] = told;
+            match round::told_before(s, planted, lengths, i, before) {
+                Before::As(m) => {
+                    positions[i] = positions[m];
+                    before = Before::As(i);
+                }
+                Before::None => {
+                    let mut same = *counts;
+                    let confessed = count_planted(s, planted, lengths, i, codes, &mut same);
+                    let told = position_told(
+                        s,
+                        rows,
+                        codes,
+                        &same,
+                        c,
+                        confessed,
+                        &mut settled,
+                        last,
+                    );
+                    last = Last::At(told);
+                    positions[i] = told;
+                    before = Before::As(i);
+                }
+            }
         }
         i += 1;
     }
@@ -238,10 +245,9 @@ pub(crate) fn settle_all(
         rows,
         planted,
         lengths,
-        need,
         &codes,
-        word,
         &counts,
+        Common { need, word },
         positions,
     );
     true

@@ -8,7 +8,10 @@ use native.Mathlib.Decide.{decLt, ℕ-discrete}
 use borrow.Author.Tests.{lt-ltb, le-ltb, le-leb, lt-leb, eq-eqb, ne-eqb}
 use Rattle.marks.specs.Marks.{bitOf}
 use Rattle.ring_play.specs.declared.Stage.{Stage}
+use Rattle.ring_play.specs.declared.round.Before.{Before}
+use Rattle.ring_play.specs.declared.round.Before.the-variants.{None, As}
 use Rattle.ring_play.specs.Memory.{heads, listeners, receiverEnd, settles}
+use Rattle.ring_play.specs.Inner.Before.{SettlesBefore}
 
 module _ (s : Stage) where
   -- ---- the end
@@ -59,3 +62,12 @@ module _ (s : Stage) where
         listener l = by-cases (decLt (i - 32) (listeners s))
             (λ h. omega (arith, end-listeners (omega arith)))
             (λ h. never (no-listener (omega arith) (omega arith)) t)
+
+  -- ---- a receiver that settles before receiver i
+
+  pub settles-at : {i m : ℕ} {x : Before} → x ≡ As m → SettlesBefore s i x → (m < i) × (settles s m ≡ true)
+  settles-at e h = rw e at h
+
+  pub settles-more : (i : ℕ) (x : Before) → SettlesBefore s i x → SettlesBefore s (i + 1) x
+  settles-more i None h = tt
+  settles-more i (As m) h = (omega (arith, h .0), h .1)

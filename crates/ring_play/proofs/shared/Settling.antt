@@ -11,7 +11,7 @@ use Rattle.terms.specs.declared.Entry.{Entry}
 use Rattle.marks.specs.Marks.{bitOf}
 use Rattle.convergence.specs.Counting.{Each}
 use Rattle.convergence.specs.Settling.{twoRounds}
-use Rattle.convergence.specs.Trust.{Given}
+use Rattle.convergence.specs.Trust.{Given, trusted}
 use Rattle.convergence.specs.Phases.{rounding}
 use Rattle.convergence.proofs.Same.{trusted-same}
 use Rattle.frame_spec.specs.Said.{said}
@@ -21,9 +21,11 @@ use Rattle.settle_midpoint.proofs.Middle.{settling-same}
 use Rattle.ring_play.specs.Inner.Codes.{entryOf}
 use Rattle.head_spec.specs.Record.{givenOf}
 use Rattle.ring_play.specs.declared.Stage.{Stage}
+use Rattle.ring_play.specs.declared.shared.Last.{Last}
+use Rattle.ring_play.specs.declared.shared.Last.the-variants.{At}
 use Rattle.ring_play.specs.Memory.{heads, ToldAlike, positionOf}
 use Rattle.ring_play.specs.Inner.Planted.{givenOrPlanted, positionSettled}
-use Rattle.ring_play.specs.Inner.Told.{CodesOf, settledBy, settledAt}
+use Rattle.ring_play.specs.Inner.Told.{settledBy, settledAt, LastOf}
 
 pub settled-same : (s : Stage) (G G′ : ℕ → Given) → Each (heads s) (λ k. G k ≡ G′ k) → positionSettled s G ≡ positionSettled s G′
 unfolding positionSettled
@@ -35,13 +37,16 @@ pub settled-entries : (s : Stage) (E E′ : ℕ → Entry) → Each (heads s) (�
 unfolding settledBy
 settled-entries s E E′ h = ap positionOf (settling-same (rounding (s .phase)) (heads s) (twoRounds (s .f)) E E′ h)
 
--- from the codes of the trusted entries
-pub settled-codes : (s : Stage) (G : ℕ → Given) (codes : List ℤ) → CodesOf s G codes → settledAt s codes ≡ positionSettled s G
+pub settled-trusted : (s : Stage) (G : ℕ → Given) (E : ℕ → Entry) → Each (heads s) (λ j. E j ≡ trusted (heads s) (s .f) G j) → settledBy s E ≡ positionSettled s G
 unfolding settledBy positionSettled
-settled-codes s G codes h = ap positionOf (settling-same (rounding (s .phase)) (heads s) (twoRounds (s .f)) _ _ h)
+settled-trusted s G E h = ap positionOf (settling-same (rounding (s .phase)) (heads s) (twoRounds (s .f)) E _ h)
 
 pub codes-alike : (s : Stage) (a b : List ℤ) → Each (heads s) (λ j. getD a j (pos 0) ≡ getD b j (pos 0)) → settledAt s a ≡ settledAt s b
 codes-alike s a b h = settled-entries s _ _ (λ j l. ap entryOf (h j l))
+
+-- what was settled last
+pub last-at : (s : Stage) (codes : List ℤ) {x : Last} {p : ℤ} → x ≡ At p → LastOf s x codes → p ≡ settledAt s codes
+last-at s codes e h = rw e at h
 
 -- receivers told alike settle the same
 pub told-settled : (s : Stage) (G : ℕ → Given) (plant : ℕ → ℕ → List ℕ) (i m : ℕ) → ToldAlike s plant i m

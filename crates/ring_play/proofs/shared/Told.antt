@@ -12,14 +12,14 @@ use Rattle.terms.specs.Positions.{isPosition}
 use Rattle.terms.specs.declared.Entry.the-variants.{Position}
 use Rattle.marks.specs.Marks.{bitOf, markedTo}
 use Rattle.convergence.specs.Counting.{Each, sum, bit}
-use Rattle.convergence.specs.Trust.{Given, hasConfessed, confessions, saysOf}
+use Rattle.convergence.specs.Trust.{Given, hasConfessed, confessions, saysOf, trusted}
 use Rattle.convergence.proofs.Sums.{sums-le, sum-same}
 use Rattle.convergence.proofs.Support.{not-null}
 use Rattle.frame_spec.specs.Said.{Meaning, refused, collected, listed, confessed, said}
 use Rattle.frame_spec.proofs.OneMeaning.{said-proper}
 use Rattle.settle_trust.specs.declared.Links.{Links}
 use Rattle.settle_trust.specs.Received.{givenBy}
-use Rattle.ring_play.specs.Inner.Codes.{noCode, codeTaken, MarksOf, holds}
+use Rattle.ring_play.specs.Inner.Codes.{noCode, MarksOf, holds}
 use Rattle.ring_play.specs.Inner.Shares.{Shares}
 use Rattle.ring_play.proofs.codes.Codes.{position-code}
 use Rattle.ring_play.proofs.codes.Sharing.{confessions-marked}
@@ -27,9 +27,11 @@ use Rattle.ring_play.proofs.codes.Trusting.{shared-trusted}
 use Rattle.head_spec.specs.Record.{givenOf}
 use Rattle.head_spec.proofs.Range.{listed-position}
 use Rattle.ring_play.specs.declared.Stage.{Stage}
+use Rattle.ring_play.specs.declared.shared.Common.{Common}
 use Rattle.ring_play.specs.Memory.{heads}
-use Rattle.ring_play.specs.Inner.Planted.{isStruck, givenOrPlanted, Alike}
-use Rattle.ring_play.specs.Inner.Told.{plantedGiven, Told, SharedBy, CodesOf}
+use Rattle.ring_play.specs.Inner.Planted.{isStruck, givenOrPlanted, positionSettled, Alike}
+use Rattle.ring_play.specs.Inner.Told.{plantedGiven, Told, SharedBy, settledBy, neededHere, takenHere}
+use Rattle.ring_play.proofs.shared.Settling.{settled-trusted}
 
 -- a list that a frame gives holds positions in range
 pub given-positions : (n p r k : ℕ) (bytes : List ℕ) → n ≤ 32 → Each n (λ j. (u : ℤ) → saysOf j (givenOf (said n p r k bytes)) ≡ Position u → isPosition u ≡ true)
@@ -44,7 +46,7 @@ given-positions n p r k bytes size j l u q = go (said n p r k bytes) refl q
 -- g and rows hold what is given all alike; n: the heads played; struck: how many of them are struck
 abbrev pub shared-by : (s : Stage) (g : Links) (rows : List (List ℤ)) {n struck need word : ℕ} {codes : List ℤ} {counts : List ℕ} → n ≡ heads s
     → struck ≡ markedTo (s .struck) n → Shares n (s .f) struck (givenBy g rows) codes counts → need ≡ n - s .f - markedTo (g .confessed) (min n 32)
-    → MarksOf n codes word → SharedBy s need word codes counts
+    → MarksOf n codes word → SharedBy s (record { need = need; word = word }) codes counts
 shared-by s g rows {n} p q S e M =
     let small : min n 32 ≡ heads s = omega arith in
     record {
@@ -54,7 +56,7 @@ shared-by s g rows {n} p q S e M =
       marked = rw p at M;
     }
 
-module _ (s : Stage) (plant : ℕ → ℕ → List ℕ) (i : ℕ) {need word : ℕ} {codes : List ℤ} {counts : List ℕ} (S : SharedBy s need word codes counts) where
+module _ (s : Stage) (plant : ℕ → ℕ → List ℕ) (i : ℕ) {c : Common} {codes : List ℤ} {counts : List ℕ} (S : SharedBy s c codes counts) where
   abbrev G : ℕ → Given
   G = S .given
 
@@ -76,8 +78,8 @@ module _ (s : Stage) (plant : ℕ → ℕ → List ℕ) (i : ℕ) {need word : �
   n = heads s
 
   -- some lists are needed, since more are needed of what is given all alike than heads are struck
-  pub need-told : {same : List ℕ} {confessed left : ℕ} → Told s plant i codes counts same confessed → left ≡ need - markedTo confessed n → (0 < left) × (left ≤ 32)
-  need-told {confessed = w} T e =
+  pub need-told : {same : List ℕ} {confesses : ℕ} → Told s plant i codes counts same confesses → (0 < neededHere s c confesses) × (neededHere s c confesses ≤ 32)
+  need-told {confesses = w} T =
       let a : ℕ → ℕ = λ k. bit (bitOf w k) in
       let b : ℕ → ℕ = λ k. bit (bitOf (s .struck) k) in
       let few : markedTo w n ≤ markedTo (s .struck) n = omega (arith, sums-le n (a ∷ []) (b ∷ []) (λ k l. omega (arith, go k l))) in
@@ -138,10 +140,12 @@ module _ (s : Stage) (plant : ℕ → ℕ → List ℕ) (i : ℕ) {need word : �
               let q : isStruck s k ≡ bitOf (s .struck) k = rw (lt-ltb k (heads s) l) in
               pick k (bitOf (s .struck) k) q ∙ ap (λ (b : Bool). cond b (holds j c (G′ k)) 0) (sym q)
 
-      -- left: how many lists are needed here
-      pub codes-told : {left : ℕ} (out : List ℤ) → left ≡ need - markedTo confessed n
-          → Each n (λ j. getD out j (pos 0) ≡ codeTaken codes same left confessed j) → CodesOf s G′ out
-      codes-told {left} out e h j l =
-          let needs : left ≡ n - s .f - confessions n G′ = omega (arith, e, S .needed, confessions-here) in
+      trusted-here : Each n (λ j. takenHere s c codes same confessed j ≡ trusted n (s .f) G′ j)
+      trusted-here j l =
+          let needs : neededHere s c confessed ≡ n - s .f - confessions n G′ = omega (arith, S .needed, confessions-here) in
           shared-trusted n (s .f) (markedTo (s .struck) n) G G′ (isStruck s) codes counts (S .shares) struck-count (λ k m. A .untold k) (λ k m. kept k) tidy j l
-          needs (T .counts j l ∙ ap (λ (x : ℕ). getD counts j 0 + x) (added-here j (getD codes j (pos 0)))) (marked-here j) (h j l)
+          needs (T .counts j l ∙ ap (λ (x : ℕ). getD counts j 0 + x) (added-here j (getD codes j (pos 0)))) (marked-here j) refl
+
+      -- what the receiver settles
+      pub settled-here : settledBy s (takenHere s c codes same confessed) ≡ positionSettled s G′
+      settled-here = settled-trusted s G′ _ trusted-here

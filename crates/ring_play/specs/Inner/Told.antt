@@ -9,16 +9,19 @@ use Rattle.terms.specs.declared.Entry.{Entry}
 use Rattle.marks.specs.Marks.{bitOf, withMark, markedTo}
 use Rattle.convergence.specs.Counting.{Each, sum}
 use Rattle.convergence.specs.Settling.{twoRounds}
-use Rattle.convergence.specs.Trust.{Given, hasConfessed, confessions, trusted}
+use Rattle.convergence.specs.Trust.{Given, hasConfessed, confessions}
 use Rattle.convergence.specs.Phases.{rounding}
 use Rattle.frame_spec.specs.Said.{said}
 use Rattle.settle_midpoint.specs.Answers.{settling}
-use Rattle.ring_play.specs.Inner.Codes.{entryOf, MarksOf, holds}
+use Rattle.ring_play.specs.Inner.Codes.{entryOf, codeTaken, MarksOf, holds}
 use Rattle.ring_play.specs.Inner.Shares.{Shares}
 use Rattle.head_spec.specs.Record.{givenOf}
 use Rattle.ring_play.specs.declared.Stage.{Stage}
+use Rattle.ring_play.specs.declared.shared.Common.{Common}
+use Rattle.ring_play.specs.declared.shared.Last.{Last}
+use Rattle.ring_play.specs.declared.shared.Last.the-variants.{None, At}
 use Rattle.ring_play.specs.Memory.{heads, positionOf}
-use Rattle.ring_play.specs.Inner.Planted.{isStruck, positionSettled}
+use Rattle.ring_play.specs.Inner.Planted.{isStruck}
 
 -- what is planted on the link from k to i gives
 abbrev pub plantedGiven : Stage → (ℕ → ℕ → List ℕ) → ℕ → ℕ → Given
@@ -36,15 +39,11 @@ pub record Told (s : Stage) (plant : ℕ → ℕ → List ℕ) (i : ℕ) (codes 
   pub confesses : (k : ℕ) → bitOf confessed k ≡ cond (isStruck s k) (hasConfessed (plantedGiven s plant i k)) false
 
 -- what is given all alike shows these codes, with their marks, and counts, and so many lists are needed
-pub record SharedBy (s : Stage) (need word : ℕ) (codes : List ℤ) (counts : List ℕ) : Type 0 where
+pub record SharedBy (s : Stage) (c : Common) (codes : List ℤ) (counts : List ℕ) : Type 0 where
   pub given : ℕ → Given
   pub shares : Shares (heads s) (s .f) (markedTo (s .struck) (heads s)) given codes counts
-  pub needed : need ≡ heads s - s .f - confessions (heads s) given
-  pub marked : MarksOf (heads s) codes word
-
--- the codes are those of the trusted entries of a receiver to which its links give G
-abbrev pub CodesOf : Stage → (ℕ → Given) → List ℤ → Type 0
-CodesOf s G codes = Each (heads s) (λ j. entryOf (getD codes j (pos 0)) ≡ trusted (heads s) (s .f) G j)
+  pub needed : c .need ≡ heads s - s .f - confessions (heads s) given
+  pub marked : MarksOf (heads s) codes (c .word)
 
 -- the position that a receiver settles, from its trusted entries
 unfoldable pub settledBy : Stage → (ℕ → Entry) → ℤ
@@ -54,7 +53,15 @@ settledBy s E = positionOf (settling (rounding (s .phase)) (heads s) (twoRounds 
 abbrev pub settledAt : Stage → List ℤ → ℤ
 settledAt s codes = settledBy s (λ j. entryOf (getD codes j (pos 0)))
 
--- a receiver to which its links give G settled this position, from these codes
-pub record SettledLast (s : Stage) (G : ℕ → Given) (codes : List ℤ) (position : ℤ) : Type 0 where
-  pub from : position ≡ positionSettled s G
-  pub by : position ≡ settledAt s codes
+-- how many lists a receiver needs to which so many more confessed
+abbrev pub neededHere : Stage → Common → ℕ → ℕ
+neededHere s c confesses = c .need - markedTo confesses (heads s)
+
+-- the entries that it takes, from the shared codes and from how many lists it counted for each
+abbrev pub takenHere : Stage → Common → List ℤ → List ℕ → ℕ → ℕ → Entry
+takenHere s c codes same confesses j = entryOf (codeTaken codes same (neededHere s c confesses) confesses j)
+
+-- what was settled last, if anything, was settled from these codes
+abbrev pub LastOf : Stage → Last → List ℤ → Type 0
+LastOf s None codes = Unit {0}
+LastOf s (At p) codes = p ≡ settledAt s codes

@@ -12,7 +12,7 @@ use Rattle.ring_play.proofs.confession.position_for.Tie as tie
 
 returns : tie.Need-returns
 returns c =
-    let p = c .before .before in
+    let p = c .before .before .before in
     let a = p .before .before .before .before .args in (
       toZ-ofZ (record { sfits = c .settled .ok })
           ∙ c .settled .ensures
@@ -24,6 +24,7 @@ pub position-for-spec : {M : Type 1} → statement M
 position-for-spec =
     tie.close
     (tie.spec
+    (λ c κs. search needs)
     (λ c κs. search needs)
     (λ c κs. search needs)
     returns)

@@ -25,7 +25,7 @@ module _ (w : tie.After-marks-of) where
 
   abbrev shared :
       let o = needed .before .before .share .last .1 .1 .1 .1 .1 in
-      SharedBy (start .args .s) (needed .lists-needed .result) (w .marks-of .result) (o .0) (o .1 .0)
+      SharedBy (start .args .s) (record { need = needed .lists-needed .result; word = w .marks-of .result }) (o .0) (o .1 .0)
   shared =
       let i = needed .before in
       let f = i .before in

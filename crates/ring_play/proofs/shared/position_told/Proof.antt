@@ -1,0 +1,87 @@
+-- `ring_play::shared::position_told` meets its contract: a receiver with the codes that the last position was settled from settles that one. Else the counts, and the lists that
+-- are needed with its confessions, decide its entries.
+use mathlib.Core.Path.{_≡_, ap, sym, _∙_}
+use mathlib.Core.List.{List}
+use Prim.Native.Nat.{ℕ, _-_}
+use native.Mathlib.Omega.{arith}
+use mir.Facts.{toZ-ofZ}
+use denote.Ref.{now}
+use lib.IntN.{ℤ, pos}
+use lib.ListN.{getD}
+use borrow.Author.Needs.{needs}
+use Rattle.marks.specs.Marks.{markedTo}
+use Rattle.convergence.specs.Counting.{Each}
+use Rattle.ring_play.specs.Memory.{heads}
+use Rattle.ring_play.specs.Inner.Codes.{entryOf, codeTaken}
+use Rattle.ring_play.specs.Inner.Told.{settledBy, settledAt, neededHere, takenHere}
+use Rattle.ring_play.proofs.shared.Settling.{settled-entries, codes-alike, last-at}
+use Rattle.ring_play.proofs.shared.position_told.Statement.{statement}
+use Rattle.ring_play.proofs.shared.position_told.Tie as tie
+
+-- a receiver whose codes are worked out
+module _ (t : tie.After-trust-codes) where
+  abbrev left : tie.After-need-after
+  left = t .before .before
+
+  abbrev played : tie.After-head-count
+  played = left .before
+
+  abbrev start : tie.Start
+  start = played .before
+
+  abbrev own : List ℤ
+  own = t .trust-codes .last .1 .1 .1 .1 .1 .0
+
+  needed : left .need-after .result ≡ neededHere (start .args .s) (start .args .c) (start .args .confessed)
+  needed =
+      let a = start .args in
+      left .need-after .ensures ∙ ap (λ (x : ℕ). a .c .need - markedTo (a .confessed) x) (played .head-count .ensures)
+
+  own-taken : let a = start .args in settledAt (a .s) own ≡ settledBy (a .s) (takenHere (a .s) (a .c) (now (a .codes)) (now (a .same)) (a .confessed))
+  own-taken =
+      let a = start .args in
+      settled-entries (a .s) _ _
+      (λ j l. ap entryOf (t .trust-codes .ensures j (omega (arith, played .head-count .ensures))
+      ∙ ap (λ (x : ℕ). codeTaken (now (a .codes)) (now (a .same)) x (a .confessed) j) needed))
+
+returns : tie.Need-returns
+returns c =
+    let f = c .before in
+    let l = f .before .before .before .before in
+    let t = l .before .before in
+    let a = start t .args in
+    let told = last-at (a .s) (now (a .settled)) (l .last .given .1) (start t .pre .3) in
+    let e = toZ-ofZ (record { sfits = f .before .before .before .known-told .given .0 .1 }) ∙ told in
+    let alike = codes-alike (a .s) (own t) (now (a .settled)) (λ j q. f .is-same-front .ensures (c .if1 .taken) j (omega (arith, played t .head-count .ensures))) in
+    (e ∙ sym alike ∙ own-taken t, e)
+
+position-from-requires : tie.Need-position-from-requires
+position-from-requires c κs =
+    let t = c .before in
+    let p = start t .pre in
+    (rw (needed t) (p .1), λ l. rw (needed t) (p .0), p .2)
+
+returns-2 : tie.Need-returns-2
+returns-2 c =
+    let t = c .before .before in
+    let a = start t .args in
+    let e = toZ-ofZ (record { sfits = c .position-from .ok }) ∙ c .position-from .ensures
+    ∙ ap (λ (x : ℕ). settledBy (a .s) (λ j. entryOf (codeTaken (now (a .codes)) (now (a .same)) x (a .confessed) j))) (needed t) in
+    (e, e ∙ sym (own-taken t))
+
+pub position-told-spec : {M : Type 1} → statement M
+position-told-spec =
+    tie.close
+    (tie.spec
+    (λ c κs. search needs)
+    (λ c. search needs)
+    (λ c κs. search needs)
+    (λ c. search needs)
+    (λ c κs. search needs)
+    (λ c. search needs)
+    (λ c. search needs)
+    (λ c κs. search needs)
+    returns
+    (λ c. search needs)
+    position-from-requires
+    returns-2)

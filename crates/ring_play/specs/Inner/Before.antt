@@ -1,0 +1,23 @@
+-- A receiver that settles before another and is told the same. What both make of what they hear is the same, so it need not be made twice.
+use mathlib.Core.Path.{_≡_}
+use mathlib.Core.Bool.{Bool, true}
+use mathlib.Core.List.{List}
+use Prim.Native.Nat.{ℕ, _<_}
+use Rattle.ring_play.specs.declared.Stage.{Stage}
+use Rattle.ring_play.specs.declared.round.Before.{Before}
+use Rattle.ring_play.specs.declared.round.Before.the-variants.{None, As}
+use Rattle.ring_play.specs.Memory.{settles, ToldAlike}
+
+-- a receiver that settles before receiver i, if any
+abbrev pub SettlesBefore : Stage → ℕ → Before → Type 0
+SettlesBefore s i None = Unit {0}
+SettlesBefore s i (As m) = (m < i) × (settles s m ≡ true)
+
+-- and is told the same
+abbrev pub AsBefore : Stage → (ℕ → ℕ → List ℕ) → ℕ → Before → Type 0
+AsBefore s plant i None = Unit {0}
+AsBefore s plant i (As m) = (m < i) × (settles s m ≡ true) × ToldAlike s plant i m
+
+-- each receiver before i that settles holds what is made for it
+abbrev pub HeldBefore : {A : Type 0} → Stage → ℕ → (ℕ → A) → (ℕ → A) → Type 0
+HeldBefore s i made held = (m : ℕ) → m < i → settles s m ≡ true → held m ≡ made m
