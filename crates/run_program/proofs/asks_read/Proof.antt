@@ -1,0 +1,25 @@
+-- `run_program::asks_read` meets its contract.
+use borrow.Author.Needs.{needs}
+use Rattle.run_program.proofs.asks_read.Statement.{statement}
+use Rattle.run_program.proofs.asks_read.Tie as tie
+
+returns : tie.Need-returns
+returns c = rw (← c .before .before .ask-of .ensures, c .enum-told .given .1)
+
+returns-2 : tie.Need-returns-2
+returns-2 c = rw (← c .before .before .ask-of .ensures, c .enum-told2 .given .1)
+
+returns-3 : tie.Need-returns-3
+returns-3 c = rw (← c .before .before .ask-of .ensures, c .enum-told3 .given .1)
+
+pub asks-read-spec : {M : Type 1} → statement M
+asks-read-spec =
+    tie.close
+    (tie.spec
+    (λ c κs. search needs)
+    (λ c. search needs)
+    (λ c. search needs)
+    (λ c. search needs)
+    returns
+    returns-2
+    returns-3)
