@@ -37,7 +37,7 @@ part-split k from to l h =
     ∙ sym (take-add k (to - (from + k)) (drop from l))
     ∙ ap (λ (m : ℕ). take m (drop from l)) (sym n)
 
-part-none : (from to : ℕ) (l : List ℕ) → to ≤ from → part from to l ≡ []
+pub part-none : (from to : ℕ) (l : List ℕ) → to ≤ from → part from to l ≡ []
 part-none from to l h = let z : to - from ≡ 0 = omega arith in rw z
 
 part-front : (to : ℕ) (l : List ℕ) → part 0 to l ≡ take to l

@@ -1,3 +1,4 @@
 pub mod Calls
 pub mod Running
+pub mod Runs
 pub mod Inner

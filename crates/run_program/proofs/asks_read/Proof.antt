@@ -1,4 +1,4 @@
--- `run_program::asks_read` meets its contract.
+-- `run_program::asks_read` meets its contract: it looks at what is asked for.
 use borrow.Author.Needs.{needs}
 use Rattle.run_program.proofs.asks_read.Statement.{statement}
 use Rattle.run_program.proofs.asks_read.Tie as tie

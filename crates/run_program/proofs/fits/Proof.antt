@@ -1,4 +1,4 @@
--- `run_program::fits` meets its contract.
+-- `run_program::fits` meets its contract: it asks what the definition asks, in its order.
 use borrow.Author.Tests.{le-leb, lt-leb}
 use borrow.Author.Needs.{needs}
 use Rattle.run_program.proofs.fits.Statement.{statement}

@@ -1,4 +1,4 @@
--- `run_program::go_on` meets its contract.
+-- `run_program::go_on` meets its contract: that the system did what it was asked for says where the program stands.
 use mathlib.Core.Path.{sym}
 use mathlib.Core.Bool.{true≢false}
 use lib.ListN.{length}

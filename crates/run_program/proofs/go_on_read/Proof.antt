@@ -1,4 +1,4 @@
--- `run_program::go_on_read` meets its contract.
+-- `run_program::go_on_read` meets its contract: the bytes that came are played after those before, and at the end the last page is filled.
 use mathlib.Core.Path.{refl, sym, _∙_}
 use Rattle.run_program.proofs.Running.{bytes-came, input-ended, going, bytes-stage}
 use borrow.Author.Needs.{needs}

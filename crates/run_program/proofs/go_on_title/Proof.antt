@@ -1,4 +1,4 @@
--- `run_program::go_on_title` meets its contract.
+-- `run_program::go_on_title` meets its contract: the title is put on the page.
 use mathlib.Core.Path.{refl}
 use Rattle.run_program.proofs.Running.{opens}
 use borrow.Author.Needs.{needs}

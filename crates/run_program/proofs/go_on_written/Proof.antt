@@ -1,4 +1,4 @@
--- `run_program::go_on_written` meets its contract.
+-- `run_program::go_on_written` meets its contract: the rest of the page is left to be written; if nothing is left, the next page is filled.
 use mathlib.Core.Path.{_≡_, refl, sym, _∙_}
 use mathlib.Core.Logic.{inl, inr}
 use Prim.Native.Nat.{_+_, _≤_, _<_}

@@ -1,4 +1,4 @@
--- `run_program::left_of` meets its contract.
+-- `run_program::left_of` meets its contract: it looks at what is asked for.
 use borrow.Author.Needs.{needs}
 use Rattle.run_program.proofs.left_of.Statement.{statement}
 use Rattle.run_program.proofs.left_of.Tie as tie

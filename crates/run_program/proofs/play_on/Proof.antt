@@ -1,4 +1,4 @@
--- `run_program::play_on` meets its contract.
+-- `run_program::play_on` meets its contract: the next page is filled, if some of the piece is not yet played.
 use mathlib.Core.Path.{refl}
 use Rattle.run_program.proofs.Running.{within-part, none-left, page-filled}
 use denote.Ref.{now}

@@ -1,4 +1,4 @@
--- `run_program::step` meets its contract.
+-- `run_program::step` meets its contract: the program goes on if the system did what it was asked for, and stops if not.
 use mathlib.Core.Path.{refl, sym, _∙_}
 use mathlib.Core.Bool.{true≢false}
 use borrow.Author.Needs.{needs}
