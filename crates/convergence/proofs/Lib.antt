@@ -2,7 +2,9 @@
 pub mod Sums
 pub mod Order
 pub mod Support
+pub mod Kept
 pub mod OnePhase
+pub mod OneRound
 pub mod Links
 pub mod Halves
 pub mod Ends

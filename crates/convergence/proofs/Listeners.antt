@@ -9,10 +9,11 @@ use lib.ListN.{getD}
 use lib.IntN.{ℤ, pos}
 use Rattle.terms.specs.Positions.{gap, half, floorDiv, eqZ}
 use Rattle.terms.specs.declared.Entry.the-variants.{Null, Position}
+use Rattle.terms.specs.declared.Family.the-variants.{TwoRounds}
 use Rattle.convergence.specs.Counting.{sum}
 use Rattle.convergence.specs.Settling.{nulls, trim, insert, ordered, lowKept, highKept, middle, midpoint, enough, settled}
 use Rattle.convergence.specs.Trust.{nothing, confessed, support, confessions, seen, trusted}
-use Rattle.convergence.specs.Phases.{End, startEnd, Faults, listOf, givenTo, after, rounding, endAfter, lowest, highest, spread}
+use Rattle.convergence.specs.Phases.{End, startEnd, Faults, listOf, givenTo, entriesAt, after, rounding, endAfter, lowest, highest, spread}
 use Rattle.convergence.specs.Demand3.{FewStruck}
 
 pub strikes : ℕ → Faults
@@ -26,7 +27,7 @@ strikes p =
 
 -- end p; a listener has no first position, so any number may stand for one
 pub end : ℕ → End
-end = endAfter 5 1 (λ j. pos (getD (10 ∷ 10 ∷ 14 ∷ 18 ∷ 18 ∷ []) j 900)) strikes
+end = endAfter TwoRounds 5 1 (λ j. pos (getD (10 ∷ 10 ∷ 14 ∷ 18 ∷ 18 ∷ []) j 900)) strikes
 
 pub record Listening : Type 0 where
   pub few : FewStruck 5 1 strikes
@@ -36,5 +37,5 @@ pub record Listening : Type 0 where
   pub counted : spread 7 (end 1) ≡ 2
 
 pub listening : Listening
-unfolding strikes end endAfter rounding sum spread lowest highest gap startEnd after settled enough midpoint middle half floorDiv lowKept highKept trim nulls ordered insert trusted support confessions seen eqZ givenTo listOf
+unfolding strikes end endAfter rounding sum spread lowest highest gap startEnd after entriesAt settled enough midpoint middle half floorDiv lowKept highKept trim nulls ordered insert trusted support confessions seen eqZ givenTo listOf
 listening = record { few = λ p. (lit≤ tt, lit≤ tt); at-start = refl; head = refl; listener = refl; counted = refl }

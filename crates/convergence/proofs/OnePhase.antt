@@ -16,10 +16,12 @@ use Rattle.terms.specs.declared.Entry.{Entry}
 use Rattle.terms.specs.declared.Entry.the-variants.{Null, Position}
 use Rattle.terms.proofs.Whole.{arithZ, not-le, decLeZ, half-between, half-closer}
 use Rattle.convergence.specs.Counting.{Each, sum, bit, AtMost}
-use Rattle.convergence.specs.Settling.{isNull, nulls, trim, twoRounds, ordered, lowKept, highKept, middle, midpoint}
+use Rattle.terms.specs.declared.Family.the-variants.{TwoRounds}
+use Rattle.convergence.specs.Settling.{isNull, nulls, trim, twoRounds}
 use Rattle.convergence.specs.Demand3.{AcceptedSize, Halves}
 use Rattle.convergence.proofs.Sums.{sums-le, sum-one, sum-none, bit-le}
-use Rattle.convergence.proofs.Order.{passes, gt-fails, KeptRange, kept-counts}
+use Rattle.convergence.proofs.Order.{passes, gt-fails}
+use Rattle.convergence.proofs.Kept.{low, high, Holds, the-kept}
 
 -- What is known of a trusted entry of head j, by whether j was struck in this collection round (c), in this confession round (d) and in the
 -- confession round of the phase before (p), with v the position of j at the phase's start, if it was sound.
@@ -40,20 +42,13 @@ both true d = bit d
 both false d = 0
 
 -- 1 at an entry that a liar chose: such a head's, if it is not null
-abbrev liar : Bool → Bool → Entry → ℕ
+abbrev pub liar : Bool → Bool → Entry → ℕ
 liar c d Null = 0
 liar c d (Position u) = both c d
 
 -- what two receivers trust of one head: two positions, and not the same
 abbrev pub TwoFaced : Entry → Entry → Type 0
 TwoFaced e e′ = (u : ℤ) × (w : ℤ) × (e ≡ Position u) × (e′ ≡ Position w) × (u ≢ w)
-
-unless-above : {a b : ℤ} → (b <ℤ a → ⊥) → a ≤ℤ b
-unless-above {a} {b} h = go (decLeZ a b)
-  where
-    go : Dec (a ≤ℤ b) → a ≤ℤ b
-    go (yes k) = k
-    go (no k) = absurd (h (not-le k))
 
 -- ---- at one index
 
@@ -70,13 +65,13 @@ null-point true false p v (Position u) h = absurd h
 null-point true true p v Null h = omega arith
 null-point true true p v (Position u) h = omega arith
 
-liar-point : (c d : Bool) (e : Entry) → liar c d e ≤ bit d
+pub liar-point : (c d : Bool) (e : Entry) → liar c d e ≤ bit d
 liar-point c d Null = omega arith
 liar-point false d (Position u) = omega arith
 liar-point true d (Position u) = omega arith
 
 -- a test that no position from m to M passes is passed by entries that a liar chose only
-outside-point : (m M : ℤ) (q : ℤ → Bool) → ((u : ℤ) → m ≤ℤ u → u ≤ℤ M → bit (q u) ≡ 0)
+pub outside-point : (m M : ℤ) (q : ℤ → Bool) → ((u : ℤ) → m ≤ℤ u → u ≤ℤ M → bit (q u) ≡ 0)
     → (c d p : Bool) (v : ℤ) (e : Entry) → Fact c d p v e → (p ≡ false → (m ≤ℤ v) × (v ≤ℤ M)) → passes q e ≤ liar c d e
 outside-point m M q k c d p v Null h w = omega arith
 outside-point m M q k false false false v (Position u) h w = rw h (omega (arith, k v (w refl .0) (w refl .1)))
@@ -86,7 +81,7 @@ outside-point m M q k true false p v (Position u) h w = absurd h
 outside-point m M q k true true p v (Position u) h w = bit-le (q u)
 
 -- no position is both at most h and at least l
-not-both : (h l u w : ℤ) → h <ℤ l → u ≡ w → bit (leZ u h) + bit (leZ l w) ≤ 1
+pub not-both : (h l u w : ℤ) → h <ℤ l → u ≡ w → bit (leZ u h) + bit (leZ l w) ≤ 1
 not-both h l u w k e = go (decLeZ u h)
   where
     go : Dec (u ≤ℤ h) → bit (leZ u h) + bit (leZ l w) ≤ 1
@@ -142,7 +137,7 @@ trimmed f z h = by-cases (decLe z f) (λ k. rw le-leb (omega arith)) (λ k. let 
 
 -- the ring is within its limits
 pub record Limits (n f : ℕ) (c d p : ℕ → Bool) : Type 0 where
-  pub size : AcceptedSize n f
+  pub size : AcceptedSize TwoRounds n f
   pub few-c : AtMost f n c
   pub few-d : AtMost f n d
   pub few-p : AtMost f n p
@@ -154,23 +149,9 @@ Facts n c d p v E = Each n (λ j. Fact (c j) (d j) (p j) (v j) (E j))
 abbrev pub Between : ℕ → (ℕ → Bool) → (ℕ → ℤ) → ℤ → ℤ → Type 0
 Between n p v m M = Each n (λ j. p j ≡ false → (m ≤ℤ v j) × (v j ≤ℤ M))
 
--- the lowest and the highest kept
-abbrev pub low : ℕ → ℕ → (ℕ → Entry) → ℤ
-low n f E = lowKept (trim f (nulls n E)) (ordered n E)
-
-abbrev pub high : ℕ → ℕ → (ℕ → Entry) → ℤ
-high n f E = highKept (trim f (nulls n E)) (ordered n E)
-
--- whatever the entries are, if they are not refused: one is kept, and the new position lies between the lowest and the highest
-module _ (n f : ℕ) (size : AcceptedSize n f) (E : ℕ → Entry) (few : nulls n E ≤ 3 * f) where
-  keeps-one : 2 * trim f (nulls n E) + nulls n E < n
-  keeps-one = let T = trimmed f (nulls n E) few in omega (arith, T .small, T .fourfold)
-
-  pub in-kept : (r : ℕ) → r ≤ 1 → (low n f E ≤ℤ midpoint r n (twoRounds f) E) × (midpoint r n (twoRounds f) E ≤ℤ high n f E)
-  unfolding midpoint middle
-  in-kept r h =
-      half-between r (low n f E) (high n f E) _ _ h (≤ℤ-refl (low n f E)) (kept-counts n (trim f (nulls n E)) E keeps-one .low-high)
-      (≤ℤ-refl (high n f E))
+-- whatever the entries are, if they are not refused: one is kept
+pub keeps-one : (n f : ℕ) → AcceptedSize TwoRounds n f → (E : ℕ → Entry) → nulls n E ≤ 3 * f → 2 * trim f (nulls n E) + nulls n E < n
+keeps-one n f size E few = let T = trimmed f (nulls n E) few in omega (arith, T .small, T .fourfold)
 
 module _ (n f : ℕ) (c d p : ℕ → Bool) (v : ℕ → ℤ) (L : Limits n f c d p) where
   module _ (E : ℕ → Entry) (A : Facts n c d p v E) where
@@ -191,11 +172,8 @@ module _ (n f : ℕ) (c d p : ℕ → Bool) (v : ℕ → ℤ) (L : Limits n f c 
     the-trim : Trimmed f (nulls n E) (trim f (nulls n E))
     the-trim = trimmed f (nulls n E) few-nulls
 
-    pub some-kept : 2 * trim f (nulls n E) + nulls n E < n
+    some-kept : 2 * trim f (nulls n E) + nulls n E < n
     some-kept = keeps-one n f (L .size) E few-nulls
-
-    the-kept : KeptRange n (trim f (nulls n E)) E (low n f E) (high n f E)
-    the-kept = kept-counts n (trim f (nulls n E)) E some-kept
 
     -- a liar chose no more entries than are dropped at either end
     few-liars : sum n (λ j. liar (c j) (d j) (E j)) ≤ trim f (nulls n E)
@@ -206,39 +184,26 @@ module _ (n f : ℕ) (c d p : ℕ → Bool) (v : ℕ → ℤ) (L : Limits n f c 
           sums-le n ((λ j. liar (c j) (d j) (E j)) ∷ []) ((λ j. bit (d j)) ∷ []) (λ j l. omega (arith, liar-point (c j) (d j) (E j))),
         ))
 
-    module _ (m M : ℤ) (B : Between n p v m M) where
-      -- so an end kept cannot lie outside the sound positions
-      few-outside : (q : ℤ → Bool) → ((u : ℤ) → m ≤ℤ u → u ≤ℤ M → bit (q u) ≡ 0) → sum n (λ j. passes q (E j)) ≤ trim f (nulls n E)
-      few-outside q k =
-          omega (
-            arith,
-            few-liars,
-            sums-le n ((λ j. passes q (E j)) ∷ []) ((λ j. liar (c j) (d j) (E j)) ∷ [])
-                (λ j l. omega (arith, outside-point m M q k (c j) (d j) (p j) (v j) (E j) (A j l) (B j l))),
-          )
-
-      low-in : m ≤ℤ low n f E
-      low-in =
-          unless-above
-          (λ k. omega (arith, the-kept .upto-low, few-outside (λ u. leZ u (low n f E)) (λ u a b. gt-fails {a = u} {b = low n f E} (omega arithZ))))
-
-      high-in : high n f E ≤ℤ M
-      high-in =
-          unless-above
-          (λ k. omega (arith, the-kept .from-high, few-outside (λ u. leZ (high n f E) u) (λ u a b. gt-fails {a = high n f E} {b = u} (omega arithZ))))
-
-      pub kept-in : (m ≤ℤ low n f E) × (low n f E ≤ℤ high n f E) × (high n f E ≤ℤ M)
-      kept-in = (low-in, the-kept .low-high, high-in)
-
-      pub range : (r : ℕ) → r ≤ 1 → (m ≤ℤ midpoint r n (twoRounds f) E) × (midpoint r n (twoRounds f) E ≤ℤ M)
-      unfolding midpoint middle
-      range r h = half-between r m M _ _ h low-in (the-kept .low-high) high-in
+    -- so an end kept cannot lie outside the sound positions
+    pub holds : (m M : ℤ) → Between n p v m M → Holds n (twoRounds f) m M E
+    holds m M B =
+        record {
+          few = few-nulls;
+          some = some-kept;
+          outside =
+              λ q k. omega (
+                arith,
+                few-liars,
+                sums-le n ((λ j. passes q (E j)) ∷ []) ((λ j. liar (c j) (d j) (E j)) ∷ [])
+                    (λ j l. omega (arith, outside-point m M q k (c j) (d j) (p j) (v j) (E j) (A j l) (B j l))),
+              );
+        }
 
   -- ---- two receivers
 
   -- Besides the facts on each: a head may be two-faced between them only if n + Σ c d is at most 4f (`two-faced` of `Links`).
   module _ (E E′ : ℕ → Entry) (A : Facts n c d p v E) (A′ : Facts n c d p v E′)
-      (fourth : Each n (λ j. TwoFaced (E j) (E′ j) → n + sum n (λ k. both (c k) (d k)) ≤ 4 * f)) (large : Halves n f) where
+      (fourth : Each n (λ j. TwoFaced (E j) (E′ j) → n + sum n (λ k. both (c k) (d k)) ≤ 4 * f)) (large : Halves TwoRounds n f) where
     -- what all entries weigh, with t j at least 1 if head j is two-faced
     weigh : (h l : ℤ) → h <ℤ l → (t : ℕ → ℕ) → Each n (λ j. c j ≡ true → d j ≡ true → TwoFaced (E j) (E′ j) → 1 ≤ t j)
         → 2 * sum n (λ j. passes (λ u. leZ u h) (E j)) + nulls n E + 2 * sum n (λ j. passes (λ u. leZ l u) (E′ j)) + nulls n E′
@@ -257,23 +222,25 @@ module _ (n f : ℕ) (c d p : ℕ → Bool) (v : ℕ → ℤ) (L : Limits n f c 
 
     -- All but t of the positions at the one are at most `high`, and all but t′ at the other at least `low`. With `low` above `high` they weigh more
     -- than they can.
-    no-gap : high n f E <ℤ low n f E′ → ⊥
+    pub no-gap : high n (twoRounds f) E <ℤ low n (twoRounds f) E′ → ⊥
     no-gap k = go (decLe (n + sum n (λ j. both (c j) (d j))) (4 * f))
       where
+        hi : ℤ
+        hi = high n (twoRounds f) E
+
+        lo : ℤ
+        lo = low n (twoRounds f) E′
+
         Weighs : ℕ → Type 0
         Weighs x =
-            4 * n ≤ 2 * sum n (λ j. passes (λ u. leZ u (high n f E)) (E j)) + nulls n E + 2 * sum n (λ j. passes (λ u. leZ (low n f E′) u) (E′ j)) + nulls n E′ + x
+            4 * n ≤ 2 * sum n (λ j. passes (λ u. leZ u hi) (E j)) + nulls n E + 2 * sum n (λ j. passes (λ u. leZ lo u) (E′ j)) + nulls n E′ + x
 
         heavy : Weighs (6 * f + 2) × Weighs (8 * f)
         heavy =
             let T = the-trim E A in
             let T′ = the-trim E′ A′ in
-            omega (arith, the-kept E A .upto-high, the-kept E′ A′ .from-low)
+            omega (arith, the-kept n (twoRounds f) E (some-kept E A) .upto-high, the-kept n (twoRounds f) E′ (some-kept E′ A′) .from-low)
 
         go : Dec (n + sum n (λ j. both (c j) (d j)) ≤ 4 * f) → ⊥
         go (yes q) = omega (arith, heavy, weigh _ _ k (λ j. both (c j) (d j)) (λ j l x y w. rw (x, y) (omega arith)))
         go (no q) = omega (arith, heavy, sum-none n, weigh _ _ k (λ j. 0) (λ j l x y w. absurd (q (fourth j l w))))
-
-    pub closer : (r : ℕ) (m M : ℤ) → Between n p v m M → midpoint r n (twoRounds f) E′ ≤ℤ (midpoint r n (twoRounds f) E +ℤ pos ((gap m M + 1) / 2))
-    unfolding midpoint middle
-    closer r m M B = half-closer r m M _ _ _ _ (low-in E A m M B) (the-kept E A .low-high) (high-in E A m M B) (unless-above no-gap) (high-in E′ A′ m M B)

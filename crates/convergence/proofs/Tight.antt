@@ -15,15 +15,16 @@ use lib.IntN.{ℤ, pos}
 use Rattle.terms.specs.Positions.{gap, half, floorDiv, eqZ}
 use Rattle.terms.specs.declared.Entry.{Entry}
 use Rattle.terms.specs.declared.Entry.the-variants.{Null, Position}
+use Rattle.terms.specs.declared.Family.the-variants.{TwoRounds}
 use Rattle.convergence.specs.Counting.{sum, AtMost}
 use Rattle.convergence.specs.Settling.{nulls, trim, insert, ordered, lowKept, highKept, middle, midpoint, enough, settled}
 use Rattle.convergence.specs.Trust.{nothing, confessed, gave, support, confessions, seen, trusted}
-use Rattle.convergence.specs.Phases.{End, startEnd, Faults, listOf, givenTo, after, rounding, endAfter, lowest, highest, spread}
+use Rattle.convergence.specs.Phases.{End, startEnd, Faults, listOf, givenTo, entriesAt, after, rounding, endAfter, lowest, highest, spread}
 use Rattle.convergence.specs.Demand3.{halved, AcceptedSize, Halves, FewStruck}
 use Rattle.convergence.proofs.Demand3.{converges}
 
 -- document 01, "Points on the ring": halving promised, and not
-pub halving-points : Halves 5 1 × Halves 9 2 × Halves 12 3 × Halves 23 6 × (Halves 8 2 → ⊥) × (Halves 22 6 → ⊥)
+pub halving-points : Halves TwoRounds 5 1 × Halves TwoRounds 9 2 × Halves TwoRounds 12 3 × Halves TwoRounds 23 6 × (Halves TwoRounds 8 2 → ⊥) × (Halves TwoRounds 22 6 → ⊥)
 halving-points = omega arith
 
 -- A head struck in confession confesses to some receivers, and to the others it sends the receiver's own list.
@@ -53,15 +54,15 @@ apiece =
     (λ k i. eqb (k + 2) i)
 
 pub record EightTwo : Type 0 where
-  pub accepted : AcceptedSize 8 2
+  pub accepted : AcceptedSize TwoRounds 8 2
   pub few : AtMost 2 8 (healed .struck) × AtMost 2 8 (apiece .collect) × AtMost 2 8 (apiece .confess)
   pub at-six : ordered 8 (trusted 8 2 (givenTo healed apiece 6)) ≡ pos 0 ∷ pos 0 ∷ pos 2 ∷ []
   pub at-seven : ordered 8 (trusted 8 2 (givenTo healed apiece 7)) ≡ pos 0 ∷ pos 2 ∷ pos 2 ∷ []
   pub spread-before : spread 8 healed ≡ 2
-  pub spread-after : spread 8 (after 0 8 2 healed apiece) ≡ 2
+  pub spread-after : spread 8 (after TwoRounds 0 8 2 healed apiece) ≡ 2
 
 pub eight-two : EightTwo
-unfolding known healed apiece echo sum spread lowest highest gap after settled enough midpoint middle half floorDiv lowKept highKept trim nulls ordered insert trusted support confessions seen eqZ givenTo listOf
+unfolding known healed apiece echo sum spread lowest highest gap after entriesAt settled enough midpoint middle half floorDiv lowKept highKept trim nulls ordered insert trusted support confessions seen eqZ givenTo listOf
 eight-two = record { accepted = lit≤ tt; few = (lit≤ tt, lit≤ tt, lit≤ tt); at-six = refl; at-seven = refl; spread-before = refl; spread-after = refl }
 
 -- ---- seven runs
@@ -97,11 +98,11 @@ module _ (f x a s : ℕ) where
   -- with n heads the size is accepted and below the bound, at most f heads are struck in each round, and the spread stays 2
   abbrev Stays : ℕ → Type 0
   Stays n =
-      AcceptedSize n f × (Halves n f → ⊥) × AtMost f n (lying n .collect) × AtMost f n (lying n .confess) × (spread n (startEnd n holding) ≡ 2)
-      × (spread n (after 0 n f (startEnd n holding) (lying n)) ≡ 2)
+      AcceptedSize TwoRounds n f × (Halves TwoRounds n f → ⊥) × AtMost f n (lying n .collect) × AtMost f n (lying n .confess) × (spread n (startEnd n holding) ≡ 2)
+      × (spread n (after TwoRounds 0 n f (startEnd n holding) (lying n)) ≡ 2)
 
 stay : Stays 2 0 1 6 8 × Stays 4 0 1 11 15 × Stays 5 1 2 14 19 × Stays 6 0 1 16 22 × Stays 7 1 2 19 26 × Stays 8 0 1 21 29 × Stays 8 2 3 22 30
-unfolding shown twos holding telling echo lying sum spread lowest highest gap startEnd after settled enough midpoint middle half floorDiv lowKept highKept trim nulls ordered insert trusted support confessions seen eqZ givenTo listOf
+unfolding shown twos holding telling echo lying sum spread lowest highest gap startEnd after entriesAt settled enough midpoint middle half floorDiv lowKept highKept trim nulls ordered insert trusted support confessions seen eqZ givenTo listOf
 stay = (
   (lit≤ tt, λ h. omega arith, lit≤ tt, lit≤ tt, refl, refl),
   (lit≤ tt, λ h. omega arith, lit≤ tt, lit≤ tt, refl, refl),
@@ -117,15 +118,15 @@ pub record NotHalved (n f : ℕ) : Type 0 where
   pub v : ℕ → ℤ
   pub F : ℕ → Faults
   pub within : FewStruck n f F
-  pub first : spread n (endAfter n f v F 0) ≡ 2
-  pub later : spread n (endAfter n f v F 1) ≡ 2
+  pub first : spread n (endAfter TwoRounds n f v F 0) ≡ 2
+  pub later : spread n (endAfter TwoRounds n f v F 1) ≡ 2
 
 not-halved : (n f m g x a s : ℕ) → n ≡ m → f ≡ g → Stays g x a s m → NotHalved n f
 unfolding endAfter rounding
 not-halved n f m g x a s p q h =
     rw (p, q) (record { v = holding g x a s; F = λ p. lying g x a s m; within = λ p. (h .2, h .3); first = h .4; later = h .5 })
 
-pub tight : (n f : ℕ) → n ≤ 32 → AcceptedSize n f → (Halves n f → ⊥) → NotHalved n f
+pub tight : (n f : ℕ) → n ≤ 32 → AcceptedSize TwoRounds n f → (Halves TwoRounds n f → ⊥) → NotHalved n f
 tight n f most size below =
     by-cases (decLe f 2) (λ h. not-halved n f 8 2 0 1 6 (omega arith) (omega arith) (stay .0))
     (λ k2. by-cases (decLe f 3) (λ h. let l : 12 ≤ n = omega arith in absurd (omega arith))
@@ -138,12 +139,12 @@ tight n f most size below =
 
 -- every run of this size halves the spread
 abbrev pub AllHalve : ℕ → ℕ → Type 0
-AllHalve n f = (v : ℕ → ℤ) (F : ℕ → Faults) → FewStruck n f F → (p k : ℕ) → spread n (endAfter n f v F (p + k)) ≤ halved k (spread n (endAfter n f v F p))
+AllHalve n f = (v : ℕ → ℤ) (F : ℕ → Faults) → FewStruck n f F → (p k : ℕ) → spread n (endAfter TwoRounds n f v F (p + k)) ≤ halved k (spread n (endAfter TwoRounds n f v F p))
 
-pub halves-exactly : (n f : ℕ) → n ≤ 32 → AcceptedSize n f → AllHalve n f ↔ Halves n f
+pub halves-exactly : (n f : ℕ) → n ≤ 32 → AcceptedSize TwoRounds n f → AllHalve n f ↔ Halves TwoRounds n f
 unfolding halved
-halves-exactly n f most size = (λ all. go all (decLe (11 * f + 3) (3 * n)), λ h v F within p k. converges n f n (le-refl n) size v F within p k .halving h)
+halves-exactly n f most size = (λ all. go all (decLe (11 * f + 3) (3 * n)), λ h v F within p k. converges TwoRounds n f n (le-refl n) size v F within p k .halving h)
   where
-    go : AllHalve n f → Dec (Halves n f) → Halves n f
+    go : AllHalve n f → Dec (Halves TwoRounds n f) → Halves TwoRounds n f
     go all (yes h) = h
     go all (no h) = let T = tight n f most size h in absurd (omega (arith, rw (T .later, T .first) at (all (T .v) (T .F) (T .within) 0 1)))

@@ -7,6 +7,8 @@ use lib.IntN.{ℤ}
 use lib.Signed.{_≤ℤ_}
 use Rattle.terms.specs.declared.Entry.{Entry}
 use Rattle.terms.specs.declared.Entry.the-variants.{Null, Position}
+use Rattle.terms.specs.declared.Family.{Family}
+use Rattle.terms.specs.declared.Family.the-variants.{TwoRounds, OneRound}
 use Rattle.convergence.specs.Counting.{Each, AtMost}
 use Rattle.convergence.specs.Phases.{End, Faults, endAfter, lowest, highest, spread}
 
@@ -27,13 +29,15 @@ KeptBetween (Position low) (Position high) a b = (low ≤ℤ a) × (a ≤ℤ b) 
 KeptBetween Null high a b = ⊥
 KeptBetween (Position low) Null a b = ⊥
 
--- the sizes that are accepted: 2n at least 7f + 2
-abbrev pub AcceptedSize : ℕ → ℕ → Type 0
-AcceptedSize n f = 7 * f + 2 ≤ 2 * n
+-- the sizes that are accepted: 2n at least 7f + 2, or in a ring of one round n at least 4f + 1
+abbrev pub AcceptedSize : Family → ℕ → ℕ → Type 0
+AcceptedSize TwoRounds n f = 7 * f + 2 ≤ 2 * n
+AcceptedSize OneRound n f = 4 * f + 1 ≤ n
 
--- the sizes at which halving is promised: 3n at least 11f + 3
-abbrev pub Halves : ℕ → ℕ → Type 0
-Halves n f = 11 * f + 3 ≤ 3 * n
+-- the sizes at which halving is promised: 3n at least 11f + 3, or in a ring of one round every size that is accepted
+abbrev pub Halves : Family → ℕ → ℕ → Type 0
+Halves TwoRounds n f = 11 * f + 3 ≤ 3 * n
+Halves OneRound n f = Unit {0}
 
 -- Two phase ends of receivers 0 .. N - 1, e the earlier and e′ the later, k phases apart; halves: what gives the right to halve.
 pub record Demand3 (N : ℕ) (halves : Type 0) (k : ℕ) (e e′ : End) : Type 0 where
@@ -49,5 +53,5 @@ FewStruck n f F = (p : ℕ) → AtMost f n (F p .collect) × AtMost f n (F p .co
 -- does not exist, is marked in `confess`, and does not count in f.
 abbrev pub Converges : Type 0
 Converges =
-    (n f N : ℕ) → n ≤ N → AcceptedSize n f → (v : ℕ → ℤ) (F : ℕ → Faults) → FewStruck n f F
-    → (p k : ℕ) → Demand3 N (Halves n f) k (endAfter n f v F p) (endAfter n f v F (p + k))
+    (K : Family) (n f N : ℕ) → n ≤ N → AcceptedSize K n f → (v : ℕ → ℤ) (F : ℕ → Faults) → FewStruck n f F
+    → (p k : ℕ) → Demand3 N (Halves K n f) k (endAfter K n f v F p) (endAfter K n f v F (p + k))

@@ -7,10 +7,12 @@ use lib.Signed.{leZ}
 use Rattle.terms.specs.Positions.{gap}
 use Rattle.terms.specs.declared.Entry.{Entry}
 use Rattle.terms.specs.declared.Entry.the-variants.{Null, Position}
-use Rattle.convergence.specs.Settling.{twoRounds, settled}
+use Rattle.terms.specs.declared.Family.{Family}
+use Rattle.terms.specs.declared.Family.the-variants.{TwoRounds, OneRound}
+use Rattle.convergence.specs.Settling.{ruleOf, settled}
 use Rattle.convergence.specs.Trust.{Given, confessed, gave, trusted}
 
--- A phase end: the receivers struck in its confession round, whose memory is lost, and the position that each other one holds. A receiver is sound
+-- A phase end: the receivers struck in its last round, whose memory is lost, and the position that each other one holds. A receiver is sound
 -- there if it is not struck. Receivers 0 .. n - 1 are the heads; the others are listeners (document 02, A6).
 pub record End : Type 0 where
   pub struck : ℕ → Bool
@@ -21,7 +23,8 @@ unfoldable pub startEnd : ℕ → (ℕ → ℤ) → End
 startEnd n v = record { struck = λ j. not (ltb j n); at = λ j. Position (v j) }
 
 -- A phase's strikes, and what the struck heads send: anything, something else to each receiver, or nothing (a null entry, `nothing`). A listener sends
--- nothing: of it only `confess` matters.
+-- nothing: of it only `confess` matters. The one round of a phase of one round counts as its confession round: its strikes are `confess`, and what the struck
+-- heads send in it is `told` (document 02, A9).
 pub record Faults : Type 0 where
   pub collect : ℕ → Bool  -- struck in the collection round
   pub told : ℕ → ℕ → Entry  -- what such a sender then gives a receiver
@@ -35,26 +38,35 @@ gives true before likes healed says = likes
 gives false true likes healed says = healed
 gives false false likes healed says = says
 
--- Collection round: entry k of the list that receiver i fills. A healthy head sends its position, a healed one silence.
+-- A round in which heads send positions, and in which these are struck: what link k gives receiver i. A healthy head sends its position, a healed one silence.
+abbrev pub heardFrom : (ℕ → Bool) → End → Faults → ℕ → ℕ → Entry
+heardFrom struck e F i k = gives (struck k) (e .struck k) (F .told k i) Null (e .at k)
+
+-- Collection round: entry k of the list that receiver i fills.
 unfoldable pub listOf : End → Faults → ℕ → ℕ → Entry
-listOf e F i k = gives (F .collect k) (e .struck k) (F .told k i) Null (e .at k)
+listOf e F i k = heardFrom (F .collect) e F i k
 
 -- Confession round: what link k gives receiver i. A healed head sends a confession, any other unstruck head its list.
 unfoldable pub givenTo : End → Faults → ℕ → ℕ → Given
 givenTo e F i k = gives (F .confess k) (F .collect k) (F .replied k i) confessed (gave (listOf e F k))
 
+-- the entries from which receiver i settles: in a phase of two rounds those that it trusts, in one of one round those that it hears
+unfoldable pub entriesAt : Family → ℕ → ℕ → End → Faults → ℕ → ℕ → Entry
+entriesAt TwoRounds n f e F i = trusted n f (givenTo e F i)
+entriesAt OneRound n f e F i = heardFrom (F .confess) e F i
+
 -- The phase's end: each receiver that is not struck settles a position. r: how odd sums are rounded.
-unfoldable pub after : ℕ → ℕ → ℕ → End → Faults → End
-after r n f e F = record { struck = F .confess; at = λ i. settled r n (twoRounds f) (trusted n f (givenTo e F i)) }
+unfoldable pub after : Family → ℕ → ℕ → ℕ → End → Faults → End
+after K r n f e F = record { struck = F .confess; at = λ i. settled r n (ruleOf K f) (entriesAt K n f e F i) }
 
 -- how phase p rounds odd sums: 0, down, in odd phases, and 1, up, in even ones (document 02, A7)
 unfoldable pub rounding : ℕ → ℕ
 rounding p = (p + 1) % 2
 
 -- the end of phase p; end 0 is the start
-unfoldable pub endAfter : ℕ → ℕ → (ℕ → ℤ) → (ℕ → Faults) → ℕ → End
-endAfter n f v F zero = startEnd n v
-endAfter n f v F (suc p) = after (rounding (suc p)) n f (endAfter n f v F p) (F (suc p))
+unfoldable pub endAfter : Family → ℕ → ℕ → (ℕ → ℤ) → (ℕ → Faults) → ℕ → End
+endAfter K n f v F zero = startEnd n v
+endAfter K n f v F (suc p) = after K (rounding (suc p)) n f (endAfter K n f v F p) (F (suc p))
 
 -- ---- lowest, highest and spread of the sound ones among receivers 0 .. n - 1
 

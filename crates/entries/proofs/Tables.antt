@@ -27,7 +27,7 @@ mark-le : (e : Entry) (x : ℕ) → mark e * x ≤ x
 mark-le Null x = omega arith
 mark-le (Position u) x = omega arith
 
-marks-below : (E : ℕ → Entry) (n : ℕ) → marksOf n E < 2 ^ n
+pub marks-below : (E : ℕ → Entry) (n : ℕ) → marksOf n E < 2 ^ n
 unfolding marksOf
 marks-below E zero = omega arith
 marks-below E (suc n) = rw pow-succ' (omega (arith, marks-below E n, mark-le (E n) (2 ^ n)))

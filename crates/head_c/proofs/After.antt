@@ -5,6 +5,7 @@ use mathlib.Core.List.{List}
 use Prim.Native.Nat.{ℕ, zero, suc}
 use native.Mathlib.Omega.{arith}
 use lib.IntN.{ℤ}
+use Rattle.terms.specs.declared.Family.{Family}
 use Rattle.head_spec.specs.declared.Head.{Head}
 use Rattle.head_spec.specs.declared.Answer.{Answer}
 use Rattle.head_spec.specs.declared.Offer.{Offer}
@@ -36,21 +37,21 @@ answer-opens : (c : ℕ) (new old : Head) → new ≡ opened (new .seat) (new .l
 answer-opens zero new old e z = e
 answer-opens (suc c) new old e z = absurd (omega arith)
 
-pub start-opens : (h : Head) (n f i : ℕ) (v : ℤ) → Opens (start h n f i v)
+pub start-opens : (h : Head) (K : Family) (n f i : ℕ) (v : ℤ) → Opens (start h K n f i v)
 unfolding start started
-start-opens h n f i v = answer-opens (startRefusal n f i v) (started n f i v) h refl
+start-opens h K n f i v = answer-opens (startRefusal K n f i v) (started K n f i v) h refl
 
-pub restart-opens : (h : Head) (n f i p r : ℕ) → Opens (restart h n f i p r)
+pub restart-opens : (h : Head) (K : Family) (n f i p r : ℕ) → Opens (restart h K n f i p r)
 unfolding restart restarted
-restart-opens h n f i p r = answer-opens (restartRefusal n f i p r) (restarted n f i p r) h refl
+restart-opens h K n f i p r = answer-opens (restartRefusal K n f i p r) (restarted K n f i p r) h refl
 
-pub start-listener-opens : (h : Head) (n f i : ℕ) → Opens (startListener h n f i)
+pub start-listener-opens : (h : Head) (K : Family) (n f i : ℕ) → Opens (startListener h K n f i)
 unfolding startListener startedListener
-start-listener-opens h n f i = answer-opens (startListenerRefusal n f i) (startedListener n f i) h refl
+start-listener-opens h K n f i = answer-opens (startListenerRefusal K n f i) (startedListener K n f i) h refl
 
-pub restart-listener-opens : (h : Head) (n f i p r : ℕ) → Opens (restartListener h n f i p r)
+pub restart-listener-opens : (h : Head) (K : Family) (n f i p r : ℕ) → Opens (restartListener h K n f i p r)
 unfolding restartListener restarted
-restart-listener-opens h n f i p r = answer-opens (restartListenerRefusal n f i p r) (restarted n f i p r) h refl
+restart-listener-opens h K n f i p r = answer-opens (restartListenerRefusal K n f i p r) (restarted K n f i p r) h refl
 
 pub adopt-opens : (h : Head) (o : Offer) → Opens (adopt h o)
 unfolding adopt closedPhase

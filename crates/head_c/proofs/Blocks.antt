@@ -10,6 +10,8 @@ use lib.ListN.{length, getD, List·getD-append}
 use lib.Seq.{getD-append-add}
 use lib.IntN.{ℤ, pos, negsuc}
 use Rattle.terms.specs.declared.Entry.{Entry}
+use Rattle.terms.specs.declared.Family.{Family}
+use Rattle.terms.specs.declared.Family.the-variants.{TwoRounds, OneRound}
 use Rattle.fields.specs.Bytes.{signedOf, wordOf}
 use Rattle.fields.proofs.Bytes.{signed-low, signed-high}
 use Rattle.convergence.specs.Counting.{bit}
@@ -18,7 +20,7 @@ use Rattle.head_spec.specs.declared.LastKept.{LastKept}
 use Rattle.head_spec.specs.declared.Seat.{Seat}
 use Rattle.head_spec.specs.declared.Head.{Head}
 use Rattle.head_lent.specs.Answers.{heldNumber, heldOr, rangeNumber}
-use Rattle.head_c.specs.Blocks.{IsBlock, flag, entryIn, rangeIn, upTo, numbersAt, listAt, seatOf, headOf, wordsOf, listWords, keptOf, withHead}
+use Rattle.head_c.specs.Blocks.{IsBlock, flag, familyIn, familyNumber, entryIn, rangeIn, upTo, numbersAt, listAt, seatOf, headOf, wordsOf, listWords, keptOf, withHead}
 use Rattle.head_c.proofs.Copying.{upTo-list}
 use Rattle.head_c.proofs.Putting.{words-long, word-at, lists-long, first, second, third, first-long, second-long, third-long}
 
@@ -81,6 +83,10 @@ pub record Fit (h : Head) : Type 0 where
 flag-back : (b : Bool) → flag (bit b) ≡ b
 flag-back true = refl
 flag-back false = refl
+
+family-back : (K : Family) → familyIn (familyNumber K) ≡ K
+family-back TwoRounds = refl
+family-back OneRound = refl
 
 entry-back : (e : Entry) → FitEntry e → entryIn (heldNumber e) (signedOf (wordOf (heldOr e (pos 0)))) ≡ e
 entry-back Entry.Null f = refl
@@ -198,6 +204,7 @@ module _ (h : Head) (w : List ℕ) (block : IsBlock w) (F : Fit h) where
       let s = h .seat in
       let S = F .seat in
       record {
+        family = family-back (s .family) i;
         n = mod-eq-of-lt (S .n) i;
         f = mod-eq-of-lt (S .f) i;
         number = mod-eq-of-lt (S .number) i;

@@ -14,7 +14,7 @@ use Rattle.fields.specs.Bytes.{signedOf, wordOf}
 use Rattle.marks.specs.Marks.{withMark}
 use Rattle.frame_spec.specs.Said.{collected, listed, confessed}
 use Rattle.head_spec.specs.Calls.{taken}
-use Rattle.head_c.specs.Blocks.{IsBlock, flag, entryIn, rangeIn, upTo, numbersAt, listAt, seatOf, headOf, wordsOf, marked}
+use Rattle.head_c.specs.Blocks.{IsBlock, flag, familyIn, entryIn, rangeIn, upTo, numbersAt, listAt, seatOf, headOf, wordsOf, marked}
 use Rattle.head_c.proofs.Copying.{upTo-same, upTo-set, copied-before, copied-there, copied-behind}
 use Rattle.head_c.proofs.Putting.{words-long, word-at}
 use Rattle.head_c.proofs.Blocks.{Fits32, signed-back, FitNumbers, numbers-back}
@@ -25,10 +25,11 @@ module _ (w w′ : List ℕ) where
   abbrev Same : ℕ → Type 0
   Same i = getD w′ i 0 ≡ getD w i 0
 
-  seat-same : ((i : ℕ) → i < 14 → Same i) → seatOf w′ ≡ seatOf w
+  seat-same : ((i : ℕ) → i < 15 → Same i) → seatOf w′ ≡ seatOf w
   unfolding seatOf
   seat-same h = λ i.
       record {
+        family = familyIn (h 14 (omega arith) i);
         n = h 0 (omega arith) i % 256;
         f = h 1 (omega arith) i % 256;
         number = h 2 (omega arith) i % 256;
@@ -55,8 +56,8 @@ module _ (w w′ : List ℕ) where
   marks-same : ((i : ℕ) → 60 ≤ i → i < 92 → Same i) → upTo 32 (λ k. getD w′ (60 + k) 0) ≡ upTo 32 (λ k. getD w (60 + k) 0)
   marks-same h = upTo-same 32 _ _ (λ k l. h (60 + k) (omega arith) (omega arith))
 
-  -- the record is read from the words before 14 and from 24 on
-  pub head-same : ((i : ℕ) → i < 14 → Same i) → ((i : ℕ) → 24 ≤ i → Same i) → headOf w′ ≡ headOf w
+  -- the record is read from the words before 15 and from 24 on
+  pub head-same : ((i : ℕ) → i < 15 → Same i) → ((i : ℕ) → 24 ≤ i → Same i) → headOf w′ ≡ headOf w
   unfolding headOf
   head-same front back = λ i.
       record {
@@ -72,8 +73,8 @@ module _ (w w′ : List ℕ) where
         lists = lists-same (λ j l. back j (omega arith)) i;
       }
 
--- so it is no other for a word from 14 to 23
-pub set-apart : (w : List ℕ) (i x : ℕ) → 14 ≤ i → i < 24 → headOf (set w i x) ≡ headOf w
+-- so it is no other for a word from 15 to 23
+pub set-apart : (w : List ℕ) (i x : ℕ) → 15 ≤ i → i < 24 → headOf (set w i x) ≡ headOf w
 set-apart w i x from to =
     head-same w (set w i x) (λ j l. getD-set-other w i j x 0 (omega arith)) (λ j l. getD-set-other w i j x 0 (omega arith))
 

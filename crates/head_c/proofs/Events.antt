@@ -1,5 +1,5 @@
 -- What stands beside the head after a call (document 02, A5), and the offer (A8), and that neither the record nor any other word is another for them: words
--- 14 to 23 are no part of the record.
+-- 15 to 23 are no part of the record.
 use mathlib.Core.Path.{_≡_, refl, _∙_}
 use mathlib.Core.Logic.{_≢_}
 use mathlib.Core.List.{List, _∷_}
@@ -9,6 +9,7 @@ use lib.ListN.{length, getD, set, length-append, length-set}
 use lib.Seq.{getD-set-same, getD-set-other}
 use lib.IntN.{ℤ}
 use Rattle.terms.specs.Refusals.{leaves}
+use Rattle.terms.specs.declared.Family.{Family}
 use Rattle.fields.specs.Bytes.{wordOf}
 use Rattle.frame_check.specs.Check.{position}
 use Rattle.head_spec.specs.declared.LastKept.{LastKept}
@@ -113,10 +114,10 @@ module _ (w : List ℕ) (block : IsBlock w) where
 
 pub only-these-change : OnlyTheseChange
 unfolding blockAfter
-only-these-change w (starts n f i v) block = let a = start (headOf w) n f i v in (put-after w block _ a, λ P. offer-after w block _ a)
-only-these-change w (restarts n f i p r) block = let a = restart (headOf w) n f i p r in (put-after w block _ a, λ P. offer-after w block _ a)
-only-these-change w (startsListener n f i) block = let a = startListener (headOf w) n f i in (put-after w block _ a, λ P. offer-after w block _ a)
-only-these-change w (restartsListener n f i p r) block = let a = restartListener (headOf w) n f i p r in (put-after w block _ a, λ P. offer-after w block _ a)
+only-these-change w (starts K n f i v) block = let a = start (headOf w) K n f i v in (put-after w block _ a, λ P. offer-after w block _ a)
+only-these-change w (restarts K n f i p r) block = let a = restart (headOf w) K n f i p r in (put-after w block _ a, λ P. offer-after w block _ a)
+only-these-change w (startsListener K n f i) block = let a = startListener (headOf w) K n f i in (put-after w block _ a, λ P. offer-after w block _ a)
+only-these-change w (restartsListener K n f i p r) block = let a = restartListener (headOf w) K n f i p r in (put-after w block _ a, λ P. offer-after w block _ a)
 only-these-change w adopts block = let a = adopt (headOf w) (offerOf w) in (put-after w block _ a, λ P. offer-after w block _ a)
 only-these-change w (sets at x) block = (beside-back _ w (omega arith), λ P. offer-kept _ w)
 only-these-change w closes block =
@@ -150,9 +151,9 @@ only-these-change w (hearsBatch s room) block = (go (batchRefusal s room), λ P.
     all zero small = offer-each D w block small
     all (suc c) small = refl
 
--- ---- the other words from 14 to 23 are kept by every call
+-- ---- the other words from 15 to 23 are kept by every call
 
-module _ (w : List ℕ) (block : IsBlock w) (i : ℕ) (from : 14 ≤ i) (to : i < 24) (apart : 16 ≤ i → i < 23 → ⊥) where
+module _ (w : List ℕ) (block : IsBlock w) (i : ℕ) (from : 15 ≤ i) (to : i < 24) (apart : 16 ≤ i → i < 23 → ⊥) where
   abbrev Stays : List ℕ → Type 0
   Stays w′ = getD w′ i 0 ≡ getD w i 0
 
@@ -188,10 +189,10 @@ module _ (w : List ℕ) (block : IsBlock w) (i : ℕ) (from : 14 ≤ i) (to : i 
 
   pub others-stay : (c : Call) → Stays (blockAfter w c)
   unfolding blockAfter
-  others-stay (starts n f j v) = call-stays _ (start (headOf w) n f j v)
-  others-stay (restarts n f j p r) = call-stays _ (restart (headOf w) n f j p r)
-  others-stay (startsListener n f j) = call-stays _ (startListener (headOf w) n f j)
-  others-stay (restartsListener n f j p r) = call-stays _ (restartListener (headOf w) n f j p r)
+  others-stay (starts K n f j v) = call-stays _ (start (headOf w) K n f j v)
+  others-stay (restarts K n f j p r) = call-stays _ (restart (headOf w) K n f j p r)
+  others-stay (startsListener K n f j) = call-stays _ (startListener (headOf w) K n f j)
+  others-stay (restartsListener K n f j p r) = call-stays _ (restartListener (headOf w) K n f j p r)
   others-stay adopts = call-stays _ (adopt (headOf w) (offerOf w))
   others-stay closes = let q = close (headOf w) in beside-stays _ (withClosing (q .closed) (q .head) w) (closing-stays (q .closed) (q .head))
   others-stay (sets at x) = beside-stays _ w refl
@@ -211,21 +212,21 @@ module _ (w : List ℕ) (block : IsBlock w) where
   call-head : (b : Beside) (a : Answer) → headOf (withoutOffer (a .refusal) (withBeside b (withAnswer w a))) ≡ headOf (withAnswer w a)
   call-head b a = ended-apart (a .refusal) (withBeside b (withAnswer w a)) ∙ head-apart b (withAnswer w a)
 
-  pub head-started : (n f i : ℕ) (v : ℤ) → headOf (blockAfter w (starts n f i v)) ≡ start (headOf w) n f i v .head
+  pub head-started : (K : Family) (n f i : ℕ) (v : ℤ) → headOf (blockAfter w (starts K n f i v)) ≡ start (headOf w) K n f i v .head
   unfolding blockAfter
-  head-started n f i v = call-head _ (start (headOf w) n f i v) ∙ after-start w block n f i v
+  head-started K n f i v = call-head _ (start (headOf w) K n f i v) ∙ after-start w block K n f i v
 
-  pub head-restarted : (n f i p r : ℕ) → headOf (blockAfter w (restarts n f i p r)) ≡ restart (headOf w) n f i p r .head
+  pub head-restarted : (K : Family) (n f i p r : ℕ) → headOf (blockAfter w (restarts K n f i p r)) ≡ restart (headOf w) K n f i p r .head
   unfolding blockAfter
-  head-restarted n f i p r = call-head _ (restart (headOf w) n f i p r) ∙ after-restart w block n f i p r
+  head-restarted K n f i p r = call-head _ (restart (headOf w) K n f i p r) ∙ after-restart w block K n f i p r
 
-  pub listener-started : (n f i : ℕ) → headOf (blockAfter w (startsListener n f i)) ≡ startListener (headOf w) n f i .head
+  pub listener-started : (K : Family) (n f i : ℕ) → headOf (blockAfter w (startsListener K n f i)) ≡ startListener (headOf w) K n f i .head
   unfolding blockAfter
-  listener-started n f i = call-head _ (startListener (headOf w) n f i) ∙ after-start-listener w block n f i
+  listener-started K n f i = call-head _ (startListener (headOf w) K n f i) ∙ after-start-listener w block K n f i
 
-  pub listener-restarted : (n f i p r : ℕ) → headOf (blockAfter w (restartsListener n f i p r)) ≡ restartListener (headOf w) n f i p r .head
+  pub listener-restarted : (K : Family) (n f i p r : ℕ) → headOf (blockAfter w (restartsListener K n f i p r)) ≡ restartListener (headOf w) K n f i p r .head
   unfolding blockAfter
-  listener-restarted n f i p r = call-head _ (restartListener (headOf w) n f i p r) ∙ after-restart-listener w block n f i p r
+  listener-restarted K n f i p r = call-head _ (restartListener (headOf w) K n f i p r) ∙ after-restart-listener w block K n f i p r
 
   pub head-closed : ProperHead (headOf w) → headOf (blockAfter w closes) ≡ close (headOf w) .head
   unfolding blockAfter

@@ -63,16 +63,16 @@ module _ (w : List ℕ) (block : IsBlock w) where
 
   opened-holds : (c : Call) → Opens c → numberAfter w c ≡ 0 → Holds (blockAfter w c)
   unfolding blockAfter start restart startListener restartListener
-  opened-holds (starts n f i v) o e =
-      moved (head-started w block n f i v) (offer-after w block _ (start h n f i v)) (fresh (startRefusal n f i v) _ h (offerOf w) e (offering.starts n f i v))
-  opened-holds (restarts n f i p r) o e =
-      moved (head-restarted w block n f i p r) (offer-after w block _ (restart h n f i p r))
-      (fresh (restartRefusal n f i p r) _ h (offerOf w) e (offering.restarts n f i p r))
-  opened-holds (startsListener n f i) o e =
-      moved (listener-started w block n f i) (offer-after w block _ (startListener h n f i)) (fresh (startListenerRefusal n f i) _ h (offerOf w) e (offering.listens n f i))
-  opened-holds (restartsListener n f i p r) o e =
-      moved (listener-restarted w block n f i p r) (offer-after w block _ (restartListener h n f i p r))
-      (fresh (restartListenerRefusal n f i p r) _ h (offerOf w) e (offering.listens-again n f i p r))
+  opened-holds (starts K n f i v) o e =
+      moved (head-started w block K n f i v) (offer-after w block _ (start h K n f i v)) (fresh (startRefusal K n f i v) _ h (offerOf w) e (offering.starts K n f i v))
+  opened-holds (restarts K n f i p r) o e =
+      moved (head-restarted w block K n f i p r) (offer-after w block _ (restart h K n f i p r))
+      (fresh (restartRefusal K n f i p r) _ h (offerOf w) e (offering.restarts K n f i p r))
+  opened-holds (startsListener K n f i) o e =
+      moved (listener-started w block K n f i) (offer-after w block _ (startListener h K n f i)) (fresh (startListenerRefusal K n f i) _ h (offerOf w) e (offering.listens K n f i))
+  opened-holds (restartsListener K n f i p r) o e =
+      moved (listener-restarted w block K n f i p r) (offer-after w block _ (restartListener h K n f i p r))
+      (fresh (restartListenerRefusal K n f i p r) _ h (offerOf w) e (offering.listens-again K n f i p r))
   opened-holds (hears k s) o e = absurd o
   opened-holds (hearsBatch s room) o e = absurd o
   opened-holds closes o e = absurd o
@@ -130,16 +130,16 @@ module _ (w : List ℕ) (block : IsBlock w) (H : Holds w) where
 
   called-holds : (c : Call) → Bytes c → Holds (blockAfter w c)
   unfolding blockAfter start restart startListener restartListener
-  called-holds (starts n f i v) B =
-      moved (head-started w block n f i v) (offer-after w block _ (start g n f i v)) (either (startRefusal n f i v) _ g (offerOf w) H (offering.starts n f i v))
-  called-holds (restarts n f i p r) B =
-      moved (head-restarted w block n f i p r) (offer-after w block _ (restart g n f i p r))
-      (either (restartRefusal n f i p r) _ g (offerOf w) H (offering.restarts n f i p r))
-  called-holds (startsListener n f i) B =
-      moved (listener-started w block n f i) (offer-after w block _ (startListener g n f i)) (either (startListenerRefusal n f i) _ g (offerOf w) H (offering.listens n f i))
-  called-holds (restartsListener n f i p r) B =
-      moved (listener-restarted w block n f i p r) (offer-after w block _ (restartListener g n f i p r))
-      (either (restartListenerRefusal n f i p r) _ g (offerOf w) H (offering.listens-again n f i p r))
+  called-holds (starts K n f i v) B =
+      moved (head-started w block K n f i v) (offer-after w block _ (start g K n f i v)) (either (startRefusal K n f i v) _ g (offerOf w) H (offering.starts K n f i v))
+  called-holds (restarts K n f i p r) B =
+      moved (head-restarted w block K n f i p r) (offer-after w block _ (restart g K n f i p r))
+      (either (restartRefusal K n f i p r) _ g (offerOf w) H (offering.restarts K n f i p r))
+  called-holds (startsListener K n f i) B =
+      moved (listener-started w block K n f i) (offer-after w block _ (startListener g K n f i)) (either (startListenerRefusal K n f i) _ g (offerOf w) H (offering.listens K n f i))
+  called-holds (restartsListener K n f i p r) B =
+      moved (listener-restarted w block K n f i p r) (offer-after w block _ (restartListener g K n f i p r))
+      (either (restartListenerRefusal K n f i p r) _ g (offerOf w) H (offering.listens-again K n f i p r))
   called-holds (hears k s) B = moved (head-heard w block k s) (only-these-change w (hears k s) block .1 P) (H .0, offering.hears k s B (H .1))
   called-holds (hearsBatch s room) B = go (batchRefusal s room)
     where

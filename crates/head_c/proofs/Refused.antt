@@ -70,10 +70,10 @@ module _ (w : List ℕ) where
 
 pub refused-leaves : RefusedLeaves
 unfolding blockAfter
-refused-leaves w (starts n f i v) h = put-leaves w (start (headOf w) n f i v) _ h (sym (unchanged _ _ _ h))
-refused-leaves w (restarts n f i p r) h = put-leaves w (restart (headOf w) n f i p r) _ h (sym (unchanged _ _ _ h))
-refused-leaves w (startsListener n f i) h = put-leaves w (startListener (headOf w) n f i) _ h (sym (unchanged _ _ _ h))
-refused-leaves w (restartsListener n f i p r) h = put-leaves w (restartListener (headOf w) n f i p r) _ h (sym (unchanged _ _ _ h))
+refused-leaves w (starts K n f i v) h = put-leaves w (start (headOf w) K n f i v) _ h (sym (unchanged _ _ _ h))
+refused-leaves w (restarts K n f i p r) h = put-leaves w (restart (headOf w) K n f i p r) _ h (sym (unchanged _ _ _ h))
+refused-leaves w (startsListener K n f i) h = put-leaves w (startListener (headOf w) K n f i) _ h (sym (unchanged _ _ _ h))
+refused-leaves w (restartsListener K n f i p r) h = put-leaves w (restartListener (headOf w) K n f i p r) _ h (sym (unchanged _ _ _ h))
 refused-leaves w adopts h = put-leaves w (adopt (headOf w) (offerOf w)) _ h (sym (unchanged _ _ _ h))
 refused-leaves w closes h =
     let q = close (headOf w) in

@@ -1,5 +1,5 @@
 -- A head as C keeps it: a block of 1,116 words, one for each number. Every block is a record, whatever it holds (`headOf`), and a record is put into
--- a block (`withHead`). Hearing changes a few words alone (`heardIn`). Words 14 to 23 are no part of a record. Words 16 to 22 are what
+-- a block (`withHead`). Hearing changes a few words alone (`heardIn`). Words 15 to 23 are no part of a record. Words 16 to 22 are what
 -- stands beside the head; each call leaves the others as they were.
 use mathlib.Core.Path.{_≡_}
 use mathlib.Core.Bool.{Bool, not, cond}
@@ -11,6 +11,8 @@ use lib.Seq.{paste, slice}
 use lib.IntN.{ℤ, pos}
 use Rattle.terms.specs.Refusals.{leaves}
 use Rattle.terms.specs.declared.Entry.{Entry}
+use Rattle.terms.specs.declared.Family.{Family}
+use Rattle.terms.specs.declared.Family.the-variants.{TwoRounds, OneRound}
 use Rattle.fields.specs.Bytes.{signedOf, wordOf}
 use Rattle.marks.specs.Marks.{withMark}
 use Rattle.convergence.specs.Counting.{bit}
@@ -44,6 +46,11 @@ upTo (suc k) g = upTo k g ++ (g k ∷ [])
 abbrev pub flag : ℕ → Bool
 flag b = not (eqb b 0)
 
+-- the family: a block of zeros is of a ring of two rounds
+abbrev pub familyIn : ℕ → Family
+familyIn zero = TwoRounds
+familyIn (suc b) = OneRound
+
 -- a position, if one is held
 abbrev pub entryIn : ℕ → ℤ → Entry
 entryIn zero v = Entry.Null
@@ -66,6 +73,7 @@ listAt w k = record { entries = numbersAt w (place.lists + 32 * k) }
 unfoldable pub seatOf : List ℕ → Seat
 seatOf w =
     record {
+      family = familyIn (getD w place.family 0);
       n = getD w place.n 0 % 256;
       f = getD w place.f 0 % 256;
       number = getD w place.number 0 % 256;
@@ -110,15 +118,19 @@ abbrev pub keptOf : LastKept → Kept
 keptOf LastKept.Nothing = record { low = pos 0; high = pos 0; trim = 0; position = pos 0 }
 keptOf (LastKept.Range k) = k
 
+abbrev pub familyNumber : Family → ℕ
+familyNumber TwoRounds = 0
+familyNumber OneRound = 1
+
 abbrev pub seatWords : Seat → List ℕ
 seatWords s =
     s .n ∷ s .f ∷ s .number ∷ s .phase ∷ s .round ∷ bit (s .healed) ∷ bit (s .ended) ∷ heldNumber (s .position)
     ∷ wordOf (heldOr (s .position) (pos 0)) ∷ rangeNumber (s .last) ∷ wordOf (keptOf (s .last) .low) ∷ wordOf (keptOf (s .last) .high)
-    ∷ keptOf (s .last) .trim ∷ wordOf (keptOf (s .last) .position) ∷ []
+    ∷ keptOf (s .last) .trim ∷ wordOf (keptOf (s .last) .position) ∷ familyNumber (s .family) ∷ []
 
 unfoldable pub withHead : Head → List ℕ → List ℕ
 withHead h w =
-    seatWords (h .seat) ++ slice 14 24 w
+    seatWords (h .seat) ++ slice 15 24 w
     ++ (h .heard ∷ h .list .marks ∷ wordsOf (h .list .entries))
     ++ (h .links .confessed ∷ h .links .listed ∷ h .links .marks)
     ++ listWords (h .lists) 32

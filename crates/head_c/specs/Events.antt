@@ -7,6 +7,7 @@ use Prim.Native.Nat.{ℕ}
 use lib.IntN.{ℤ}
 use Rattle.terms.specs.Refusals as refusal
 use Rattle.terms.specs.Refusals.{leaves}
+use Rattle.terms.specs.declared.Family.{Family}
 use Rattle.head_spec.specs.Calls.{start, restart, startListener, restartListener, hear, saidTo, answersTo, close, adopt}
 use Rattle.head_spec.specs.Batch.{entriesOf, batchRefusal}
 use Rattle.head_spec.specs.Proper.{ProperHead}
@@ -17,12 +18,12 @@ use Rattle.head_window.specs.declared.Beside.{Beside}
 use Rattle.head_window.specs.Window.{startedBeside, restartedBeside, closedBeside, adoptedBeside, setRefusal, setBeside}
 use Rattle.head_c.specs.Blocks.{IsBlock, headOf, withAnswer, besideOf, withBeside, offerOf, withoutOffer, withClosing, heardIn, heardEach}
 
--- a call that is lent the block to change; all others are lent it to read
+-- a call that is lent the block to change; all others are lent it to read. K: the family of the ring, which starts and restarts give
 pub data Call : Type 0 where
-  starts : (n f number : ℕ) (position : ℤ) → Call
-  restarts : (n f number phase round : ℕ) → Call
-  startsListener : (n f number : ℕ) → Call
-  restartsListener : (n f number phase round : ℕ) → Call
+  starts : (K : Family) (n f number : ℕ) (position : ℤ) → Call
+  restarts : (K : Family) (n f number phase round : ℕ) → Call
+  startsListener : (K : Family) (n f number : ℕ) → Call
+  restartsListener : (K : Family) (n f number phase round : ℕ) → Call
   hears : (link : ℕ) (frame : List ℕ) → Call
   hearsBatch : (batch : List ℕ) (room : ℕ) → Call
   closes : Call
@@ -31,10 +32,10 @@ pub data Call : Type 0 where
 
 -- the number that it answers
 abbrev pub numberAfter : List ℕ → Call → ℕ
-numberAfter w (starts n f i v) = start (headOf w) n f i v .refusal
-numberAfter w (restarts n f i p r) = restart (headOf w) n f i p r .refusal
-numberAfter w (startsListener n f i) = startListener (headOf w) n f i .refusal
-numberAfter w (restartsListener n f i p r) = restartListener (headOf w) n f i p r .refusal
+numberAfter w (starts K n f i v) = start (headOf w) K n f i v .refusal
+numberAfter w (restarts K n f i p r) = restart (headOf w) K n f i p r .refusal
+numberAfter w (startsListener K n f i) = startListener (headOf w) K n f i .refusal
+numberAfter w (restartsListener K n f i p r) = restartListener (headOf w) K n f i p r .refusal
 numberAfter w (hears k s) = hear (headOf w) k s .refusal
 numberAfter w (hearsBatch s room) = batchRefusal s room
 numberAfter w closes = closedNumber (close (headOf w) .closed)
@@ -43,10 +44,10 @@ numberAfter w (sets at x) = setRefusal at
 
 -- what stands beside the head after it
 abbrev pub besideAfter : List ℕ → Call → Beside
-besideAfter w (starts n f i v) = startedBeside (start (headOf w) n f i v .refusal) (besideOf w)
-besideAfter w (restarts n f i p r) = restartedBeside (restart (headOf w) n f i p r .refusal) (besideOf w)
-besideAfter w (startsListener n f i) = startedBeside (startListener (headOf w) n f i .refusal) (besideOf w)
-besideAfter w (restartsListener n f i p r) = restartedBeside (restartListener (headOf w) n f i p r .refusal) (besideOf w)
+besideAfter w (starts K n f i v) = startedBeside (start (headOf w) K n f i v .refusal) (besideOf w)
+besideAfter w (restarts K n f i p r) = restartedBeside (restart (headOf w) K n f i p r .refusal) (besideOf w)
+besideAfter w (startsListener K n f i) = startedBeside (startListener (headOf w) K n f i .refusal) (besideOf w)
+besideAfter w (restartsListener K n f i p r) = restartedBeside (restartListener (headOf w) K n f i p r .refusal) (besideOf w)
 besideAfter w (hears k s) = besideOf w
 besideAfter w (hearsBatch s room) = besideOf w
 besideAfter w closes = closedBeside (close (headOf w) .closed) (besideOf w)
@@ -55,15 +56,15 @@ besideAfter w (sets at x) = setBeside at x (besideOf w)
 
 -- the block after it, as its contract has it
 unfoldable pub blockAfter : List ℕ → Call → List ℕ
-blockAfter w (starts n f i v) =
-    withoutOffer (numberAfter w (starts n f i v)) (withBeside (besideAfter w (starts n f i v)) (withAnswer w (start (headOf w) n f i v)))
-blockAfter w (restarts n f i p r) =
-    withoutOffer (numberAfter w (restarts n f i p r)) (withBeside (besideAfter w (restarts n f i p r)) (withAnswer w (restart (headOf w) n f i p r)))
-blockAfter w (startsListener n f i) =
-    withoutOffer (numberAfter w (startsListener n f i)) (withBeside (besideAfter w (startsListener n f i)) (withAnswer w (startListener (headOf w) n f i)))
-blockAfter w (restartsListener n f i p r) =
-    withoutOffer (numberAfter w (restartsListener n f i p r))
-    (withBeside (besideAfter w (restartsListener n f i p r)) (withAnswer w (restartListener (headOf w) n f i p r)))
+blockAfter w (starts K n f i v) =
+    withoutOffer (numberAfter w (starts K n f i v)) (withBeside (besideAfter w (starts K n f i v)) (withAnswer w (start (headOf w) K n f i v)))
+blockAfter w (restarts K n f i p r) =
+    withoutOffer (numberAfter w (restarts K n f i p r)) (withBeside (besideAfter w (restarts K n f i p r)) (withAnswer w (restart (headOf w) K n f i p r)))
+blockAfter w (startsListener K n f i) =
+    withoutOffer (numberAfter w (startsListener K n f i)) (withBeside (besideAfter w (startsListener K n f i)) (withAnswer w (startListener (headOf w) K n f i)))
+blockAfter w (restartsListener K n f i p r) =
+    withoutOffer (numberAfter w (restartsListener K n f i p r))
+    (withBeside (besideAfter w (restartsListener K n f i p r)) (withAnswer w (restartListener (headOf w) K n f i p r)))
 blockAfter w (hears k s) = leaves (hear (headOf w) k s .refusal) (heardIn w k (saidTo (headOf w .seat) k s)) w
 blockAfter w (hearsBatch s room) = leaves (batchRefusal s room) (heardEach w (entriesOf s)) w
 blockAfter w closes = withBeside (besideAfter w closes) (withClosing (close (headOf w) .closed) (close (headOf w) .head) w)
@@ -71,12 +72,12 @@ blockAfter w adopts =
     withoutOffer (numberAfter w adopts) (withBeside (besideAfter w adopts) (withAnswer w (adopt (headOf w) (offerOf w))))
 blockAfter w (sets at x) = withBeside (besideAfter w (sets at x)) w
 
--- the offer after it: a start, a restart, an accepted frame and an adoption end it, closing a confession round makes it
+-- the offer after it: a start, a restart, an accepted frame and an adoption end it, closing the last round of a phase makes it
 abbrev pub offerAfter : List ℕ → Call → Offer
-offerAfter w (starts n f i v) = lapsed (numberAfter w (starts n f i v)) (offerOf w)
-offerAfter w (restarts n f i p r) = lapsed (numberAfter w (restarts n f i p r)) (offerOf w)
-offerAfter w (startsListener n f i) = lapsed (numberAfter w (startsListener n f i)) (offerOf w)
-offerAfter w (restartsListener n f i p r) = lapsed (numberAfter w (restartsListener n f i p r)) (offerOf w)
+offerAfter w (starts K n f i v) = lapsed (numberAfter w (starts K n f i v)) (offerOf w)
+offerAfter w (restarts K n f i p r) = lapsed (numberAfter w (restarts K n f i p r)) (offerOf w)
+offerAfter w (startsListener K n f i) = lapsed (numberAfter w (startsListener K n f i)) (offerOf w)
+offerAfter w (restartsListener K n f i p r) = lapsed (numberAfter w (restartsListener K n f i p r)) (offerOf w)
 offerAfter w (hears k s) = lapsed (numberAfter w (hears k s)) (offerOf w)
 offerAfter w (hearsBatch s room) = leaves (batchRefusal s room) (lapsedBy (answersTo (headOf w) (entriesOf s)) (offerOf w)) (offerOf w)
 offerAfter w closes = offered (close (headOf w) .closed) (offerOf w)

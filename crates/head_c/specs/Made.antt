@@ -18,10 +18,10 @@ use Rattle.head_c.specs.Events.{Call, starts, restarts, startsListener, 
 
 -- a start or a restart
 abbrev pub Opens : Call → Type 0
-Opens (starts n f i v) = Unit {0}
-Opens (restarts n f i p r) = Unit {0}
-Opens (startsListener n f i) = Unit {0}
-Opens (restartsListener n f i p r) = Unit {0}
+Opens (starts K n f i v) = Unit {0}
+Opens (restarts K n f i p r) = Unit {0}
+Opens (startsListener K n f i) = Unit {0}
+Opens (restartsListener K n f i p r) = Unit {0}
 Opens (hears k s) = ⊥
 Opens (hearsBatch s room) = ⊥
 Opens closes = ⊥
@@ -30,10 +30,10 @@ Opens (sets at x) = ⊥
 
 -- what is lent as bytes are bytes
 abbrev pub Bytes : Call → Type 0
-Bytes (starts n f i v) = Unit {0}
-Bytes (restarts n f i p r) = Unit {0}
-Bytes (startsListener n f i) = Unit {0}
-Bytes (restartsListener n f i p r) = Unit {0}
+Bytes (starts K n f i v) = Unit {0}
+Bytes (restarts K n f i p r) = Unit {0}
+Bytes (startsListener K n f i) = Unit {0}
+Bytes (restartsListener K n f i p r) = Unit {0}
 Bytes (hears k s) = AllBytes s
 Bytes (hearsBatch s room) = AllBytes s
 Bytes closes = Unit {0}

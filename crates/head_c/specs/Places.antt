@@ -1,7 +1,7 @@
 -- Where each number of a head stands in its block of 1,116 words. src/place.rt has the same table for the code.
 use Prim.Native.Nat.{ℕ}
 
--- ---- the seat; 14 and 15 are room for what it gets later
+-- ---- the seat; 15 is room for what it gets later
 
 abbrev pub n : ℕ
 n = 0
@@ -46,6 +46,10 @@ trim = 12
 
 abbrev pub middle : ℕ
 middle = 13
+
+-- the family: 0 for two rounds, else one (document 02, A9)
+abbrev pub family : ℕ
+family = 14
 
 -- ---- what C keeps beside a head: pending events and mask (document 02, A5), and an offer (A8); 23 is room for more
 

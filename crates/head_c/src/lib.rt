@@ -16,10 +16,11 @@ ghost use Rattle.head_spec.specs.Batch.{isBatch, entriesOf};
 ghost use Rattle.head_hear.specs.Steps.{linkRefusal, saidOn};
 ghost use Rattle.head_lent.specs.Answers.{closedNumber, writtenNumber, writtenOr, heldNumber, heldOr, rangeNumber, rangeOr, offerNumber, offerOr};
 ghost use Rattle.head_spec.specs.declared.Offer.{Offer};
+ghost use Rattle.terms.specs.declared.Family.the-variants.{TwoRounds, OneRound};
 ghost use Rattle.head_window.specs.Window.{startedBeside, restartedBeside};
 ghost use Rattle.head_c.specs.Places as place;
-ghost use Rattle.head_c.specs.Blocks.{IsBlock, upTo, entryIn, rangeIn, numbersAt, listAt, seatOf, headOf};
-ghost use Rattle.head_c.specs.Blocks.{wordsOf, keptOf, seatWords, withHead, withAnswer, besideOf, withBeside, offerOf, withOffer, withoutOffer};
+ghost use Rattle.head_c.specs.Blocks.{IsBlock, upTo, familyIn, entryIn, rangeIn, numbersAt, listAt, seatOf, headOf};
+ghost use Rattle.head_c.specs.Blocks.{wordsOf, keptOf, familyNumber, seatWords, withHead, withAnswer, besideOf, withBeside, offerOf, withOffer, withoutOffer};
 ghost use Rattle.head_c.specs.Blocks.{marked, heardOn, changed, Hears, heardEach, HearsBatch};
 ghost use Rattle.head_c.specs.Events.{starts, restarts, startsListener, restartsListener, closes, adopts, blockAfter};
 ghost use Rattle.head_c.specs.Steps.{numberOf, ClosesIn};
@@ -36,6 +37,7 @@ use settle_midpoint::Kept;
 use settle_midpoint::Settled;
 use settle_trust::Links;
 use terms::Entry;
+use terms::Family;
 use terms::Lists;
 use terms::Table;
 use terms::refusal;
@@ -49,6 +51,16 @@ pub const WORDS: usize = 1116;
 pub type Block = [u32; WORDS];
 
 // ---- The record that a block is.
+
+// The family.
+fn family_in(word: u32) -> Family
+    ensures { λ r. ⌜ r ≡ familyIn word ⌝ }
+{
+    if word == 0 {
+        return Family::TwoRounds;
+    }
+    Family::OneRound
+}
 
 // A position, if one is held.
 fn entry_in(held: u32, position: u32) -> Entry
@@ -81,6 +93,7 @@ fn seat_in(h: &[u32]) -> Seat
     requires { ⌜ IsBlock (now h) ⌝ }
     ensures { λ r. ⌜ r ≡ seatOf (now (h .entry)) ⌝ }
 {
+    let family = family_in(h[place::FAMILY]);
     let position = entry_in(h[place::HELD], h[place::POSITION]);
     let last = range_in(
         h[place::RANGED],
@@ -90,6 +103,7 @@ fn seat_in(h: &[u32]) -> Seat
         h[place::MIDDLE],
     );
     Seat {
+        family,
         n: (h[place::N] % 256) as u8,
         f: (h[place::F] % 256) as u8,
         number: (h[place::NUMBER] % 256) as u8,
@@ -251,11 +265,22 @@ fn kept_of(last: LastKept) -> Kept
     }
 }
 
+// The word of a family.
+fn family_number(family: Family) -> u32
+    ensures { λ r. ⌜ r ≡ familyNumber family ⌝ }
+{
+    match family {
+        Family::TwoRounds => 0,
+        Family::OneRound => 1,
+    }
+}
+
 // Puts the seat.
 fn put_seat(h: &mut [u32], s: Seat)
     requires { ⌜ IsBlock (now h) ⌝ }
-    ensures { λ _. ⌜ now (h .exit) ≡ paste (now (h .entry)) 0 (seatWords s) 14 ⌝ }
+    ensures { λ _. ⌜ now (h .exit) ≡ paste (now (h .entry)) 0 (seatWords s) 15 ⌝ }
 {
+    let family = s.family;
     let e = s.position;
     let last = s.last;
     let kept = kept_of(last);
@@ -273,6 +298,7 @@ fn put_seat(h: &mut [u32], s: Seat)
     h[place::HIGH] = fields::unsigned(kept.high);
     h[place::TRIM] = kept.trim as u32;
     h[place::MIDDLE] = fields::unsigned(kept.position);
+    h[place::FAMILY] = family_number(family);
 }
 
 // Clears what the links gave.
@@ -565,16 +591,25 @@ fn rows_in(h: &[u32]) -> Lists
     out
 }
 
-// What the links gave in a confession round, settled.
+// What the end of a phase settles: in a ring of two rounds from the lists, in one of one round from what was heard.
 fn settled_in(h: &[u32]) -> Settled
     requires { ⌜ IsBlock (now h) ⌝ }
     ensures { λ r. ⌜ r ≡ settlingOf (headOf (now (h .entry))) ⌝ }
 {
     let seat = seat_in(h);
-    let links = links_in(h);
-    let lists = rows_in(h);
+    let family = seat.family;
     let up = steps::rounds_up(seat.phase);
-    settle_position::settle_by(&lists, links, 0, seat.n, seat.f, up)
+    match family {
+        Family::TwoRounds => {
+            let links = links_in(h);
+            let lists = rows_in(h);
+            settle_position::settle_by(&lists, links, 0, seat.n, seat.f, up)
+        }
+        Family::OneRound => {
+            let list = list_in(h);
+            settle_midpoint::settle_table(list, Family::OneRound, seat.n, seat.f, up)
+        }
+    }
 }
 
 // Closes a collection round: the list stands.
@@ -587,10 +622,10 @@ fn close_collection(h: &mut [u32])
     put_opened(h, head_calls::confession_seat(seat), list);
 }
 
-// Closes a confession round: what it settles is offered.
-fn close_confession(h: &mut [u32]) -> Closed
+// Closes the last round of a phase: what it settles is offered.
+fn close_last(h: &mut [u32]) -> Closed
     requires { ⌜ IsBlock (now h) ⌝ }
-    ensures { λ r. ⌜ ClosesIn (closeIn 1 (headOf (now (h .entry)))) (now (h .entry)) r (now (h .exit)) ⌝ }
+    ensures { λ r. ⌜ ClosesIn (closeIn true (headOf (now (h .entry)))) (now (h .entry)) r (now (h .exit)) ⌝ }
 {
     match settled_in(h) {
         Settled::Refused(number) => Closed::Refused(number),
@@ -609,11 +644,11 @@ fn close_in(h: &mut [u32]) -> Closed
     if h[place::ENDED] != 0 {
         return Closed::Refused(refusal::ENDED);
     }
-    if h[place::ROUND] % 256 == 0 {
+    if !head_calls::is_last_round(seat_in(h)) {
         close_collection(h);
         return Closed::Listed;
     }
-    close_confession(h)
+    close_last(h)
 }
 
 // The number of a closing.
@@ -627,16 +662,65 @@ fn closed_number(c: Closed) -> u8
     }
 }
 
+// ---- Starts and restarts in a ring of either family, left in the block.
+
+fn start_in(h: &mut Block, family: Family, n: u32, f: u32, number: u32, position: i32) -> u8
+    ensures { λ r. ⌜ (r ≡ start (headOf (now (h .entry))) family n f number position .refusal)
+        × (now (h .exit) ≡ blockAfter (now (h .entry)) (starts family n f number position)) ⌝ }
+{
+    let a = head_calls::start(head_of(h), family, n, f, number, position);
+    put_start(h, a)
+}
+
+fn restart_in(
+    h: &mut Block,
+    family: Family,
+    n: u32,
+    f: u32,
+    number: u32,
+    phase: u32,
+    round: u32,
+) -> u8
+    ensures { λ r. ⌜ (r ≡ restart (headOf (now (h .entry))) family n f number phase round .refusal)
+        × (now (h .exit) ≡ blockAfter (now (h .entry)) (restarts family n f number phase round)) ⌝ }
+{
+    let a = head_calls::restart(head_of(h), family, n, f, number, phase, round);
+    put_restart(h, a)
+}
+
+fn start_listener_in(h: &mut Block, family: Family, n: u32, f: u32, number: u32) -> u8
+    ensures { λ r. ⌜ (r ≡ startListener (headOf (now (h .entry))) family n f number .refusal)
+        × (now (h .exit) ≡ blockAfter (now (h .entry)) (startsListener family n f number)) ⌝ }
+{
+    let a = head_calls::start_listener(head_of(h), family, n, f, number);
+    put_start(h, a)
+}
+
+fn restart_listener_in(
+    h: &mut Block,
+    family: Family,
+    n: u32,
+    f: u32,
+    number: u32,
+    phase: u32,
+    round: u32,
+) -> u8
+    ensures { λ r. ⌜ (r ≡ restartListener (headOf (now (h .entry))) family n f number phase round .refusal)
+        × (now (h .exit) ≡ blockAfter (now (h .entry)) (restartsListener family n f number phase round)) ⌝ }
+{
+    let a = head_calls::restart_listener(head_of(h), family, n, f, number, phase, round);
+    put_restart(h, a)
+}
+
 // ---- The calls.
 
 // Starts the head with a position, in phase 1: 0, or 1, 2, 3, 4.
 #[no_mangle]
 pub extern "C" fn focus_head_start(h: &mut Block, n: u32, f: u32, number: u32, position: i32) -> u8
-    ensures { λ r. ⌜ (r ≡ start (headOf (now (h .entry))) n f number position .refusal)
-        × (now (h .exit) ≡ blockAfter (now (h .entry)) (starts n f number position)) ⌝ }
+    ensures { λ r. ⌜ (r ≡ start (headOf (now (h .entry))) TwoRounds n f number position .refusal)
+        × (now (h .exit) ≡ blockAfter (now (h .entry)) (starts TwoRounds n f number position)) ⌝ }
 {
-    let a = head_calls::start(head_of(h), n, f, number, position);
-    put_start(h, a)
+    start_in(h, Family::TwoRounds, n, f, number, position)
 }
 
 // Starts a head that was healed, in the phase and round given, with no position: 0, or 1, 2, 3, 5.
@@ -649,21 +733,19 @@ pub extern "C" fn focus_head_restart(
     phase: u32,
     round: u32,
 ) -> u8
-    ensures { λ r. ⌜ (r ≡ restart (headOf (now (h .entry))) n f number phase round .refusal)
-        × (now (h .exit) ≡ blockAfter (now (h .entry)) (restarts n f number phase round)) ⌝ }
+    ensures { λ r. ⌜ (r ≡ restart (headOf (now (h .entry))) TwoRounds n f number phase round .refusal)
+        × (now (h .exit) ≡ blockAfter (now (h .entry)) (restarts TwoRounds n f number phase round)) ⌝ }
 {
-    let a = head_calls::restart(head_of(h), n, f, number, phase, round);
-    put_restart(h, a)
+    restart_in(h, Family::TwoRounds, n, f, number, phase, round)
 }
 
 // Starts a listener, in phase 1, with no position: 0, or 1, 2, 3.
 #[no_mangle]
 pub extern "C" fn focus_listener_start(h: &mut Block, n: u32, f: u32, number: u32) -> u8
-    ensures { λ r. ⌜ (r ≡ startListener (headOf (now (h .entry))) n f number .refusal)
-        × (now (h .exit) ≡ blockAfter (now (h .entry)) (startsListener n f number)) ⌝ }
+    ensures { λ r. ⌜ (r ≡ startListener (headOf (now (h .entry))) TwoRounds n f number .refusal)
+        × (now (h .exit) ≡ blockAfter (now (h .entry)) (startsListener TwoRounds n f number)) ⌝ }
 {
-    let a = head_calls::start_listener(head_of(h), n, f, number);
-    put_start(h, a)
+    start_listener_in(h, Family::TwoRounds, n, f, number)
 }
 
 // Starts a listener that was healed, in the phase and round given, with no position: 0, or 1, 2, 3, 5.
@@ -676,11 +758,68 @@ pub extern "C" fn focus_listener_restart(
     phase: u32,
     round: u32,
 ) -> u8
-    ensures { λ r. ⌜ (r ≡ restartListener (headOf (now (h .entry))) n f number phase round .refusal)
-        × (now (h .exit) ≡ blockAfter (now (h .entry)) (restartsListener n f number phase round)) ⌝ }
+    ensures { λ r. ⌜ (r ≡ restartListener (headOf (now (h .entry))) TwoRounds n f number phase round .refusal)
+        × (now (h .exit) ≡ blockAfter (now (h .entry)) (restartsListener TwoRounds n f number phase round)) ⌝ }
 {
-    let a = head_calls::restart_listener(head_of(h), n, f, number, phase, round);
-    put_restart(h, a)
+    restart_listener_in(h, Family::TwoRounds, n, f, number, phase, round)
+}
+
+// The same in a ring of one round (document 02, A9), with 18 in place of 2; a restart there is in round 0. All other calls serve both families.
+
+// Starts the head with a position, in phase 1: 0, or 1, 18, 3, 4.
+#[no_mangle]
+pub extern "C" fn focus_one_round_start(
+    h: &mut Block,
+    n: u32,
+    f: u32,
+    number: u32,
+    position: i32,
+) -> u8
+    ensures { λ r. ⌜ (r ≡ start (headOf (now (h .entry))) OneRound n f number position .refusal)
+        × (now (h .exit) ≡ blockAfter (now (h .entry)) (starts OneRound n f number position)) ⌝ }
+{
+    start_in(h, Family::OneRound, n, f, number, position)
+}
+
+// Starts a head that was healed, in the phase and round given, with no position: 0, or 1, 18, 3, 5.
+#[no_mangle]
+pub extern "C" fn focus_one_round_restart(
+    h: &mut Block,
+    n: u32,
+    f: u32,
+    number: u32,
+    phase: u32,
+    round: u32,
+) -> u8
+    ensures { λ r. ⌜ (r ≡ restart (headOf (now (h .entry))) OneRound n f number phase round .refusal)
+        × (now (h .exit) ≡ blockAfter (now (h .entry)) (restarts OneRound n f number phase round)) ⌝ }
+{
+    restart_in(h, Family::OneRound, n, f, number, phase, round)
+}
+
+// Starts a listener, in phase 1, with no position: 0, or 1, 18, 3.
+#[no_mangle]
+pub extern "C" fn focus_one_round_listener_start(h: &mut Block, n: u32, f: u32, number: u32) -> u8
+    ensures { λ r. ⌜ (r ≡ startListener (headOf (now (h .entry))) OneRound n f number .refusal)
+        × (now (h .exit) ≡ blockAfter (now (h .entry)) (startsListener OneRound n f number)) ⌝ }
+{
+    start_listener_in(h, Family::OneRound, n, f, number)
+}
+
+// Starts a listener that was healed, in the phase and round given, with no position: 0, or 1, 18, 3, 5.
+#[no_mangle]
+pub extern "C" fn focus_one_round_listener_restart(
+    h: &mut Block,
+    n: u32,
+    f: u32,
+    number: u32,
+    phase: u32,
+    round: u32,
+) -> u8
+    ensures { λ r. ⌜ (r ≡ restartListener (headOf (now (h .entry))) OneRound n f number phase round .refusal)
+        × (now (h .exit) ≡ blockAfter (now (h .entry)) (restartsListener OneRound n f number phase round)) ⌝ }
+{
+    restart_listener_in(h, Family::OneRound, n, f, number, phase, round)
 }
 
 // Hears a frame on a link: 0, or 26, 3, 21, 6, 7, 8, 22, 9, 23, 10, 11.
@@ -712,7 +851,7 @@ pub extern "C" fn focus_head_hear_batch(
     0
 }
 
-// Closes the round: 0, or 26, 25. It ends a collection round; in a confession round it only offers the position.
+// Closes the round: 0, or 26, 25. It ends a collection round; in the last round of a phase it only offers the position.
 #[no_mangle]
 pub extern "C" fn focus_head_close(h: &mut Block) -> u8
     ensures { λ r. ⌜ (r ≡ closedNumber (close (headOf (now (h .entry))) .closed))

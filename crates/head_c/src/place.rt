@@ -1,6 +1,6 @@
 // Where each number of a head stands in its block. specs/Places.antt has the same table.
 
-// Of the seat; 14 and 15 are room for what it gets later.
+// Of the seat; 15 is room for what it gets later.
 pub const N: usize = 0;
 
 pub const F: usize = 1;
@@ -9,7 +9,7 @@ pub const NUMBER: usize = 2;
 
 pub const PHASE: usize = 3;
 
-pub const ROUND: usize = 4; // 0 collection, 1 confession
+pub const ROUND: usize = 4; // 0 collection, 1 confession; in a ring of one round always 0
 
 pub const HEALED: usize = 5; // in healed, ended and held 0 is no, and every other number yes
 
@@ -28,6 +28,8 @@ pub const HIGH: usize = 11;
 pub const TRIM: usize = 12;
 
 pub const MIDDLE: usize = 13;
+
+pub const FAMILY: usize = 14; // 0 for a ring of two rounds, and every other number one of one round
 
 // What C keeps beside a head: pending events and mask, and an offer; 23 is room for more.
 pub const EVENTS: usize = 16;

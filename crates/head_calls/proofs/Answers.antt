@@ -1,6 +1,6 @@
 -- How a call answers: a refusal gives its number with the record that was, and a head that runs is not refused for having ended. And what the checks of a
 -- start or a restart give if they pass, of a head's number as of a listener's.
-use mathlib.Core.Path.{_≡_, ap₂, sym}
+use mathlib.Core.Path.{_≡_, refl, ap₂, sym}
 use mathlib.Core.Logic.{_≢_}
 use mathlib.Core.Bool.{Bool, true, false, cond}
 use Prim.Native.Nat.{ℕ, _≤_}
@@ -9,6 +9,7 @@ use lib.Dec.{ltb}
 use borrow.Author.Tests.{ltb-true}
 use Rattle.terms.specs.Refusals as refusal
 use Rattle.terms.specs.Refusals.{check}
+use Rattle.terms.specs.declared.Family.{Family}
 use Rattle.terms.specs.Sizes.{isListener}
 use Rattle.terms.proofs.Sizes.{listener-small}
 use Rattle.head_spec.specs.declared.Head.{Head}
@@ -28,15 +29,15 @@ runs-on stop go e = rw e
 
 -- ---- the checks pass
 
-pub member-sized : (listens : Bool) (n f i rest : ℕ) → checkMember listens n f i rest ≡ 0 → Sized n f
-member-sized listens n f i rest e = sized n f e .0
+pub member-sized : (K : Family) (listens : Bool) (n f i rest : ℕ) → checkMember K listens n f i rest ≡ 0 → Sized K n f
+member-sized K listens n f i rest e = sized K n f e .0
 
-pub member-small : (listens : Bool) (n f i rest : ℕ) → checkMember listens n f i rest ≡ 0 → i ≤ 47
-member-small true n f i rest e = listener-small i (both-passed (isListener i) true 2 0 (sized n f e .1) .0)
-member-small false n f i rest e = let (S, more) = sized n f e in omega (arith, S .most, ltb-true i n (both-passed (ltb i n) true 2 0 more .0))
+pub member-small : (K : Family) (listens : Bool) (n f i rest : ℕ) → checkMember K listens n f i rest ≡ 0 → i ≤ 47
+member-small K true n f i rest e = listener-small i (both-passed (isListener i) true 2 0 (sized K n f e .1) .0)
+member-small K false n f i rest e = let (S, more) = sized K n f e in omega (arith, S .most, ltb-true i n (both-passed (ltb i n) true 2 0 more .0))
 
-pub proper-restarted-as : (listens : Bool) (n f i p r : ℕ) → checkMember listens n f i (check (isTime p r) refusal.phase 0) ≡ 0
-    → ProperHead (restarted n f i p r)
+pub proper-restarted-as : (K : Family) (listens : Bool) (n f i p r : ℕ) → checkMember K listens n f i (check (isTime K p r) refusal.phase 0) ≡ 0
+    → ProperHead (restarted K n f i p r)
 unfolding restartRefusal restartListenerRefusal
-proper-restarted-as true n f i p r e = proper-restarted-listener n f i p r e
-proper-restarted-as false n f i p r e = proper-restarted n f i p r e
+proper-restarted-as K true n f i p r e = proper-restarted-listener K n f i p r e
+proper-restarted-as K false n f i p r e = proper-restarted K n f i p r e

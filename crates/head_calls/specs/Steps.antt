@@ -6,6 +6,7 @@ use Rattle.terms.specs.Refusals as refusal
 use Rattle.terms.specs.Refusals.{check}
 use Rattle.terms.specs.Sizes.{checkSize, isListener}
 use Rattle.terms.specs.declared.Entry.{Entry}
+use Rattle.terms.specs.declared.Family.{Family}
 use Rattle.frame_spec.specs.declared.Said.{Said}
 use Rattle.head_spec.specs.declared.LastKept.{LastKept}
 use Rattle.head_spec.specs.declared.Seat.{Seat}
@@ -18,14 +19,15 @@ use Rattle.head_spec.specs.Calls.{answer, isTime, restarted}
 abbrev pub isMember : Bool → ℕ → ℕ → Bool
 isMember listens n i = cond listens (isListener i) (ltb i n)
 
--- 1, 2, 3, before the checks that follow
-abbrev pub checkMember : Bool → ℕ → ℕ → ℕ → ℕ → ℕ
-checkMember listens n f i rest = checkSize n f (check (isMember listens n i) refusal.head-number rest)
+-- 1, 2 or 18, 3, before the checks that follow
+abbrev pub checkMember : Family → Bool → ℕ → ℕ → ℕ → ℕ → ℕ
+checkMember K listens n f i rest = checkSize K n f (check (isMember listens n i) refusal.head-number rest)
 
 -- phase 1 opens, with the position that is held, if one is
-abbrev pub openingSeat : ℕ → ℕ → ℕ → Entry → Seat
-openingSeat n f i e =
+abbrev pub openingSeat : Family → ℕ → ℕ → ℕ → Entry → Seat
+openingSeat K n f i e =
     record {
+      family = K;
       n = n;
       f = f;
       number = i;
@@ -38,11 +40,11 @@ openingSeat n f i e =
     }
 
 -- a start of a head or a listener, and a restart
-unfoldable pub startAs : Bool → Head → ℕ → ℕ → ℕ → Entry → ℕ → Answer
-startAs listens h n f i e rest = answer (checkMember listens n f i rest) (opened (openingSeat n f i e) noEntries) h
+unfoldable pub startAs : Family → Bool → Head → ℕ → ℕ → ℕ → Entry → ℕ → Answer
+startAs K listens h n f i e rest = answer (checkMember K listens n f i rest) (opened (openingSeat K n f i e) noEntries) h
 
-unfoldable pub restartAs : Bool → Head → ℕ → ℕ → ℕ → ℕ → ℕ → Answer
-restartAs listens h n f i p r = answer (checkMember listens n f i (check (isTime p r) refusal.phase 0)) (restarted n f i p r) h
+unfoldable pub restartAs : Family → Bool → Head → ℕ → ℕ → ℕ → ℕ → ℕ → Answer
+restartAs K listens h n f i p r = answer (checkMember K listens n f i (check (isTime K p r) refusal.phase 0)) (restarted K n f i p r) h
 
 -- what a head has to say, as the code has it: a list stands beside this
 abbrev pub saidBy : ℕ → Seat → Said

@@ -1,11 +1,13 @@
 // The calls on a head's or a listener's record, by value, other than hearing: start, restart, write, close, adopt. Each promise is one equation with a
 // definition of record's specs/Calls.antt; a refusal gives its number and leaves the record as it was.
 ghost use mathlib.Core.Path.{_≡_};
+ghost use mathlib.Core.Bool.{true};
+ghost use Rattle.terms.specs.Sizes.{roundsOf};
 ghost use Rattle.terms.specs.Refusals.{check};
 ghost use Rattle.head_spec.specs.Record.{noEntries, opened, rows};
 ghost use Rattle.head_spec.specs.Seats.{healedSeat, confessionSeat, nextSeat};
 ghost use Rattle.head_spec.specs.Calls.{isTime, start, restart, startListener, restartListener, writeAnswer, writeBuffer};
-ghost use Rattle.head_spec.specs.Calls.{closedCollection, closedPhase, closeIn, close, adopt};
+ghost use Rattle.head_spec.specs.Calls.{closedCollection, closedPhase, settlingOf, closeIn, isLastRound, close, adopt};
 ghost use Rattle.head_spec.specs.Offers.{lapsed, offered};
 ghost use Rattle.head_calls.specs.Steps.{isMember, checkMember, openingSeat, startAs, restartAs, saidBy};
 use frame_spec::Said;
@@ -22,6 +24,7 @@ use settle_midpoint::Kept;
 use settle_midpoint::Settled;
 use settle_trust::Links;
 use terms::Entry;
+use terms::Family;
 use terms::Lists;
 use terms::Table;
 use terms::refusal;
@@ -59,10 +62,11 @@ pub fn opened(seat: Seat, list: Table) -> Head
 // ---- The seats that calls make.
 
 // A start: phase 1 opens.
-fn opening_seat(n: u8, f: u8, number: u8, held: Entry) -> Seat
-    ensures { λ r. ⌜ r ≡ openingSeat n f number held ⌝ }
+fn opening_seat(family: Family, n: u8, f: u8, number: u8, held: Entry) -> Seat
+    ensures { λ r. ⌜ r ≡ openingSeat family n f number held ⌝ }
 {
     Seat {
+        family,
         n,
         f,
         number,
@@ -76,11 +80,12 @@ fn opening_seat(n: u8, f: u8, number: u8, held: Entry) -> Seat
 }
 
 // A restart: the head is healed, with no position and no kept range.
-fn healed_seat(n: u8, f: u8, number: u8, phase: u16, round: u8) -> Seat
-    ensures { λ r. ⌜ r ≡ healedSeat n f number phase round ⌝ }
+fn healed_seat(family: Family, n: u8, f: u8, number: u8, phase: u16, round: u8) -> Seat
+    ensures { λ r. ⌜ r ≡ healedSeat family n f number phase round ⌝ }
 {
     let none = Entry::Null;
     Seat {
+        family,
         n,
         f,
         number,
@@ -110,12 +115,14 @@ fn next_seat(seat: Seat, kept: Kept) -> Seat
 {
     let held = Entry::Position(kept.position);
     let last = LastKept::Range(kept);
+    let family = seat.family;
     let mut next = Seat {
+        family,
         n: seat.n,
         f: seat.f,
         number: seat.number,
         phase: seat.phase,
-        round: 1,
+        round: seat.round,
         healed: false,
         ended: true,
         position: held,
@@ -148,11 +155,11 @@ fn is_member(listens: bool, n: u32, number: u32) -> bool
     number < n
 }
 
-// Refusals 1, 2 and 3, before the checks that follow.
-fn member_refusal(listens: bool, n: u32, f: u32, number: u32, rest: u8) -> u8
-    ensures { λ r. ⌜ r ≡ checkMember listens n f number rest ⌝ }
+// Refusals 1, 2 or 18, and 3, before the checks that follow.
+fn member_refusal(family: Family, listens: bool, n: u32, f: u32, number: u32, rest: u8) -> u8
+    ensures { λ r. ⌜ r ≡ checkMember family listens n f number rest ⌝ }
 {
-    let size = steps::size_refusal(n, f);
+    let size = steps::size_refusal(family, n, f);
     if size != 0 {
         return size;
     }
@@ -160,75 +167,135 @@ fn member_refusal(listens: bool, n: u32, f: u32, number: u32, rest: u8) -> u8
 }
 
 // Whether there is such a phase, and such a round.
-fn is_time(phase: u32, round: u32) -> bool
-    ensures { λ r. ⌜ r ≡ isTime phase round ⌝ }
+fn is_time(family: Family, phase: u32, round: u32) -> bool
+    ensures { λ r. ⌜ r ≡ isTime family phase round ⌝ }
 {
     if !steps::is_phase(phase) {
         return false;
     }
-    round < 2
+    round < rounds_of(family)
+}
+
+// How many rounds a phase has.
+fn rounds_of(family: Family) -> u32
+    ensures { λ r. ⌜ r ≡ roundsOf family ⌝ }
+{
+    match family {
+        Family::TwoRounds => 2,
+        Family::OneRound => 1,
+    }
 }
 
 // A start of a head or a listener that holds a position or none.
-fn start_as(listens: bool, h: Head, n: u32, f: u32, number: u32, held: Entry, rest: u8) -> Answer
-    ensures { λ r. ⌜ r ≡ startAs listens h n f number held rest ⌝ }
+fn start_as(
+    family: Family,
+    listens: bool,
+    h: Head,
+    n: u32,
+    f: u32,
+    number: u32,
+    held: Entry,
+    rest: u8,
+) -> Answer
+    ensures { λ r. ⌜ r ≡ startAs family listens h n f number held rest ⌝ }
 {
-    let refused = member_refusal(listens, n, f, number, rest);
+    let refused = member_refusal(family, listens, n, f, number, rest);
     if refused != 0 {
         return Answer {
             refusal: refused,
             head: h,
         };
     }
-    let seat = opening_seat(n as u8, f as u8, number as u8, held);
+    let seat = opening_seat(family, n as u8, f as u8, number as u8, held);
     let head = opened(seat, no_entries());
     Answer { refusal: 0, head }
 }
 
 // The record of a head that starts with a position, in phase 1.
-pub fn start(h: Head, n: u32, f: u32, number: u32, position: i32) -> Answer
-    ensures { λ r. ⌜ r ≡ start h n f number position ⌝ }
+pub fn start(h: Head, family: Family, n: u32, f: u32, number: u32, position: i32) -> Answer
+    ensures { λ r. ⌜ r ≡ start h family n f number position ⌝ }
 {
     let last = check(steps::is_position(position), refusal::POSITION, 0);
-    start_as(false, h, n, f, number, Entry::Position(position), last)
+    start_as(
+        family,
+        false,
+        h,
+        n,
+        f,
+        number,
+        Entry::Position(position),
+        last,
+    )
 }
 
 // The record of a listener that starts, in phase 1, with no position.
-pub fn start_listener(h: Head, n: u32, f: u32, number: u32) -> Answer
-    ensures { λ r. ⌜ r ≡ startListener h n f number ⌝ }
+pub fn start_listener(h: Head, family: Family, n: u32, f: u32, number: u32) -> Answer
+    ensures { λ r. ⌜ r ≡ startListener h family n f number ⌝ }
 {
-    start_as(true, h, n, f, number, Entry::Null, 0)
+    start_as(family, true, h, n, f, number, Entry::Null, 0)
 }
 
 // A restart of a head or a listener.
-fn restart_as(listens: bool, h: Head, n: u32, f: u32, number: u32, phase: u32, round: u32) -> Answer
-    ensures { λ r. ⌜ r ≡ restartAs listens h n f number phase round ⌝ }
+fn restart_as(
+    family: Family,
+    listens: bool,
+    h: Head,
+    n: u32,
+    f: u32,
+    number: u32,
+    phase: u32,
+    round: u32,
+) -> Answer
+    ensures { λ r. ⌜ r ≡ restartAs family listens h n f number phase round ⌝ }
 {
-    let last = check(is_time(phase, round), refusal::PHASE, 0);
-    let refused = member_refusal(listens, n, f, number, last);
+    let last = check(is_time(family, phase, round), refusal::PHASE, 0);
+    let refused = member_refusal(family, listens, n, f, number, last);
     if refused != 0 {
         return Answer {
             refusal: refused,
             head: h,
         };
     }
-    let seat = healed_seat(n as u8, f as u8, number as u8, phase as u16, round as u8);
+    let seat = healed_seat(
+        family,
+        n as u8,
+        f as u8,
+        number as u8,
+        phase as u16,
+        round as u8,
+    );
     let head = opened(seat, no_entries());
     Answer { refusal: 0, head }
 }
 
 // The record of a head that was healed, in the phase and round given, with no position.
-pub fn restart(h: Head, n: u32, f: u32, number: u32, phase: u32, round: u32) -> Answer
-    ensures { λ r. ⌜ r ≡ restart h n f number phase round ⌝ }
+pub fn restart(
+    h: Head,
+    family: Family,
+    n: u32,
+    f: u32,
+    number: u32,
+    phase: u32,
+    round: u32,
+) -> Answer
+    ensures { λ r. ⌜ r ≡ restart h family n f number phase round ⌝ }
 {
-    restart_as(false, h, n, f, number, phase, round)
+    restart_as(family, false, h, n, f, number, phase, round)
 }
 
 // The record of a listener that was healed, likewise.
-pub fn restart_listener(h: Head, n: u32, f: u32, number: u32, phase: u32, round: u32) -> Answer
-    ensures { λ r. ⌜ r ≡ restartListener h n f number phase round ⌝ }
+pub fn restart_listener(
+    h: Head,
+    family: Family,
+    n: u32,
+    f: u32,
+    number: u32,
+    phase: u32,
+    round: u32,
+) -> Answer
+    ensures { λ r. ⌜ r ≡ restartListener h family n f number phase round ⌝ }
 {
-    restart_as(true, h, n, f, number, phase, round)
+    restart_as(family, true, h, n, f, number, phase, round)
 }
 
 // What a head has to say; a list stands beside this.
@@ -301,15 +368,31 @@ fn closed_phase(h: Head, kept: Kept) -> Head
     opened(next_seat(seat, kept), no_entries())
 }
 
-// Closes a confession round: the position is offered, and the record stays as it is.
-fn close_confession(h: Head) -> Closing
-    ensures { λ r. ⌜ r ≡ closeIn 1 h ⌝ }
+// What the end of a phase settles: in a ring of two rounds from the lists, in one of one round from what was heard.
+fn settled_by(h: Head) -> Settled
+    ensures { λ r. ⌜ r ≡ settlingOf h ⌝ }
 {
     let seat = h.seat;
-    let lists = h.lists;
-    let links = h.links;
+    let family = seat.family;
     let up = steps::rounds_up(seat.phase);
-    match settle_position::settle(laid_out(lists), links, seat.n, seat.f, up) {
+    match family {
+        Family::TwoRounds => {
+            let lists = h.lists;
+            let links = h.links;
+            settle_position::settle(laid_out(lists), links, seat.n, seat.f, up)
+        }
+        Family::OneRound => {
+            let list = h.list;
+            settle_midpoint::settle_table(list, Family::OneRound, seat.n, seat.f, up)
+        }
+    }
+}
+
+// Closes the last round of a phase: the position is offered, and the record stays as it is.
+fn close_last(h: Head) -> Closing
+    ensures { λ r. ⌜ r ≡ closeIn true h ⌝ }
+{
+    match settled_by(h) {
         Settled::Refused(refused) => Closing {
             closed: Closed::Refused(refused),
             head: h,
@@ -321,7 +404,18 @@ fn close_confession(h: Head) -> Closing
     }
 }
 
-// Closes the round: it ends a collection round, and offers the position of a confession round.
+// Whether the round is the last of its phase.
+pub fn is_last_round(seat: Seat) -> bool
+    ensures { λ r. ⌜ r ≡ isLastRound seat ⌝ }
+{
+    let family = seat.family;
+    match family {
+        Family::TwoRounds => seat.round != 0,
+        Family::OneRound => true,
+    }
+}
+
+// Closes the round: it ends a collection round, and in the last round of a phase it offers the position.
 pub fn close(h: Head) -> Closing
     ensures { λ r. ⌜ r ≡ close h ⌝ }
 {
@@ -332,14 +426,14 @@ pub fn close(h: Head) -> Closing
             head: h,
         };
     }
-    if seat.round == 0 {
+    if !is_last_round(seat) {
         let head = closed_collection(h);
         return Closing {
             closed: Closed::Listed,
             head,
         };
     }
-    close_confession(h)
+    close_last(h)
 }
 
 // ---- The offer beside a head (document 02, A8).

@@ -10,40 +10,57 @@ use head_spec::Closed;
 use head_spec::Head;
 use head_spec::Offer;
 use terms::Entry;
+use terms::Family;
 
-// Starts the record with a position, in phase 1: 0, or 1, 2, 3, 4.
-pub fn start(h: &mut Head, n: u32, f: u32, number: u32, position: i32) -> u8
-    ensures { λ r. ⌜ (r ≡ start (now (h .entry)) n f number position .refusal) × (now (h .exit) ≡ start (now (h .entry)) n f number position .head) ⌝ }
+// Starts the record with a position, in phase 1: 0, or 1, 2 or 18 by the family, 3, 4.
+pub fn start(h: &mut Head, family: Family, n: u32, f: u32, number: u32, position: i32) -> u8
+    ensures { λ r. ⌜ (r ≡ start (now (h .entry)) family n f number position .refusal) × (now (h .exit) ≡ start (now (h .entry)) family n f number position .head) ⌝ }
 {
-    let out = head_calls::start(*h, n, f, number, position);
+    let out = head_calls::start(*h, family, n, f, number, position);
     *h = out.head;
     out.refusal
 }
 
-// Starts the record of a head that was healed, in the phase and round given, with no position: 0, or 1, 2, 3, 5.
-pub fn restart(h: &mut Head, n: u32, f: u32, number: u32, phase: u32, round: u32) -> u8
-    ensures { λ r. ⌜ (r ≡ restart (now (h .entry)) n f number phase round .refusal) × (now (h .exit) ≡ restart (now (h .entry)) n f number phase round .head) ⌝ }
+// Starts the record of a head that was healed, in the phase and round given, with no position: 0, or 1, 2 or 18, 3, 5.
+pub fn restart(
+    h: &mut Head,
+    family: Family,
+    n: u32,
+    f: u32,
+    number: u32,
+    phase: u32,
+    round: u32,
+) -> u8
+    ensures { λ r. ⌜ (r ≡ restart (now (h .entry)) family n f number phase round .refusal) × (now (h .exit) ≡ restart (now (h .entry)) family n f number phase round .head) ⌝ }
 {
-    let out = head_calls::restart(*h, n, f, number, phase, round);
+    let out = head_calls::restart(*h, family, n, f, number, phase, round);
     *h = out.head;
     out.refusal
 }
 
-// Starts the record of a listener, in phase 1, with no position: 0, or 1, 2, 3.
-pub fn start_listener(h: &mut Head, n: u32, f: u32, number: u32) -> u8
-    ensures { λ r. ⌜ (r ≡ startListener (now (h .entry)) n f number .refusal) × (now (h .exit) ≡ startListener (now (h .entry)) n f number .head) ⌝ }
+// Starts the record of a listener, in phase 1, with no position: 0, or 1, 2 or 18, 3.
+pub fn start_listener(h: &mut Head, family: Family, n: u32, f: u32, number: u32) -> u8
+    ensures { λ r. ⌜ (r ≡ startListener (now (h .entry)) family n f number .refusal) × (now (h .exit) ≡ startListener (now (h .entry)) family n f number .head) ⌝ }
 {
-    let out = head_calls::start_listener(*h, n, f, number);
+    let out = head_calls::start_listener(*h, family, n, f, number);
     *h = out.head;
     out.refusal
 }
 
-// Starts the record of a listener that was healed, in the phase and round given, with no position: 0, or 1, 2, 3, 5.
-pub fn restart_listener(h: &mut Head, n: u32, f: u32, number: u32, phase: u32, round: u32) -> u8
-    ensures { λ r. ⌜ (r ≡ restartListener (now (h .entry)) n f number phase round .refusal)
-        × (now (h .exit) ≡ restartListener (now (h .entry)) n f number phase round .head) ⌝ }
+// Starts the record of a listener that was healed, in the phase and round given, with no position: 0, or 1, 2 or 18, 3, 5.
+pub fn restart_listener(
+    h: &mut Head,
+    family: Family,
+    n: u32,
+    f: u32,
+    number: u32,
+    phase: u32,
+    round: u32,
+) -> u8
+    ensures { λ r. ⌜ (r ≡ restartListener (now (h .entry)) family n f number phase round .refusal)
+        × (now (h .exit) ≡ restartListener (now (h .entry)) family n f number phase round .head) ⌝ }
 {
-    let out = head_calls::restart_listener(*h, n, f, number, phase, round);
+    let out = head_calls::restart_listener(*h, family, n, f, number, phase, round);
     *h = out.head;
     out.refusal
 }

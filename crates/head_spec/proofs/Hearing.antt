@@ -17,6 +17,7 @@ use Rattle.marks.proofs.Marks.{bit-none, with-same}
 use Rattle.marks.specs.Marks.{bitOf, withMark}
 use Rattle.convergence.specs.Counting.{Each}
 use Rattle.frame_spec.specs.Said.{Meaning, refused, collected, listed, confessed, said}
+use Rattle.terms.specs.declared.Family.{Family}
 use Rattle.head_spec.specs.declared.Seat.{Seat}
 use Rattle.head_spec.specs.declared.Head.{Head}
 use Rattle.head_spec.specs.Record.{given, heardEntry, givenOf}
@@ -117,21 +118,21 @@ pub record Fresh (h : Head) : Type 0 where
   pub unheard : h .heard ≡ 0
 
 -- start and restart open one
-pub fresh-started : (n f i : ℕ) (v : ℤ) → startRefusal n f i v ≡ 0 → Fresh (started n f i v)
+pub fresh-started : (K : Family) (n f i : ℕ) (v : ℤ) → startRefusal K n f i v ≡ 0 → Fresh (started K n f i v)
 unfolding started
-fresh-started n f i v e = record { proper = proper-started n f i v e; runs = refl; unheard = refl }
+fresh-started K n f i v e = record { proper = proper-started K n f i v e; runs = refl; unheard = refl }
 
-pub fresh-restarted : (n f i p r : ℕ) → restartRefusal n f i p r ≡ 0 → Fresh (restarted n f i p r)
+pub fresh-restarted : (K : Family) (n f i p r : ℕ) → restartRefusal K n f i p r ≡ 0 → Fresh (restarted K n f i p r)
 unfolding restarted
-fresh-restarted n f i p r e = record { proper = proper-restarted n f i p r e; runs = refl; unheard = refl }
+fresh-restarted K n f i p r e = record { proper = proper-restarted K n f i p r e; runs = refl; unheard = refl }
 
-pub fresh-started-listener : (n f i : ℕ) → startListenerRefusal n f i ≡ 0 → Fresh (startedListener n f i)
+pub fresh-started-listener : (K : Family) (n f i : ℕ) → startListenerRefusal K n f i ≡ 0 → Fresh (startedListener K n f i)
 unfolding startedListener
-fresh-started-listener n f i e = record { proper = proper-started-listener n f i e; runs = refl; unheard = refl }
+fresh-started-listener K n f i e = record { proper = proper-started-listener K n f i e; runs = refl; unheard = refl }
 
-pub fresh-restarted-listener : (n f i p r : ℕ) → restartListenerRefusal n f i p r ≡ 0 → Fresh (restarted n f i p r)
+pub fresh-restarted-listener : (K : Family) (n f i p r : ℕ) → restartListenerRefusal K n f i p r ≡ 0 → Fresh (restarted K n f i p r)
 unfolding restarted
-fresh-restarted-listener n f i p r e = record { proper = proper-restarted-listener n f i p r e; runs = refl; unheard = refl }
+fresh-restarted-listener K n f i p r e = record { proper = proper-restarted-listener K n f i p r e; runs = refl; unheard = refl }
 
 module _ (h : Head) (F : Fresh h) where
   abbrev n : ℕ

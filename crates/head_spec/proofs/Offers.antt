@@ -58,10 +58,10 @@ right-closed (Closed.Settled k) h h′ o e r = rw (e .0) (e .1)
 
 right : {h : Head} {o : Offer} {x : LastKept} → Offering h o x → Right h o
 unfolding hear
-right (offering.starts n f i v e) = tt
-right (offering.restarts n f i p r e) = tt
-right (offering.listens n f i e) = tt
-right (offering.listens-again n f i p r e) = tt
+right (offering.starts K n f i v e) = tt
+right (offering.restarts K n f i p r e) = tt
+right (offering.listens K n f i e) = tt
+right (offering.listens-again K n f i p r e) = tt
 right (offering.hears {h = y} {o = o} k s bytes R) = right-heard (hearRefusal y k s) (taken y k (saidTo (y .seat) k s)) y o (right R)
 right (offering.closes {h = y} {o = o} R) = right-closed (close y .closed) y (close y .head) o (closes y) (right R)
 right (offering.adopts R) = tt
@@ -77,10 +77,10 @@ passed-closed Closed.Listed h h′ x e P = rw (e .0) (rw (e .1) at (passed.ends 
 passed-closed (Closed.Settled k) h h′ x e P = rw (e .0) P
 
 passed-on : {h : Head} {o : Offer} {x : LastKept} → Offering h o x → Passed h x
-passed-on (offering.starts n f i v e) = passed.starts n f i v e
-passed-on (offering.restarts n f i p r e) = passed.restarts n f i p r e
-passed-on (offering.listens n f i e) = passed.listens n f i e
-passed-on (offering.listens-again n f i p r e) = passed.listens-again n f i p r e
+passed-on (offering.starts K n f i v e) = passed.starts K n f i v e
+passed-on (offering.restarts K n f i p r e) = passed.restarts K n f i p r e
+passed-on (offering.listens K n f i e) = passed.listens K n f i e
+passed-on (offering.listens-again K n f i p r e) = passed.listens-again K n f i p r e
 passed-on (offering.hears k s bytes R) = passed.hears k s bytes (passed-on R)
 passed-on (offering.closes {h = y} {x = x} R) = passed-closed (close y .closed) y (close y .head) x (closes y) (passed-on R)
 passed-on (offering.adopts {h = y} {k = k} R) = let s = right R in rw (adopted-head y k s) (rw (s .ends) at (passed.ends (passed-on R)))

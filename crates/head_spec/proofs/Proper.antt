@@ -12,18 +12,21 @@ use lib.IntN.{ℤ}
 use borrow.Author.Tests.{leb-true, ltb-true, le-leb, lt-ltb}
 use Rattle.terms.specs.Refusals as refusal
 use Rattle.terms.specs.Refusals.{check}
-use Rattle.terms.specs.Sizes.{isCount, isLimit, isListener, checkSize}
+use Rattle.terms.specs.Sizes.{isCount, isLimit, checkSize, roundsOf, isListener}
 use Rattle.terms.specs.Positions.{isPosition, eqZ}
 use Rattle.terms.specs.declared.Entry.{Entry}
+use Rattle.terms.specs.declared.Family.{Family}
+use Rattle.terms.specs.declared.Family.the-variants.{TwoRounds, OneRound}
 use Rattle.terms.specs.declared.Table.{Table}
 use Rattle.entries.specs.Entries.{entryAt, zeros, numbers}
 use Rattle.entries.specs.Tables.{tableAt}
 use Rattle.marks.proofs.Marks.{bit-none}
 use Rattle.entries.proofs.Entries.{numbers-length}
+use Rattle.convergence.specs.Demand3.{AcceptedSize}
 use Rattle.convergence.proofs.Support.{not-null}
 use Rattle.frame_spec.specs.Proper.{ProperTable}
 use Rattle.terms.proofs.Booleans.{and-both}
-use Rattle.terms.proofs.Sizes.{member-not-listener, listener-small}
+use Rattle.terms.proofs.Sizes.{size-passed, member-not-listener, listener-small}
 use Rattle.frame_spec.proofs.Listing.{numbers-none}
 use Rattle.head_spec.specs.declared.Seat.{Seat}
 use Rattle.head_spec.specs.Record.{noEntries, noLinks, noLists, opened}
@@ -73,18 +76,28 @@ both-passed true false m n e = absurd (omega arith)
 both-passed false b m n e = absurd (omega arith)
 
 -- the checks of the size pass exactly if it is accepted
-pub sized-by : (n f : ℕ) → isCount n ≡ true → isLimit n f ≡ true → Sized n f
-unfolding isCount isLimit
-sized-by n f count limit =
+limit-accepted : (K : Family) (n f : ℕ) → isLimit K n f ≡ true → AcceptedSize K n f
+unfolding isLimit
+limit-accepted TwoRounds n f e = leb-true (7 * f + 2) (2 * n) e
+limit-accepted OneRound n f e = leb-true (4 * f + 1) n e
+
+accepted-limit : (K : Family) (n f : ℕ) → AcceptedSize K n f → isLimit K n f ≡ true
+unfolding isLimit
+accepted-limit TwoRounds n f e = le-leb (7 * f + 2) (2 * n) e
+accepted-limit OneRound n f e = le-leb (4 * f + 1) n e
+
+pub sized-by : (K : Family) (n f : ℕ) → isCount n ≡ true → isLimit K n f ≡ true → Sized K n f
+unfolding isCount
+sized-by K n f count limit =
     let (some, most) = and-both (leb 1 n) (leb n 32) count in
-    record { some = leb-true 1 n some; most = leb-true n 32 most; limit = leb-true (7 * f + 2) (2 * n) limit }
+    record { some = leb-true 1 n some; most = leb-true n 32 most; limit = limit-accepted K n f limit }
 
-pub sized : (n f : ℕ) {rest : ℕ} → checkSize n f rest ≡ 0 → Sized n f × (rest ≡ 0)
-sized n f e = let (count, limit, rest) = both-passed (isCount n) (isLimit n f) 0 1 e in (sized-by n f count limit, rest)
+pub sized : (K : Family) (n f : ℕ) {rest : ℕ} → checkSize K n f rest ≡ 0 → Sized K n f × (rest ≡ 0)
+sized K n f e = let (count, limit, rest) = size-passed K n f _ e in (sized-by K n f count limit, rest)
 
-sized-passes : (n f rest : ℕ) → Sized n f → checkSize n f rest ≡ rest
-unfolding isCount isLimit
-sized-passes n f rest S = rw (le-leb 1 n (S .some), le-leb n 32 (S .most), le-leb (7 * f + 2) (2 * n) (S .limit))
+sized-passes : (K : Family) (n f rest : ℕ) → Sized K n f → checkSize K n f rest ≡ rest
+unfolding isCount
+sized-passes K n f rest S = rw (le-leb 1 n (S .some), le-leb n 32 (S .most), accepted-limit K n f (S .limit))
 
 -- a number is a head's or a listener's, so it is small
 pub number-small : {s : Seat} → ProperSeat s → s .number ≤ 47
@@ -94,31 +107,41 @@ number-small {s} P = go (isListener (s .number)) refl
     go true e = listener-small (s .number) e
     go false e = omega (arith, P .number e, P .size .most)
 
-module _ (n f i : ℕ) where
+-- no phase has more than two rounds
+pub rounds-few : (K : Family) → roundsOf K ≤ 2
+rounds-few TwoRounds = omega arith
+rounds-few OneRound = omega arith
+
+-- a phase begins with round 0
+pub first-round : (K : Family) → 0 < roundsOf K
+first-round TwoRounds = omega arith
+first-round OneRound = omega arith
+
+module _ (K : Family) (n f i : ℕ) where
   -- a head's number is no listener's
-  pub started-head : (v : ℤ) → startRefusal n f i v ≡ 0 → isListener i ≡ false
+  pub started-head : (v : ℤ) → startRefusal K n f i v ≡ 0 → isListener i ≡ false
   unfolding startRefusal
   started-head v e =
-      let (S, rest) = sized n f e in
+      let (S, rest) = sized K n f e in
       member-not-listener i n (ltb-true i n (both-passed (ltb i n) (isPosition v) 2 3 rest .0)) (S .most)
 
-  proper-first : (v : ℤ) → startRefusal n f i v ≡ 0 → ProperSeat (firstSeat n f i v)
+  proper-first : (v : ℤ) → startRefusal K n f i v ≡ 0 → ProperSeat (firstSeat K n f i v)
   unfolding startRefusal
   proper-first v e =
-      let (S, rest) = sized n f e in
+      let (S, rest) = sized K n f e in
       let (number, range, done) = both-passed (ltb i n) (isPosition v) 2 3 rest in
       record {
         size = S;
         number = λ o. ltb-true i n number;
         from-first = omega arith;
         to-last = omega arith;
-        round = omega arith;
+        round = first-round K;
         position = range;
         holds = λ o r h q. not-null q refl;
         last = tt;
       }
 
-  pub proper-started : (v : ℤ) → startRefusal n f i v ≡ 0 → ProperHead (started n f i v)
+  pub proper-started : (v : ℤ) → startRefusal K n f i v ≡ 0 → ProperHead (started K n f i v)
   unfolding started
   proper-started v e = proper-opened (proper-first v e) (no-entries n) (λ r. no-entry)
 
@@ -126,69 +149,69 @@ module _ (n f i : ℕ) where
   exempt : {A : Type 0} → isListener i ≡ true → isListener i ≡ false → A
   exempt e o = absurd (true≢false (sym e ∙ o))
 
-  proper-listener : startListenerRefusal n f i ≡ 0 → ProperSeat (listenerSeat n f i)
+  proper-listener : startListenerRefusal K n f i ≡ 0 → ProperSeat (listenerSeat K n f i)
   unfolding startListenerRefusal
   proper-listener e =
-      let (S, rest) = sized n f e in
+      let (S, rest) = sized K n f e in
       let (listens, none, done) = both-passed (isListener i) true 2 0 rest in
       record {
         size = S;
         number = exempt listens;
         from-first = omega arith;
         to-last = omega arith;
-        round = omega arith;
+        round = first-round K;
         position = tt;
         holds = exempt listens;
         last = tt;
       }
 
-  pub proper-started-listener : startListenerRefusal n f i ≡ 0 → ProperHead (startedListener n f i)
+  pub proper-started-listener : startListenerRefusal K n f i ≡ 0 → ProperHead (startedListener K n f i)
   unfolding startedListener
   proper-started-listener e = proper-opened (proper-listener e) (no-entries n) (λ r. no-entry)
 
   -- b: the test of the number
   proper-healed : (b : Bool) (p r : ℕ) → (b ≡ true → isListener i ≡ false → i < n)
-      → checkSize n f (check b refusal.head-number (check (isTime p r) refusal.phase 0)) ≡ 0 → ProperSeat (healedSeat n f i p r)
+      → checkSize K n f (check b refusal.head-number (check (isTime K p r) refusal.phase 0)) ≡ 0 → ProperSeat (healedSeat K n f i p r)
   proper-healed b p r number e =
-      let (S, rest) = sized n f e in
-      let (member, times, done) = both-passed b (isTime p r) 2 4 rest in
-      let (phase, round) = and-both (leb 1 p && leb p 65535) (ltb r 2) times in
+      let (S, rest) = sized K n f e in
+      let (member, times, done) = both-passed b (isTime K p r) 2 4 rest in
+      let (phase, round) = and-both (leb 1 p && leb p 65535) (ltb r (roundsOf K)) times in
       let (first, last) = and-both (leb 1 p) (leb p 65535) phase in
       record {
         size = S;
         number = number member;
         from-first = leb-true 1 p first;
         to-last = leb-true p 65535 last;
-        round = ltb-true r 2 round;
+        round = ltb-true r (roundsOf K) round;
         position = tt;
         holds = λ o z h q. true≢false h;
         last = tt;
       }
 
-  pub proper-restarted : (p r : ℕ) → restartRefusal n f i p r ≡ 0 → ProperHead (restarted n f i p r)
+  pub proper-restarted : (p r : ℕ) → restartRefusal K n f i p r ≡ 0 → ProperHead (restarted K n f i p r)
   unfolding restarted restartRefusal
   proper-restarted p r e = proper-opened (proper-healed (ltb i n) p r (λ t o. ltb-true i n t) e) (no-entries n) (λ z. no-entry)
 
-  pub proper-restarted-listener : (p r : ℕ) → restartListenerRefusal n f i p r ≡ 0 → ProperHead (restarted n f i p r)
+  pub proper-restarted-listener : (p r : ℕ) → restartListenerRefusal K n f i p r ≡ 0 → ProperHead (restarted K n f i p r)
   unfolding restarted restartListenerRefusal
   proper-restarted-listener p r e = proper-opened (proper-healed (isListener i) p r exempt e) (no-entries n) (λ z. no-entry)
 
   -- in a ring of an accepted size no start at a position is refused, and no restart in phases 1 to 65,535
-  module _ (S : Sized n f) (l : i < n) where
-    pub start-accepted : (v : ℤ) → isPosition v ≡ true → startRefusal n f i v ≡ 0
+  module _ (S : Sized K n f) (l : i < n) where
+    pub start-accepted : (v : ℤ) → isPosition v ≡ true → startRefusal K n f i v ≡ 0
     unfolding startRefusal
-    start-accepted v h = sized-passes n f _ S ∙ rw (lt-ltb i n l, h)
+    start-accepted v h = sized-passes K n f _ S ∙ rw (lt-ltb i n l, h)
 
-    pub restart-accepted : (p r : ℕ) → 1 ≤ p → p ≤ 65535 → r < 2 → restartRefusal n f i p r ≡ 0
+    pub restart-accepted : (p r : ℕ) → 1 ≤ p → p ≤ 65535 → r < roundsOf K → restartRefusal K n f i p r ≡ 0
     unfolding restartRefusal
-    restart-accepted p r a b c = sized-passes n f _ S ∙ rw (lt-ltb i n l, le-leb 1 p a, le-leb p 65535 b, lt-ltb r 2 c)
+    restart-accepted p r a b c = sized-passes K n f _ S ∙ rw (lt-ltb i n l, le-leb 1 p a, le-leb p 65535 b, lt-ltb r (roundsOf K) c)
 
   -- nor any of a listener
-  module _ (S : Sized n f) (listens : isListener i ≡ true) where
-    pub start-listener-accepted : startListenerRefusal n f i ≡ 0
+  module _ (S : Sized K n f) (listens : isListener i ≡ true) where
+    pub start-listener-accepted : startListenerRefusal K n f i ≡ 0
     unfolding startListenerRefusal
-    start-listener-accepted = sized-passes n f _ S ∙ rw listens
+    start-listener-accepted = sized-passes K n f _ S ∙ rw listens
 
-    pub restart-listener-accepted : (p r : ℕ) → 1 ≤ p → p ≤ 65535 → r < 2 → restartListenerRefusal n f i p r ≡ 0
+    pub restart-listener-accepted : (p r : ℕ) → 1 ≤ p → p ≤ 65535 → r < roundsOf K → restartListenerRefusal K n f i p r ≡ 0
     unfolding restartListenerRefusal
-    restart-listener-accepted p r a b c = sized-passes n f _ S ∙ rw (listens, le-leb 1 p a, le-leb p 65535 b, lt-ltb r 2 c)
+    restart-listener-accepted p r a b c = sized-passes K n f _ S ∙ rw (listens, le-leb 1 p a, le-leb p 65535 b, lt-ltb r (roundsOf K) c)

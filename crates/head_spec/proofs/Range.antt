@@ -14,6 +14,8 @@ use lib.Signed.{leZ, _≤ℤ_}
 use denote.Floats.{passes, is-true}
 use Rattle.terms.specs.Positions.{isPosition, half}
 use Rattle.terms.specs.declared.Entry.{Entry}
+use Rattle.terms.specs.declared.Family.{Family}
+use Rattle.terms.specs.declared.Family.the-variants.{TwoRounds, OneRound}
 use Rattle.terms.specs.declared.Entry.the-variants.{Null, Position}
 use Rattle.terms.specs.declared.Table.{Table}
 use Rattle.terms.proofs.Whole.{arithZ, sum-lin, half-lin}
@@ -21,7 +23,7 @@ use Rattle.marks.specs.Marks.{bitOf}
 use Rattle.entries.specs.Entries.{entryAt, fits}
 use Rattle.entries.specs.Tables.{tableAt}
 use Rattle.convergence.specs.Counting.{Each}
-use Rattle.convergence.specs.Settling.{place, insert, put, trim, ordered, lowKept, highKept, middle}
+use Rattle.convergence.specs.Settling.{place, insert, put, trim, ruleOf, ordered, lowKept, highKept, middle}
 use Rattle.convergence.specs.Trust.{nothing, confessed, gave, saysOf}
 use Rattle.convergence.proofs.Sums.{each-last, each-less}
 use Rattle.convergence.proofs.Support.{not-null, trusted-in-range}
@@ -30,7 +32,7 @@ use Rattle.terms.proofs.Booleans.{and-both}
 use Rattle.settle_midpoint.specs.Answers.{kept}
 use Rattle.settle_trust.specs.Received.{givenBy}
 use Rattle.head_spec.specs.declared.Head.{Head}
-use Rattle.head_spec.specs.Record.{given, trustedBy}
+use Rattle.head_spec.specs.Record.{given, trustedBy, entriesBy}
 use Rattle.head_spec.proofs.Proper.{ProperKept, listFrom, ProperHead}
 
 -- ---- positions in range
@@ -88,14 +90,18 @@ trim-small : (f z : ℕ) → trim f z ≤ f
 unfolding trim
 trim-small f z = by-cases (decLe z f) (λ k. rw le-leb (omega arith)) (λ k. let l : f < z = omega arith in rw lt-leb (omega arith))
 
+rule-trim : (K : Family) (f z : ℕ) → ruleOf K f .trim z ≤ f
+rule-trim TwoRounds f z = trim-small f z
+rule-trim OneRound f z = omega arith
+
 -- what is kept of entries in range
-pub kept-proper : (r n f z : ℕ) (E : ℕ → Entry) → r ≤ 1 → InRange n E → ProperKept f (kept r (trim f z) (ordered n E))
+pub kept-proper : (K : Family) (r n f z : ℕ) (E : ℕ → Entry) → r ≤ 1 → InRange n E → ProperKept f (kept r (ruleOf K f .trim z) (ordered n E))
 unfolding middle lowKept highKept
-kept-proper r n f z E small h =
+kept-proper K r n f z E small h =
     let a = ordered-positions n E h in
     let low = position-at (ordered n E) _ a in
     let high = position-at (ordered n E) _ a in
-    record { low = low; high = high; trim = trim-small f z; position = half-position r _ _ small low high }
+    record { low = low; high = high; trim = rule-trim K f z; position = half-position r _ _ small low high }
 
 -- ---- trusted entries
 
@@ -119,3 +125,8 @@ module _ (h : Head) (P : ProperHead h) where
       says k m w true b q = absurd (not-null refl q)
       says k m w false true q = listed-position (h .seat .n) (listFrom (h .links) (h .lists) k) (P .links .tables k m) j l w q
       says k m w false false q = absurd (not-null refl q)
+
+  -- the entries from which a phase end settles
+  pub entries-positions : (K : Family) → InRange (h .seat .n) (entriesBy K h)
+  entries-positions TwoRounds = trusted-positions
+  entries-positions OneRound = listed-position (h .seat .n) (h .list) (P .list)

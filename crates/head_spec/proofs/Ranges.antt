@@ -8,18 +8,18 @@ use borrow.Author.Tests.{leb-true}
 use Rattle.terms.specs.Refusals as refusal
 use Rattle.terms.specs.Sizes.{isListener}
 use Rattle.terms.specs.declared.Entry.{Entry}
-use Rattle.convergence.specs.Settling.{nulls, midpoint, enough}
+use Rattle.convergence.specs.Settling.{nulls, ruleOf, midpoint, enough}
 use Rattle.convergence.specs.Phases.{rounding}
-use Rattle.convergence.proofs.Demand3.{rounding-le}
-use Rattle.convergence.proofs.OnePhase.{in-kept}
+use Rattle.convergence.proofs.Demand3.{rounding-le, keeps-one}
+use Rattle.convergence.proofs.Kept.{in-kept}
 use Rattle.settle_midpoint.specs.Answers.{settling}
 use Rattle.settle_midpoint.specs.declared.Settled.{Settled}
 use Rattle.head_spec.specs.declared.LastKept.{LastKept}
 use Rattle.head_spec.specs.declared.Seat.{Seat}
 use Rattle.head_spec.specs.declared.Head.{Head}
 use Rattle.head_spec.specs.declared.Closed.{Closed}
-use Rattle.head_spec.specs.Record.{trustedBy}
-use Rattle.head_spec.specs.Calls.{started, restarted, startedListener, closedCollection, closedPhase, closing, endSettled, endIn, endRound}
+use Rattle.head_spec.specs.Record.{entriesBy}
+use Rattle.head_spec.specs.Calls.{started, restarted, startedListener, closedCollection, closedPhase, closing, endSettled, endIn, isLastRound, endRound}
 use Rattle.head_spec.specs.Demand2.{Reachable}
 use Rattle.head_spec.specs.Demand2 as reachable
 use Rattle.head_spec.specs.Ranges.{passing, Passed, HoldsPassed, InRange, PassedInRange, ListenerHoldsNone}
@@ -39,20 +39,20 @@ held-ending (Closed.Settled k) h h′ x a e = ap (λ (y : Head). y .seat .last) 
 
 pub holds-passed : HoldsPassed
 unfolding started restarted startedListener
-holds-passed h x (passed.starts n f i v e) = refl
-holds-passed h x (passed.restarts n f i p r e) = refl
-holds-passed h x (passed.listens n f i e) = refl
-holds-passed h x (passed.listens-again n f i p r e) = refl
+holds-passed h x (passed.starts K n f i v e) = refl
+holds-passed h x (passed.restarts K n f i p r e) = refl
+holds-passed h x (passed.listens K n f i e) = refl
+holds-passed h x (passed.listens-again K n f i p r e) = refl
 holds-passed h x (passed.hears {h = y} k s bytes P) = rw (hear-keeps y k s) (holds-passed y x P)
 holds-passed h x (passed.ends {h = y} {x = z} P) = held-ending (endRound y .closed) y (endRound y .head) z (answers y) (holds-passed y z P)
 
 -- ---- the position lies in it
 
 pub reached : {h : Head} {x : LastKept} → Passed h x → Reachable h
-reached (passed.starts n f i v e) = reachable.starts n f i v e
-reached (passed.restarts n f i p r e) = reachable.restarts n f i p r e
-reached (passed.listens n f i e) = reachable.listens n f i e
-reached (passed.listens-again n f i p r e) = reachable.listens-again n f i p r e
+reached (passed.starts K n f i v e) = reachable.starts K n f i v e
+reached (passed.restarts K n f i p r e) = reachable.restarts K n f i p r e
+reached (passed.listens K n f i e) = reachable.listens K n f i e
+reached (passed.listens-again K n f i p r e) = reachable.listens-again K n f i p r e
 reached (passed.hears k s bytes P) = reachable.hears k s bytes (reached P)
 reached (passed.ends P) = reachable.ends (reached P)
 
@@ -64,29 +64,32 @@ module _ (h : Head) (P : ProperHead h) where
   settled-sound : enoughTrusted h ≡ true → InRange (settledBy h)
   unfolding enough midpoint
   settled-sound e =
-      let few : nulls (h .seat .n) (trustedBy h) ≤ 3 * h .seat .f = leb-true _ _ e in
-      let (above, below) = in-kept (h .seat .n) (h .seat .f) (P .seat .size .limit) (trustedBy h) few (rounding (h .seat .phase)) (rounding-le (h .seat .phase)) in
+      let K = h .seat .family in
+      let E = entriesBy K h in
+      let few : nulls (h .seat .n) E ≤ ruleOf K (h .seat .f) .most = leb-true _ _ e in
+      let some = keeps-one K (h .seat .n) (h .seat .f) (P .seat .size .limit) E few in
+      let (above, below) = in-kept (h .seat .n) (ruleOf K (h .seat .f)) E some (rounding (h .seat .phase)) (rounding-le (h .seat .phase)) in
       record { above = above; below = below }
 
   ended-sound : Sound (h .seat .last) → Sound (endRound h .head .seat .last)
   unfolding endRound settling closedCollection closedPhase
-  ended-sound s = go (h .seat .ended) (h .seat .round)
+  ended-sound s = go (h .seat .ended) (isLastRound (h .seat))
     where
       settles : (c : Bool) → enoughTrusted h ≡ c → Sound (endSettled (cond c (Settled.New (settledBy h)) (Settled.Refused refusal.trusted)) h .head .seat .last)
       settles true e = settled-sound e
       settles false e = s
 
-      go : (b : Bool) (r : ℕ) → Sound (cond b (closing (Closed.Refused refusal.ended) h) (endIn r h) .head .seat .last)
+      go : (b r : Bool) → Sound (cond b (closing (Closed.Refused refusal.ended) h) (endIn r h) .head .seat .last)
       go true r = s
-      go false zero = s
-      go false (suc r) = settles (enoughTrusted h) refl
+      go false false = s
+      go false true = settles (enoughTrusted h) refl
 
 sound : {h : Head} {x : LastKept} → Passed h x → Sound (h .seat .last)
 unfolding started restarted startedListener
-sound (passed.starts n f i v e) = tt
-sound (passed.restarts n f i p r e) = tt
-sound (passed.listens n f i e) = tt
-sound (passed.listens-again n f i p r e) = tt
+sound (passed.starts K n f i v e) = tt
+sound (passed.restarts K n f i p r e) = tt
+sound (passed.listens K n f i e) = tt
+sound (passed.listens-again K n f i p r e) = tt
 sound (passed.hears {h = x} k s bytes P) = rw (hear-keeps x k s) (sound P)
 sound (passed.ends {h = x} P) = ended-sound x (demand-2 .proper x (reached P)) (sound P)
 
@@ -107,10 +110,10 @@ none-ending (Closed.Settled k) h h′ x a e none = let z : _≡_ {A = ℕ} 0 1 =
 
 none-held : {h : Head} {x : LastKept} → Passed h x → x ≡ LastKept.Nothing → None (h .seat)
 unfolding started restarted startedListener
-none-held (passed.starts n f i v r) e = λ l. absurd (true≢false (sym l ∙ started-head n f i v r))
-none-held (passed.restarts n f i p r c) e = λ l. refl
-none-held (passed.listens n f i c) e = λ l. refl
-none-held (passed.listens-again n f i p r c) e = λ l. refl
+none-held (passed.starts K n f i v r) e = λ l. absurd (true≢false (sym l ∙ started-head K n f i v r))
+none-held (passed.restarts K n f i p r c) e = λ l. refl
+none-held (passed.listens K n f i c) e = λ l. refl
+none-held (passed.listens-again K n f i p r c) e = λ l. refl
 none-held (passed.hears {h = y} k s bytes P) e = rw (hear-keeps y k s) (none-held P e)
 none-held (passed.ends {h = y} {x = z} P) e = none-ending (endRound y .closed) y (endRound y .head) z (answers y) e (λ q. none-held P q)
 

@@ -1,4 +1,4 @@
--- Closing a round. It ends a collection round. In a confession round it answers what the end of the round would, and the record stays as it is.
+-- Closing a round. It ends a collection round. In the last round of a phase it answers what the end of the round would, and the record stays as it is.
 use mathlib.Core.Path.{_≡_, refl}
 use mathlib.Core.Bool.{Bool, true, false, cond}
 use Prim.Native.Nat.{ℕ, zero, suc}
@@ -9,18 +9,18 @@ use Rattle.settle_midpoint.specs.declared.Settled.{Settled}
 use Rattle.head_spec.specs.declared.Head.{Head}
 use Rattle.head_spec.specs.declared.Closed.{Closed}
 use Rattle.head_spec.specs.declared.Closing.{Closing}
-use Rattle.head_spec.specs.Calls.{closedCollection, closedPhase, closing, settlingOf, endSettled, endIn, endRound, offerSettled, closeIn, close}
+use Rattle.head_spec.specs.Calls.{closedCollection, closedPhase, closing, settlingOf, endSettled, endIn, endRound, offerSettled, closeIn, isLastRound, close}
 use Rattle.head_spec.proofs.Proper.{ProperKept, ProperHead}
 use Rattle.head_spec.proofs.RoundEnd.{settledBy, enoughTrusted, proper-collection, settled-proper}
 
 module _ (h : Head) (runs : h .seat .ended ≡ false) where
-  pub closes-collection : h .seat .round ≡ 0 → close h ≡ closing Closed.Listed (closedCollection h)
+  pub closes-collection : isLastRound (h .seat) ≡ false → close h ≡ closing Closed.Listed (closedCollection h)
   unfolding close
   closes-collection r = rw (runs, r)
 
-  pub closes-confession : h .seat .round ≡ 1 → close h ≡ offerSettled (settlingOf h) h
+  pub closes-last : isLastRound (h .seat) ≡ true → close h ≡ offerSettled (settlingOf h) h
   unfolding close
-  closes-confession r = rw (runs, r)
+  closes-last r = rw (runs, r)
 
 -- ---- what is answered, what is held then, and what the end of the round is
 
@@ -36,23 +36,23 @@ Closes Closed.Listed h h′ = (h′ ≡ closedCollection h) × (endRound h ≡ c
 Closes (Closed.Settled k) h h′ = (h′ ≡ h) × Stands h k
 
 -- the end of the round, where its seat is known
-end-by : (h : Head) {b : Bool} {r : ℕ} → h .seat .ended ≡ b → h .seat .round ≡ r → endRound h ≡ cond b (closing (Closed.Refused refusal.ended) h) (endIn r h)
+end-by : (h : Head) {b r : Bool} → h .seat .ended ≡ b → isLastRound (h .seat) ≡ r → endRound h ≡ cond b (closing (Closed.Refused refusal.ended) h) (endIn r h)
 unfolding endRound
 end-by h e q = rw (e, q)
 
 pub closes : (h : Head) → Closes (close h .closed) h (close h .head)
 unfolding close
-closes h = go (h .seat .ended) (h .seat .round) refl refl
+closes h = go (h .seat .ended) (isLastRound (h .seat)) refl refl
   where
     settles : (s : Settled) → h .seat .ended ≡ false → endRound h ≡ endSettled s h → Closes (offerSettled s h .closed) h (offerSettled s h .head)
     settles (Settled.Refused c) runs e = (refl, e)
     settles (Settled.New k) runs e = (refl, record { runs = runs; ends = e })
 
-    go : (b : Bool) (r : ℕ) → h .seat .ended ≡ b → h .seat .round ≡ r
+    go : (b r : Bool) → h .seat .ended ≡ b → isLastRound (h .seat) ≡ r
         → let a = cond b (closing (Closed.Refused refusal.ended) h) (closeIn r h) in Closes (a .closed) h (a .head)
     go true r e q = (refl, end-by h e q)
-    go false zero e q = (refl, end-by h e q)
-    go false (suc r) e q = settles (settlingOf h) e (end-by h e q)
+    go false false e q = (refl, end-by h e q)
+    go false true e q = settles (settlingOf h) e (end-by h e q)
 
 -- a closing that is refused, and one that offers, leave the record; one that offers says what the round settles
 pub refused-stays : (h : Head) {c : ℕ} → close h .closed ≡ Closed.Refused c → close h .head ≡ h
@@ -77,16 +77,16 @@ module _ (h : Head) (P : ProperHead h) where
 
   both : Kept-proper (close h)
   unfolding close settling
-  both = go (h .seat .ended) (h .seat .round)
+  both = go (h .seat .ended) (isLastRound (h .seat)) refl
     where
       settles : (c : Bool) → Kept-proper (offerSettled (cond c (Settled.New (settledBy h)) (Settled.Refused refusal.trusted)) h)
       settles true = (P, settled-proper h P)
       settles false = (P, tt)
 
-      go : (b : Bool) (r : ℕ) → Kept-proper (cond b (closing (Closed.Refused refusal.ended) h) (closeIn r h))
-      go true r = (P, tt)
-      go false zero = (proper-collection h P, tt)
-      go false (suc r) = settles (enoughTrusted h)
+      go : (b r : Bool) → isLastRound (h .seat) ≡ r → Kept-proper (cond b (closing (Closed.Refused refusal.ended) h) (closeIn r h))
+      go true r c = (P, tt)
+      go false false c = (proper-collection h P c, tt)
+      go false true c = settles (enoughTrusted h)
 
   pub proper-close : ProperHead (close h .head)
   proper-close = both .0

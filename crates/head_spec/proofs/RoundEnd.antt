@@ -1,13 +1,16 @@
--- The end of a round. A collection round is never refused. A confession round is refused 25 exactly if too few entries are trusted, and else the record
+-- The end of a round. A collection round is never refused. The last round of a phase is refused 25 exactly if too many entries are null, and else the record
 -- holds the position that was answered. What the end makes is a round just opened, and a proper record stays proper.
-use mathlib.Core.Path.{_≡_, refl, ap}
-use mathlib.Core.Bool.{Bool, true, false, cond}
+use mathlib.Core.Path.{_≡_, refl, ap, sym, _∙_}
+use mathlib.Core.Bool.{Bool, true, false, cond, true≢false}
 use Prim.Native.Nat.{ℕ, zero, suc, _+_, _≤_, _<_}
 use native.Mathlib.Omega.{arith}
 use borrow.Author.Tests.{leb-false, le-leb, lt-leb}
 use Rattle.terms.specs.Refusals as refusal
+use Rattle.terms.specs.Sizes.{roundsOf, endsWith}
 use Rattle.terms.specs.declared.Entry.{Entry}
-use Rattle.convergence.specs.Settling.{nulls, trim, twoRounds, ordered, midpoint, enough}
+use Rattle.terms.specs.declared.Family.{Family}
+use Rattle.terms.specs.declared.Family.the-variants.{TwoRounds, OneRound}
+use Rattle.convergence.specs.Settling.{nulls, ruleOf, ordered, midpoint, enough}
 use Rattle.convergence.specs.Phases.{rounding}
 use Rattle.convergence.proofs.Demand3.{rounding-le}
 use Rattle.convergence.proofs.Support.{not-null}
@@ -18,41 +21,50 @@ use Rattle.head_spec.specs.declared.LastKept.{LastKept}
 use Rattle.head_spec.specs.declared.Seat.{Seat}
 use Rattle.head_spec.specs.declared.Head.{Head}
 use Rattle.head_spec.specs.declared.Closed.{Closed}
-use Rattle.head_spec.specs.Record.{trustedBy}
+use Rattle.head_spec.specs.Record.{entriesBy}
 use Rattle.head_spec.specs.Seats.{confessionSeat, isLast, nextSeat}
-use Rattle.head_spec.specs.Calls.{closedCollection, closedPhase, closing, settlingOf, endSettled, endIn, endRound}
-use Rattle.head_spec.proofs.Proper.{ProperKept, ProperSeat, ProperHead, no-entries, no-entry, proper-opened}
+use Rattle.head_spec.specs.Calls.{closedCollection, closedPhase, closing, settlingOf, endSettled, endIn, isLastRound, endRound}
+use Rattle.head_spec.proofs.Proper.{ProperKept, ProperSeat, ProperHead, first-round, no-entries, no-entry, proper-opened}
 use Rattle.head_spec.proofs.Hearing.{Fresh}
-use Rattle.head_spec.proofs.Range.{kept-proper, trusted-positions}
+use Rattle.head_spec.proofs.Range.{kept-proper, entries-positions}
 
 -- what is settled from what was heard
 abbrev pub settledBy : Head → Kept
-settledBy h = kept (rounding (h .seat .phase)) (trim (h .seat .f) (nulls (h .seat .n) (trustedBy h))) (ordered (h .seat .n) (trustedBy h))
+settledBy h =
+    let E = entriesBy (h .seat .family) h in
+    kept (rounding (h .seat .phase)) (ruleOf (h .seat .family) (h .seat .f) .trim (nulls (h .seat .n) E)) (ordered (h .seat .n) E)
 
--- not more than 3f nulls among the trusted entries
+-- not more nulls among the entries than are taken
 abbrev pub enoughTrusted : Head → Bool
-enoughTrusted h = enough (h .seat .n) (twoRounds (h .seat .f)) (trustedBy h)
+enoughTrusted h = enough (h .seat .n) (ruleOf (h .seat .family) (h .seat .f)) (entriesBy (h .seat .family) h)
+
+-- what the end of a phase settles, by the family that the seat names
+pub settles-by : (h : Head) {K : Family} → h .seat .family ≡ K
+    → settling (rounding (h .seat .phase)) (h .seat .n) (ruleOf K (h .seat .f)) (entriesBy K h) ≡ settlingOf h
+settles-by h e = ap (λ (k : Family). settling (rounding (h .seat .phase)) (h .seat .n) (ruleOf k (h .seat .f)) (entriesBy k h)) (sym e)
+
+settling-is : (h : Head) {b : Bool} → enoughTrusted h ≡ b → settlingOf h ≡ cond b (Settled.New (settledBy h)) (Settled.Refused refusal.trusted)
+unfolding settling
+settling-is h e = ap (λ (x : Bool). cond x (Settled.New (settledBy h)) (Settled.Refused refusal.trusted)) e
 
 module _ (h : Head) (runs : h .seat .ended ≡ false) where
-  pub ends-collection : h .seat .round ≡ 0 → endRound h ≡ closing Closed.Listed (closedCollection h)
+  pub ends-collection : isLastRound (h .seat) ≡ false → endRound h ≡ closing Closed.Listed (closedCollection h)
   unfolding endRound
   ends-collection r = rw (runs, r)
 
-  module _ (confession : h .seat .round ≡ 1) where
-    pub ends-confession : endRound h ≡ endSettled (settlingOf h) h
+  module _ (confession : isLastRound (h .seat) ≡ true) where
+    pub ends-last : endRound h ≡ endSettled (settlingOf h) h
     unfolding endRound
-    ends-confession = rw (runs, confession)
+    ends-last = rw (runs, confession)
 
     pub ends-phase : enoughTrusted h ≡ true → endRound h ≡ closing (Closed.Settled (settledBy h)) (closedPhase h (settledBy h))
-    unfolding endRound settling
-    ends-phase e = rw (runs, confession, e)
+    ends-phase e = ends-last ∙ ap (λ (s : Settled). endSettled s h) (settling-is h e)
 
     pub too-few-trusted : enoughTrusted h ≡ false → endRound h ≡ closing (Closed.Refused refusal.trusted) h
-    unfolding endRound settling
-    too-few-trusted e = rw (runs, confession, e)
+    too-few-trusted e = ends-last ∙ ap (λ (s : Settled). endSettled s h) (settling-is h e)
 
 -- the new position is the midpoint
-pub settled-midpoint : (h : Head) → settledBy h .position ≡ midpoint (rounding (h .seat .phase)) (h .seat .n) (twoRounds (h .seat .f)) (trustedBy h)
+pub settled-midpoint : (h : Head) → settledBy h .position ≡ midpoint (rounding (h .seat .phase)) (h .seat .n) (ruleOf (h .seat .family) (h .seat .f)) (entriesBy (h .seat .family) h)
 unfolding midpoint
 settled-midpoint h = refl
 
@@ -70,16 +82,16 @@ Answers (Closed.Settled k) h h′ = h′ ≡ closedPhase h k
 
 pub answers : (h : Head) → Answers (endRound h .closed) h (endRound h .head)
 unfolding endRound
-answers h = go (h .seat .ended) (h .seat .round)
+answers h = go (h .seat .ended) (isLastRound (h .seat))
   where
     settles : (s : Settled) → Answers (endSettled s h .closed) h (endSettled s h .head)
     settles (Settled.Refused c) = refl
     settles (Settled.New k) = refl
 
-    go : (b : Bool) (r : ℕ) → let a = cond b (closing (Closed.Refused refusal.ended) h) (endIn r h) in Answers (a .closed) h (a .head)
+    go : (b r : Bool) → let a = cond b (closing (Closed.Refused refusal.ended) h) (endIn r h) in Answers (a .closed) h (a .head)
     go true r = refl
-    go false zero = refl
-    go false (suc r) = settles (settlingOf h)
+    go false false = refl
+    go false true = settles (settlingOf h)
 
 -- an end that settles: the record holds the position answered, with its kept range
 pub settled-held : (h : Head) {k : Kept} → endRound h .closed ≡ Closed.Settled k → endRound h .head .seat .position ≡ Entry.Position (k .position)
@@ -95,14 +107,20 @@ refused-kept h e = rw e at (answers h)
 
 -- ---- a proper record stays proper, and a round that is ended opens the next
 
-proper-confession : {s : Seat} → ProperSeat s → ProperSeat (confessionSeat s)
-proper-confession P =
+-- a round that is not the last of its phase is the collection round of a phase of two rounds
+pub not-last : (K : Family) (r : ℕ) → endsWith K r ≡ false → (K ≡ TwoRounds) × (r ≡ 0)
+not-last TwoRounds zero e = (refl, refl)
+not-last TwoRounds (suc r) e = absurd (true≢false e)
+not-last OneRound r e = absurd (true≢false e)
+
+proper-confession : {s : Seat} → isLastRound s ≡ false → ProperSeat s → ProperSeat (confessionSeat s)
+proper-confession {s} c P =
     record {
       size = P .size;
       number = P .number;
       from-first = P .from-first;
       to-last = P .to-last;
-      round = omega arith;
+      round = rw (not-last (s .family) (s .round) c .0) (omega arith);
       position = P .position;
       holds = λ o r. absurd (omega arith);
       last = P .last;
@@ -122,38 +140,40 @@ proper-next {s} k P K =
       last = K;
     }
   where
-    times : (b : Bool) → isLast s ≡ b → let p = cond b (s .phase) (s .phase + 1) in (1 ≤ p) × (p ≤ 65535) × (cond b 1 0 < 2)
-    times true e = (P .from-first, P .to-last, omega arith)
-    times false e = let more = leb-false 65535 (s .phase) e in (omega arith, omega arith, omega arith)
+    times : (b : Bool) → isLast s ≡ b → let p = cond b (s .phase) (s .phase + 1) in (1 ≤ p) × (p ≤ 65535) × (cond b (s .round) 0 < roundsOf (s .family))
+    times true e = (P .from-first, P .to-last, P .round)
+    times false e = let more = leb-false 65535 (s .phase) e in (omega arith, omega arith, first-round (s .family))
 
 module _ (h : Head) (P : ProperHead h) where
-  pub proper-collection : ProperHead (closedCollection h)
+  pub proper-collection : isLastRound (h .seat) ≡ false → ProperHead (closedCollection h)
   unfolding closedCollection
-  proper-collection = proper-opened (proper-confession (P .seat)) (P .list) (λ r. absurd (omega arith))
+  proper-collection c = proper-opened (proper-confession c (P .seat)) (P .list) (λ r. absurd (omega arith))
 
   pub proper-phase : (k : Kept) → ProperKept (h .seat .f) k → ProperHead (closedPhase h k)
   unfolding closedPhase
   proper-phase k K = proper-opened (proper-next k (P .seat) K) (no-entries (h .seat .n)) (λ r. no-entry)
 
   pub settled-proper : ProperKept (h .seat .f) (settledBy h)
-  settled-proper = kept-proper (rounding (h .seat .phase)) (h .seat .n) (h .seat .f) _ (trustedBy h) (rounding-le (h .seat .phase)) (trusted-positions h P)
+  settled-proper =
+      kept-proper (h .seat .family) (rounding (h .seat .phase)) (h .seat .n) (h .seat .f) _ (entriesBy (h .seat .family) h) (rounding-le (h .seat .phase))
+      (entries-positions h P (h .seat .family))
 
   pub proper-end : ProperHead (endRound h .head)
   unfolding endRound settling
-  proper-end = go (h .seat .ended) (h .seat .round)
+  proper-end = go (h .seat .ended) (isLastRound (h .seat)) refl
     where
       settles : (c : Bool) → ProperHead (endSettled (cond c (Settled.New (settledBy h)) (Settled.Refused refusal.trusted)) h .head)
       settles true = proper-phase (settledBy h) settled-proper
       settles false = P
 
-      go : (b : Bool) (r : ℕ) → ProperHead (cond b (closing (Closed.Refused refusal.ended) h) (endIn r h) .head)
-      go true r = P
-      go false zero = proper-collection
-      go false (suc r) = settles (enoughTrusted h)
+      go : (b r : Bool) → isLastRound (h .seat) ≡ r → ProperHead (cond b (closing (Closed.Refused refusal.ended) h) (endIn r h) .head)
+      go true r c = P
+      go false false c = proper-collection c
+      go false true c = settles (enoughTrusted h)
 
-  pub fresh-collection : Fresh (closedCollection h)
+  pub fresh-collection : isLastRound (h .seat) ≡ false → Fresh (closedCollection h)
   unfolding closedCollection
-  fresh-collection = record { proper = proper-collection; runs = refl; unheard = refl }
+  fresh-collection c = record { proper = proper-collection c; runs = refl; unheard = refl }
 
   pub fresh-phase : h .seat .phase < 65535 → Fresh (closedPhase h (settledBy h))
   unfolding closedPhase

@@ -17,12 +17,12 @@ use Rattle.frame_spec.specs.Proper.{Proper, roundOfMeaning}
 use Rattle.frame_spec.proofs.ReadsBack.{reads-back}
 use Rattle.head_spec.specs.declared.Head.{Head}
 use Rattle.head_spec.specs.Calls.{saidTo, spokenIn, spoken, frameFor, writeAnswer, writeBuffer}
-use Rattle.head_spec.proofs.Proper.{ProperHead}
+use Rattle.head_spec.proofs.Proper.{ProperHead, rounds-few}
 
 module _ (h : Head) (P : ProperHead h) where
   proper-spoken : Proper (h .seat .n) (spoken h) × (roundOfMeaning (spoken h) ≡ h .seat .round)
   unfolding spoken
-  proper-spoken = go (h .seat .round) (P .seat .round)
+  proper-spoken = go (h .seat .round) (omega (arith, P .seat .round, rounds-few (h .seat .family)))
     where
       collecting : (b : Bool) → Proper (h .seat .n) (collected (cond b Entry.Null (h .seat .position)))
       collecting true = tt

@@ -9,6 +9,7 @@ use Prim.Native.Nat.{ℕ, zero, suc}
 use lib.IntN.{ℤ}
 use Rattle.terms.specs.Refusals as refusal
 use Rattle.terms.specs.Sizes.{isListener}
+use Rattle.terms.specs.declared.Family.{Family}
 use Rattle.settle_midpoint.specs.declared.Kept.{Kept}
 use Rattle.frame_spec.specs.declared.Written.{Written}
 use Rattle.head_spec.specs.declared.Head.{Head}
@@ -35,20 +36,20 @@ takes h = record { refusal = 0; head = h }
 pub answer-taken : {c : ℕ} (new old : Head) → c ≡ 0 → answer c new old ≡ takes new
 answer-taken new old e = rw e
 
-module _ (h : Head) (n f i : ℕ) where
-  pub starts-anew : (v : ℤ) → startRefusal n f i v ≡ 0 → start h n f i v ≡ takes (started n f i v)
+module _ (h : Head) (K : Family) (n f i : ℕ) where
+  pub starts-anew : (v : ℤ) → startRefusal K n f i v ≡ 0 → start h K n f i v ≡ takes (started K n f i v)
   unfolding start
   starts-anew v = answer-taken _ h
 
-  pub restarts-anew : (p r : ℕ) → restartRefusal n f i p r ≡ 0 → restart h n f i p r ≡ takes (restarted n f i p r)
+  pub restarts-anew : (p r : ℕ) → restartRefusal K n f i p r ≡ 0 → restart h K n f i p r ≡ takes (restarted K n f i p r)
   unfolding restart
   restarts-anew p r = answer-taken _ h
 
-  pub listener-starts-anew : startListenerRefusal n f i ≡ 0 → startListener h n f i ≡ takes (startedListener n f i)
+  pub listener-starts-anew : startListenerRefusal K n f i ≡ 0 → startListener h K n f i ≡ takes (startedListener K n f i)
   unfolding startListener
   listener-starts-anew = answer-taken _ h
 
-  pub listener-restarts-anew : (p r : ℕ) → restartListenerRefusal n f i p r ≡ 0 → restartListener h n f i p r ≡ takes (restarted n f i p r)
+  pub listener-restarts-anew : (p r : ℕ) → restartListenerRefusal K n f i p r ≡ 0 → restartListener h K n f i p r ≡ takes (restarted K n f i p r)
   unfolding restartListener
   listener-restarts-anew p r = answer-taken _ h
 

@@ -1,5 +1,6 @@
--- What each call answers and what it makes of the record. A refusal gives its number and leaves the record as it was.
-use mathlib.Core.Bool.{Bool, not, cond, _&&_}
+-- What each call answers and what it makes of the record. A refusal gives its number and leaves the record as it was. K is the family of the ring: a phase of one
+-- round (document 02, A9) has round 0 alone, in which heads send positions, as in collection, and which ends the phase, as confession does.
+use mathlib.Core.Bool.{Bool, true, false, not, cond, _&&_}
 use mathlib.Core.List.{List, [], _∷_}
 use Prim.Native.Nat.{ℕ, zero, suc}
 use lib.Dec.{ltb, leb}
@@ -7,12 +8,13 @@ use lib.ListN.{set}
 use lib.IntN.{ℤ}
 use Rattle.terms.specs.Refusals as refusal
 use Rattle.terms.specs.Refusals.{check}
-use Rattle.terms.specs.Sizes.{checkSize, isPhase, isListener}
+use Rattle.terms.specs.Sizes.{checkSize, roundsOf, endsWith, isPhase, isListener}
 use Rattle.terms.specs.Positions.{isPosition}
 use Rattle.terms.specs.declared.Entry.{Entry}
+use Rattle.terms.specs.declared.Family.{Family}
 use Rattle.terms.specs.declared.Table.{Table}
 use Rattle.marks.specs.Marks.{bitOf, withMark}
-use Rattle.convergence.specs.Settling.{twoRounds}
+use Rattle.convergence.specs.Settling.{ruleOf}
 use Rattle.convergence.specs.Phases.{rounding}
 use Rattle.settle_midpoint.specs.Answers.{settling}
 use Rattle.settle_midpoint.specs.declared.Kept.{Kept}
@@ -29,7 +31,7 @@ use Rattle.head_spec.specs.declared.Answer.{Answer}
 use Rattle.head_spec.specs.declared.Closed.{Closed}
 use Rattle.head_spec.specs.declared.Closing.{Closing}
 use Rattle.head_spec.specs.declared.Offer.{Offer}
-use Rattle.head_spec.specs.Record.{noEntries, opened, trustedBy}
+use Rattle.head_spec.specs.Record.{noEntries, opened, entriesBy}
 use Rattle.head_spec.specs.Seats.{firstSeat, listenerSeat, healedSeat, confessionSeat, nextSeat}
 
 -- the record changed if nothing was refused
@@ -37,49 +39,49 @@ abbrev pub answer : ℕ → Head → Head → Answer
 answer zero new old = record { refusal = 0; head = new }
 answer (suc c) new old = record { refusal = suc c; head = old }
 
--- ---- a start gives n, f, number and position, and opens phase 1; checks 1, 2, 3, 4
+-- ---- a start gives n, f, number and position, and opens phase 1; checks 1, 2 (in a ring of one round 18), 3, 4
 
-unfoldable pub startRefusal : ℕ → ℕ → ℕ → ℤ → ℕ
-startRefusal n f i v = checkSize n f (check (ltb i n) refusal.head-number (check (isPosition v) refusal.position 0))
+unfoldable pub startRefusal : Family → ℕ → ℕ → ℕ → ℤ → ℕ
+startRefusal K n f i v = checkSize K n f (check (ltb i n) refusal.head-number (check (isPosition v) refusal.position 0))
 
-unfoldable pub started : ℕ → ℕ → ℕ → ℤ → Head
-started n f i v = opened (firstSeat n f i v) noEntries
+unfoldable pub started : Family → ℕ → ℕ → ℕ → ℤ → Head
+started K n f i v = opened (firstSeat K n f i v) noEntries
 
-unfoldable pub start : Head → ℕ → ℕ → ℕ → ℤ → Answer
-start h n f i v = answer (startRefusal n f i v) (started n f i v) h
+unfoldable pub start : Head → Family → ℕ → ℕ → ℕ → ℤ → Answer
+start h K n f i v = answer (startRefusal K n f i v) (started K n f i v) h
 
--- ---- a restart gives phase and round in place of the position; checks 1, 2, 3, 5. The head is healed, with no position
+-- ---- a restart gives phase and round in place of the position; checks 1, 2 or 18, 3, 5. The head is healed, with no position
 
 -- a phase and a round that there are
-abbrev pub isTime : ℕ → ℕ → Bool
-isTime p r = isPhase p && ltb r 2
+abbrev pub isTime : Family → ℕ → ℕ → Bool
+isTime K p r = isPhase p && ltb r (roundsOf K)
 
-unfoldable pub restartRefusal : ℕ → ℕ → ℕ → ℕ → ℕ → ℕ
-restartRefusal n f i p r = checkSize n f (check (ltb i n) refusal.head-number (check (isTime p r) refusal.phase 0))
+unfoldable pub restartRefusal : Family → ℕ → ℕ → ℕ → ℕ → ℕ → ℕ
+restartRefusal K n f i p r = checkSize K n f (check (ltb i n) refusal.head-number (check (isTime K p r) refusal.phase 0))
 
-unfoldable pub restarted : ℕ → ℕ → ℕ → ℕ → ℕ → Head
-restarted n f i p r = opened (healedSeat n f i p r) noEntries
+unfoldable pub restarted : Family → ℕ → ℕ → ℕ → ℕ → ℕ → Head
+restarted K n f i p r = opened (healedSeat K n f i p r) noEntries
 
-unfoldable pub restart : Head → ℕ → ℕ → ℕ → ℕ → ℕ → Answer
-restart h n f i p r = answer (restartRefusal n f i p r) (restarted n f i p r) h
+unfoldable pub restart : Head → Family → ℕ → ℕ → ℕ → ℕ → ℕ → Answer
+restart h K n f i p r = answer (restartRefusal K n f i p r) (restarted K n f i p r) h
 
--- ---- a listener (document 02, A6) is a record with a number from 32 to 47. Its start gives no position; checks 1, 2, 3. Its restart checks 1, 2, 3, 5 and makes
--- the record that a head's makes. It hears and closes as a head does.
+-- ---- a listener (document 02, A6) is a record with a number from 32 to 47. Its start gives no position; checks 1, 2 or 18, 3. Its restart checks 1, 2 or 18,
+-- 3, 5 and makes the record that a head's makes. It hears and closes as a head does.
 
-unfoldable pub startListenerRefusal : ℕ → ℕ → ℕ → ℕ
-startListenerRefusal n f i = checkSize n f (check (isListener i) refusal.head-number 0)
+unfoldable pub startListenerRefusal : Family → ℕ → ℕ → ℕ → ℕ
+startListenerRefusal K n f i = checkSize K n f (check (isListener i) refusal.head-number 0)
 
-unfoldable pub startedListener : ℕ → ℕ → ℕ → Head
-startedListener n f i = opened (listenerSeat n f i) noEntries
+unfoldable pub startedListener : Family → ℕ → ℕ → ℕ → Head
+startedListener K n f i = opened (listenerSeat K n f i) noEntries
 
-unfoldable pub startListener : Head → ℕ → ℕ → ℕ → Answer
-startListener h n f i = answer (startListenerRefusal n f i) (startedListener n f i) h
+unfoldable pub startListener : Head → Family → ℕ → ℕ → ℕ → Answer
+startListener h K n f i = answer (startListenerRefusal K n f i) (startedListener K n f i) h
 
-unfoldable pub restartListenerRefusal : ℕ → ℕ → ℕ → ℕ → ℕ → ℕ
-restartListenerRefusal n f i p r = checkSize n f (check (isListener i) refusal.head-number (check (isTime p r) refusal.phase 0))
+unfoldable pub restartListenerRefusal : Family → ℕ → ℕ → ℕ → ℕ → ℕ → ℕ
+restartListenerRefusal K n f i p r = checkSize K n f (check (isListener i) refusal.head-number (check (isTime K p r) refusal.phase 0))
 
-unfoldable pub restartListener : Head → ℕ → ℕ → ℕ → ℕ → ℕ → Answer
-restartListener h n f i p r = answer (restartListenerRefusal n f i p r) (restarted n f i p r) h
+unfoldable pub restartListener : Head → Family → ℕ → ℕ → ℕ → ℕ → ℕ → Answer
+restartListener h K n f i p r = answer (restartListenerRefusal K n f i p r) (restarted K n f i p r) h
 
 -- ---- hearing a frame on link k; checks 26, 3, 21, then those of the frame
 
@@ -146,7 +148,7 @@ hearAll h g n = hearEach h (onLinks g 0 n)
 
 -- ---- writing; checks 26, 17 (a listener sends nothing), 24
 
--- what a head has to say: in collection its position, or silence if it is healed; in confession its list, or a confession if it is healed
+-- what a head has to say: in round 0 its position, or silence if it is healed; in confession its list, or a confession if it is healed
 abbrev pub spokenIn : ℕ → Head → Meaning
 spokenIn zero h = collected (cond (h .seat .healed) Entry.Null (h .seat .position))
 spokenIn (suc r) h = cond (h .seat .healed) confessed (listed (h .list))
@@ -165,7 +167,7 @@ writeAnswer h buffer =
 unfoldable pub writeBuffer : Head → List ℕ → List ℕ
 writeBuffer h buffer = cond (h .seat .ended) buffer (cond (isListener (h .seat .number)) buffer (buffered (frameFor h) buffer))
 
--- ---- the end of a round, as document 01 has it: after a collection round the list stands; a confession round settles a position, and the phase ends
+-- ---- the end of a round, as document 01 has it: after a collection round the list stands; the last round of a phase settles a position, and the phase ends
 
 -- the collection round is closed: the list stands
 unfoldable pub closedCollection : Head → Head
@@ -178,33 +180,37 @@ closedPhase h k = opened (nextSeat (h .seat) k) noEntries
 abbrev pub closing : Closed → Head → Closing
 closing c h = record { closed = c; head = h }
 
--- what a confession round settles
+-- what the end of a phase settles
 abbrev pub settlingOf : Head → Settled
-settlingOf h = settling (rounding (h .seat .phase)) (h .seat .n) (twoRounds (h .seat .f)) (trustedBy h)
+settlingOf h = settling (rounding (h .seat .phase)) (h .seat .n) (ruleOf (h .seat .family) (h .seat .f)) (entriesBy (h .seat .family) h)
 
 abbrev pub endSettled : Settled → Head → Closing
 endSettled (settled.Refused c) h = closing (Closed.Refused c) h
 endSettled (settled.New k) h = closing (Closed.Settled k) (closedPhase h k)
 
-abbrev pub endIn : ℕ → Head → Closing
-endIn zero h = closing Closed.Listed (closedCollection h)
-endIn (suc r) h = endSettled (settlingOf h) h
+-- last: the round is the last of its phase
+abbrev pub endIn : Bool → Head → Closing
+endIn false h = closing Closed.Listed (closedCollection h)
+endIn true h = endSettled (settlingOf h) h
+
+abbrev pub isLastRound : Seat → Bool
+isLastRound s = endsWith (s .family) (s .round)
 
 unfoldable pub endRound : Head → Closing
-endRound h = cond (h .seat .ended) (closing (Closed.Refused refusal.ended) h) (endIn (h .seat .round) h)
+endRound h = cond (h .seat .ended) (closing (Closed.Refused refusal.ended) h) (endIn (isLastRound (h .seat)) h)
 
--- ---- closing; checks 26, 25. It ends a collection round; in a confession round it only offers the position, and the record stays as it is (document 02, A8)
+-- ---- closing; checks 26, 25. It ends a collection round; in the last round of a phase it only offers the position, and the record stays as it is (document 02, A8)
 
 abbrev pub offerSettled : Settled → Head → Closing
 offerSettled (settled.Refused c) h = closing (Closed.Refused c) h
 offerSettled (settled.New k) h = closing (Closed.Settled k) h
 
-abbrev pub closeIn : ℕ → Head → Closing
-closeIn zero h = closing Closed.Listed (closedCollection h)
-closeIn (suc r) h = offerSettled (settlingOf h) h
+abbrev pub closeIn : Bool → Head → Closing
+closeIn false h = closing Closed.Listed (closedCollection h)
+closeIn true h = offerSettled (settlingOf h) h
 
 unfoldable pub close : Head → Closing
-close h = cond (h .seat .ended) (closing (Closed.Refused refusal.ended) h) (closeIn (h .seat .round) h)
+close h = cond (h .seat .ended) (closing (Closed.Refused refusal.ended) h) (closeIn (isLastRound (h .seat)) h)
 
 -- ---- adopting; checks 27, 26. What stands beside the head as an offer becomes its position, and the phase ends
 

@@ -1,7 +1,7 @@
 -- Demand 2, a statement for each sentence of it. proofs/Demand2.antt proves `Demand2`.
 use mathlib.Core.Path.{_≡_}
 use mathlib.Core.Logic.{_↔_}
-use mathlib.Core.Bool.{false, cond}
+use mathlib.Core.Bool.{true, false, cond}
 use mathlib.Core.List.{List, [], _∷_}
 use Prim.Native.Nat.{ℕ, _≤_}
 use lib.Dec.{eqb}
@@ -9,9 +9,11 @@ use lib.ListN.{take}
 use lib.IntN.{ℤ}
 use Rattle.terms.specs.Sizes.{isListener}
 use Rattle.terms.specs.declared.Entry.{Entry}
+use Rattle.terms.specs.declared.Family.{Family}
+use Rattle.terms.specs.declared.Family.the-variants.{TwoRounds, OneRound}
 use Rattle.entries.specs.Tables.{tableAt}
 use Rattle.convergence.specs.Counting.{Each}
-use Rattle.convergence.specs.Settling.{twoRounds}
+use Rattle.convergence.specs.Settling.{ruleOf}
 use Rattle.convergence.specs.Trust.{Given, hasConfessed, Only, trusted}
 use Rattle.convergence.specs.Phases.{rounding}
 use Rattle.settle_midpoint.specs.Answers.{settling}
@@ -22,15 +24,15 @@ use Rattle.frame_spec.specs.declared.Written.{Written}
 use Rattle.head_spec.specs.declared.Seat.{Seat}
 use Rattle.head_spec.specs.declared.Head.{Head}
 use Rattle.head_spec.specs.Record.{heardEntry, givenOf}
-use Rattle.head_spec.specs.Calls.{startRefusal, started, restartRefusal, restarted, startListenerRefusal, startedListener, restartListenerRefusal, saidTo, hear, Delivery, hearEach, spoken, frameFor, writeAnswer, writeBuffer, endSettled, endRound, offerSettled, close}
+use Rattle.head_spec.specs.Calls.{startRefusal, started, restartRefusal, restarted, startListenerRefusal, startedListener, restartListenerRefusal, saidTo, hear, Delivery, hearEach, spoken, frameFor, writeAnswer, writeBuffer, endSettled, endRound, offerSettled, isLastRound, close}
 use Rattle.head_spec.specs.Proper.{ProperHead}
 
 -- The records that calls can reach: started or restarted, as a head or as a listener, and then heard on and their rounds ended, with any arguments, whatever is refused on the way.
 pub data Reachable : Head → Type 0 where
-  starts : (n f i : ℕ) (v : ℤ) → startRefusal n f i v ≡ 0 → Reachable (started n f i v)
-  restarts : (n f i p r : ℕ) → restartRefusal n f i p r ≡ 0 → Reachable (restarted n f i p r)
-  listens : (n f i : ℕ) → startListenerRefusal n f i ≡ 0 → Reachable (startedListener n f i)
-  listens-again : (n f i p r : ℕ) → restartListenerRefusal n f i p r ≡ 0 → Reachable (restarted n f i p r)
+  starts : (K : Family) (n f i : ℕ) (v : ℤ) → startRefusal K n f i v ≡ 0 → Reachable (started K n f i v)
+  restarts : (K : Family) (n f i p r : ℕ) → restartRefusal K n f i p r ≡ 0 → Reachable (restarted K n f i p r)
+  listens : (K : Family) (n f i : ℕ) → startListenerRefusal K n f i ≡ 0 → Reachable (startedListener K n f i)
+  listens-again : (K : Family) (n f i p r : ℕ) → restartListenerRefusal K n f i p r ≡ 0 → Reachable (restarted K n f i p r)
   hears : {h : Head} (k : ℕ) (s : List ℕ) → AllBytes s → Reachable h → Reachable (hear h k s .head)
   ends : {h : Head} → Reachable h → Reachable (endRound h .head)
 
@@ -72,19 +74,24 @@ unfoldable pub firstSaid : Seat → ℕ → List Delivery → Meaning
 firstSaid x k [] = refused 0
 firstSaid x k (d ∷ D) = cond (eqb (d .link) k) (orElse (saidTo x k (d .bytes)) (firstSaid x k D)) (firstSaid x k D)
 
--- refusal 25, or the kept range, the trim and the new position: those of the trusted entries, by what each link gave in the round
+-- the entries from which a phase end settles, by what each link said in its last round: those that are trusted, or in a ring of one round those that were said
+abbrev pub entriesFrom : Family → Seat → List Delivery → ℕ → Entry
+entriesFrom TwoRounds x D = trusted (x .n) (x .f) (λ k. givenOf (firstSaid x k D))
+entriesFrom OneRound x D = λ k. heardEntry (firstSaid x k D)
+
+-- refusal 25, or the kept range, the trim and the new position of these entries
 abbrev pub settledFrom : Seat → List Delivery → Settled
-settledFrom x D = settling (rounding (x .phase)) (x .n) (twoRounds (x .f)) (trusted (x .n) (x .f) (λ k. givenOf (firstSaid x k D)))
+settledFrom x D = settling (rounding (x .phase)) (x .n) (ruleOf (x .family) (x .f)) (entriesFrom (x .family) x D)
 
 -- A round of the head h, which has heard nothing in it: D is all that is delivered, on any links in any order, and then the round is ended.
 pub record FollowsCC (h : Head) (D : List Delivery) : Type 0 where
   -- "fills its list, one entry per link: the position heard, else null"
-  pub list : h .seat .round ≡ 0
+  pub list : isLastRound (h .seat) ≡ false
       → Each (h .seat .n) (λ k. tableAt (endRound (hearEach h D) .head .list) k ≡ heardEntry (firstSaid (h .seat) k D))
   -- what is settled is answered, and the head holds the position
-  pub settles : h .seat .round ≡ 1 → endRound (hearEach h D) ≡ endSettled (settledFrom (h .seat) D) (hearEach h D)
+  pub settles : isLastRound (h .seat) ≡ true → endRound (hearEach h D) ≡ endSettled (settledFrom (h .seat) D) (hearEach h D)
   -- the same is offered, by a closing that leaves the head as it is (document 02, A8)
-  pub offers : h .seat .round ≡ 1 → close (hearEach h D) ≡ offerSettled (settledFrom (h .seat) D) (hearEach h D)
+  pub offers : isLastRound (h .seat) ≡ true → close (hearEach h D) ≡ offerSettled (settledFrom (h .seat) D) (hearEach h D)
 
 abbrev pub AlgorithmCC : Type 0
 AlgorithmCC = (h : Head) → Reachable h → h .heard ≡ 0 → h .seat .ended ≡ false → (D : List Delivery) → FollowsCC h D

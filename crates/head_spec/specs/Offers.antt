@@ -4,6 +4,7 @@ use mathlib.Core.List.{List, [], _∷_}
 use Prim.Native.Nat.{ℕ}
 use lib.IntN.{ℤ}
 use Rattle.terms.specs.Refusals.{leaves}
+use Rattle.terms.specs.declared.Family.{Family}
 use Rattle.settle_midpoint.specs.declared.Kept.{Kept}
 use Rattle.frame_spec.specs.Proper.{AllBytes}
 use Rattle.head_spec.specs.declared.LastKept.{LastKept}
@@ -26,7 +27,7 @@ unfoldable pub lapsedBy : List ℕ → Offer → Offer
 lapsedBy [] o = o
 lapsedBy (c ∷ cs) o = lapsedBy cs (lapsed c o)
 
--- closing a confession round makes it; any other closing leaves it as it is
+-- closing the last round of a phase makes it; any other closing leaves it as it is
 abbrev pub offered : Closed → Offer → Offer
 offered (Closed.Refused c) o = o
 offered Closed.Listed o = o
@@ -46,10 +47,10 @@ OfferThenAdopt = (h : Head) → thenAdopt (close h .closed) (close h .head) ≡ 
 
 -- a record that calls can reach, the offer beside it, and what its phase ends passed on last (document 02, A2)
 pub data Offering : Head → Offer → LastKept → Type 0 where
-  starts : (n f i : ℕ) (v : ℤ) → startRefusal n f i v ≡ 0 → Offering (started n f i v) Offer.Nothing LastKept.Nothing
-  restarts : (n f i p r : ℕ) → restartRefusal n f i p r ≡ 0 → Offering (restarted n f i p r) Offer.Nothing LastKept.Nothing
-  listens : (n f i : ℕ) → startListenerRefusal n f i ≡ 0 → Offering (startedListener n f i) Offer.Nothing LastKept.Nothing
-  listens-again : (n f i p r : ℕ) → restartListenerRefusal n f i p r ≡ 0 → Offering (restarted n f i p r) Offer.Nothing LastKept.Nothing
+  starts : (K : Family) (n f i : ℕ) (v : ℤ) → startRefusal K n f i v ≡ 0 → Offering (started K n f i v) Offer.Nothing LastKept.Nothing
+  restarts : (K : Family) (n f i p r : ℕ) → restartRefusal K n f i p r ≡ 0 → Offering (restarted K n f i p r) Offer.Nothing LastKept.Nothing
+  listens : (K : Family) (n f i : ℕ) → startListenerRefusal K n f i ≡ 0 → Offering (startedListener K n f i) Offer.Nothing LastKept.Nothing
+  listens-again : (K : Family) (n f i p r : ℕ) → restartListenerRefusal K n f i p r ≡ 0 → Offering (restarted K n f i p r) Offer.Nothing LastKept.Nothing
   hears : {h : Head} {o : Offer} {x : LastKept} (k : ℕ) (s : List ℕ) → AllBytes s → Offering h o x
       → Offering (hear h k s .head) (lapsed (hear h k s .refusal) o) x
   closes : {h : Head} {o : Offer} {x : LastKept} → Offering h o x → Offering (close h .head) (offered (close h .closed) o) x

@@ -5,9 +5,10 @@ use mathlib.Core.Bool.{false, true}
 use mathlib.Core.List.{List, []}
 use Prim.Native.Nat.{ℕ, _^_, _≤_, _<_}
 use lib.ListN.{length, getD}
-use Rattle.terms.specs.Sizes.{isListener}
+use Rattle.terms.specs.Sizes.{roundsOf, isListener}
 use Rattle.terms.specs.Positions.{isPosition}
 use Rattle.terms.specs.declared.Entry.{Entry}
+use Rattle.terms.specs.declared.Family.{Family}
 use Rattle.terms.specs.declared.Table.{Table}
 use Rattle.marks.specs.Marks.{bitOf}
 use Rattle.entries.specs.Tables.{tableAt}
@@ -24,10 +25,10 @@ use Rattle.head_spec.specs.declared.Head.{Head}
 use Rattle.head_spec.specs.Record.{rows}
 
 -- an accepted size
-pub record Sized (n f : ℕ) : Type 0 where
+pub record Sized (K : Family) (n f : ℕ) : Type 0 where
   pub some : 1 ≤ n
   pub most : n ≤ 32
-  pub limit : AcceptedSize n f
+  pub limit : AcceptedSize K n f
 
 -- a kept range: its entries and its position are in range, and its trim is at most f
 pub record ProperKept (f : ℕ) (k : Kept) : Type 0 where
@@ -40,14 +41,13 @@ abbrev pub ProperLast : ℕ → LastKept → Type 0
 ProperLast f LastKept.Nothing = Unit {0}
 ProperLast f (LastKept.Range k) = ProperKept f k
 
--- The position is null or in range. A head in a collection round that is not healed holds one; in a confession round it may have none, and a listener may have
--- none in either.
+-- The position is null or in range. A head in round 0 that is not healed holds one; in a confession round it may have none, and a listener may have none in either.
 pub record ProperSeat (s : Seat) : Type 0 where
-  pub size : Sized (s .n) (s .f)
+  pub size : Sized (s .family) (s .n) (s .f)
   pub number : isListener (s .number) ≡ false → s .number < s .n
   pub from-first : 1 ≤ s .phase
   pub to-last : s .phase ≤ 65535
-  pub round : s .round < 2
+  pub round : s .round < roundsOf (s .family)
   pub position : Proper (s .n) (collected (s .position))
   pub holds : isListener (s .number) ≡ false → s .round ≡ 0 → s .healed ≡ false → s .position ≢ Entry.Null
   pub last : ProperLast (s .f) (s .last)
@@ -65,7 +65,7 @@ pub record ProperLinks (n heard : ℕ) (g : Links) (l : List Row) : Type 0 where
   pub tables : Each n (λ k. ProperTable n (listFrom g l k))
   pub unheard : (k : ℕ) → bitOf heard k ≡ false → (bitOf (g .confessed) k ≡ false) × (bitOf (g .listed) k ≡ false)
 
--- In a collection round entry k of the list is null while link k is not heard.
+-- In round 0 entry k of the list is null while link k is not heard.
 pub record ProperHead (h : Head) : Type 0 where
   pub seat : ProperSeat (h .seat)
   pub heard : h .heard < 2 ^ h .seat .n

@@ -8,6 +8,7 @@ use lib.IntN.{ℤ}
 use lib.Signed.{_≤ℤ_}
 use Rattle.terms.specs.Sizes.{isListener}
 use Rattle.terms.specs.declared.Entry.{Entry}
+use Rattle.terms.specs.declared.Family.{Family}
 use Rattle.settle_midpoint.specs.declared.Kept.{Kept}
 use Rattle.frame_spec.specs.Proper.{AllBytes}
 use Rattle.head_spec.specs.declared.LastKept.{LastKept}
@@ -23,10 +24,10 @@ passing (Closed.Settled k) x = LastKept.Range k
 
 -- a record that calls can reach, and what was passed on last since it was started or restarted
 pub data Passed : Head → LastKept → Type 0 where
-  starts : (n f i : ℕ) (v : ℤ) → startRefusal n f i v ≡ 0 → Passed (started n f i v) LastKept.Nothing
-  restarts : (n f i p r : ℕ) → restartRefusal n f i p r ≡ 0 → Passed (restarted n f i p r) LastKept.Nothing
-  listens : (n f i : ℕ) → startListenerRefusal n f i ≡ 0 → Passed (startedListener n f i) LastKept.Nothing
-  listens-again : (n f i p r : ℕ) → restartListenerRefusal n f i p r ≡ 0 → Passed (restarted n f i p r) LastKept.Nothing
+  starts : (K : Family) (n f i : ℕ) (v : ℤ) → startRefusal K n f i v ≡ 0 → Passed (started K n f i v) LastKept.Nothing
+  restarts : (K : Family) (n f i p r : ℕ) → restartRefusal K n f i p r ≡ 0 → Passed (restarted K n f i p r) LastKept.Nothing
+  listens : (K : Family) (n f i : ℕ) → startListenerRefusal K n f i ≡ 0 → Passed (startedListener K n f i) LastKept.Nothing
+  listens-again : (K : Family) (n f i p r : ℕ) → restartListenerRefusal K n f i p r ≡ 0 → Passed (restarted K n f i p r) LastKept.Nothing
   hears : {h : Head} {x : LastKept} (k : ℕ) (s : List ℕ) → AllBytes s → Passed h x → Passed (hear h k s .head) x
   ends : {h : Head} {x : LastKept} → Passed h x → Passed (endRound h .head) (passing (endRound h .closed) x)
 

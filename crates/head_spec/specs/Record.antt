@@ -4,6 +4,8 @@ use Prim.Native.Nat.{ℕ}
 use lib.ListN.{replicate}
 use lib.IntN.{ℤ}
 use Rattle.terms.specs.declared.Entry.{Entry}
+use Rattle.terms.specs.declared.Family.{Family}
+use Rattle.terms.specs.declared.Family.the-variants.{TwoRounds, OneRound}
 use Rattle.terms.specs.declared.Table.{Table}
 use Rattle.entries.specs.Entries.{zeros}
 use Rattle.entries.specs.Tables.{tableAt}
@@ -43,9 +45,14 @@ given h = givenBy (h .links) (rows (h .lists))
 abbrev pub trustedBy : Head → ℕ → Entry
 trustedBy h = trusted (h .seat .n) (h .seat .f) (given h)
 
+-- the entries from which a phase end settles: in a ring of two rounds those that are trusted, in one of one round those that were heard
+abbrev pub entriesBy : Family → Head → ℕ → Entry
+entriesBy TwoRounds h = trustedBy h
+entriesBy OneRound h = tableAt (h .list)
+
 -- ---- what a frame that was heard amounts to
 
--- in a collection round: the entry that was said, null if no position was
+-- in a round in which positions are sent: the entry that was said, null if no position was
 abbrev pub heardEntry : Meaning → Entry
 heardEntry (refused c) = Entry.Null
 heardEntry (collected e) = e

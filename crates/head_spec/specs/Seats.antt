@@ -4,14 +4,16 @@ use Prim.Native.Nat.{ℕ, _+_}
 use lib.Dec.{leb}
 use lib.IntN.{ℤ}
 use Rattle.terms.specs.declared.Entry.{Entry}
+use Rattle.terms.specs.declared.Family.{Family}
 use Rattle.settle_midpoint.specs.declared.Kept.{Kept}
 use Rattle.head_spec.specs.declared.LastKept.{LastKept}
 use Rattle.head_spec.specs.declared.Seat.{Seat}
 
 -- a start, at position v: phase 1 opens
-abbrev pub firstSeat : ℕ → ℕ → ℕ → ℤ → Seat
-firstSeat n f i v =
+abbrev pub firstSeat : Family → ℕ → ℕ → ℕ → ℤ → Seat
+firstSeat K n f i v =
     record {
+      family = K;
       n = n;
       f = f;
       number = i;
@@ -24,9 +26,10 @@ firstSeat n f i v =
     }
 
 -- a listener's start: phase 1 opens, and it holds no position before its first phase end (document 02, A6)
-abbrev pub listenerSeat : ℕ → ℕ → ℕ → Seat
-listenerSeat n f i =
+abbrev pub listenerSeat : Family → ℕ → ℕ → ℕ → Seat
+listenerSeat K n f i =
     record {
+      family = K;
       n = n;
       f = f;
       number = i;
@@ -39,9 +42,10 @@ listenerSeat n f i =
     }
 
 -- a restart, in round r of phase p: the head is healed, with no position and no kept range (document 02, A2)
-abbrev pub healedSeat : ℕ → ℕ → ℕ → ℕ → ℕ → Seat
-healedSeat n f i p r =
+abbrev pub healedSeat : Family → ℕ → ℕ → ℕ → ℕ → ℕ → Seat
+healedSeat K n f i p r =
     record {
+      family = K;
       n = n;
       f = f;
       number = i;
@@ -57,6 +61,7 @@ healedSeat n f i p r =
 abbrev pub confessionSeat : Seat → Seat
 confessionSeat s =
     record {
+      family = s .family;
       n = s .n;
       f = s .f;
       number = s .number;
@@ -71,15 +76,16 @@ confessionSeat s =
 abbrev pub isLast : Seat → Bool
 isLast s = leb 65535 (s .phase)
 
--- the phase has ended and settled k; after phase 65,535 phase and round stay, and the head has ended
+-- the phase has ended and settled k; after phase 65,535 phase and round stay, and the head has ended (so bit 2 of its window stays: document 02, A5)
 abbrev pub nextSeat : Seat → Kept → Seat
 nextSeat s k =
     record {
+      family = s .family;
       n = s .n;
       f = s .f;
       number = s .number;
       phase = cond (isLast s) (s .phase) (s .phase + 1);
-      round = cond (isLast s) 1 0;
+      round = cond (isLast s) (s .round) 0;
       healed = false;
       ended = isLast s;
       position = Entry.Position (k .position);

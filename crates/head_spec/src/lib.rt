@@ -3,6 +3,7 @@
 use settle_midpoint::Kept;
 use settle_trust::Links;
 use terms::Entry;
+use terms::Family;
 use terms::Table;
 
 // The numbers of a received list.
@@ -24,11 +25,12 @@ pub enum Offer {
 
 // Where a head stands: its ring, its number, the phase and round, and the position that it holds.
 pub struct Seat {
+    pub family: Family,
     pub n: u8,
     pub f: u8,
     pub number: u8,
     pub phase: u16,
-    pub round: u8, // 0 collection, 1 confession
+    pub round: u8, // 0 collection, 1 confession; in a ring of one round always 0
     pub healed: bool, // in this round
     pub ended: bool, // phase 65,535 has ended
     pub position: Entry,
@@ -39,7 +41,7 @@ pub struct Seat {
 pub struct Head {
     pub seat: Seat,
     pub heard: u32, // the links heard in this round
-    pub list: Table, // in collection what is heard so far, in confession the list of this phase
+    pub list: Table, // in round 0 what is heard so far, in confession the list of this phase
     pub links: Links, // which links confessed or gave a list, and the lists' marks
     pub lists: [Row; 32], // the lists received
 }

@@ -11,6 +11,7 @@ use Rattle.terms.specs.Positions.{floorDiv, half, eqZ}
 use Rattle.terms.specs.Sizes.{isCount, isLimit, sizeRefusal}
 use Rattle.terms.specs.declared.Entry.{Entry}
 use Rattle.terms.specs.declared.Entry.the-variants.{Null, Position}
+use Rattle.terms.specs.declared.Family.the-variants.{TwoRounds}
 use Rattle.convergence.specs.Counting.{sum}
 use Rattle.convergence.specs.Settling.{nulls, trim, twoRounds, insert, ordered, lowKept, highKept, middle, enough}
 use Rattle.convergence.specs.Trust.{Given, nothing, confessed, gave, support, confessions, seen, trusted}
@@ -45,10 +46,10 @@ refusalNumber (Refused c) = c
 refusalNumber (New k) = 0
 
 abbrev pub PointHolds : Point → Type 0
-PointHolds (taken n f) = sizeRefusal n f ≡ 0
-PointHolds (refused n f c) = sizeRefusal n f ≡ c
-PointHolds (halving n f) = Halves n f
-PointHolds (no-halving n f) = Halves n f → ⊥
+PointHolds (taken n f) = sizeRefusal TwoRounds n f ≡ 0
+PointHolds (refused n f c) = sizeRefusal TwoRounds n f ≡ c
+PointHolds (halving n f) = Halves TwoRounds n f
+PointHolds (no-halving n f) = Halves TwoRounds n f → ⊥
 PointHolds (settles p n f l v) = settledEntry (settling (rounding p) n (twoRounds f) (table l)) ≡ Position v
 PointHolds (too-few n f l) = refusalNumber (settling (rounding 1) n (twoRounds f) (table l)) ≡ 25
 PointHolds (trusts n f l j e) = trusted n f (links l) j ≡ e

@@ -4,6 +4,8 @@ use crate::answers::Answer::Null;
 use crate::answers::Answer::Number;
 use crate::print;
 use crate::wrong;
+use terms::Family;
+ghost use Rattle.terms.specs.declared.Family.the-variants.{TwoRounds};
 ghost use mathlib.Core.Logic.{_↔_};
 ghost use lib.Dec.{T};
 ghost use Rattle.convergence.specs.Demand3.{Halves};
@@ -35,13 +37,13 @@ const HALVING: [Size; 6] = [
 
 // Whether halving is promised: 3n at least 11f + 3.
 fn halves(n: u32, f: u32) -> bool
-    ensures { λ r. ⌜ T r ↔ Halves n f ⌝ }
+    ensures { λ r. ⌜ T r ↔ Halves TwoRounds n f ⌝ }
 {
     11 * (f as u64) + 3 <= 3 * (n as u64)
 }
 
 fn size_line(c: Size) {
-    let answer = answers::of_code(steps::size_refusal(c.0, c.1));
+    let answer = answers::of_code(steps::size_refusal(Family::TwoRounds, c.0, c.1));
     answers::fill(
         b"size # #: #\n",
         [Number(c.0 as i64), Number(c.1 as i64), answer, Null],

@@ -1,9 +1,10 @@
 // The readings that are wrong though they look natural.
 use settle_trust::Links;
+use terms::Family;
 
 // Halving from 2n at least 7f + 2: at every size that is taken.
 pub fn halves(n: u32, f: u32) -> bool {
-    steps::size_refusal(n, f) == 0
+    steps::size_refusal(Family::TwoRounds, n, f) == 0
 }
 
 // A spread after a phase of such a ring: half of it, rounded up.

@@ -2,19 +2,22 @@
 ghost use mathlib.Core.Bool.{cond};
 ghost use mathlib.Core.Path.{_≡_};
 ghost use Prim.Native.Nat.{ℕ, _<_};
-ghost use lib.ListN.{length};
-ghost use Rattle.entries.specs.Tables.{tableOf, mark, number};
+ghost use lib.ListN.{length, getD};
+ghost use lib.IntN.{pos};
+ghost use Rattle.entries.specs.Tables.{tableAt, tableOf, mark, number};
 ghost use Rattle.frame_spec.specs.Said.{said};
 ghost use Rattle.head_spec.specs.Record.{heardEntry};
-ghost use Rattle.ring_play.specs.Memory.{heads, hears, InRange, listEntry, rowIn};
+ghost use Rattle.ring_play.specs.Memory.{heads, hears, settles, InRange, listEntry, rowIn, heardPosition};
 ghost use Rattle.frame_slots.specs.Slots.{plantedIn};
 ghost use Rattle.ring_play.specs.Inner.Before.{SettlesBefore, HeldBefore};
-ghost use Rattle.ring_play.specs.Inner.Collection.{ownEntry, sentBy, heardOf, heardWith, Shared};
+ghost use Rattle.ring_play.specs.Inner.Collection.{ownEntry, sentBy, heardOf, heardWith, Shared, settledFrom};
 use crate::Stage;
 use crate::round;
 use crate::round::Before;
 use frame_spec::Said;
+use settle_midpoint::Settled;
 use terms::Entry;
+use terms::Family;
 use terms::Lists;
 use terms::Positions;
 use terms::Table;
@@ -83,18 +86,18 @@ fn entries_sent(s: Stage, positions: &Positions) -> Table
     Table { marks, entries }
 }
 
-// What head i hears of head k, which is struck: what is planted.
+// What receiver i hears of head k, which is struck: what is planted.
 fn entry_planted(s: Stage, planted: &[u8], lengths: &[u8], k: usize, i: usize) -> Entry
-    requires { ⌜ (k < 32) × (i < 32) ⌝ }
+    requires { ⌜ (k < 32) × (i < 48) ⌝ }
     ensures { λ r. ⌜ r ≡ heardOf s (plantedIn (now (planted .entry)) (now (lengths .entry)) k i) k ⌝ }
 {
     let frame = frame_slots::planted(planted, lengths, k as u8, i as u8);
     entry_in(frame, round::head_count(s), s.phase, k as u8)
 }
 
-// The list of head i: what all hear alike, with what is planted to it.
+// The list of receiver i: what all hear alike, with what is planted to it.
 fn list_for(s: Stage, sent: Table, planted: &[u8], lengths: &[u8], i: usize) -> Table
-    requires { ⌜ (i < 32) × Shared s sent ⌝ }
+    requires { ⌜ (i < 48) × Shared s sent ⌝ }
     ensures { λ r. ⌜ ((S : Shared s sent) → r ≡ tableOf (heads s) (heardWith s (S .entry) (plantedIn (now (planted .entry)) (now (lengths .entry))) i)) ⌝ }
 {
     let n = round::head_count(s) as usize;
@@ -188,4 +191,50 @@ pub fn collect(
 {
     let sent = entries_sent(s, positions);
     fill_lists(s, sent, planted, lengths, marks, lists);
+}
+
+// ---- A phase of one round (document 02, A9): heads send positions as in a collection round, and each receiver settles from what it hears.
+
+// The position that a receiver settles from its list; 0 if it is refused.
+fn position_of(s: Stage, list: Table) -> i32
+    ensures { λ r. ⌜ r ≡ settledFrom s (tableAt list) ⌝ }
+{
+    let n = round::head_count(s);
+    let up = steps::rounds_up(s.phase);
+    match settle_midpoint::settle_table(list, Family::OneRound, n, s.f, up) {
+        Settled::Refused(_) => 0,
+        Settled::New(kept) => kept.position,
+    }
+}
+
+// Stores the new position of each receiver that is not struck.
+fn fill_positions(s: Stage, sent: Table, planted: &[u8], lengths: &[u8], positions: &mut [i32])
+    requires { ⌜ (length (now positions) ≡ 48) × Shared s sent ⌝ }
+    ensures { λ _. ⌜ ((S : Shared s sent) (i : ℕ) → getD (now (positions .exit)) i (pos 0)
+        ≡ cond (settles s i)
+        (settledFrom s (tableAt (tableOf (heads s) (heardWith s (S .entry) (plantedIn (now (planted .entry)) (now (lengths .entry))) i))))
+        (getD (now (positions .entry)) i (pos 0))) ⌝ }
+{
+    let end = round::receiver_end(s);
+    let mut i: usize = 0;
+    while i < end {
+        if round::settles(s, i) {
+            let list = list_for(s, sent, planted, lengths, i);
+            let v = position_of(s, list);
+            positions[i] = v;
+        }
+        i += 1;
+    }
+}
+
+// A phase of one round: the new position of each receiver that is not struck, from the positions, which are in range, and what is planted. The other positions
+// stay as they were.
+pub fn conclude(s: Stage, positions: &mut Positions, planted: &[u8], lengths: &[u8])
+    ensures { λ _. ⌜ (InRange s (now (positions .entry)) → (i : ℕ) → getD (now (positions .exit)) i (pos 0)
+        ≡ cond (settles s i)
+        (heardPosition s (now (positions .entry)) (plantedIn (now (planted .entry)) (now (lengths .entry))) i)
+        (getD (now (positions .entry)) i (pos 0))) ⌝ }
+{
+    let sent = entries_sent(s, positions);
+    fill_positions(s, sent, planted, lengths, positions);
 }

@@ -5,6 +5,7 @@ use mathlib.Core.List.{List, [], _∷_}
 use Prim.Native.Nat.{ℕ, zero, suc, _+_, _<_}
 use native.Mathlib.Omega.{arith}
 use lib.IntN.{ℤ}
+use Rattle.terms.specs.declared.Family.{Family}
 use Rattle.marks.specs.Marks.{bitOf}
 use Rattle.convergence.specs.Counting.{Each}
 use Rattle.head_spec.specs.Calls.{Delivery, onLinks, hearAll}
@@ -34,27 +35,27 @@ links-same g g′ zero i h = refl
 links-same g g′ (suc m) i h =
     ap₂ (λ (s : List ℕ) (D : List Delivery). record { link = i; bytes = s } ∷ D) (h i (omega arith)) (links-same g g′ m (suc i) (λ j l. h j (omega arith)))
 
-module _ (n f : ℕ) (R R′ : Ring) (w w′ : Round) (S : SameHeads n R R′) (W : SameToHeads n w w′) where
-  opened-alone : Each n (λ i. openedAt n f R w i ≡ openedAt n f R′ w′ i)
+module _ (K : Family) (n f : ℕ) (R R′ : Ring) (w w′ : Round) (S : SameHeads n R R′) (W : SameToHeads n w w′) where
+  opened-alone : Each n (λ i. openedAt K n f R w i ≡ openedAt K n f R′ w′ i)
   unfolding openedAt
   opened-alone i l = rw (W .struck i l, S .before i l, S .phase, S .round, S .heads i l)
 
-  carried-alone : Each n (λ i. Each n (λ k. carried n f R w i k ≡ carried n f R′ w′ i k))
+  carried-alone : Each n (λ i. Each n (λ k. carried K n f R w i k ≡ carried K n f R′ w′ i k))
   unfolding carried
   carried-alone i l k t = rw (W .struck k t, W .plants k t i l, opened-alone k t)
 
-  closed-alone : Each n (λ i. closedAt n f R w i ≡ closedAt n f R′ w′ i)
+  closed-alone : Each n (λ i. closedAt K n f R w i ≡ closedAt K n f R′ w′ i)
   unfolding closedAt hearAll
   closed-alone i l =
-      rw (W .struck i l, opened-alone i l, links-same (carried n f R w i) (carried n f R′ w′ i) n 0 (λ k t. carried-alone i l k (omega arith)))
+      rw (W .struck i l, opened-alone i l, links-same (carried K n f R w i) (carried K n f R′ w′ i) n 0 (λ k t. carried-alone i l k (omega arith)))
 
-  next-alone : SameHeads n (afterRound n f R w) (afterRound n f R′ w′)
+  next-alone : SameHeads n (afterRound K n f R w) (afterRound K n f R′ w′)
   unfolding afterRound
   next-alone = record { phase = rw (S .round, S .phase); round = rw (S .round); before = W .struck; heads = closed-alone }
 
-pub heads-alone : (n f : ℕ) (v : ℕ → ℤ) (ws ws′ : List Round) → AllSame n ws ws′ → SameHeads n (ringAfter n f v ws) (ringAfter n f v ws′)
+pub heads-alone : (K : Family) (n f : ℕ) (v : ℕ → ℤ) (ws ws′ : List Round) → AllSame n ws ws′ → SameHeads n (ringAfter K n f v ws) (ringAfter K n f v ws′)
 unfolding ringAfter
-heads-alone n f v [] [] A = record { phase = refl; round = refl; before = λ i l. refl; heads = λ i l. refl }
-heads-alone n f v [] (w′ ∷ ws′) A = absurd A
-heads-alone n f v (w ∷ ws) [] A = absurd A
-heads-alone n f v (w ∷ ws) (w′ ∷ ws′) A = next-alone n f (ringAfter n f v ws) (ringAfter n f v ws′) w w′ (heads-alone n f v ws ws′ (A .1)) (A .0)
+heads-alone K n f v [] [] A = record { phase = refl; round = refl; before = λ i l. refl; heads = λ i l. refl }
+heads-alone K n f v [] (w′ ∷ ws′) A = absurd A
+heads-alone K n f v (w ∷ ws) [] A = absurd A
+heads-alone K n f v (w ∷ ws) (w′ ∷ ws′) A = next-alone K n f (ringAfter K n f v ws) (ringAfter K n f v ws′) w w′ (heads-alone K n f v ws ws′ (A .1)) (A .0)

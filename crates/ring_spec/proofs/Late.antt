@@ -10,6 +10,9 @@ use borrow.Author.Tests.{eqb-true, eqb-false, eq-eqb}
 use lib.Dec.{eqb}
 use lib.ListN.{length, getD}
 use lib.IntN.{ℤ}
+use Rattle.terms.specs.declared.Family.{Family}
+use Rattle.terms.specs.declared.Family.the-variants.{TwoRounds, OneRound}
+use Rattle.terms.specs.Sizes.{endsWith}
 use Rattle.marks.specs.Marks.{bitOf}
 use Rattle.convergence.specs.Counting.{Each}
 use Rattle.convergence.proofs.Same.{SameEnd, demand3-same}
@@ -17,7 +20,7 @@ use Rattle.head_spec.specs.Calls.{hearAll, frameFor}
 use Rattle.head_spec.specs.declared.Head.{Head}
 use Rattle.ring_spec.specs.Rounds.{Plant, Round, planted, Ring, openedAt, carried, closedAt, afterRound, ringAfter}
 use Rattle.ring_spec.specs.Rounds.{PhaseEnd, phaseEnd, receivers, asEnd, withEnd, endsAfter}
-use Rattle.ring_spec.specs.Converges.{FewStruckIn, noEnd}
+use Rattle.ring_spec.specs.Converges.{FewStruckIn, noEnd, Within}
 use Rattle.ring_spec.specs.Late.{LateRound, roundsOf, openedLate, carriedLate, closedLate, afterLate, ringAfterLate, endsAfterLate, LateConverges}
 use Rattle.ring_spec.proofs.Receivers.{hears}
 use Rattle.ring_spec.proofs.HeadsAlone.{links-same}
@@ -79,12 +82,12 @@ module _ (isLate : ℕ → Bool) (frame : ℕ → List ℕ) (ps : List Plant) wh
 -- ---- one round
 
 -- the plain round of a late one, in the late ring R: the late heads are struck, and from them is planted what they say
-module _ (n f : ℕ) (R : Ring) (w : LateRound) where
+module _ (K : Family) (n f : ℕ) (R : Ring) (w : LateRound) where
   abbrev isLate : ℕ → Bool
   isLate k = bitOf (w .round .struck) k && w .late k
 
   abbrev frame : ℕ → List ℕ
-  frame k = frameFor (openedLate n f R w k)
+  frame k = frameFor (openedLate K n f R w k)
 
   unfoldable asRound : Round
   asRound = record { struck = w .round .struck; told = w .round .told; plants = sentLate isLate frame (w .round .plants) n }
@@ -96,14 +99,14 @@ record SameSound (R R′ : Ring) : Type 0 where
   before : R .before ≡ R′ .before
   heads : Each receivers (λ i. bitOf (R .before) i ≡ false → R .heads i ≡ R′ .heads i)
 
-module _ (n f : ℕ) (most : n ≤ 32) (R R′ : Ring) (w : LateRound) (S : SameSound R R′) where
+module _ (K : Family) (n f : ℕ) (most : n ≤ 32) (R R′ : Ring) (w : LateRound) (S : SameSound R R′) where
   abbrev counted : ℕ → Bool
   counted i = bitOf (w .round .struck) i
 
   abbrev w′ : Round
-  w′ = asRound n f R w
+  w′ = asRound K n f R w
 
-  opened-late : Each receivers (λ i. counted i ≡ false → openedLate n f R w i ≡ openedAt n f R′ w′ i)
+  opened-late : Each receivers (λ i. counted i ≡ false → openedLate K n f R w i ≡ openedAt K n f R′ w′ i)
   unfolding openedLate openedAt asRound
   opened-late i l q = rw (q, ← S .before, ← S .phase, ← S .round) (go _ (bitOf (R .before) i) (S .heads i l))
     where
@@ -111,25 +114,25 @@ module _ (n f : ℕ) (most : n ≤ 32) (R R′ : Ring) (w : LateRound) (S : Same
       go h true same = refl
       go h false same = same refl
 
-  carried-late : Each receivers (λ i. Each n (λ k. carriedLate n f R w i k ≡ carried n f R′ w′ i k))
+  carried-late : Each receivers (λ i. Each n (λ k. carriedLate K n f R w i k ≡ carried K n f R′ w′ i k))
   unfolding carriedLate carried asRound
   carried-late i l k t = go (counted k) (w .late k) refl refl
     where
       P : List Plant
-      P = sentLate (isLate n f R w) (frame n f R w) (w .round .plants) n
+      P = sentLate (isLate K n f R w) (frame K n f R w) (w .round .plants) n
 
       go : (c d : Bool) → counted k ≡ c → w .late k ≡ d
-          → cond (c && not d) (planted (w .round .plants) k i) (frameFor (openedLate n f R w k)) ≡ cond c (planted P k i) (frameFor (openedAt n f R′ w′ k))
+          → cond (c && not d) (planted (w .round .plants) k i) (frameFor (openedLate K n f R w k)) ≡ cond c (planted P k i) (frameFor (openedAt K n f R′ w′ k))
       go false d p q = ap frameFor (opened-late k (omega arith) p)
-      go true true p q = sym (late-reaches (isLate n f R w) (frame n f R w) (w .round .plants) n k i t l (rw (p, q)))
-      go true false p q = sym (others-keep (isLate n f R w) (frame n f R w) (w .round .plants) n k i (rw (p, q)))
+      go true true p q = sym (late-reaches (isLate K n f R w) (frame K n f R w) (w .round .plants) n k i t l (rw (p, q)))
+      go true false p q = sym (others-keep (isLate K n f R w) (frame K n f R w) (w .round .plants) n k i (rw (p, q)))
 
-  closed-late : Each receivers (λ i. counted i ≡ false → closedLate n f R w i ≡ closedAt n f R′ w′ i)
+  closed-late : Each receivers (λ i. counted i ≡ false → closedLate K n f R w i ≡ closedAt K n f R′ w′ i)
   unfolding closedLate closedAt hearAll asRound
   closed-late i l q =
-      rw (q, opened-late i l q, links-same (carriedLate n f R w i) (carried n f R′ w′ i) n 0 (λ k t. carried-late i l k (omega arith)))
+      rw (q, opened-late i l q, links-same (carriedLate K n f R w i) (carried K n f R′ w′ i) n 0 (λ k t. carried-late i l k (omega arith)))
 
-  next-late : SameSound (afterLate n f R w) (afterRound n f R′ w′)
+  next-late : SameSound (afterLate K n f R w) (afterRound K n f R′ w′)
   unfolding afterLate afterRound asRound
   next-late = record { phase = rw (S .round, S .phase); round = rw (S .round); before = refl; heads = closed-late }
 
@@ -140,10 +143,10 @@ record SameEnds (n m : ℕ) (es es′ : List PhaseEnd) : Type 0 where
   many : length es ≡ length es′
   each : (i : ℕ) → SameEnd receivers (asEnd n m (getD es i noEnd)) (asEnd n m (getD es′ i noEnd))
 
-same-with : (n m r : ℕ) (e e′ : PhaseEnd) (es es′ : List PhaseEnd) → SameEnd receivers (asEnd n m e) (asEnd n m e′) → SameEnds n m es es′
+same-with : (n m : ℕ) (r : Bool) (e e′ : PhaseEnd) (es es′ : List PhaseEnd) → SameEnd receivers (asEnd n m e) (asEnd n m e′) → SameEnds n m es es′
     → SameEnds n m (withEnd r e es) (withEnd r e′ es′)
-same-with n m zero e e′ es es′ s S = S
-same-with n m (suc r) e e′ es es′ s S = record { many = ap suc (S .many); each = go }
+same-with n m false e e′ es es′ s S = S
+same-with n m true e e′ es es′ s S = record { many = ap suc (S .many); each = go }
   where
     go : (i : ℕ) → SameEnd receivers (asEnd n m (getD (e ∷ es) i noEnd)) (asEnd n m (getD (e′ ∷ es′) i noEnd))
     go zero = s
@@ -151,10 +154,15 @@ same-with n m (suc r) e e′ es es′ s S = record { many = ap suc (S .many); ea
 
 -- ---- a run
 
-module _ (n f : ℕ) (v : ℕ → ℤ) where
+many-rounds : (ws : List LateRound) → length (roundsOf ws) ≡ length ws
+unfolding roundsOf
+many-rounds [] = refl
+many-rounds (w ∷ ws) = ap suc (many-rounds ws)
+
+module _ (K : Family) (n f : ℕ) (v : ℕ → ℤ) where
   abbrev asRounds : List LateRound → List Round
   asRounds [] = []
-  asRounds (w ∷ ws) = asRound n f (ringAfterLate n f v ws) w ∷ asRounds ws
+  asRounds (w ∷ ws) = asRound K n f (ringAfterLate K n f v ws) w ∷ asRounds ws
 
   as-many : (ws : List LateRound) → length (asRounds ws) ≡ length ws
   as-many [] = refl
@@ -167,34 +175,50 @@ module _ (n f : ℕ) (v : ℕ → ℤ) where
   few-late (w ∷ ws) W = (W .0, few-late ws (W .1))
 
   module _ (most : n ≤ 32) where
-    late-same : (ws : List LateRound) → SameSound (ringAfterLate n f v ws) (ringAfter n f v (asRounds ws))
+    late-same : (ws : List LateRound) → SameSound (ringAfterLate K n f v ws) (ringAfter K n f v (asRounds ws))
     unfolding ringAfterLate ringAfter
     late-same [] = record { phase = refl; round = refl; before = refl; heads = λ i l q. refl }
-    late-same (w ∷ ws) = next-late n f most (ringAfterLate n f v ws) (ringAfter n f v (asRounds ws)) w (late-same ws)
+    late-same (w ∷ ws) = next-late K n f most (ringAfterLate K n f v ws) (ringAfter K n f v (asRounds ws)) w (late-same ws)
+
+    -- two phase ends with the same marks, and the same records but for those marked
+    ends-alike : (k : Family) (m marks a b : ℕ) {H H′ : ℕ → Head} → Each receivers (λ i. bitOf marks i ≡ false → H i ≡ H′ i)
+        → SameEnd receivers (asEnd n m (phaseEnd k a marks H)) (asEnd n m (phaseEnd k b marks H′))
+    ends-alike TwoRounds m marks a b same =
+        record { struck = λ i l. refl; at = λ i l q. ap (λ (h : Head). h .seat .position) (same i l (hears n m marks i l q .1)) }
+    ends-alike OneRound m marks a b same =
+        record { struck = λ i l. refl; at = λ i l q. ap (λ (h : Head). h .seat .position) (same i l (hears n m marks i l q .1)) }
 
     -- a phase end: the same are counted as struck, and the others hold the same
     end-same : (m : ℕ) (w : LateRound) (ws : List LateRound) → let us = w ∷ ws in
-        SameEnd receivers (asEnd n m (phaseEnd 0 (w .round .struck) (ringAfterLate n f v us .heads)))
-        (asEnd n m (phaseEnd 0 (asRound n f (ringAfterLate n f v ws) w .struck) (ringAfter n f v (asRounds us) .heads)))
+        (a b : ℕ) → SameEnd receivers (asEnd n m (phaseEnd K a (w .round .struck) (ringAfterLate K n f v us .heads)))
+        (asEnd n m (phaseEnd K b (asRound K n f (ringAfterLate K n f v ws) w .struck) (ringAfter K n f v (asRounds us) .heads)))
     unfolding asRound ringAfterLate afterLate
-    end-same m w ws =
-        record {
-          struck = λ i l. refl;
-          at = λ i l q. ap (λ (h : Head). h .seat .position) (late-same (w ∷ ws) .heads i l (hears n m (w .round .struck) i l q .1));
-        }
+    end-same m w ws a b =
+        ends-alike K m (w .round .struck) a b (λ i l q. late-same (w ∷ ws) .heads i l q)
 
-    ends-same : (m : ℕ) (ws : List LateRound) → SameEnds n m (endsAfterLate n f v ws) (endsAfter n f v (asRounds ws))
+    ends-same : (m : ℕ) (ws : List LateRound) → SameEnds n m (endsAfterLate K n f v ws) (endsAfter K n f v (asRounds ws))
     unfolding endsAfterLate endsAfter
     ends-same m [] = record { many = refl; each = λ i. record { struck = λ j l. refl; at = λ j l q. refl } }
     ends-same m (w ∷ ws) =
         rw (← late-same ws .round)
-        (same-with n m (ringAfterLate n f v ws .round) _ _ _ _ (end-same m w ws) (ends-same m ws))
+        (same-with n m (endsWith K (ringAfterLate K n f v ws .round)) _ _ _ _ (end-same m w ws _ _) (ends-same m ws))
 
 -- what the plain ring gives
+late-within : {K : Family} {n m f : ℕ} {v : ℕ → ℤ} (ws : List LateRound) → Within K n m f v (roundsOf ws) → Within K n m f v (asRounds K n f v ws)
+late-within {K} {n} {m} {f} {v} ws X =
+    let y = as-many K n f v ws in
+    let z = many-rounds ws in
+    record {
+      most = X .most;
+      listeners = X .listeners;
+      size = X .size;
+      range = X .range;
+      few = few-late K n f v ws (X .few);
+      rounds = omega (arith, X .rounds);
+    }
+
 pub late-converges : LateConverges
-late-converges n m f v ws most few limit range W l i k h =
-    let S = ends-same n f v most m ws in
+late-converges K n m f v ws X i k h =
+    let S = ends-same K n f v (X .most) m ws in
     let z = S .many in
-    let y = as-many n f v ws in
-    demand3-same (S .each (i + k)) (S .each i)
-    (ring-converges n m f v (asRounds n f v ws) most few limit range (few-late n f v ws W) (omega arith) i k (omega arith))
+    demand3-same (S .each (i + k)) (S .each i) (ring-converges K n m f v (asRounds K n f v ws) (late-within ws X) i k (omega arith))

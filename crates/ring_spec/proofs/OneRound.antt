@@ -5,7 +5,9 @@ use mathlib.Core.Bool.{Bool, true, false, cond}
 use mathlib.Core.List.{List}
 use mathlib.Core.Logic.{inl, inr}
 use Prim.Native.Nat.{ℕ, _≤_, _<_}
+use Rattle.terms.specs.Sizes.{roundsOf}
 use Rattle.terms.specs.declared.Entry.{Entry}
+use Rattle.terms.specs.declared.Family.{Family}
 use Rattle.marks.specs.Marks.{bitOf}
 use Rattle.entries.specs.Tables.{tableAt}
 use Rattle.convergence.specs.Counting.{Each}
@@ -21,7 +23,8 @@ use Rattle.ring_spec.specs.Rounds.{Round, planted, Ring, openedAt, carri
 use Rattle.ring_spec.proofs.Receivers.{Hears}
 
 -- the seat of receiver i in round r of phase p; b: it is healed
-pub record SeatedAt (n f i p r : ℕ) (b : Bool) (s : Seat) : Type 0 where
+pub record SeatedAt (K : Family) (n f i p r : ℕ) (b : Bool) (s : Seat) : Type 0 where
+  pub family : s .family ≡ K
   pub count : s .n ≡ n
   pub limit : s .f ≡ f
   pub number : s .number ≡ i
@@ -31,84 +34,84 @@ pub record SeatedAt (n f i p r : ℕ) (b : Bool) (s : Seat) : Type 0 where
   pub runs : s .ended ≡ false
 
 -- the record of receiver i as round r of phase p opens
-pub record Ready (n f i p r : ℕ) (b : Bool) (h : Head) : Type 0 where
+pub record Ready (K : Family) (n f i p r : ℕ) (b : Bool) (h : Head) : Type 0 where
   pub fresh : Fresh h
-  pub seat : SeatedAt n f i p r b (h .seat)
+  pub seat : SeatedAt K n f i p r b (h .seat)
 
 -- a ring as the next round finds it: every receiver whose record is not lost can open it
-pub record RingReady (n f : ℕ) (R : Ring) : Type 0 where
-  pub size : Sized n f
+pub record RingReady (K : Family) (n f : ℕ) (R : Ring) : Type 0 where
+  pub size : Sized K n f
   pub from-first : 1 ≤ R .phase
   pub to-last : R .phase ≤ 65535
-  pub round : R .round < 2
-  pub heads : (i : ℕ) → Hears n i → bitOf (R .before) i ≡ false → Ready n f i (R .phase) (R .round) false (R .heads i)
+  pub round : R .round < roundsOf K
+  pub heads : (i : ℕ) → Hears n i → bitOf (R .before) i ≡ false → Ready K n f i (R .phase) (R .round) false (R .heads i)
 
 -- what a record says, by its round
-module _ {n f i p : ℕ} {b : Bool} {h : Head} where
-  pub says-entry : Ready n f i p 0 b h → spoken h ≡ collected (cond b Entry.Null (h .seat .position))
+module _ {K : Family} {n f i p : ℕ} {b : Bool} {h : Head} where
+  pub says-entry : Ready K n f i p 0 b h → spoken h ≡ collected (cond b Entry.Null (h .seat .position))
   unfolding spoken
   says-entry H = rw (H .seat .round, H .seat .healed)
 
-  pub says-list : Ready n f i p 1 b h → spoken h ≡ cond b confessed (listed (h .list))
+  pub says-list : Ready K n f i p 1 b h → spoken h ≡ cond b confessed (listed (h .list))
   unfolding spoken
   says-list H = rw (H .seat .round, H .seat .healed)
 
   -- its frame says that to every receiver in this round
-  frame-says : {r : ℕ} → Ready n f i p r b h → said n p r i (frameFor h) ≡ spoken h
+  frame-says : {r : ℕ} → Ready K n f i p r b h → said n p r i (frameFor h) ≡ spoken h
   frame-says {r} H = sym same ∙ spoken-reads-back h (H .fresh .proper)
     where
       same : saidTo (h .seat) (h .seat .number) (frameFor h) ≡ said n p r i (frameFor h)
       same = let A = H .seat in λ t. said (A .count t) (A .phase t) (A .round t) (A .number t) (frameFor h)
 
-module _ (n f : ℕ) (R : Ring) (w : Round) where
+module _ (K : Family) (n f : ℕ) (R : Ring) (w : Round) where
   -- what receiver i hears on link k
   abbrev pub saidIn : ℕ → ℕ → Meaning
-  saidIn i k = said n (R .phase) (R .round) k (carried n f R w i k)
+  saidIn i k = said n (R .phase) (R .round) k (carried K n f R w i k)
 
   -- the record of receiver i when it has heard all links
   abbrev pub heardAt : ℕ → Head
-  heardAt i = hearAll (openedAt n f R w i) (carried n f R w i) n
+  heardAt i = hearAll (openedAt K n f R w i) (carried K n f R w i) n
 
   pub said-planted : (i k : ℕ) → bitOf (w .struck) k ≡ true → saidIn i k ≡ said n (R .phase) (R .round) k (planted (w .plants) k i)
   unfolding carried
   said-planted i k q = rw q
 
   -- neither struck nor healed: the record that was
-  pub opened-same : (i : ℕ) → bitOf (w .struck) i ≡ false → bitOf (R .before) i ≡ false → openedAt n f R w i ≡ R .heads i
+  pub opened-same : (i : ℕ) → bitOf (w .struck) i ≡ false → bitOf (R .before) i ≡ false → openedAt K n f R w i ≡ R .heads i
   unfolding openedAt
   opened-same i q e = rw (q, e)
 
-  module _ (S : RingReady n f R) where
-    restarted-fresh : (i : ℕ) → Hears n i → Fresh (restarted n f i (R .phase) (R .round))
+  module _ (S : RingReady K n f R) where
+    restarted-fresh : (i : ℕ) → Hears n i → Fresh (restarted K n f i (R .phase) (R .round))
     restarted-fresh i (inl l) =
-        fresh-restarted n f i (R .phase) (R .round) (restart-accepted n f i (S .size) l (R .phase) (R .round) (S .from-first) (S .to-last) (S .round))
+        fresh-restarted K n f i (R .phase) (R .round) (restart-accepted K n f i (S .size) l (R .phase) (R .round) (S .from-first) (S .to-last) (S .round))
     restarted-fresh i (inr e) =
-        fresh-restarted-listener n f i (R .phase) (R .round)
-        (restart-listener-accepted n f i (S .size) e (R .phase) (R .round) (S .from-first) (S .to-last) (S .round))
+        fresh-restarted-listener K n f i (R .phase) (R .round)
+        (restart-listener-accepted K n f i (S .size) e (R .phase) (R .round) (S .from-first) (S .to-last) (S .round))
 
-    restarted-ready : (i : ℕ) → Hears n i → Ready n f i (R .phase) (R .round) true (restarted n f i (R .phase) (R .round))
+    restarted-ready : (i : ℕ) → Hears n i → Ready K n f i (R .phase) (R .round) true (restarted K n f i (R .phase) (R .round))
     unfolding restarted
     restarted-ready i l =
         record {
           fresh = restarted-fresh i l;
-          seat = record { count = refl; limit = refl; number = refl; phase = refl; round = refl; healed = refl; runs = refl };
+          seat = record { family = refl; count = refl; limit = refl; number = refl; phase = refl; round = refl; healed = refl; runs = refl };
         }
 
     module _ (i : ℕ) (l : Hears n i) (q : bitOf (w .struck) i ≡ false) where
-      pub opened-ready : Ready n f i (R .phase) (R .round) (bitOf (R .before) i) (openedAt n f R w i)
+      pub opened-ready : Ready K n f i (R .phase) (R .round) (bitOf (R .before) i) (openedAt K n f R w i)
       unfolding openedAt
       opened-ready = rw q (go (bitOf (R .before) i) refl)
         where
           go : (b : Bool) → bitOf (R .before) i ≡ b
-              → Ready n f i (R .phase) (R .round) b (cond b (restarted n f i (R .phase) (R .round)) (R .heads i))
+              → Ready K n f i (R .phase) (R .round) b (cond b (restarted K n f i (R .phase) (R .round)) (R .heads i))
           go true e = restarted-ready i l
           go false e = S .heads i l e
 
-      pub opened-in : {r : ℕ} → R .round ≡ r → Ready n f i (R .phase) r (bitOf (R .before) i) (openedAt n f R w i)
-      opened-in c = subst (λ (r : ℕ). Ready n f i (R .phase) r (bitOf (R .before) i) (openedAt n f R w i)) c opened-ready
+      pub opened-in : {r : ℕ} → R .round ≡ r → Ready K n f i (R .phase) r (bitOf (R .before) i) (openedAt K n f R w i)
+      opened-in c = subst (λ (r : ℕ). Ready K n f i (R .phase) r (bitOf (R .before) i) (openedAt K n f R w i)) c opened-ready
 
     -- every receiver hears an unstruck head say what its record has to say
-    pub said-spoken : (i k : ℕ) → k < n → bitOf (w .struck) k ≡ false → saidIn i k ≡ spoken (openedAt n f R w k)
+    pub said-spoken : (i k : ℕ) → k < n → bitOf (w .struck) k ≡ false → saidIn i k ≡ spoken (openedAt K n f R w k)
     unfolding carried
     said-spoken i k l q = rw q (frame-says (opened-ready k (inl l) q))
 
@@ -116,12 +119,12 @@ module _ (n f : ℕ) (R : Ring) (w : Round) where
 
     module _ (i : ℕ) (l : Hears n i) (q : bitOf (w .struck) i ≡ false) where
       abbrev h : Head
-      h = openedAt n f R w i
+      h = openedAt K n f R w i
 
       abbrev g : ℕ → List ℕ
-      g = carried n f R w i
+      g = carried K n f R w i
 
-      abbrev H : Ready n f i (R .phase) (R .round) (bitOf (R .before) i) h
+      abbrev H : Ready K n f i (R .phase) (R .round) (bitOf (R .before) i) h
       H = opened-ready i l q
 
       pub heard-proper : ProperHead (heardAt i)
@@ -130,7 +133,7 @@ module _ (n f : ℕ) (R : Ring) (w : Round) where
       pub heard-seat : heardAt i .seat ≡ h .seat
       heard-seat = all-keep h g n
 
-      pub heard-at : SeatedAt n f i (R .phase) (R .round) (bitOf (R .before) i) (heardAt i .seat)
+      pub heard-at : SeatedAt K n f i (R .phase) (R .round) (bitOf (R .before) i) (heardAt i .seat)
       heard-at = rw heard-seat (H .seat)
 
       pub heard-given : Each n (λ k. given (heardAt i) k ≡ givenOf (saidIn i k))

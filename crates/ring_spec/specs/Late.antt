@@ -1,20 +1,17 @@
 -- Document 02, A8: a receiver that has not adopted when the first frame of the next round is sent counts as struck in the round that it did not end, in its
 -- mark word and within f, and is restarted like one. In that round it was sound: it sent what it had to say, and heard. proofs/Late.antt proves demand 3 with
 -- such receivers.
-use mathlib.Core.Bool.{Bool, true, not, cond, _&&_}
+use mathlib.Core.Bool.{Bool, not, cond, _&&_}
 use mathlib.Core.List.{List, [], _∷_}
-use mathlib.Core.Path.{_≡_}
-use Prim.Native.Nat.{ℕ, _≤_}
-use lib.ListN.{length}
+use Prim.Native.Nat.{ℕ}
 use lib.IntN.{ℤ}
-use Rattle.terms.specs.Positions.{isPosition}
+use Rattle.terms.specs.declared.Family.{Family}
+use Rattle.terms.specs.Sizes.{endsWith}
 use Rattle.marks.specs.Marks.{bitOf}
-use Rattle.convergence.specs.Counting.{Each}
-use Rattle.convergence.specs.Demand3.{AcceptedSize}
 use Rattle.head_spec.specs.Calls.{restarted, hearAll, frameFor}
 use Rattle.head_spec.specs.declared.Head.{Head}
-use Rattle.ring_spec.specs.Rounds.{Round, planted, lost, Ring, roundEnded, phaseThen, roundThen, mostRounds, PhaseEnd, phaseEnd, withEnd, firstHeads, firstEnd}
-use Rattle.ring_spec.specs.Converges.{FewStruckIn, AnyTwo}
+use Rattle.ring_spec.specs.Rounds.{Round, planted, lost, Ring, roundEnded, phaseThen, roundThen, PhaseEnd, phaseEnd, withEnd, firstHeads, firstEnd}
+use Rattle.ring_spec.specs.Converges.{Within, AnyTwo}
 
 -- A round whose mark word has the struck receivers and the late ones; late: which of those that it marks are only late; left: the records that these are left with,
 -- whatever they are: the record as it was when the round was heard, with an offer beside it or with none, or any other.
@@ -28,7 +25,7 @@ unfoldable pub roundsOf : List LateRound → List Round
 roundsOf [] = []
 roundsOf (w ∷ ws) = w .round ∷ roundsOf ws
 
-module _ (n f : ℕ) (R : Ring) (w : LateRound) where
+module _ (K : Family) (n f : ℕ) (R : Ring) (w : LateRound) where
   -- counted as struck, and struck in truth
   abbrev pub isCounted : ℕ → Bool
   isCounted i = bitOf (w .round .struck) i
@@ -40,7 +37,7 @@ module _ (n f : ℕ) (R : Ring) (w : LateRound) where
   unfoldable pub openedLate : ℕ → Head
   openedLate i =
       cond (isTrulyStruck i) lost
-      (cond (bitOf (R .before) i) (restarted n f i (R .phase) (R .round)) (R .heads i))
+      (cond (bitOf (R .before) i) (restarted K n f i (R .phase) (R .round)) (R .heads i))
 
   -- a late head sends what it has to say
   unfoldable pub carriedLate : ℕ → ℕ → List ℕ
@@ -48,29 +45,29 @@ module _ (n f : ℕ) (R : Ring) (w : LateRound) where
 
   -- the round of a late receiver is not ended
   unfoldable pub closedLate : ℕ → Head
-  closedLate i = cond (isTrulyStruck i) lost (cond (isCounted i) (w .left i) (roundEnded (hearAll (openedLate i) (carriedLate i) n)))
+  closedLate i =
+      cond (isTrulyStruck i) lost (cond (isCounted i) (w .left i) (roundEnded (hearAll (openedLate i) (carriedLate i) n)))
 
-unfoldable pub afterLate : ℕ → ℕ → Ring → LateRound → Ring
-afterLate n f R w =
+unfoldable pub afterLate : Family → ℕ → ℕ → Ring → LateRound → Ring
+afterLate K n f R w =
     record {
-      phase = phaseThen (R .round) (R .phase);
-      round = roundThen (R .round);
+      phase = phaseThen (endsWith K (R .round)) (R .phase);
+      round = roundThen (endsWith K (R .round));
       before = w .round .struck;
-      heads = closedLate n f R w;
+      heads = closedLate K n f R w;
     }
 
-module _ (n f : ℕ) (v : ℕ → ℤ) where
+module _ (K : Family) (n f : ℕ) (v : ℕ → ℤ) where
   unfoldable pub ringAfterLate : List LateRound → Ring
-  ringAfterLate [] = record { phase = 1; round = 0; before = 0; heads = firstHeads n f v }
-  ringAfterLate (w ∷ ws) = afterLate n f (ringAfterLate ws) w
+  ringAfterLate [] = record { phase = 1; round = 0; before = 0; heads = firstHeads K n f v }
+  ringAfterLate (w ∷ ws) = afterLate K n f (ringAfterLate ws) w
 
   unfoldable pub endsAfterLate : List LateRound → List PhaseEnd
-  endsAfterLate [] = firstEnd n f v ∷ []
+  endsAfterLate [] = firstEnd K n f v ∷ []
   endsAfterLate (w ∷ ws) =
-      withEnd (ringAfterLate ws .round) (phaseEnd (ringAfterLate ws .before) (w .round .struck) (ringAfterLate (w ∷ ws) .heads)) (endsAfterLate ws)
+      withEnd (endsWith K (ringAfterLate ws .round)) (phaseEnd K (ringAfterLate ws .before) (w .round .struck) (ringAfterLate (w ∷ ws) .heads)) (endsAfterLate ws)
 
 -- demand 3, with those that did not adopt counted as struck
 abbrev pub LateConverges : Type 0
 LateConverges =
-    (n m f : ℕ) (v : ℕ → ℤ) (ws : List LateRound) → n ≤ 32 → m ≤ 16 → AcceptedSize n f → Each n (λ i. isPosition (v i) ≡ true)
-    → FewStruckIn n f (roundsOf ws) → length ws ≤ mostRounds → AnyTwo n m f (endsAfterLate n f v ws)
+    (K : Family) (n m f : ℕ) (v : ℕ → ℤ) (ws : List LateRound) → Within K n m f v (roundsOf ws) → AnyTwo K n m f (endsAfterLate K n f v ws)

@@ -1,10 +1,13 @@
 -- Document 01, "Strikes", for the records of a whole ring: memory lost, healed heads restarted, frames sent and delivered, rounds closed.
-use mathlib.Core.Bool.{Bool, false, not, cond, _&&_, _||_}
+use mathlib.Core.Bool.{Bool, true, false, not, cond, _&&_, _||_}
 use mathlib.Core.List.{List, [], _∷_}
 use Prim.Native.Nat.{ℕ, zero, suc, _+_, _*_, _/_, _%_}
 use lib.Dec.{eqb, ltb, leb}
 use lib.IntN.{ℤ}
+use Rattle.terms.specs.Sizes.{endsWith}
 use Rattle.terms.specs.declared.Entry.{Entry}
+use Rattle.terms.specs.declared.Family.{Family}
+use Rattle.terms.specs.declared.Family.the-variants.{TwoRounds, OneRound}
 use Rattle.marks.specs.Marks.{bitOf}
 use Rattle.convergence.specs.Phases.{End}
 use Rattle.head_spec.specs.Record.{noEntries, opened}
@@ -36,6 +39,7 @@ planted (x ∷ xs) k i = cond (eqb (x .from) k && eqb (x .to) i) (x .bytes) (pla
 abbrev pub noSeat : Seat
 noSeat =
     record {
+      family = TwoRounds;
       n = 0;
       f = 0;
       number = 0;
@@ -50,8 +54,8 @@ noSeat =
 unfoldable pub lost : Head
 lost = opened noSeat noEntries
 
--- the ring as the next round finds it: that round's phase and number (0 collection, 1 confession), who was struck in the round before, and the records of heads
--- and listeners by their numbers
+-- the ring as the next round finds it: that round's phase and its number in the phase (0 is collection and 1 confession, and 0 the one round of a phase of one round),
+-- who was struck in the round before, and the records of heads and listeners by their numbers
 pub record Ring : Type 0 where
   pub phase : ℕ
   pub round : ℕ
@@ -62,14 +66,14 @@ pub record Ring : Type 0 where
 abbrev pub roundEnded : Head → Head
 roundEnded h = thenAdopt (close h .closed) (close h .head) .head
 
--- ---- a round w of n heads
+-- ---- a round w of n heads, in a ring of the family K
 
-module _ (n f : ℕ) (R : Ring) (w : Round) where
+module _ (K : Family) (n f : ℕ) (R : Ring) (w : Round) where
   -- record i as the round opens: a struck one's is lost, a healed one is restarted
   unfoldable pub openedAt : ℕ → Head
   openedAt i =
       cond (bitOf (w .struck) i) lost
-      (cond (bitOf (R .before) i) (restarted n f i (R .phase) (R .round)) (R .heads i))
+      (cond (bitOf (R .before) i) (restarted K n f i (R .phase) (R .round)) (R .heads i))
 
   -- what link k carries to receiver i: what is planted there, or the frame that head k writes, the same to all
   unfoldable pub carried : ℕ → ℕ → List ℕ
@@ -79,47 +83,51 @@ module _ (n f : ℕ) (R : Ring) (w : Round) where
   unfoldable pub closedAt : ℕ → Head
   closedAt i = cond (bitOf (w .struck) i) lost (roundEnded (hearAll (openedAt i) (carried i) n))
 
--- A phase has two rounds, collection and confession: of rounds counted from 1, round k belongs to phase `phaseOf k`, and ends it if `endsPhase k`. The start,
--- k = 0, counts as an end.
-abbrev pub phaseOf : ℕ → ℕ
-phaseOf k = (k + 1) / 2
+-- Of rounds counted from 1, round k belongs to phase `phaseOf K k`, and ends it if `endsPhase K k`. The start, k = 0, counts as an end.
+abbrev pub phaseOf : Family → ℕ → ℕ
+phaseOf TwoRounds k = (k + 1) / 2
+phaseOf OneRound k = k
 
-abbrev pub endsPhase : ℕ → Bool
-endsPhase k = eqb (k % 2) 0
+abbrev pub endsPhase : Family → ℕ → Bool
+endsPhase TwoRounds k = eqb (k % 2) 0
+endsPhase OneRound k = true
 
--- two for each of 65,535 phases
-abbrev pub mostRounds : ℕ
-mostRounds = 131070
+-- those of 65,535 phases
+abbrev pub mostRounds : Family → ℕ
+mostRounds TwoRounds = 131070
+mostRounds OneRound = 65535
 
-abbrev pub phaseThen : ℕ → ℕ → ℕ
-phaseThen zero p = p
-phaseThen (suc r) p = p + 1
+-- after a round; last: it is the last of its phase
+abbrev pub phaseThen : Bool → ℕ → ℕ
+phaseThen false p = p
+phaseThen true p = p + 1
 
-abbrev pub roundThen : ℕ → ℕ
-roundThen zero = 1
-roundThen (suc r) = 0
+abbrev pub roundThen : Bool → ℕ
+roundThen false = 1
+roundThen true = 0
 
-unfoldable pub afterRound : ℕ → ℕ → Ring → Round → Ring
-afterRound n f R w =
+unfoldable pub afterRound : Family → ℕ → ℕ → Ring → Round → Ring
+afterRound K n f R w =
     record {
-      phase = phaseThen (R .round) (R .phase);
-      round = roundThen (R .round);
+      phase = phaseThen (endsWith K (R .round)) (R .phase);
+      round = roundThen (endsWith K (R .round));
       before = w .struck;
-      heads = closedAt n f R w;
+      heads = closedAt K n f R w;
     }
 
 -- ---- a run: positions v at the start, then rounds; a list of rounds or of ends has the latest first
 
--- a phase end: the mark words of its two rounds, of which the listing prints the heads' bits; that of the round that ended the phase; and the records
+-- a phase end: the two mark words of which the listing prints the heads' bits; that of the round that ended the phase; and the records
 pub record PhaseEnd : Type 0 where
   pub collect : ℕ
   pub confess : ℕ
   pub struck : ℕ
   pub heads : ℕ → Head
 
--- the end of a phase of two rounds: the confession round ends it
-abbrev pub phaseEnd : ℕ → ℕ → (ℕ → Head) → PhaseEnd
-phaseEnd collect confess heads = record { collect = collect; confess = confess; struck = confess; heads = heads }
+-- the end of a phase, by the marks of the round before its last and of its last. A phase of one round shows its own marks first, and then zeros (document 02, A9)
+abbrev pub phaseEnd : Family → ℕ → ℕ → (ℕ → Head) → PhaseEnd
+phaseEnd TwoRounds before struck heads = record { collect = before; confess = struck; struck = struck; heads = heads }
+phaseEnd OneRound before struck heads = record { collect = struck; confess = 0; struck = struck; heads = heads }
 
 -- The receivers of n heads and m listeners: heads 0 .. n - 1, and listeners 32 .. 32 + m - 1; all are below 48.
 abbrev pub receivers : ℕ
@@ -140,14 +148,14 @@ asEnd n m e = record { struck = isOut n m (e .struck); at = λ i. e .heads i .se
 abbrev pub allListeners : ℕ
 allListeners = 65535 * 4294967296
 
--- a confession round ends a phase
-abbrev pub withEnd : ℕ → PhaseEnd → List PhaseEnd → List PhaseEnd
-withEnd zero e es = es
-withEnd (suc r) e es = e ∷ es
+-- the last round of a phase ends it
+abbrev pub withEnd : Bool → PhaseEnd → List PhaseEnd → List PhaseEnd
+withEnd false e es = es
+withEnd true e es = e ∷ es
 
-module _ (n f : ℕ) (v : ℕ → ℤ) where
+module _ (K : Family) (n f : ℕ) (v : ℕ → ℤ) where
   unfoldable pub firstHeads : ℕ → Head
-  firstHeads i = cond (ltb i 32) (started n f i (v i)) (startedListener n f i)
+  firstHeads i = cond (ltb i 32) (started K n f i (v i)) (startedListener K n f i)
 
   -- the start, as an end: each listener counts as struck, since it holds no position yet
   abbrev pub firstEnd : PhaseEnd
@@ -155,9 +163,9 @@ module _ (n f : ℕ) (v : ℕ → ℤ) where
 
   unfoldable pub ringAfter : List Round → Ring
   ringAfter [] = record { phase = 1; round = 0; before = 0; heads = firstHeads }
-  ringAfter (w ∷ ws) = afterRound n f (ringAfter ws) w
+  ringAfter (w ∷ ws) = afterRound K n f (ringAfter ws) w
 
   unfoldable pub endsAfter : List Round → List PhaseEnd
   endsAfter [] = firstEnd ∷ []
   endsAfter (w ∷ ws) =
-      withEnd (ringAfter ws .round) (phaseEnd (ringAfter ws .before) (w .struck) (ringAfter (w ∷ ws) .heads)) (endsAfter ws)
+      withEnd (endsWith K (ringAfter ws .round)) (phaseEnd K (ringAfter ws .before) (w .struck) (ringAfter (w ∷ ws) .heads)) (endsAfter ws)

@@ -5,14 +5,18 @@ ghost use Prim.Native.Nat.{ℕ, _<_};
 ghost use lib.Dec.{leb};
 ghost use lib.ListN.{getD, drop};
 ghost use lib.IntN.{pos};
-ghost use Rattle.ring_spec.specs.Rounds.{isReceiver};
+ghost use Rattle.ring_spec.specs.Rounds.{isReceiver, mostRounds};
 ghost use Rattle.run_spec.specs.RunFile.{recordKind, allowedWhen, positionIn, positionsFit, startFault, fewMarks, roundFault, listenersFault, strikesFault, rises, pairFits, plantFault};
 use run_spec::Pair;
+use terms::Family;
 use terms::Numbers;
 use terms::refusal;
 
 // The kinds of records.
 pub const START: u16 = 0x10;
+
+// Of document 02, A9: the start of a ring whose phases have one round.
+pub const START_ONE: u16 = 0x14;
 
 pub const ROUND: u16 = 0x11;
 
@@ -23,7 +27,10 @@ pub const LISTENERS: u16 = 0x15;
 
 pub const STRIKES: u16 = 0x13;
 
-// Two rounds for each of 65,535 phases.
+// Phases are numbered 1 to 65,535.
+const MOST_PHASES: u32 = 65535;
+
+// Two rounds for each; no file has more.
 pub const MOST_ROUNDS: u32 = 131070;
 
 // Whether a record has a place, and a length from low to high.
@@ -50,6 +57,7 @@ pub fn is_allowed(kind: u16, len: u16, begun: bool, first: bool, pending: bool, 
         PLANT => has_place(pending, len, 6, 146),
         LISTENERS => first && len == 5,
         STRIKES => bare && len == 6,
+        START_ONE => has_place(!begun, len, 6, 1026),
         _ => false,
     }
 }
@@ -69,16 +77,16 @@ fn positions_fit(bytes: &[u8], n: u8) -> bool
     true
 }
 
-// A whole start record: 13, 1, 2, 4.
-pub fn start_fault(bytes: &[u8]) -> u8
-    ensures { λ r. ⌜ r ≡ startFault (now (bytes .entry)) ⌝ }
+// A whole start record of a ring of either family: 13, 1, 2 or 18, 4.
+pub fn start_fault(family: Family, bytes: &[u8]) -> u8
+    ensures { λ r. ⌜ r ≡ startFault family (now (bytes .entry)) ⌝ }
 {
     let n = fields::byte_at(bytes, 4);
     let f = fields::byte_at(bytes, 5);
     if bytes.len() != 6 + 4 * (n as usize) {
         return refusal::RUN_RECORD;
     }
-    let size = steps::size_refusal(n as u32, f as u32);
+    let size = steps::size_refusal(family, n as u32, f as u32);
     if size != 0 {
         return size;
     }
@@ -106,14 +114,24 @@ fn few_marks(n: u8, f: u8, m: u32) -> bool
     marks::marked_to(m, count) <= f as usize
 }
 
+// How many rounds 65,535 phases have.
+fn most_rounds(family: Family) -> u32
+    ensures { λ r. ⌜ r ≡ mostRounds family ⌝ }
+{
+    match family {
+        Family::TwoRounds => MOST_ROUNDS,
+        Family::OneRound => MOST_PHASES,
+    }
+}
+
 // A whole round record, after a number of rounds: 14, 26.
-pub fn round_fault(bytes: &[u8], n: u8, f: u8, rounds: u32) -> u8
-    ensures { λ r. ⌜ r ≡ roundFault n f rounds (now (bytes .entry)) ⌝ }
+pub fn round_fault(family: Family, bytes: &[u8], n: u8, f: u8, rounds: u32) -> u8
+    ensures { λ r. ⌜ r ≡ roundFault family n f rounds (now (bytes .entry)) ⌝ }
 {
     if !few_marks(n, f, fields::word_at(bytes, 4)) {
         return refusal::STRUCK;
     }
-    if MOST_ROUNDS <= rounds {
+    if most_rounds(family) <= rounds {
         return refusal::ENDED;
     }
     0

@@ -11,6 +11,7 @@ use lib.Seq.{append-snoc}
 use lib.IntN.{ℤ, pos}
 use borrow.Author.Tests.{ltb-true}
 use Rattle.terms.specs.declared.Entry.{Entry}
+use Rattle.terms.specs.declared.Family.{Family}
 use Rattle.marks.specs.Marks.{bitOf}
 use Rattle.marks.proofs.Marks.{bit-none}
 use Rattle.convergence.specs.Counting.{Each}
@@ -25,7 +26,7 @@ use Rattle.run_listing.specs.Inner.{spelled}
 use Rattle.run_listing.proofs.Digits.{spelled-heads}
 use Rattle.run_listing.proofs.Lowest.{no-listener, found-same, found-held, found-held-as}
 
-pub fields-are : (n m p collect confess : ℕ) (ps : List ℤ) {low high : Entry} {wide x y : ℕ} → Found receivers (endIn n m confess ps) low high
+pub fields-are : (n m p collect confess struck : ℕ) (ps : List ℤ) {low high : Entry} {wide x y : ℕ} → Found receivers (endIn n m struck ps) low high
     → wide ≡ apart low high → x ≡ collect % 4294967296 → y ≡ confess % 4294967296
     → (decimal p ++ (32 ∷ []))
     ++ ((textOf low ++ (32 ∷ []))
@@ -33,45 +34,44 @@ pub fields-are : (n m p collect confess : ℕ) (ps : List ℤ) {low high : Entry
     ++ ((decimal wide ++ (32 ∷ []))
     ++ ((spelled 16 8 x ++ (32 ∷ []))
     ++ (spelled 16 8 y ++ (10 ∷ []))))))
-    ≡ endLine n m p ps collect confess
+    ≡ endLine n m p ps collect confess struck
 unfolding endLine fields spread
-fields-are n m p collect confess ps f w a b =
+fields-are n m p collect confess struck ps f w a b =
     rw (w, ← f .is-low, ← f .is-high, a, b, spelled-heads collect, spelled-heads confess) (simp append-snoc)
 
--- e: a phase end that its confession round made
-pub line-is : (n m p : ℕ) (e : PhaseEnd) (positions : List ℤ) → e .confess ≡ e .struck
+pub line-is : (n m p : ℕ) (e : PhaseEnd) (positions : List ℤ)
     → Each receivers (λ i. isReceiver n m i ≡ true → bitOf (e .struck) i ≡ false → e .heads i .seat .position ≡ Entry.Position (getD positions i (pos 0)))
-    → line n m p e ≡ endLine n m p positions (e .collect) (e .struck)
+    → line n m p e ≡ endLine n m p positions (e .collect) (e .confess) (e .struck)
 unfolding line endLine fields spread
-line-is n m p e positions made h =
+line-is n m p e positions h =
     let f = found-held n m (e .struck) (λ i. e .heads i .seat .position) positions h in
-    rw (made, f .is-low, f .is-high)
+    rw (f .is-low, f .is-high)
 
 -- ---- the start
 
-module _ (n f : ℕ) (v : ℕ → ℤ) where
+module _ (K : Family) (n f : ℕ) (v : ℕ → ℤ) where
   -- however many listeners there are
-  pub first-line-as : (m k p : ℕ) → line n m p (firstEnd n f v) ≡ line n k p (firstEnd n f v)
+  pub first-line-as : (m k p : ℕ) → line n m p (firstEnd K n f v) ≡ line n k p (firstEnd K n f v)
   unfolding line spread
   first-line-as m k p =
-      let e = firstEnd n f v in
+      let e = firstEnd K n f v in
       let s = found-same (asEnd n m e) (asEnd n k e) receivers
       (λ i l. ap (λ (o : Bool). cond o Entry.Null (e .heads i .seat .position)) (first-out-as n m k i l)) in
       rw (s .is-low, s .is-high)
 
   -- the heads' positions alone, as a player without listeners holds them
   pub first-line-is : (m p : ℕ) (positions : List ℤ) → n ≤ 32
-      → Each n (λ i. firstHeads n f v i .seat .position ≡ Entry.Position (getD positions i (pos 0)))
-      → line n m p (firstEnd n f v) ≡ endLine n 0 p positions 0 0
+      → Each n (λ i. firstHeads K n f v i .seat .position ≡ Entry.Position (getD positions i (pos 0)))
+      → line n m p (firstEnd K n f v) ≡ endLine n 0 p positions 0 0 0
   unfolding line endLine fields spread
   first-line-is m p positions most h =
       first-line-as m 0 p ∙ (
-      let s = found-held-as n 0 allListeners (λ i. firstHeads n f v i .seat .position) positions held 0 0
+      let s = found-held-as n 0 allListeners (λ i. firstHeads K n f v i .seat .position) positions held 0 0
       (λ i l. first-out n 0 i most l ∙ sym (none-out i)) in
       rw (s .is-low, s .is-high))
     where
       none-out : (i : ℕ) → isOut n 0 0 i ≡ not (ltb i n)
       none-out i = rw (bit-none i, no-listener n i) (or-false (not (ltb i n)))
 
-      held : Each receivers (λ i. isReceiver n 0 i ≡ true → bitOf allListeners i ≡ false → firstHeads n f v i .seat .position ≡ Entry.Position (getD positions i (pos 0)))
+      held : Each receivers (λ i. isReceiver n 0 i ≡ true → bitOf allListeners i ≡ false → firstHeads K n f v i .seat .position ≡ Entry.Position (getD positions i (pos 0)))
       held i l r o = h i (ltb-true i n (sym (no-listener n i) ∙ r))

@@ -24,8 +24,8 @@ fields p low high wide collect confess =
     (spaced (hex 8 collect)
     (hex 8 confess ++ (10 ∷ []))))))
 
--- the line of a phase end as the player holds it
-unfoldable pub endLine : ℕ → ℕ → ℕ → List ℤ → ℕ → ℕ → List ℕ
-endLine n m p positions collect confess =
-    let e = endIn n m confess positions in
+-- the line of a phase end as the player holds it; struck: in the round that ended the phase
+unfoldable pub endLine : ℕ → ℕ → ℕ → List ℤ → ℕ → ℕ → ℕ → List ℕ
+endLine n m p positions collect confess struck =
+    let e = endIn n m struck positions in
     fields p (lowest receivers e) (highest receivers e) (spread receivers e) collect confess

@@ -245,12 +245,21 @@ fn heads_of(marks: u64) -> u32
     (marks % 4294967296) as u32
 }
 
-// The line of a phase end: the positions of n heads and m listeners, and the mark words of its two rounds, of which it prints the heads' bits.
-pub fn end_line(phase: u16, positions: &Positions, n: u8, m: u8, collect: u64, confess: u64) -> Text
-    ensures { λ r. ⌜ bytesOf r ≡ endLine n m phase (now (positions .entry)) collect confess ⌝ }
+// The line of a phase end: the positions of n heads and m listeners, the two mark words of which it prints the heads' bits, and that of the round that ended
+// the phase, which says who is sound.
+pub fn end_line(
+    phase: u16,
+    positions: &Positions,
+    n: u8,
+    m: u8,
+    collect: u64,
+    confess: u64,
+    struck: u64,
+) -> Text
+    ensures { λ r. ⌜ bytesOf r ≡ endLine n m phase (now (positions .entry)) collect confess struck ⌝ }
     ensures { λ r. ⌜ r .len ≤ 64 ⌝ }
 {
-    let e = ends_of(positions, confess, n, m);
+    let e = ends_of(positions, struck, n, m);
     let low = e.low;
     let high = e.high;
     let t = put_number(empty(), phase as u32, b' ');

@@ -1,4 +1,4 @@
--- What a record adds to the phase ends played: a start the first, a round record that of the pending round, if that was a confession round, and no other
+-- What a record adds to the phase ends played: a start the first, a round record that of the pending round, if that ended a phase, and no other
 -- record any. What it shows is the line of that end.
 use mathlib.Core.Path.{_≡_, refl, ap, sym, _∙_}
 use mathlib.Core.Bool.{Bool, true, false}
@@ -9,8 +9,12 @@ use lib.ListN.{length, drop, length-append}
 use lib.Seq.{drop-at}
 use lib.IntN.{ℤ}
 use Rattle.terms.specs.Refusals.{unlessRefused}
+use Rattle.terms.specs.Sizes.{endsWith}
+use Rattle.terms.specs.declared.Family.{Family}
+use Rattle.terms.specs.declared.Family.the-variants.{TwoRounds, OneRound}
+use Rattle.head_spec.specs.declared.Head.{Head}
 use Rattle.ring_spec.specs.Rounds.{Round, Ring, roundThen, afterRound, PhaseEnd, phaseEnd, withEnd, firstEnd, ringAfter, endsAfter}
-use Rattle.ring_spec.proofs.Counts.{counted}
+use Rattle.ring_spec.proofs.Counts.{Counted, counted}
 use Rattle.run_spec.specs.RunFile.{File, between, RecordKind, start, round, plant, listeners, strikes, other, isAllowed, headCountIn, limitIn, positionIn, struckIn, recordFault, thenPlayed, withRecord, stopped, judged, endsSoFar}
 use Rattle.run_spec.specs.Listing.{title, line, lines, shown}
 use Rattle.run_spec.proofs.Streaming.{start-shows, plant-shows, listeners-shows, strikes-shows, stop-shows}
@@ -36,28 +40,41 @@ struck-later : (es : List PhaseEnd) (R : Ring) → 0 < length es → struckHere 
 struck-later [] R l = absurd (omega arith)
 struck-later (e ∷ es) R l = refl
 
-module _ (n m f : ℕ) (v : ℕ → ℤ) (ws : List Round) (w : Round) {text : List ℕ} where
-  pub next-grown : lines n m (endsAfter n f v (w ∷ ws)) ≡ lines n m (endsAfter n f v ws) ++ text
-      → Grown n m (endsAfter n f v ws) (endsAfter n f v (w ∷ ws)) (ringAfter n f v (w ∷ ws)) text
+-- a phase end by what it shows
+shown-end : (K : Family) (before struck : ℕ) (heads : ℕ → Head) → let e = phaseEnd K before struck heads in
+    record { collect = e .collect; confess = e .confess; struck = struck; heads = heads } ≡ e
+shown-end TwoRounds before struck heads = refl
+shown-end OneRound before struck heads = refl
+
+module _ (K : Family) (n m f : ℕ) (v : ℕ → ℤ) (ws : List Round) (w : Round) {text : List ℕ} where
+  pub next-grown : lines n m (endsAfter K n f v (w ∷ ws)) ≡ lines n m (endsAfter K n f v ws) ++ text
+      → Grown n m (endsAfter K n f v ws) (endsAfter K n f v (w ∷ ws)) (ringAfter K n f v (w ∷ ws)) text
   unfolding endsAfter ringAfter afterRound lines
-  next-grown t = go (ringAfter n f v ws .round) refl t
+  next-grown t = go (endsWith K (ringAfter K n f v ws .round)) refl t
     where
       es : List PhaseEnd
-      es = endsAfter n f v ws
+      es = endsAfter K n f v ws
 
       next : Ring
-      next = ringAfter n f v (w ∷ ws)
+      next = ringAfter K n f v (w ∷ ws)
 
       e : PhaseEnd
-      e = phaseEnd (ringAfter n f v ws .before) (next .before) (next .heads)
+      e = phaseEnd K (ringAfter K n f v ws .before) (next .before) (next .heads)
 
-      same : endHere (ringAfter n f v ws .before) es next ≡ e
-      same = rw (struck-later es next (let C = counted n f v ws in omega (arith, C .counts, C .played, C .small))) refl
+      some-end : 0 < length es
+      some-end = go K (counted K n f v ws)
+        where
+          go : (K : Family) {rounds ends phase round : ℕ} → Counted K rounds ends phase round → 0 < ends
+          go TwoRounds C = omega arith
+          go OneRound C = omega arith
 
-      go : (r : ℕ) → ringAfter n f v ws .round ≡ r → lines n m (withEnd r e es) ≡ lines n m es ++ text → Grown n m es (withEnd r e es) next text
-      go zero c t = none refl (same-after (lines n m es) (sym t ∙ sym (append-nil (lines n m es))))
-      go (suc r) c t =
-          one (ringAfter n f v ws .before) (ap roundThen c) (ap (λ (x : PhaseEnd). x ∷ es) (sym same))
+      same : endHere (e .collect) (e .confess) es next ≡ e
+      same = rw (struck-later es next some-end) (shown-end K (ringAfter K n f v ws .before) (next .before) (next .heads))
+
+      go : (r : Bool) → endsWith K (ringAfter K n f v ws .round) ≡ r → lines n m (withEnd r e es) ≡ lines n m es ++ text → Grown n m es (withEnd r e es) next text
+      go false c t = none refl (same-after (lines n m es) (sym t ∙ sym (append-nil (lines n m es))))
+      go true c t =
+          one (e .collect) (e .confess) (ap roundThen c) (ap (λ (x : PhaseEnd). x ∷ es) (sym same))
           (same-after (lines n m es) (sym t) ∙ ap (line n m (length es)) (sym same))
 
 -- ---- each record
@@ -67,14 +84,14 @@ abbrev with-rounds : File → List ℕ → List Round → File
 with-rounds F s ws = between (F .setup) (record { played = ws; pending = true; last = record { struck = struckIn s; told = false; plants = [] } })
 
 module _ (F : File) (s : List ℕ) {text : List ℕ} where
-  start-grown : F .setup .begun ≡ false → shown (withRecord start F s) ≡ shown F ++ text → GrownTo F (withRecord start F s) text
+  start-grown : (K : Family) → F .setup .begun ≡ false → shown (withRecord (start K) F s) ≡ shown F ++ text → GrownTo F (withRecord (start K) F s) text
   unfolding ringAfter endsAfter
-  start-grown begun t =
+  start-grown K begun t =
       let empty : [] ≡ endsSoFar F = rw begun in
-      let first : PhaseEnd = firstEnd (headCountIn s) (limitIn s) (positionIn s) in
-      let same : first ≡ endHere 0 (endsSoFar F) (ringBefore (withRecord start F s)) = rw begun refl in
-      one 0 refl (ap (λ (es : List PhaseEnd). first ∷ es) empty ∙ ap (λ (x : PhaseEnd). x ∷ endsSoFar F) same)
-      (same-after (shown F) (sym t ∙ start-shows F s begun) ∙ ap (λ (es : List PhaseEnd). line (headCountIn s) 0 (length es) first) empty
+      let first : PhaseEnd = firstEnd K (headCountIn s) (limitIn s) (positionIn s) in
+      let same : first ≡ endHere 0 0 (endsSoFar F) (ringBefore (withRecord (start K) F s)) = rw begun refl in
+      one 0 0 refl (ap (λ (es : List PhaseEnd). first ∷ es) empty ∙ ap (λ (x : PhaseEnd). x ∷ endsSoFar F) same)
+      (same-after (shown F) (sym t ∙ start-shows F K s begun) ∙ ap (λ (es : List PhaseEnd). line (headCountIn s) 0 (length es) first) empty
       ∙ ap (line (headCountIn s) 0 (length (endsSoFar F))) same)
 
   round-grown : (b : Bool) → F .setup .begun ≡ true → let G = with-rounds F s (thenPlayed b (F .rounds .played) (F .rounds .last)) in
@@ -84,10 +101,10 @@ module _ (F : File) (s : List ℕ) {text : List ℕ} where
   round-grown true begun t =
       let t′ = rw begun at t in
       rw begun
-      (next-grown (F .setup .n) (F .setup .listeners) (F .setup .f) (F .setup .first) (F .rounds .played) (F .rounds .last) (same-after title (t′ ∙ append-assoc title _ text)))
+      (next-grown (F .setup .family) (F .setup .n) (F .setup .listeners) (F .setup .f) (F .setup .first) (F .rounds .played) (F .rounds .last) (same-after title (t′ ∙ append-assoc title _ text)))
 
   taken-grown : (K : RecordKind) (len : ℕ) → isAllowed K F len ≡ true → shown (withRecord K F s) ≡ shown F ++ text → GrownTo F (withRecord K F s) text
-  taken-grown start len may t = start-grown (start-place F len may) t
+  taken-grown (start K) len may t = start-grown K (start-place F len K may) t
   taken-grown round len may t = round-grown (F .rounds .pending) (round-place F len may) t
   taken-grown plant len may t = grown-none F (withRecord plant F s) refl (plant-shows F s) t
   taken-grown listeners len may t = grown-none F (withRecord listeners F s) refl (listeners-shows F s (listeners-place F len may)) t

@@ -33,15 +33,16 @@ abbrev pub struckHere : List PhaseEnd → Ring → ℕ
 struckHere [] R = allListeners
 struckHere (e ∷ es) R = R .before
 
--- that phase end; collect: who was struck in the round before the last
-abbrev pub endHere : ℕ → List PhaseEnd → Ring → PhaseEnd
-endHere collect es R = record { collect = collect; confess = R .before; struck = struckHere es R; heads = R .heads }
+-- that phase end; collect and confess: the mark words that it shows
+abbrev pub endHere : ℕ → ℕ → List PhaseEnd → Ring → PhaseEnd
+endHere collect confess es R = record { collect = collect; confess = confess; struck = struckHere es R; heads = R .heads }
 
 -- the phase ends es of n heads and m listeners become es′: no end more was played, and nothing is shown; or one, at which the ring R then stands, and its line is
 -- shown
 pub data Grown (n m : ℕ) (es es′ : List PhaseEnd) (R : Ring) (text : List ℕ) : Type 0 where
   none : es′ ≡ es → text ≡ [] → Grown n m es es′ R text
-  one : (collect : ℕ) → R .round ≡ 0 → es′ ≡ endHere collect es R ∷ es → text ≡ line n m (length es) (endHere collect es R) → Grown n m es es′ R text
+  one : (collect confess : ℕ) → R .round ≡ 0 → es′ ≡ endHere collect confess es R ∷ es → text ≡ line n m (length es) (endHere collect confess es R)
+      → Grown n m es es′ R text
 
 -- as the file F becomes G
 abbrev pub GrownTo : File → File → List ℕ → Type 0

@@ -52,6 +52,7 @@ abbrev pub withLast : Player → Pair → Player
 withLast p last =
     record {
       begun = p .begun;
+      family = p .family;
       n = p .n;
       f = p .f;
       listeners = p .listeners;

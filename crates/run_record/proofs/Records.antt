@@ -10,6 +10,7 @@ use lib.IntN.{pos}
 use borrow.Author.Tests.{leb-true, ltb-true, eqb-true, not-true, le-leb, lt-leb, eq-eqb}
 use Rattle.terms.specs.Refusals as refusal
 use Rattle.terms.specs.Sizes.{isCount}
+use Rattle.terms.specs.declared.Family.{Family}
 use Rattle.convergence.specs.Counting.{Each}
 use Rattle.terms.proofs.Booleans.{and-both}
 use Rattle.head_spec.proofs.Proper.{both-passed}
@@ -54,8 +55,8 @@ module _ (K : RecordKind) (F : File) (s : List ℕ) where
 -- ---- when a record is allowed, and what one without a fault shows of the file
 
 module _ (F : File) (len : ℕ) where
-  pub start-place : isAllowed start F len ≡ true → F .setup .begun ≡ false
-  start-place e = not-true (F .setup .begun) (and-both (not (F .setup .begun)) _ (and-both (not (F .setup .begun) && leb 6 len) _ e .0) .0)
+  pub start-place : (K : Family) → isAllowed (start K) F len ≡ true → F .setup .begun ≡ false
+  start-place K e = not-true (F .setup .begun) (and-both (not (F .setup .begun)) _ (and-both (not (F .setup .begun) && leb 6 len) _ e .0) .0)
 
   pub round-place : isAllowed round F len ≡ true → F .setup .begun ≡ true
   round-place e = and-both (F .setup .begun) _ e .0
@@ -69,13 +70,13 @@ module _ (F : File) (len : ℕ) where
 pub plant-place : (begun first pending bare : Bool) (len : ℕ) → allowedWhen plant begun first pending bare len ≡ true → len ≤ 146
 plant-place begun first pending bare len e = leb-true len 146 (and-both (pending && leb 6 len) _ e .1)
 
-start-small : (F : File) (s : List ℕ) → recordFault start F s ≡ 0 → headCountIn s ≤ 32
+start-small : (K : Family) (F : File) (s : List ℕ) → recordFault (start K) F s ≡ 0 → headCountIn s ≤ 32
 unfolding isCount
-start-small F s sound =
+start-small K F s sound =
     let count = both-passed (eqb (length s) (6 + 4 * headCountIn s)) (isCount (headCountIn s)) 12 0 sound .1 in
     leb-true (headCountIn s) 32 (and-both (leb 1 (headCountIn s)) _ count .1)
 
-pub round-room : (F : File) (s : List ℕ) → recordFault round F s ≡ 0 → roundsGiven F < mostRounds
+pub round-room : (F : File) (s : List ℕ) → recordFault round F s ≡ 0 → roundsGiven F < mostRounds (F .setup .family)
 round-room F s sound = ltb-true (roundsGiven F) _ (both-passed (fewMarks (F .setup .n) (F .setup .f) (struckIn s)) _ 13 25 sound .1)
 
 -- ---- the two ways of bytes that are taken as a record
@@ -156,7 +157,7 @@ module _ {F : File} {p : Player} {M : Memory} {r : RecordResult} where
   module _ (s : List ℕ) where
     -- a round: what was planted is gone
     pub round-next : {M′ : Memory} {bytes lengths : List ℕ} → Turned F s (r .text) M′ → r .text .len ≤ 64 → ((k i : ℕ) → k < 32 → k < p .n → i < 48 → plantedIn bytes lengths k i ≡ [])
-        → PlayerOf p F → roundsGiven F < mostRounds → r .player ≡ withRoundGiven p (struckIn s)
+        → PlayerOf p F → roundsGiven F < mostRounds (F .setup .family) → r .player ≡ withRoundGiven p (struckIn s)
         → Next F (withRecord round F s) p M r (withSlots M′ bytes lengths)
     round-next P room cleared T more is =
         record {
@@ -190,27 +191,27 @@ module _ {F : File} {p : Player} {M : Memory} {r : RecordResult} where
         }
 
     -- a start: the first positions
-    pub start-next : {M′ : Memory} → F .setup .begun ≡ false → recordFault start F s ≡ 0
+    pub start-next : (K : Family) {M′ : Memory} → F .setup .begun ≡ false → recordFault (start K) F s ≡ 0
         → ((j : ℕ) → j < 32 → getD (M′ .positions) j (pos 0) ≡ positionIn s j)
-        → r .player ≡ freshPlayer true (headCountIn s) (limitIn s) → bytesOf (r .text) ≡ endLine (headCountIn s) 0 0 (M′ .positions) 0 0 → r .text .len ≤ 64
-        → Next F (withRecord start F s) p M r M′
-    start-next {M′} begun sound first is text room =
-        let most = start-small F s sound in
+        → r .player ≡ freshPlayer true K (headCountIn s) (limitIn s) → bytesOf (r .text) ≡ endLine (headCountIn s) 0 0 (M′ .positions) 0 0 0 → r .text .len ≤ 64
+        → Next F (withRecord (start K) F s) p M r M′
+    start-next K {M′} begun sound first is text room =
+        let most = start-small K F s sound in
         let same : Each (headCountIn s) (λ i. getD (M′ .positions) i (pos 0) ≡ positionIn s i) = λ i l. first i (omega arith) in
-        let held = start-positions (headCountIn s) 0 (limitIn s) most (positionIn s) M′ same in
+        let held = start-positions K (headCountIn s) 0 (limitIn s) most (positionIn s) M′ same in
         record {
-          player = rw is (start-tells F s);
+          player = rw is (start-tells K F s);
           whole = rw is refl;
           memory =
               record {
-                keeps = λ b. start-keeps (headCountIn s) 0 (limitIn s) most (positionIn s) M′ same;
+                keeps = λ b. start-keeps K (headCountIn s) 0 (limitIn s) most (positionIn s) M′ same;
                 slots = λ w. absurd (true≢false (sym w));
                 short = λ w. absurd (true≢false (sym w));
               };
           refused = λ h. absurd (h refl);
           shows =
-              start-shows F s begun
-              ∙ ap (λ (l : List ℕ). shown F ++ l) (first-line-is (headCountIn s) (limitIn s) (positionIn s) 0 0 (M′ .positions) most held ∙ sym text);
+              start-shows F K s begun
+              ∙ ap (λ (l : List ℕ). shown F ++ l) (first-line-is K (headCountIn s) (limitIn s) (positionIn s) 0 0 (M′ .positions) most held ∙ sym text);
           room = room;
         }
 
@@ -229,7 +230,7 @@ module _ {F : File} {p : Player} {M : Memory} {r : RecordResult} where
       where
         recounted : (ws : List Round) → length ws ≡ 0 → HeadsOf (F .setup .n) (F .setup .listeners) (ringFrom (F .setup) ws) M
             → HeadsOf (F .setup .n) (listenerCountIn s) (ringFrom (F .setup) ws) M
-        recounted [] z K = start-keeps-any (F .setup .n) (F .setup .listeners) (listenerCountIn s) (F .setup .f) (F .setup .first) K
+        recounted [] z K = start-keeps-any (F .setup .family) (F .setup .n) (F .setup .listeners) (listenerCountIn s) (F .setup .f) (F .setup .first) K
         recounted (w ∷ ws) z K = absurd (omega arith)
 
     -- the struck listeners of a round whose marks are those of heads so far

@@ -15,6 +15,7 @@ use frame_slots::PlantedLengths;
 use run_listing::Text;
 use run_spec::Pair;
 use run_state::Player;
+use terms::Family;
 use terms::Lists;
 use terms::Numbers;
 use terms::Positions;
@@ -50,13 +51,13 @@ fn store_heads(first: &Numbers, positions: &mut [i32])
     }
 }
 
-// A start record.
-fn take_start(p: Player, bytes: &[u8], positions: &mut Positions) -> RecordResult
+// A start record of a ring of either family.
+fn take_start(family: Family, p: Player, bytes: &[u8], positions: &mut Positions) -> RecordResult
     ensures { λ r. ⌜ ((F : File) (M : Memory) → F .setup .begun ≡ false → PlayerOf p F → MemoryOf F (withPositions M (now (positions .entry)))
-        → Next F (judged start F (now (bytes .entry))) p (withPositions M (now (positions .entry))) r (withPositions M (now (positions .exit)))) ⌝ }
+        → Next F (judged (start family) F (now (bytes .entry))) p (withPositions M (now (positions .entry))) r (withPositions M (now (positions .exit)))) ⌝ }
     ensures { λ r. ⌜ r .text .len ≤ 64 ⌝ }
 {
-    let number = run_judge::start_fault(bytes);
+    let number = run_judge::start_fault(family, bytes);
     if number != 0 {
         return refuse(p, number);
     }
@@ -64,8 +65,8 @@ fn take_start(p: Player, bytes: &[u8], positions: &mut Positions) -> RecordResul
     let first = run_judge::first_positions(bytes);
     store_heads(&first, positions);
     RecordResult {
-        player: run_state::fresh(true, n, fields::byte_at(bytes, 5)),
-        text: run_listing::end_line(0, positions, n, 0, 0, 0),
+        player: run_state::fresh(true, family, n, fields::byte_at(bytes, 5)),
+        text: run_listing::end_line(0, positions, n, 0, 0, 0, 0),
     }
 }
 
@@ -135,7 +136,8 @@ fn take_round(
         → Next (readFile a) (judged round (readFile a) (now (bytes .entry))) p (memoryBefore positions marks lists planted lengths) r (memoryAfter positions marks lists planted lengths)) ⌝ }
     ensures { λ r. ⌜ r .text .len ≤ 64 ⌝ }
 {
-    let fault = run_judge::round_fault(bytes, p.n, p.f, p.given);
+    let family = p.family;
+    let fault = run_judge::round_fault(family, bytes, p.n, p.f, p.given);
     if fault != 0 {
         return refuse(p, fault);
     }
@@ -224,11 +226,12 @@ fn take_allowed(
     ensures { λ r. ⌜ r .text .len ≤ 64 ⌝ }
 {
     match fields::half_at(bytes, 2) {
-        run_judge::START => take_start(p, bytes, positions),
+        run_judge::START => take_start(Family::TwoRounds, p, bytes, positions),
         run_judge::ROUND => take_round(p, bytes, positions, marks, lists, planted, lengths),
         run_judge::PLANT => take_plant(p, bytes, planted, lengths),
         run_judge::LISTENERS => take_listeners(p, bytes),
         run_judge::STRIKES => take_strikes(p, bytes),
+        run_judge::START_ONE => take_start(Family::OneRound, p, bytes, positions),
         _ => refuse(p, refusal::RUN_RECORD),
     }
 }

@@ -8,6 +8,7 @@ use Prim.Native.Nat.{ℕ, _-_, _≤_, _<_}
 use native.Mathlib.Omega.{arith}
 use native.Mathlib.Decide.{decLt}
 use borrow.Author.Tests.{lt-ltb, le-ltb}
+use Rattle.terms.specs.declared.Family.{Family}
 use Rattle.marks.specs.Marks.{bitOf}
 use Rattle.frame_spec.specs.Said.{Meaning, said}
 use Rattle.frame_spec.specs.Written.{frameOf}
@@ -30,7 +31,7 @@ pub record Plays (n m f : ℕ) (R : Ring) (w : Round) (s : Stage) (plant : ℕ �
   pub away : (i : ℕ) → 32 ≤ i → i < receivers → bitOf (s .away) (i - 32) ≡ bitOf (w .struck) i
   pub plants : (k i : ℕ) → k < 32 → k < n → i < receivers → plant k i ≡ planted (w .plants) k i
 
-module _ {n m f : ℕ} {R : Ring} {w : Round} {s : Stage} {plant : ℕ → ℕ → List ℕ} (P : Plays n m f R w s plant) (S : RingReady n f R) where
+module _ {K : Family} {n m f : ℕ} {R : Ring} {w : Round} {s : Stage} {plant : ℕ → ℕ → List ℕ} (P : Plays n m f R w s plant) (S : RingReady K n f R) where
   pub heads-are : heads s ≡ n
   heads-are = omega (arith, P .count, S .size .most)
 
@@ -52,22 +53,22 @@ module _ {n m f : ℕ} {R : Ring} {w : Round} {s : Stage} {plant : ℕ → ℕ �
     settles-unstruck r q = rw (heads-are, listeners-are, r, away-same, q)
 
     -- x: what the record of head k has to say, if it is not struck
-    module _ (k : ℕ) (b : k < n) (x : Meaning) (says : bitOf (w .struck) k ≡ false → spoken (openedAt n f R w k) ≡ x) where
+    module _ (k : ℕ) (b : k < n) (x : Meaning) (says : bitOf (w .struck) k ≡ false → spoken (openedAt K n f R w k) ≡ x) where
       small : k < 32
       small = omega (arith, S .size .most)
 
-      carries-same : carries s plant i k x ≡ carried n f R w i k
+      carries-same : carries s plant i k x ≡ carried K n f R w i k
       unfolding carried
       carries-same = rw (P .struck k small, heads-are, P .phase) (go (bitOf (w .struck) k) refl)
         where
           h : Head
-          h = openedAt n f R w k
+          h = openedAt K n f R w k
 
           go : (c : Bool) → bitOf (w .struck) k ≡ c → cond c (plant k i) (frameOf n k (R .phase) x) ≡ cond c (planted (w .plants) k i) (frameFor h)
           go true e = P .plants k i small b l
           go false e =
-              let A = opened-ready n f R w S k (inl b) e .seat in
+              let A = opened-ready K n f R w S k (inl b) e .seat in
               ap (frameOf n k (R .phase)) (sym (says e)) ∙ rw (A .count, A .number, A .phase)
 
-      pub said-same : {r : ℕ} → R .round ≡ r → said (heads s) (s .phase) r k (carries s plant i k x) ≡ saidIn n f R w i k
+      pub said-same : {r : ℕ} → R .round ≡ r → said (heads s) (s .phase) r k (carries s plant i k x) ≡ saidIn K n f R w i k
       said-same c = rw (carries-same, heads-are, P .phase, c)

@@ -1,20 +1,24 @@
--- Demand 3 of the positions in memory. Before a collection round the ring stands at the latest phase end, and the memory holds the position of each receiver that
+-- Demand 3 of the positions in memory. Before the first round of a phase the ring stands at the latest phase end, and the memory holds the position of each receiver that
 -- is not out there, so it keeps demand 3 with each end as the latest end does.
-use mathlib.Core.Path.{_≡_, refl, ap}
+use mathlib.Core.Path.{_≡_, refl, ap, sym, _∙_}
 use mathlib.Core.Bool.{Bool, true, false, not, _||_, true≢false}
 use mathlib.Core.List.{List, [], _∷_}
-use Prim.Native.Nat.{ℕ, zero, suc, _<_}
+use Prim.Native.Nat.{ℕ, _<_}
 use native.Mathlib.Omega.{arith}
 use native.Mathlib.Nat.{zero-add}
 use lib.ListN.{length, getD}
 use lib.IntN.{ℤ, pos}
 use Rattle.terms.specs.declared.Entry.{Entry}
 use Rattle.terms.specs.declared.Entry.the-variants.{Null, Position}
+use Rattle.terms.specs.declared.Family.{Family}
+use Rattle.terms.specs.declared.Family.the-variants.{TwoRounds, OneRound}
+use Rattle.terms.specs.Sizes.{endsWith}
 use Rattle.marks.specs.Marks.{bitOf}
 use Rattle.marks.proofs.Marks.{bit-none}
 use Rattle.convergence.specs.Phases.{lowest, highest, spread}
 use Rattle.convergence.specs.Counting.{Each}
 use Rattle.convergence.specs.Demand3.{HeldBetween, Demand3, Halves}
+use Rattle.head_spec.specs.declared.Head.{Head}
 use Rattle.ring_spec.specs.Rounds.{Round, roundThen, afterRound, PhaseEnd, phaseEnd, receivers, isReceiver, isOut, asEnd, withEnd, ringAfter, endsAfter}
 use Rattle.ring_spec.specs.Converges.{noEnd, AnyTwo}
 use Rattle.run_spec.specs.RunFile.{File, readFile, ringFrom, endsFrom}
@@ -43,44 +47,53 @@ not-out true true e = absurd (true≢false e)
 not-out true false e = (refl, refl)
 not-out false c e = absurd (true≢false e)
 
-module _ (n m f : ℕ) (v : ℕ → ℤ) where
-  -- before a collection round the ring stands at the latest end
-  record Stands (ws : List Round) : Type 0 where
-    heads : getD (endsAfter n f v ws) 0 noEnd .heads ≡ ringAfter n f v ws .heads
-    struck : (i : ℕ) → bitOf (getD (endsAfter n f v ws) 0 noEnd .struck) i ≡ false → bitOf (ringAfter n f v ws .before) i ≡ false
+-- what a phase end shows is the round's own
+phase-end-as : (K : Family) (before struck : ℕ) (heads : ℕ → Head)
+    → (phaseEnd K before struck heads .heads ≡ heads) × (phaseEnd K before struck heads .struck ≡ struck)
+phase-end-as TwoRounds before struck heads = (refl, refl)
+phase-end-as OneRound before struck heads = (refl, refl)
 
-  latest : (ws : List Round) → ringAfter n f v ws .round ≡ 0 → Stands ws
+module _ (K : Family) (n m f : ℕ) (v : ℕ → ℤ) where
+  -- before the first round of a phase the ring stands at the latest end
+  record Stands (ws : List Round) : Type 0 where
+    heads : getD (endsAfter K n f v ws) 0 noEnd .heads ≡ ringAfter K n f v ws .heads
+    struck : (i : ℕ) → bitOf (getD (endsAfter K n f v ws) 0 noEnd .struck) i ≡ false → bitOf (ringAfter K n f v ws .before) i ≡ false
+
+  latest : (ws : List Round) → ringAfter K n f v ws .round ≡ 0 → Stands ws
   unfolding ringAfter endsAfter afterRound
   latest [] c = record { heads = refl; struck = λ i q. bit-none i }
-  latest (w ∷ ws) c = let (h, s) = go (ringAfter n f v ws .round) c in record { heads = h; struck = s }
+  latest (w ∷ ws) c = let (h, s) = go (endsWith K (ringAfter K n f v ws .round)) c in record { heads = h; struck = s }
     where
       e : PhaseEnd
-      e = phaseEnd (ringAfter n f v ws .before) (w .struck) (ringAfter n f v (w ∷ ws) .heads)
+      e = phaseEnd K (ringAfter K n f v ws .before) (w .struck) (ringAfter K n f v (w ∷ ws) .heads)
 
-      last : ℕ → PhaseEnd
-      last r = getD (withEnd r e (endsAfter n f v ws)) 0 noEnd
+      last : Bool → PhaseEnd
+      last b = getD (withEnd b e (endsAfter K n f v ws)) 0 noEnd
 
-      go : (r : ℕ) → roundThen r ≡ 0 → (last r .heads ≡ e .heads) × ((i : ℕ) → bitOf (last r .struck) i ≡ false → bitOf (w .struck) i ≡ false)
-      go zero c = absurd (omega arith)
-      go (suc r) c = (refl, λ i q. q)
+      go : (b : Bool) → roundThen b ≡ 0
+          → (last b .heads ≡ ringAfter K n f v (w ∷ ws) .heads) × ((i : ℕ) → bitOf (last b .struck) i ≡ false → bitOf (w .struck) i ≡ false)
+      go false c = absurd (omega arith)
+      go true c =
+          let (heads, struck) = phase-end-as K (ringAfter K n f v ws .before) (w .struck) (ringAfter K n f v (w ∷ ws) .heads) in
+          (heads, λ i q. ap (λ (x : ℕ). bitOf x i) (sym struck) ∙ q)
 
-  module _ (ws : List Round) {M : Memory} (A : AnyTwo n m f (endsAfter n f v ws)) (K : HeadsOf n m (ringAfter n f v ws) M)
-      (c : ringAfter n f v ws .round ≡ 0) where
+  module _ (ws : List Round) {M : Memory} (A : AnyTwo K n m f (endsAfter K n f v ws)) (H : HeadsOf n m (ringAfter K n f v ws) M)
+      (c : ringAfter K n f v ws .round ≡ 0) where
     abbrev e : PhaseEnd
-    e = getD (endsAfter n f v ws) 0 noEnd
+    e = getD (endsAfter K n f v ws) 0 noEnd
 
     -- whoever is not out at the latest end holds a position, and the memory holds it
-    pub held-here : 0 < length (endsAfter n f v ws)
+    pub held-here : 0 < length (endsAfter K n f v ws)
         → Each receivers (λ i. isOut n m (e .struck) i ≡ false → e .heads i .seat .position ≡ Entry.Position (getD (M .positions) i (pos 0)))
     held-here some i h o =
         let S = latest ws c in
         let (r, q) = not-out (isReceiver n m i) _ o in
         held-at (lowest receivers (asEnd n m e)) (highest receivers (asEnd n m e)) _ (A 0 0 (omega arith) .range i h o)
-        (λ u z. K .always i h r (S .struck i q) u (rw (S .heads) at z))
+        (λ u z. H .always i h r (S .struck i q) u (rw (S .heads) at z))
 
     -- any two ends of the ring keep demand 3, and the memory keeps step with it
-    converged : (k : ℕ) → k < length (endsAfter n f v ws)
-        → Demand3 receivers (Halves n f) k (asEnd n m (getD (endsAfter n f v ws) k noEnd)) (endIn n m (e .struck) (M .positions))
+    converged : (k : ℕ) → k < length (endsAfter K n f v ws)
+        → Demand3 receivers (Halves K n f) k (asEnd n m (getD (endsAfter K n f v ws) k noEnd)) (endIn n m (e .struck) (M .positions))
     unfolding endIn spread
     converged k l =
         let D = rw zero-add at (A 0 k (rw zero-add l)) in
@@ -99,7 +112,7 @@ module _ (b : Bool) (a : List ℕ) where
   pub held-converges : {M : Memory} → (F .setup .begun ≡ true → HeadsOf (F .setup .n) (F .setup .listeners) (ringFrom (F .setup) (playedWith b F)) M)
       → ConvergedIn F (playedWith b F) (M .positions)
   held-converges K begun c =
-      converged (F .setup .n) (F .setup .listeners) (F .setup .f) (F .setup .first) (playedWith b F) (played-converges F (taken a begun) b) (K begun) c
+      converged (F .setup .family) (F .setup .n) (F .setup .listeners) (F .setup .f) (F .setup .first) (playedWith b F) (played-converges F (taken a begun) b) (K begun) c
 
   -- x: the latest end
   pub held-at-end : {M : Memory} → F .setup .begun ≡ true → HeadsOf (F .setup .n) (F .setup .listeners) (ringFrom (F .setup) (playedWith b F)) M
@@ -108,5 +121,5 @@ module _ (b : Bool) (a : List ℕ) where
       → x .heads i .seat .position ≡ Entry.Position (getD (M .positions) i (pos 0)))
   held-at-end begun K c x e =
       rw e at
-      (held-here (F .setup .n) (F .setup .listeners) (F .setup .f) (F .setup .first) (playedWith b F) (played-converges F (taken a begun) b) K c
+      (held-here (F .setup .family) (F .setup .n) (F .setup .listeners) (F .setup .f) (F .setup .first) (playedWith b F) (played-converges F (taken a begun) b) K c
       (omega (arith, ap length e)))

@@ -10,7 +10,7 @@ use Rattle.run_spec.proofs.Reached.{Reached, few-struck-in}
 use Rattle.run_spec.proofs.Streaming.{ringOf}
 
 -- `taken` gives Reached of every file that was read and has begun
-pub waiting-playable : (F : File) → Reached F → F .rounds .pending ≡ true → Playable (F .setup .n) (F .setup .f) (ringOf F)
+pub waiting-playable : (F : File) → Reached F → F .rounds .pending ≡ true → Playable (F .setup .family) (F .setup .n) (F .setup .f) (ringOf F)
 waiting-playable F I pending =
-    playable (F .setup .n) (F .setup .f) (F .setup .first) (I .size) (I .ranges) (F .rounds .played)
+    playable (F .setup .family) (F .setup .n) (F .setup .f) (F .setup .first) (I .size) (I .ranges) (F .rounds .played)
     (few-struck-in (F .setup .n) (F .setup .listeners) (F .setup .f) (F .rounds .played) (I .rounds)) (omega (arith, I .count, ap bit pending))

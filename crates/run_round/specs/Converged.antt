@@ -1,4 +1,4 @@
--- Demand 3 of what the player holds. When the rounds ws were played and the last of them was a confession round, or there was none, the positions in memory are a
+-- Demand 3 of what the player holds. When the rounds ws were played and the last of them ended a phase, or there was none, the positions in memory are a
 -- phase end, and it keeps demand 3 with each phase end played, k phases before it, the start among them. Whoever is out at the latest end is out in memory: at the
 -- start that is every listener.
 use mathlib.Core.Bool.{true}
@@ -7,18 +7,19 @@ use mathlib.Core.Path.{_≡_}
 use Prim.Native.Nat.{ℕ, _<_}
 use lib.ListN.{length, getD}
 use lib.IntN.{ℤ}
+use Rattle.terms.specs.declared.Family.{Family}
 use Rattle.convergence.specs.Demand3.{Demand3, Halves}
 use Rattle.ring_spec.specs.Rounds.{Round, receivers, asEnd, ringAfter, endsAfter}
 use Rattle.ring_spec.specs.Converges.{noEnd}
 use Rattle.run_spec.specs.RunFile.{File}
 use Rattle.run_listing.specs.Held.{endIn}
 
-abbrev pub Converged : ℕ → ℕ → ℕ → (ℕ → ℤ) → List Round → List ℤ → Type 0
-Converged n m f v ws positions =
-    let es = endsAfter n f v ws in
-    ringAfter n f v ws .round ≡ 0 → (k : ℕ) → k < length es
-    → Demand3 receivers (Halves n f) k (asEnd n m (getD es k noEnd)) (endIn n m (getD es 0 noEnd .struck) positions)
+abbrev pub Converged : Family → ℕ → ℕ → ℕ → (ℕ → ℤ) → List Round → List ℤ → Type 0
+Converged K n m f v ws positions =
+    let es = endsAfter K n f v ws in
+    ringAfter K n f v ws .round ≡ 0 → (k : ℕ) → k < length es
+    → Demand3 receivers (Halves K n f) k (asEnd n m (getD es k noEnd)) (endIn n m (getD es 0 noEnd .struck) positions)
 
 -- of a file that has begun, when its rounds ws were played
 abbrev pub ConvergedIn : File → List Round → List ℤ → Type 0
-ConvergedIn F ws positions = F .setup .begun ≡ true → Converged (F .setup .n) (F .setup .listeners) (F .setup .f) (F .setup .first) ws positions
+ConvergedIn F ws positions = F .setup .begun ≡ true → Converged (F .setup .family) (F .setup .n) (F .setup .listeners) (F .setup .f) (F .setup .first) ws positions

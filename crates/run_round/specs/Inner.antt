@@ -10,7 +10,7 @@ stageOf p =
     record {
       n = p .n;
       f = p .f;
-      phase = phaseOf (p .given) % 65536;
+      phase = phaseOf (p .family) (p .given) % 65536;
       before = p .before % 4294967296;
       struck = p .struck % 4294967296;
       listeners = p .listeners;

@@ -13,7 +13,7 @@ use Rattle.run_state.specs.State.{ringBefore}
 
 -- the pending round is played: the memory after it, and the text by which the listing grows
 pub record Played (F : File) (text : Text) (M : Memory) : Type 0 where
-  pub keeps : HeadsOf (F .setup .n) (F .setup .listeners) (afterRound (F .setup .n) (F .setup .f) (ringBefore F) (F .rounds .last)) M
+  pub keeps : HeadsOf (F .setup .n) (F .setup .listeners) (afterRound (F .setup .family) (F .setup .n) (F .setup .f) (ringBefore F) (F .rounds .last)) M
   pub shows : lines (F .setup .n) (F .setup .listeners) (endsFrom (F .setup) (F .rounds .last ∷ F .rounds .played))
       ≡ lines (F .setup .n) (F .setup .listeners) (endsFrom (F .setup) (F .rounds .played)) ++ bytesOf text
   pub room : text .len ≤ 64

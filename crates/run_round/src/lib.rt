@@ -13,6 +13,7 @@ use frame_slots::PlantedLengths;
 use ring_play::Stage;
 use run_listing::Text;
 use run_state::Player;
+use terms::Family;
 use terms::Lists;
 use terms::Positions;
 use terms::Words;
@@ -21,10 +22,11 @@ use terms::Words;
 fn stage_of(p: Player) -> Stage
     ensures { λ r. ⌜ r ≡ stageOf p ⌝ }
 {
+    let family = p.family;
     Stage {
         n: p.n,
         f: p.f,
-        phase: run_state::phase_of(p.given),
+        phase: run_state::phase_of(family, p.given),
         before: (p.before % 4294967296) as u32,
         struck: (p.struck % 4294967296) as u32,
         listeners: p.listeners,
@@ -47,10 +49,22 @@ pub fn play_round(
     ensures { λ r. ⌜ r .len ≤ 64 ⌝ }
 {
     let s = stage_of(p);
-    if !run_state::ends_phase(p.given) {
-        ring_play::collect(s, positions, planted, lengths, marks, lists);
-        return run_listing::empty();
+    let n = p.n;
+    let m = p.listeners;
+    let struck = p.struck;
+    let family = p.family;
+    match family {
+        Family::TwoRounds => {
+            if !run_state::ends_phase(family, p.given) {
+                ring_play::collect(s, positions, planted, lengths, marks, lists);
+                return run_listing::empty();
+            }
+            ring_play::confess(s, marks, lists, planted, lengths, positions);
+            run_listing::end_line(s.phase, positions, n, m, p.before, struck, struck)
+        }
+        Family::OneRound => {
+            ring_play::conclude(s, positions, planted, lengths);
+            run_listing::end_line(s.phase, positions, n, m, struck, 0, struck)
+        }
     }
-    ring_play::confess(s, marks, lists, planted, lengths, positions);
-    run_listing::end_line(s.phase, positions, p.n, p.listeners, p.before, p.struck)
 }

@@ -12,12 +12,14 @@ use lib.ListN.{length, length-append}
 use borrow.Author.Tests.{leb-true, eqb-true, ltb-false, eq-eqb, ne-eqb, not-true, not-false}
 use Rattle.terms.specs.Refusals.{leaves, unlessRefused}
 use Rattle.terms.specs.Refusals as refusal
-use Rattle.terms.specs.Sizes.{isCount}
+use Rattle.terms.specs.Sizes.{isCount, roundsOf}
+use Rattle.terms.specs.declared.Family.{Family}
+use Rattle.terms.specs.declared.Family.the-variants.{TwoRounds, OneRound}
 use Rattle.terms.proofs.Booleans.{and-both}
 use Rattle.convergence.specs.Counting.{bit}
 use Rattle.head_spec.proofs.Proper.{both-passed}
 use Rattle.ring_spec.specs.Rounds.{Plant, Round}
-use Rattle.ring_spec.proofs.Counts.{counted}
+use Rattle.ring_spec.proofs.Counts.{Counted, counted}
 use Rattle.run_spec.specs.RunFile.{File, unread, Rounds, roundsGiven, listenersFault, RecordKind, start, round, plant, listeners, strikes, other, lengthIn, kindIn, isAllowed, isFirst, isBare, headCountIn, listenerCountIn, lastPair, thenPlayed, recordFault, withRecord, stopped, judged, withPart, readOn, step, feed, readFile, recordsOf, accepted, ending, roundsPlayed, endsPlayed, endsFrom, allRounds}
 use Rattle.run_spec.proofs.Whole.{stands, RoundsFit, kept-on, kept-read, kept}
 use Rattle.run_spec.proofs.Streaming.{feed-append}
@@ -90,9 +92,9 @@ pub record Cost (F : File) (k : ℕ) : Type 0 where
   pub part : length (F .part) ≤ k
   pub records : F .setup .begun ≡ true → 10 + 8 * roundsGiven F + length (F .part) ≤ k
 
-start-long : (F : File) (s : List ℕ) → recordFault start F s ≡ 0 → 10 ≤ length s
+start-long : (K : Family) (F : File) (s : List ℕ) → recordFault (start K) F s ≡ 0 → 10 ≤ length s
 unfolding isCount
-start-long F s sound =
+start-long K F s sound =
     let (whole, count, rest) = both-passed (eqb (length s) (6 + 4 * headCountIn s)) (isCount (headCountIn s)) 12 0 sound in
     let some = leb-true 1 (headCountIn s) (and-both (leb 1 (headCountIn s)) _ count .0) in
     omega (arith, eqb-true (length s) (6 + 4 * headCountIn s) whole)
@@ -105,8 +107,8 @@ number-some s sound =
 
 costs-more : (K : RecordKind) (F : File) (s : List ℕ) (k : ℕ) → length s ≡ suc (length (F .part)) → isAllowed K F (lengthIn s) ≡ true → length s ≡ lengthIn s
     → recordFault K F s ≡ 0 → Cost F k → Cost (withRecord K F s) (suc k)
-costs-more start F s k one may all sound C =
-    record { begun = λ w. refl; part = omega arith; records = λ b. omega (arith, start-long F s sound, C .part) }
+costs-more (start K) F s k one may all sound C =
+    record { begun = λ w. refl; part = omega arith; records = λ b. omega (arith, start-long K F s sound, C .part) }
 costs-more round F s k one may all sound C =
     let (begun, eight) = and-both (F .setup .begun) _ may in
     record {
@@ -135,30 +137,38 @@ cost s =
 
 -- ---- how many phase ends that can be
 
--- the start took 10 bytes at least, and each phase 16
-pub few-ends : (s : List ℕ) → 16 * length (endsPlayed (readFile s)) ≤ length s + 6
+-- the start took 10 bytes at least, and each phase 16, or 8 in a ring of one round
+ends-within : (K : Family) {bytes rounds ends phase round : ℕ} → 10 + 8 * rounds ≤ bytes → Counted K rounds ends phase round
+    → 8 * roundsOf K * ends ≤ bytes + 8 * roundsOf K
+ends-within TwoRounds l C = omega arith
+ends-within OneRound l C = omega arith
+
+pub few-ends : (s : List ℕ) → let k = 8 * roundsOf (readFile s .setup .family) in k * length (endsPlayed (readFile s)) ≤ length s + k
 unfolding endsPlayed roundsPlayed
 few-ends s = go (F .setup .begun) (eqb (ending F) 0) refl
   where
     F : File
     F = readFile s
 
+    k : ℕ
+    k = 8 * roundsOf (F .setup .family)
+
     ends : List Round → ℕ
     ends ws = length (endsFrom (F .setup) ws)
 
-    few : (b : Bool) → F .setup .begun ≡ true → 16 * ends (cond b (allRounds (F .rounds)) (F .rounds .played)) ≤ length s + 6
+    few : (b : Bool) → F .setup .begun ≡ true → k * ends (cond b (allRounds (F .rounds)) (F .rounds .played)) ≤ length s + k
     few true begun =
         let ws = allRounds (F .rounds) in
-        let C = counted (F .setup .n) (F .setup .f) (F .setup .first) ws in
-        omega (arith, cost s .records begun, C .played, C .counts, length-then (F .rounds .pending) (F .rounds .played) (F .rounds .last))
+        let C = counted (F .setup .family) (F .setup .n) (F .setup .f) (F .setup .first) ws in
+        ends-within (F .setup .family) (omega (arith, cost s .records begun, length-then (F .rounds .pending) (F .rounds .played) (F .rounds .last))) C
     few false begun =
-        let C = counted (F .setup .n) (F .setup .f) (F .setup .first) (F .rounds .played) in
-        omega (arith, cost s .records begun, C .played, C .counts)
+        let C = counted (F .setup .family) (F .setup .n) (F .setup .f) (F .setup .first) (F .rounds .played) in
+        ends-within (F .setup .family) (omega (arith, cost s .records begun)) C
 
     go : (begun b : Bool) → F .setup .begun ≡ begun
-        → 16 * length (cond begun (endsFrom (F .setup) (cond b (allRounds (F .rounds)) (F .rounds .played))) []) ≤ length s + 6
+        → k * length (cond begun (endsFrom (F .setup) (cond b (allRounds (F .rounds)) (F .rounds .played))) []) ≤ length s + k
     go true b e = few b e
-    go false b e = omega arith
+    go false b e = omega (arith)
 
 -- ---- the records accepted
 
@@ -184,7 +194,7 @@ none-planted (x ∷ xs) = ne-eqb (length (x ∷ xs)) 0 (omega arith)
 pub one-accepted : (K : RecordKind) (F : File) (s : List ℕ) (len : ℕ) → isAllowed K F len ≡ true → recordFault K F s ≡ 0
     → (F .rounds .pending ≡ true → F .setup .begun ≡ true) → accepted (withRecord K F s) ≡ suc (accepted F)
 unfolding accepted recordsOf
-one-accepted start F s len may sound W =
+one-accepted (start K) F s len may sound W =
     let none = not-true (F .setup .begun) (and-both (not (F .setup .begun)) _ (and-both (not (F .setup .begun) && leb 6 len) _ may .0) .0) in
     rw none refl
 one-accepted round F s len may sound W = rw (and-both (F .setup .begun) _ may .0) (omega arith)
@@ -218,7 +228,7 @@ record Least (m : ℕ) (F : File) (k : ℕ) : Type 0 where
 
 begun-more : (K : RecordKind) (F : File) (s : List ℕ) → isAllowed K F (lengthIn s) ≡ true → (F .rounds .pending ≡ true → F .setup .begun ≡ true)
     → withRecord K F s .rounds .pending ≡ true → withRecord K F s .setup .begun ≡ true
-begun-more start F s may W w = refl
+begun-more (start K) F s may W w = refl
 begun-more round F s may W w = and-both (F .setup .begun) _ may .0
 begun-more plant F s may W w = W w
 begun-more listeners F s may W w = W w

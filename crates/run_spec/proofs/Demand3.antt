@@ -2,13 +2,13 @@
 use mathlib.Core.Path.{_≡_, refl}
 use mathlib.Core.Bool.{Bool, true, false, cond}
 use mathlib.Core.List.{List, []}
-use Prim.Native.Nat.{ℕ, _≤_}
+use Prim.Native.Nat.{ℕ, _+_, _≤_, _<_}
 use native.Mathlib.Omega.{arith}
 use native.Mathlib.Nat.{le-refl}
 use lib.Dec.{eqb}
-use lib.ListN.{length}
-use Rattle.ring_spec.specs.Rounds.{Round, mostRounds}
-use Rattle.ring_spec.specs.Converges.{FewStruckIn, AnyTwo}
+use Rattle.terms.specs.declared.Family.{Family}
+use Rattle.ring_spec.specs.Rounds.{Round}
+use Rattle.ring_spec.specs.Converges.{AnyTwo, Within}
 use Rattle.ring_spec.proofs.Demand3.{ring-converges}
 use Rattle.run_spec.specs.RunFile.{File, readFile, ending, roundsPlayed, endsPlayed, endsFrom, allRounds}
 use Rattle.run_spec.specs.EveryFile.{EveryFile}
@@ -19,6 +19,9 @@ abbrev pub playedWith : Bool → File → List Round
 playedWith b F = cond b (allRounds (F .rounds)) (F .rounds .played)
 
 module _ (F : File) (I : Reached F) where
+  abbrev K : Family
+  K = F .setup .family
+
   abbrev n : ℕ
   n = F .setup .n
 
@@ -28,20 +31,34 @@ module _ (F : File) (I : Reached F) where
   abbrev f : ℕ
   f = F .setup .f
 
-  played-within : (b : Bool) → FewStruckIn n f (playedWith b F) × (length (playedWith b F) ≤ mostRounds)
-  played-within true = (
-    few-struck-in n m f (allRounds (F .rounds)) (within-then n m f (F .rounds .pending) (F .rounds .played) (F .rounds .last) (I .rounds) (I .waiting)),
-    omega (arith, length-then (F .rounds .pending) (F .rounds .played) (F .rounds .last), I .count),
-  )
-  played-within false = (few-struck-in n m f (F .rounds .played) (I .rounds), omega (arith, I .count))
+  pub played-within : (b : Bool) → Within K n m f (F .setup .first) (playedWith b F)
+  played-within true =
+      record {
+        most = I .size .most;
+        listeners = I .listeners;
+        size = I .size .limit;
+        range = I .ranges;
+        few = few-struck-in n m f (allRounds (F .rounds)) (within-then n m f (F .rounds .pending) (F .rounds .played) (F .rounds .last) (I .rounds) (I .waiting));
+        rounds = omega (arith, length-then (F .rounds .pending) (F .rounds .played) (F .rounds .last), I .count);
+      }
+  played-within false =
+      record {
+        most = I .size .most;
+        listeners = I .listeners;
+        size = I .size .limit;
+        range = I .ranges;
+        few = few-struck-in n m f (F .rounds .played) (I .rounds);
+        rounds = omega (arith, I .count);
+      }
 
   -- of the heads and any of the listeners
-  pub some-converge : (b : Bool) (k : ℕ) → k ≤ m → AnyTwo n k f (endsFrom (F .setup) (playedWith b F))
+  pub some-converge : (b : Bool) (k : ℕ) → k ≤ m → AnyTwo K n k f (endsFrom (F .setup) (playedWith b F))
   some-converge b k l =
-      let (within, most) = played-within b in
-      ring-converges n k f (F .setup .first) (playedWith b F) (I .size .most) (omega (arith, I .listeners)) (I .size .limit) (I .ranges) within most
+      let W = played-within b in
+      ring-converges K n k f (F .setup .first) (playedWith b F)
+      (record { most = W .most; listeners = omega (arith, W .listeners); size = W .size; range = W .range; few = W .few; rounds = W .rounds })
 
-  pub played-converges : (b : Bool) → AnyTwo n m f (endsFrom (F .setup) (playedWith b F))
+  pub played-converges : (b : Bool) → AnyTwo K n m f (endsFrom (F .setup) (playedWith b F))
   played-converges b = some-converge b m (le-refl m)
 
 pub every-file : EveryFile
@@ -52,6 +69,6 @@ every-file s = go (readFile s .setup .begun) refl
     F = readFile s
 
     go : (b : Bool) → F .setup .begun ≡ b
-        → (m : ℕ) → m ≤ F .setup .listeners → AnyTwo (F .setup .n) m (F .setup .f) (cond b (endsFrom (F .setup) (roundsPlayed F)) [])
+        → (m : ℕ) → m ≤ F .setup .listeners → AnyTwo (F .setup .family) (F .setup .n) m (F .setup .f) (cond b (endsFrom (F .setup) (roundsPlayed F)) [])
     go true e = some-converge F (taken s e) (eqb (ending F) 0)
     go false e = λ m h i k l. absurd (omega arith)

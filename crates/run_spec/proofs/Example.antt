@@ -69,15 +69,32 @@ heardPrinted =
     ∷ 101 ∷ 110 ∷ 100 ∷ 10
     ∷ []
 
+-- A ring of one round (document 02, A9): five heads at 0 3 10 10 8, with f = 1. In round 1 head 4 is struck, and tells head 0 that it stands at 0: head 0 settles at 5
+-- and the others at 6, half of 13 rounded down. In round 2 head 4 is silent, and hears; all settle at 6.
+pub single : List ℕ
+single =
+    26 ∷ 0 ∷ 20 ∷ 0 ∷ 5 ∷ 1 ∷ 0 ∷ 0 ∷ 0 ∷ 0 ∷ 3 ∷ 0 ∷ 0 ∷ 0 ∷ 10 ∷ 0 ∷ 0 ∷ 0 ∷ 10 ∷ 0 ∷ 0 ∷ 0 ∷ 8 ∷ 0 ∷ 0 ∷ 0 ∷ 8 ∷ 0 ∷ 17 ∷ 0 ∷ 16 ∷ 0 ∷ 0 ∷ 0 ∷ 17
+    ∷ 0 ∷ 18 ∷ 0 ∷ 4 ∷ 0 ∷ 11 ∷ 0 ∷ 1 ∷ 0 ∷ 4 ∷ 1 ∷ 0 ∷ 0 ∷ 0 ∷ 0 ∷ 0 ∷ 8 ∷ 0 ∷ 17 ∷ 0 ∷ 0 ∷ 0 ∷ 0 ∷ 0 ∷ []
+
+-- the title, "0 0 10 10 00000000 00000000", "1 5 6 1 00000010 00000000", "2 6 6 0 00000000 00000000", "end"
+pub singlePrinted : List ℕ
+singlePrinted =
+    112 ∷ 104 ∷ 97 ∷ 115 ∷ 101 ∷ 32 ∷ 108 ∷ 111 ∷ 119 ∷ 32 ∷ 104 ∷ 105 ∷ 103 ∷ 104 ∷ 32 ∷ 115 ∷ 112 ∷ 114 ∷ 101 ∷ 97 ∷ 100 ∷ 32 ∷ 99 ∷ 111 ∷ 108 ∷ 108
+    ∷ 101 ∷ 99 ∷ 116 ∷ 32 ∷ 99 ∷ 111 ∷ 110 ∷ 102 ∷ 101 ∷ 115 ∷ 115 ∷ 10 ∷ 48 ∷ 32 ∷ 48 ∷ 32 ∷ 49 ∷ 48 ∷ 32 ∷ 49 ∷ 48 ∷ 32 ∷ 48 ∷ 48 ∷ 48 ∷ 48 ∷ 48
+    ∷ 48 ∷ 48 ∷ 48 ∷ 32 ∷ 48 ∷ 48 ∷ 48 ∷ 48 ∷ 48 ∷ 48 ∷ 48 ∷ 48 ∷ 10 ∷ 49 ∷ 32 ∷ 53 ∷ 32 ∷ 54 ∷ 32 ∷ 49 ∷ 32 ∷ 48 ∷ 48 ∷ 48 ∷ 48 ∷ 48 ∷ 48 ∷ 49 ∷ 48
+    ∷ 32 ∷ 48 ∷ 48 ∷ 48 ∷ 48 ∷ 48 ∷ 48 ∷ 48 ∷ 48 ∷ 10 ∷ 50 ∷ 32 ∷ 54 ∷ 32 ∷ 54 ∷ 32 ∷ 48 ∷ 32 ∷ 48 ∷ 48 ∷ 48 ∷ 48 ∷ 48 ∷ 48 ∷ 48 ∷ 48 ∷ 32 ∷ 48 ∷ 48
+    ∷ 48 ∷ 48 ∷ 48 ∷ 48 ∷ 48 ∷ 48 ∷ 10 ∷ 101 ∷ 110 ∷ 100 ∷ 10 ∷ []
+
 pub record Printed : Type 0 where
   pub paper : listing file ≡ printed
   pub listeners : listing heard ≡ heardPrinted
+  pub one-round : listing single ≡ singlePrinted
 
 pub examples : Printed
-unfolding file printed heard heardPrinted unread feed step readOn judged isCount isLimit positionsFit isPosition signedOf wordOf fewMarks marksBelow bitOf
+unfolding file printed heard heardPrinted single singlePrinted unread feed step readOn judged isCount isLimit positionsFit isPosition signedOf wordOf fewMarks marksBelow bitOf
     withMark sum ending roundsPlayed endsPlayed listingOf title lines line digits size decimal hex lowest highest spread gap endsAfter
     ringAfter firstHeads afterRound closedAt carried openedAt lost started startedListener restarted hearAll hearEach hear hearRefusal refusalOf
     checkFrame said tableIn entriesFit numbers zeros entryAt entryBytes eqZ spoken close adopt closedCollection closedPhase settling enough
     nulls trim ordered insert lowKept highKept middle midpoint half floorDiv rounding trusted support confessions seen givenBy
     noEntries noLinks noLists pairFits
-examples = record { paper = refl; listeners = refl }
+examples = record { paper = refl; listeners = refl; one-round = refl }

@@ -13,6 +13,9 @@ use lib.ListN.{length}
 use lib.IntN.{ℤ}
 use borrow.Author.Tests.{leb-true, ltb-true, ltb-false, leb-false, not-true}
 use Rattle.terms.specs.Sizes.{isCount, isLimit}
+use Rattle.terms.proofs.Sizes.{size-passed}
+use Rattle.terms.specs.declared.Family.{Family}
+use Rattle.terms.specs.declared.Family.the-variants.{TwoRounds, OneRound}
 use Rattle.terms.specs.Positions.{isPosition}
 use Rattle.marks.specs.Marks.{bitOf, marksBelow}
 use Rattle.marks.proofs.Marks.{bit-above}
@@ -62,16 +65,16 @@ few-struck-in n m f (w ∷ ws) A = (A .0 .few, few-struck-in n m f ws (A .1))
 
 -- ---- of a start that was accepted, and the rounds after it
 
-pub record TakenSo (n m f : ℕ) (first : ℕ → ℤ) (played : List Round) (pending : Bool) (last : Round) : Type 0 where
-  pub size : Sized n f
+pub record TakenSo (K : Family) (n m f : ℕ) (first : ℕ → ℤ) (played : List Round) (pending : Bool) (last : Round) : Type 0 where
+  pub size : Sized K n f
   pub listeners : m ≤ 16
   pub ranges : Each n (λ i. isPosition (first i) ≡ true)
   pub rounds : AllFit n m f played
   pub waiting : pending ≡ true → RoundFits n m f last
-  pub count : length played + bit pending ≤ mostRounds
+  pub count : length played + bit pending ≤ mostRounds K
 
 abbrev pub Reached : File → Type 0
-Reached F = TakenSo (F .setup .n) (F .setup .listeners) (F .setup .f) (F .setup .first) (F .rounds .played) (F .rounds .pending) (F .rounds .last)
+Reached F = TakenSo (F .setup .family) (F .setup .n) (F .setup .listeners) (F .setup .f) (F .setup .first) (F .rounds .played) (F .rounds .pending) (F .rounds .last)
 
 -- before a start there is nothing to hold
 abbrev Good : File → ℕ → Type 0
@@ -118,26 +121,36 @@ module _ (F : File) (G : F .setup .begun ≡ true → Reached F) where
   abbrev m : ℕ
   m = F .setup .listeners
 
-  good-start : (s : List ℕ) → recordFault start F s ≡ 0 → Reached (withRecord start F s)
-  good-start s e =
+  -- the size and the positions of a start
+  start-fits : (K : Family) (s : List ℕ) → recordFault (start K) F s ≡ 0
+      → let n = headCountIn s in (isCount n ≡ true) × (isLimit K n (limitIn s) ≡ true) × (positionsFit s n ≡ true)
+  start-fits K s e =
       let n = headCountIn s in
-      let f = limitIn s in
-      let (whole, count, rest) = both-passed (eqb (length s) (6 + 4 * n)) (isCount n) 12 0 e in
-      let (limit, fit, done) = both-passed (isLimit n f) (positionsFit s n) 1 3 rest in
+      let (whole, same, size) = both-passed (eqb (length s) (6 + 4 * n)) true 12 0 e in
+      let (count, limit, rest) = size-passed K n (limitIn s) _ size in
+      let (fit, also, done) = both-passed (positionsFit s n) true 3 0 rest in
+      (count, limit, fit)
+
+  some-rounds : (K : Family) → 0 ≤ mostRounds K
+  some-rounds K = omega arith
+
+  good-start : (K : Family) (s : List ℕ) → recordFault (start K) F s ≡ 0 → Reached (withRecord (start K) F s)
+  good-start K s e =
+      let (count, limit, fit) = start-fits K s e in
       record {
-        size = sized-by n f count limit;
+        size = sized-by K (headCountIn s) (limitIn s) count limit;
         listeners = omega arith;
-        ranges = positions-fit s n fit;
+        ranges = positions-fit s (headCountIn s) fit;
         rounds = tt;
         waiting = λ w. absurd (true≢false (sym w));
-        count = omega arith;
+        count = some-rounds K;
       }
 
   good-round : (s : List ℕ) → recordFault round F s ≡ 0 → Reached F → Reached (withRecord round F s)
   unfolding fewMarks marksBelow
   good-round s e I =
       let (fits, more, done) = both-passed (fewMarks (F .setup .n) (F .setup .f) (struckIn s)) _ 13 25 e in
-      let k : roundsGiven F < mostRounds = ltb-true (roundsGiven F) _ more in
+      let k : roundsGiven F < mostRounds (F .setup .family) = ltb-true (roundsGiven F) _ more in
       let (below, few) = and-both (marksBelow (struckIn s) n) _ fits in
       let l : struckIn s < 2 ^ n = ltb-true (struckIn s) (2 ^ n) below in
       record {
@@ -157,7 +170,7 @@ module _ (F : File) (G : F .setup .begun ≡ true → Reached F) where
 
   -- another pending round in place of the last
   with-last : (w : Round) → Reached F → RoundFits n m (F .setup .f) w
-      → TakenSo n m (F .setup .f) (F .setup .first) (F .rounds .played) (F .rounds .pending) w
+      → TakenSo (F .setup .family) n m (F .setup .f) (F .setup .first) (F .rounds .played) (F .rounds .pending) w
   with-last w I fits =
       record { size = I .size; listeners = I .listeners; ranges = I .ranges; rounds = I .rounds; waiting = λ p. fits; count = I .count }
 
@@ -221,7 +234,7 @@ module _ (F : File) (G : F .setup .begun ≡ true → Reached F) where
 
   good-record : (K : RecordKind) (s : List ℕ) → isAllowed K F (lengthIn s) ≡ true → recordFault K F s ≡ 0 → withRecord K F s .setup .begun ≡ true
       → Reached (withRecord K F s)
-  good-record start s may e b = good-start s e
+  good-record (start K) s may e b = good-start K s e
   good-record round s may e b = good-round s e (G b)
   good-record plant s may e b = good-plant s (and-both (F .rounds .pending) _ (and-both (F .rounds .pending && leb 6 (lengthIn s)) _ may .0) .0) e (G b)
   good-record listeners s may e b = good-listeners s (and-both (isFirst F) _ may .0) e (G b)

@@ -10,6 +10,8 @@ use lib.Dec.{eqb}
 use lib.ListN.{length}
 use lib.IntN.{ℤ}
 use borrow.Author.Tests.{eqb-true}
+use Rattle.terms.specs.declared.Family.{Family}
+use Rattle.terms.specs.Sizes.{endsWith}
 use Rattle.terms.proofs.Booleans.{and-both}
 use Rattle.convergence.specs.Phases.{spread}
 use Rattle.convergence.proofs.Same.{SameEnd, same-bounds}
@@ -28,33 +30,33 @@ feed-append F (x ∷ a) b = feed-append (step F x) a b
 
 -- ---- the line that a round brings
 
--- of a confession round, that of its phase end
-abbrev lineIn : ℕ → ℕ → ℕ → ℕ → PhaseEnd → List ℕ
-lineIn zero n m p e = []
-lineIn (suc r) n m p e = line n m p e
+-- of the last round of a phase, that of its end
+abbrev lineIn : Bool → ℕ → ℕ → ℕ → PhaseEnd → List ℕ
+lineIn false n m p e = []
+lineIn true n m p e = line n m p e
 
 -- round w of a ring R with m listeners
-abbrev pub roundLine : ℕ → ℕ → ℕ → Ring → Round → List ℕ
-roundLine n m f R w = lineIn (R .round) n m (R .phase) (phaseEnd (R .before) (w .struck) (afterRound n f R w .heads))
+abbrev pub roundLine : Family → ℕ → ℕ → ℕ → Ring → Round → List ℕ
+roundLine K n m f R w = lineIn (endsWith K (R .round)) n m (R .phase) (phaseEnd K (R .before) (w .struck) (afterRound K n f R w .heads))
 
-pub lines-next : (n m f : ℕ) (v : ℕ → ℤ) (ws : List Round) (w : Round)
-    → lines n m (endsAfter n f v (w ∷ ws)) ≡ lines n m (endsAfter n f v ws) ++ roundLine n m f (ringAfter n f v ws) w
+pub lines-next : (K : Family) (n m f : ℕ) (v : ℕ → ℤ) (ws : List Round) (w : Round)
+    → lines n m (endsAfter K n f v (w ∷ ws)) ≡ lines n m (endsAfter K n f v ws) ++ roundLine K n m f (ringAfter K n f v ws) w
 unfolding endsAfter ringAfter lines
-lines-next n m f v ws w = go (ringAfter n f v ws .round) _
+lines-next K n m f v ws w = go (endsWith K (ringAfter K n f v ws .round)) _
   where
-    go : (r : ℕ) (e : PhaseEnd)
-        → lines n m (withEnd r e (endsAfter n f v ws)) ≡ lines n m (endsAfter n f v ws) ++ lineIn r n m (ringAfter n f v ws .phase) e
-    go zero e = sym (append-nil _)
-    go (suc r) e = ap (λ (p : ℕ). lines n m (endsAfter n f v ws) ++ line n m p e) (counted n f v ws .counts)
+    go : (r : Bool) (e : PhaseEnd)
+        → lines n m (withEnd r e (endsAfter K n f v ws)) ≡ lines n m (endsAfter K n f v ws) ++ lineIn r n m (ringAfter K n f v ws .phase) e
+    go false e = sym (append-nil _)
+    go true e = ap (λ (p : ℕ). lines n m (endsAfter K n f v ws) ++ line n m p e) (counted K n f v ws .counts)
 
 -- the line of the start is the same however many listeners there are
-pub first-line : (n m k f : ℕ) (v : ℕ → ℤ) → line n m 0 (firstEnd n f v) ≡ line n k 0 (firstEnd n f v)
+pub first-line : (K : Family) (n m k f : ℕ) (v : ℕ → ℤ) → line n m 0 (firstEnd K n f v) ≡ line n k 0 (firstEnd K n f v)
 unfolding line spread
-first-line n m k f v =
+first-line K n m k f v =
     let (low, high) = same-bounds (same n m k f v) in
     rw (low, high)
   where
-    same : (n m k f : ℕ) (v : ℕ → ℤ) → SameEnd receivers (asEnd n m (firstEnd n f v)) (asEnd n k (firstEnd n f v))
+    same : (n m k f : ℕ) (v : ℕ → ℤ) → SameEnd receivers (asEnd n m (firstEnd K n f v)) (asEnd n k (firstEnd K n f v))
     same n m k f v = record { struck = first-out-as n m k; at = λ i l q. refl }
 
 -- the last k digits of a number
@@ -79,7 +81,7 @@ ringOf F = ringFrom (F .setup) (F .rounds .played)
 
 -- what the pending round will show
 abbrev pub waitingLine : File → List ℕ
-waitingLine F = cond (F .setup .begun) (cond (F .rounds .pending) (roundLine (F .setup .n) (F .setup .listeners) (F .setup .f) (ringOf F) (F .rounds .last)) []) []
+waitingLine F = cond (F .setup .begun) (cond (F .rounds .pending) (roundLine (F .setup .family) (F .setup .n) (F .setup .listeners) (F .setup .f) (ringOf F) (F .rounds .last)) []) []
 
 module _ (F : File) where
   abbrev shownLines : List PhaseEnd → List ℕ
@@ -88,8 +90,8 @@ module _ (F : File) where
   -- with the pending round played
   with-last : (b : Bool)
       → shownLines (endsFrom (F .setup) (thenPlayed b (F .rounds .played) (F .rounds .last)))
-      ≡ shownLines (endsFrom (F .setup) (F .rounds .played)) ++ cond b (roundLine (F .setup .n) (F .setup .listeners) (F .setup .f) (ringOf F) (F .rounds .last)) []
-  with-last true = lines-next (F .setup .n) (F .setup .listeners) (F .setup .f) (F .setup .first) (F .rounds .played) (F .rounds .last)
+      ≡ shownLines (endsFrom (F .setup) (F .rounds .played)) ++ cond b (roundLine (F .setup .family) (F .setup .n) (F .setup .listeners) (F .setup .f) (ringOf F) (F .rounds .last)) []
+  with-last true = lines-next (F .setup .family) (F .setup .n) (F .setup .listeners) (F .setup .f) (F .setup .first) (F .rounds .played) (F .rounds .last)
   with-last false = sym (append-nil _)
 
   -- the text after a start or not, then a line more
@@ -105,11 +107,11 @@ module _ (F : File) where
   unfolding shown
   round-shows s = shown-more (F .setup .begun) _ _ _ (with-last (F .rounds .pending))
 
-  pub start-shows : (s : List ℕ) → F .setup .begun ≡ false
-      → shown (withRecord start F s)
-      ≡ shown F ++ line (headCountIn s) 0 0 (firstEnd (headCountIn s) (limitIn s) (positionIn s))
+  pub start-shows : (K : Family) (s : List ℕ) → F .setup .begun ≡ false
+      → shown (withRecord (start K) F s)
+      ≡ shown F ++ line (headCountIn s) 0 0 (firstEnd K (headCountIn s) (limitIn s) (positionIn s))
   unfolding shown lines endsAfter
-  start-shows s e = rw (e, append-nil)
+  start-shows K s e = rw (e, append-nil)
 
   -- the number of listeners changes no line: it comes just after the start
   pub listeners-shows : (s : List ℕ) → isFirst F ≡ true → shown (withRecord listeners F s) ≡ shown F
@@ -120,7 +122,7 @@ module _ (F : File) where
       rw (
         begun,
         none-played (F .rounds .played) (omega (arith, eqb-true (roundsGiven F) 0 first)),
-        first-line (F .setup .n) (listenerCountIn s) (F .setup .listeners) (F .setup .f) (F .setup .first),
+        first-line (F .setup .family) (F .setup .n) (listenerCountIn s) (F .setup .listeners) (F .setup .f) (F .setup .first),
       )
     where
       none-played : (ws : List Round) → length ws ≡ 0 → ws ≡ []
@@ -145,13 +147,13 @@ module _ (F : File) where
 
   -- the ring that an accepted round record leaves: the pending round is played
   pub round-plays : (s : List ℕ) → ringOf (withRecord round F s)
-      ≡ cond (F .rounds .pending) (afterRound (F .setup .n) (F .setup .f) (ringOf F) (F .rounds .last)) (ringOf F)
+      ≡ cond (F .rounds .pending) (afterRound (F .setup .family) (F .setup .n) (F .setup .f) (ringOf F) (F .rounds .last)) (ringOf F)
   unfolding ringAfter
   round-plays s = go (F .rounds .pending)
     where
       go : (b : Bool)
           → ringFrom (F .setup) (thenPlayed b (F .rounds .played) (F .rounds .last))
-          ≡ cond b (afterRound (F .setup .n) (F .setup .f) (ringOf F) (F .rounds .last)) (ringOf F)
+          ≡ cond b (afterRound (F .setup .family) (F .setup .n) (F .setup .f) (ringOf F) (F .rounds .last)) (ringOf F)
       go true = refl
       go false = refl
 

@@ -48,7 +48,7 @@ within place low high len e =
 
 -- the lengths that some record has
 pub stands-long : (K : RecordKind) (begun first pending bare : Bool) (len : ℕ) → allowedWhen K begun first pending bare len ≡ true → (5 ≤ len) × (len ≤ 1026)
-stands-long start begun first pending bare len e = let (least, most) = within (not begun) 6 1026 len e in (omega arith, most)
+stands-long (start K) begun first pending bare len e = let (least, most) = within (not begun) 6 1026 len e in (omega arith, most)
 stands-long round begun first pending bare len e = let is = eqb-true len 8 (and-both begun (eqb len 8) e .1) in (omega arith, omega arith)
 stands-long plant begun first pending bare len e = let (least, most) = within pending 6 146 len e in (omega arith, omega arith)
 stands-long listeners begun first pending bare len e = let is = eqb-true len 5 (and-both first (eqb len 5) e .1) in (omega arith, omega arith)
@@ -105,7 +105,7 @@ unless-over (suc c) good F q = refl
 
 judged-over : (K : RecordKind) (F : File) (q s : List ℕ) → judged K (withPart F q) s ≡ judged K F s
 unfolding judged
-judged-over start F q s = unless-over (recordFault start F s) _ F q
+judged-over (start K) F q s = unless-over (recordFault (start K) F s) _ F q
 judged-over round F q s = unless-over (recordFault round F s) _ F q
 judged-over plant F q s = unless-over (recordFault plant F s) _ F q
 judged-over listeners F q s = unless-over (recordFault listeners F s) _ F q
@@ -166,7 +166,7 @@ unless-empty (suc c) good F e = refl
 
 pub judged-empty : (K : RecordKind) (F : File) (s : List ℕ) → judged K F s .part ≡ []
 unfolding judged
-judged-empty start F s = unless-empty (recordFault start F s) _ F refl
+judged-empty (start K) F s = unless-empty (recordFault (start K) F s) _ F refl
 judged-empty round F s = unless-empty (recordFault round F s) _ F refl
 judged-empty plant F s = unless-empty (recordFault plant F s) _ F refl
 judged-empty listeners F s = unless-empty (recordFault listeners F s) _ F refl

@@ -8,6 +8,8 @@ use lib.IntN.{ℤ, pos}
 use Rattle.terms.specs.Refusals as refusal
 use Rattle.terms.specs.Refusals.{check, unlessRefused, leaves}
 use Rattle.terms.specs.Sizes.{checkSize}
+use Rattle.terms.specs.declared.Family.{Family}
+use Rattle.terms.specs.declared.Family.the-variants.{TwoRounds, OneRound}
 use Rattle.terms.specs.Positions.{isPosition}
 use Rattle.fields.specs.Bytes.{isEmpty, at2, at4, signedAt}
 use Rattle.marks.specs.Marks.{bitOf, marksBelow}
@@ -18,6 +20,7 @@ use Rattle.run_spec.specs.declared.Pair.{Pair}
 -- what the start record gives, and the number of listeners (document 02, A6)
 pub record Setup : Type 0 where
   pub begun : Bool  -- a start was accepted
+  pub family : Family  -- by the kind of the start record (document 02, A9)
   pub n : ℕ
   pub f : ℕ
   pub first : ℕ → ℤ  -- the positions of the start record
@@ -37,7 +40,7 @@ pub record File : Type 0 where
   pub rounds : Rounds
 
 abbrev pub noSetup : Setup
-noSetup = record { begun = false; n = 0; f = 0; first = λ i. pos 0; listeners = 0 }
+noSetup = record { begun = false; family = TwoRounds; n = 0; f = 0; first = λ i. pos 0; listeners = 0 }
 
 abbrev pub noRound : Round
 noRound = record { struck = 0; told = false; plants = [] }
@@ -59,7 +62,7 @@ roundsGiven F = length (F .rounds .played) + bit (F .rounds .pending)
 -- ---- records: kinds, and which is allowed, with what length
 
 pub data RecordKind : Type 0 where
-  start : RecordKind
+  start : Family → RecordKind
   round : RecordKind
   plant : RecordKind
   listeners : RecordKind
@@ -68,7 +71,8 @@ pub data RecordKind : Type 0 where
 
 abbrev pub recordKind : ℕ → RecordKind
 recordKind k =
-    cond (eqb k 0x10) start (cond (eqb k 0x11) round (cond (eqb k 0x12) plant (cond (eqb k 0x15) listeners (cond (eqb k 0x13) strikes other))))
+    cond (eqb k 0x10) (start TwoRounds) (cond (eqb k 0x11) round (cond (eqb k 0x12) plant
+    (cond (eqb k 0x15) listeners (cond (eqb k 0x13) strikes (cond (eqb k 0x14) (start OneRound) other)))))
 
 -- two bytes length (of the whole record), two bytes kind
 abbrev pub lengthIn : List ℕ → ℕ
@@ -81,7 +85,7 @@ kindIn s = recordKind (at2 s 2)
 -- struck listeners just after its record; the lengths that some record of that kind has. begun: a start was accepted; first: nothing else was; pending: a round
 -- is pending; bare: nothing was accepted after its record.
 abbrev pub allowedWhen : RecordKind → Bool → Bool → Bool → Bool → ℕ → Bool
-allowedWhen start begun first pending bare len = not begun && leb 6 len && leb len 1026
+allowedWhen (start K) begun first pending bare len = not begun && leb 6 len && leb len 1026
 allowedWhen round begun first pending bare len = begun && eqb len 8
 allowedWhen plant begun first pending bare len = pending && leb 6 len && leb len 146
 allowedWhen listeners begun first pending bare len = first && eqb len 5
@@ -97,9 +101,9 @@ abbrev pub isBare : Rounds → Bool
 isBare R = R .pending && not (R .last .told) && eqb (length (R .last .plants)) 0
 
 abbrev pub isAllowed : RecordKind → File → ℕ → Bool
-isAllowed K F len = allowedWhen K (F .setup .begun) (isFirst F) (F .rounds .pending) (isBare (F .rounds)) len
+isAllowed k F len = allowedWhen k (F .setup .begun) (isFirst F) (F .rounds .pending) (isBare (F .rounds)) len
 
--- ---- a start: n, f (a byte each), n positions
+-- ---- a start, of either family: n, f (a byte each), n positions
 
 abbrev pub headCountIn : List ℕ → ℕ
 headCountIn s = getD s 4 0
@@ -114,10 +118,10 @@ unfoldable pub positionsFit : List ℕ → ℕ → Bool
 positionsFit s zero = true
 positionsFit s (suc j) = positionsFit s j && isPosition (positionIn s j)
 
-abbrev pub startFault : List ℕ → ℕ
-startFault s =
+abbrev pub startFault : Family → List ℕ → ℕ
+startFault K s =
     check (eqb (length s) (6 + 4 * headCountIn s)) refusal.run-record
-    (checkSize (headCountIn s) (limitIn s)
+    (checkSize K (headCountIn s) (limitIn s)
     (check (positionsFit s (headCountIn s)) refusal.position 0))
 
 -- ---- a round: a mark word of struck heads, at most f of them and none at n or above
@@ -129,8 +133,8 @@ unfoldable pub fewMarks : ℕ → ℕ → ℕ → Bool
 fewMarks n f m = marksBelow m n && leb (sum n (λ j. bit (bitOf m j))) f
 
 -- of n heads with the struck limit f, after so many rounds
-abbrev pub roundFault : ℕ → ℕ → ℕ → List ℕ → ℕ
-roundFault n f rounds s = check (fewMarks n f (struckIn s)) refusal.struck (check (ltb rounds mostRounds) refusal.ended 0)
+abbrev pub roundFault : Family → ℕ → ℕ → ℕ → List ℕ → ℕ
+roundFault K n f rounds s = check (fewMarks n f (struckIn s)) refusal.struck (check (ltb rounds (mostRounds K)) refusal.ended 0)
 
 -- ---- the number of listeners, from 1 to 16 (document 02, A6)
 
@@ -173,23 +177,23 @@ pairFits n m struck last k i = ltb k n && isReceiver n m i && bitOf struck k && 
 abbrev pub plantFault : ℕ → ℕ → ℕ → Pair → List ℕ → ℕ
 plantFault n m struck last s = check (pairFits n m struck last (senderIn s) (receiverIn s)) refusal.run-record 0
 
--- ---- a whole record: the number of its fault, 0 for none; 13, then 1, 2, 4, 14, 26
+-- ---- a whole record: the number of its fault, 0 for none; 13, then 1, 2 or 18, 4, 14, 26
 
 abbrev pub recordFault : RecordKind → File → List ℕ → ℕ
-recordFault start F s = startFault s
-recordFault round F s = roundFault (F .setup .n) (F .setup .f) (roundsGiven F) s
+recordFault (start K) F s = startFault K s
+recordFault round F s = roundFault (F .setup .family) (F .setup .n) (F .setup .f) (roundsGiven F) s
 recordFault plant F s = plantFault (F .setup .n) (F .setup .listeners) (F .rounds .last .struck) (lastPair (F .rounds .last .plants)) s
 recordFault listeners F s = listenersFault s
 recordFault strikes F s = strikesFault (F .setup .listeners) s
 recordFault other F s = refusal.run-record
 
 -- the setup that a start record gives
-abbrev pub setupIn : List ℕ → Setup
-setupIn s = record { begun = true; n = headCountIn s; f = limitIn s; first = positionIn s; listeners = 0 }
+abbrev pub setupIn : Family → List ℕ → Setup
+setupIn K s = record { begun = true; family = K; n = headCountIn s; f = limitIn s; first = positionIn s; listeners = 0 }
 
 -- with listeners
 abbrev pub withListeners : Setup → ℕ → Setup
-withListeners S m = record { begun = S .begun; n = S .n; f = S .f; first = S .first; listeners = m }
+withListeners S m = record { begun = S .begun; family = S .family; n = S .n; f = S .f; first = S .first; listeners = m }
 
 -- the rounds played, with the last one if it is pending
 abbrev pub thenPlayed : Bool → List Round → Round → List Round
@@ -223,7 +227,7 @@ plantIn s = record { from = senderIn s; to = receiverIn s; bytes = drop 6 s }
 
 -- what an accepted record changes
 abbrev pub withRecord : RecordKind → File → List ℕ → File
-withRecord start F s = between (setupIn s) noRounds
+withRecord (start K) F s = between (setupIn K s) noRounds
 withRecord round F s = between (F .setup) (withRound (F .rounds) (struckIn s))
 withRecord plant F s = between (F .setup) (withPlant (F .rounds) (plantIn s))
 withRecord listeners F s = between (withListeners (F .setup) (listenerCountIn s)) (F .rounds)
@@ -235,7 +239,7 @@ abbrev pub stopped : File → ℕ → File
 stopped F c = record { part = []; fault = c; setup = F .setup; rounds = F .rounds }
 
 unfoldable pub judged : RecordKind → File → List ℕ → File
-judged K F s = unlessRefused (stopped F) (recordFault K F s) (withRecord K F s)
+judged k F s = unlessRefused (stopped F) (recordFault k F s) (withRecord k F s)
 
 -- ---- byte by byte
 
@@ -273,14 +277,14 @@ accepted F = cond (F .setup .begun) (suc (bit (not (eqb (F .setup .listeners) 0)
 
 -- the first fault, or 13: no start, a record cut short, or inside a phase; 0 if the file is played to its end
 unfoldable pub ending : File → ℕ
-ending F = check (eqb (F .fault) 0) (F .fault) (check (F .setup .begun && isEmpty (F .part) && endsPhase (roundsGiven F)) refusal.run-record 0)
+ending F = check (eqb (F .fault) 0) (F .fault) (check (F .setup .begun && isEmpty (F .part) && endsPhase (F .setup .family) (roundsGiven F)) refusal.run-record 0)
 
 -- the ring of a setup after the rounds ws, and its phase ends
 abbrev pub ringFrom : Setup → List Round → Ring
-ringFrom S ws = ringAfter (S .n) (S .f) (S .first) ws
+ringFrom S ws = ringAfter (S .family) (S .n) (S .f) (S .first) ws
 
 abbrev pub endsFrom : Setup → List Round → List PhaseEnd
-endsFrom S ws = endsAfter (S .n) (S .f) (S .first) ws
+endsFrom S ws = endsAfter (S .family) (S .n) (S .f) (S .first) ws
 
 -- the phase ends played when the bytes so far are read, the latest first; none before an accepted start
 abbrev pub endsSoFar : File → List PhaseEnd

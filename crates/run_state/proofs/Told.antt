@@ -2,12 +2,14 @@
 use mathlib.Core.Path.{_≡_, refl}
 use mathlib.Core.Bool.{Bool, true, false, not, cond}
 use mathlib.Core.List.{List, [], _∷_}
-use Prim.Native.Nat.{ℕ, _<_}
+use Prim.Native.Nat.{ℕ, _≤_, _<_}
 use native.Mathlib.Omega.{arith}
 use lib.Dec.{eqb}
 use lib.ListN.{length}
 use borrow.Author.Needs.{needs}
 use borrow.Author.Tests.{ne-eqb}
+use Rattle.terms.specs.declared.Family.{Family}
+use Rattle.terms.specs.declared.Family.the-variants.{TwoRounds, OneRound}
 use Rattle.ring_spec.specs.Rounds.{Plant, mostRounds, afterRound, ringAfter}
 use Rattle.run_spec.specs.RunFile.{File, unread, roundsGiven, RecordKind, start, round, plant, listeners, strikes, allowedWhen, isFirst, isBare, isAllowed, headCountIn, limitIn, struckIn, roundFault, listenerCountIn, listenersIn, strikesFault, senderIn, receiverIn, lastPair, plantFault, recordFault, thenPlayed, withRecord, stopped, withPart, feed, readFile, ringFrom}
 use Rattle.run_spec.proofs.Reached.{length-then}
@@ -16,13 +18,17 @@ use Rattle.run_state.specs.Changes.{freshPlayer, halted, withRoundGiven,
 use Rattle.run_state.specs.Places.{firstOf, bareOf}
 use Rattle.run_state.specs.State.{ringBefore, PlayerOf}
 
-pub unread-tells : PlayerOf (freshPlayer false 0 0) (readFile [])
+most-of : (K : Family) → mostRounds K ≤ mostRounds TwoRounds
+most-of TwoRounds = omega arith
+most-of OneRound = omega arith
+
+pub unread-tells : PlayerOf (freshPlayer false TwoRounds 0 0) (readFile [])
 unfolding feed unread ringAfter
 unread-tells = search needs
 
-pub start-tells : (F : File) (s : List ℕ) → PlayerOf (freshPlayer true (headCountIn s) (limitIn s)) (withRecord start F s)
+pub start-tells : (K : Family) (F : File) (s : List ℕ) → PlayerOf (freshPlayer true K (headCountIn s) (limitIn s)) (withRecord (start K) F s)
 unfolding ringAfter
-start-tells F s = search needs
+start-tells K F s = search needs
 
 module _ {F : File} {p : Player} (T : PlayerOf p F) where
   -- ---- what it tells next
@@ -42,14 +48,15 @@ module _ {F : File} {p : Player} (T : PlayerOf p F) where
       go true = refl
       go false = refl
 
-  pub round-tells : (s : List ℕ) → roundsGiven F < mostRounds → PlayerOf (withRoundGiven p (struckIn s)) (withRecord round F s)
+  pub round-tells : (s : List ℕ) → roundsGiven F < mostRounds (F .setup .family) → PlayerOf (withRoundGiven p (struckIn s)) (withRecord round F s)
   round-tells s more =
       record {
         begun = T .begun;
+        family = T .family;
         n = T .n;
         f = T .f;
         listeners = T .listeners;
-        given = omega (arith, length-then (F .rounds .pending) (F .rounds .played) (F .rounds .last), T .given);
+        given = omega (arith, most-of (F .setup .family), length-then (F .rounds .pending) (F .rounds .played) (F .rounds .last), T .given);
         pending = refl;
         before = round-before s;
         struck = refl;
@@ -69,6 +76,7 @@ module _ {F : File} {p : Player} (T : PlayerOf p F) where
   strikes-tells s small =
       record {
         begun = T .begun;
+        family = T .family;
         n = T .n;
         f = T .f;
         listeners = T .listeners;
@@ -96,8 +104,8 @@ module _ {F : File} {p : Player} (T : PlayerOf p F) where
   pub allowed-as : (K : RecordKind) (len : ℕ) → isAllowed K F len ≡ allowedWhen K (p .begun) (firstOf p) (p .pending) (bareOf p) len
   allowed-as K len = rw (first-as, bare-as, T .begun, T .pending)
 
-  pub round-fault-as : (s : List ℕ) → recordFault round F s ≡ roundFault (p .n) (p .f) (p .given) s
-  round-fault-as s = rw (T .n, T .f, T .given)
+  pub round-fault-as : (s : List ℕ) → recordFault round F s ≡ roundFault (p .family) (p .n) (p .f) (p .given) s
+  round-fault-as s = rw (T .family, T .n, T .f, T .given)
 
   pub plant-fault-as : (s : List ℕ) → recordFault plant F s ≡ plantFault (p .n) (p .listeners) (p .struck) (p .last) s
   plant-fault-as s = rw (T .n, T .listeners, T .struck, T .last)

@@ -3,15 +3,18 @@
 use mathlib.Core.Bool.{Bool, true, false, cond}
 use mathlib.Core.List.{[]}
 use Prim.Native.Nat.{ℕ, _+_, _*_, _%_, min}
+use Rattle.terms.specs.declared.Family.{Family}
+use Rattle.terms.specs.declared.Family.the-variants.{TwoRounds}
 use Rattle.ring_spec.specs.Rounds.{mostRounds}
 use Rattle.run_spec.specs.RunFile.{lastPair}
 use Rattle.run_state.specs.declared.Player.{Player}
 
 -- before the first round
-abbrev pub freshPlayer : Bool → ℕ → ℕ → Player
-freshPlayer begun n f =
+abbrev pub freshPlayer : Bool → Family → ℕ → ℕ → Player
+freshPlayer begun K n f =
     record {
       begun = begun;
+      family = K;
       n = n;
       f = f;
       listeners = 0;
@@ -30,6 +33,7 @@ abbrev pub halted : Player → ℕ → ℕ → Player
 halted p have fault =
     record {
       begun = p .begun;
+      family = p .family;
       n = p .n;
       f = p .f;
       listeners = p .listeners;
@@ -43,15 +47,16 @@ halted p have fault =
       fault = fault;
     }
 
--- a round more, up to the last: it is pending, and before it comes the round that was pending, or what was before that if none was
+-- a round more, up to the most in either family: it is pending, and before it comes the round that was pending, or what was before that if none was
 abbrev pub withRoundGiven : Player → ℕ → Player
 withRoundGiven p struck =
     record {
       begun = p .begun;
+      family = p .family;
       n = p .n;
       f = p .f;
       listeners = p .listeners;
-      given = min (p .given + 1) mostRounds;
+      given = min (p .given + 1) (mostRounds TwoRounds);
       pending = true;
       before = cond (p .pending) (p .struck) (p .before);
       struck = struck;
@@ -66,6 +71,7 @@ abbrev pub withPairPlanted : Player → ℕ → ℕ → Player
 withPairPlanted p from to =
     record {
       begun = p .begun;
+      family = p .family;
       n = p .n;
       f = p .f;
       listeners = p .listeners;
@@ -84,6 +90,7 @@ abbrev pub withListenersGiven : Player → ℕ → Player
 withListenersGiven p m =
     record {
       begun = p .begun;
+      family = p .family;
       n = p .n;
       f = p .f;
       listeners = m;
@@ -102,6 +109,7 @@ abbrev pub withStrikesGiven : Player → ℕ → Player
 withStrikesGiven p marks =
     record {
       begun = p .begun;
+      family = p .family;
       n = p .n;
       f = p .f;
       listeners = p .listeners;

@@ -17,6 +17,7 @@ ringBefore F = ringFrom (F .setup) (F .rounds .played)
 -- the player's numbers are those of the file F
 pub record PlayerOf (p : Player) (F : File) : Type 0 where
   pub begun : F .setup .begun ≡ p .begun
+  pub family : F .setup .family ≡ p .family
   pub n : F .setup .n ≡ p .n
   pub f : F .setup .f ≡ p .f
   pub listeners : F .setup .listeners ≡ p .listeners

@@ -4,12 +4,14 @@ ghost use mathlib.Core.Bool.{false, cond};
 ghost use mathlib.Core.List.{[]};
 ghost use mathlib.Core.Path.{_≡_};
 ghost use Prim.Native.Nat.{_+_, _*_, _%_, min};
+ghost use Rattle.terms.specs.declared.Family.the-variants.{TwoRounds};
 ghost use Rattle.ring_spec.specs.Rounds.{phaseOf, endsPhase, mostRounds};
 ghost use Rattle.run_spec.specs.RunFile.{lastPair};
 ghost use Rattle.run_state.specs.Changes.{freshPlayer, halted, withRoundGiven, withPairPlanted, withListenersGiven, withStrikesGiven};
 ghost use Rattle.run_state.specs.Places.{firstOf, bareOf};
 use run_judge::MOST_ROUNDS;
 use run_spec::Pair;
+use terms::Family;
 
 // The longest record, a start with 255 positions, has 1,026 bytes; so many of a record that is cut are kept.
 pub const CARRY: usize = 1026;
@@ -22,6 +24,7 @@ pub struct Player {
     pub struck: u64, // who is struck in the last
     pub given: u32, // rounds given
     pub begun: bool, // a start was accepted
+    pub family: Family, // by its kind
     pub n: u8,
     pub f: u8,
     pub listeners: u8,
@@ -33,11 +36,12 @@ pub struct Player {
 }
 
 // Before the first round.
-pub fn fresh(begun: bool, n: u8, f: u8) -> Player
-    ensures { λ r. ⌜ r ≡ freshPlayer begun n f ⌝ }
+pub fn fresh(begun: bool, family: Family, n: u8, f: u8) -> Player
+    ensures { λ r. ⌜ r ≡ freshPlayer begun family n f ⌝ }
 {
     Player {
         begun,
+        family,
         n,
         f,
         listeners: 0,
@@ -64,9 +68,9 @@ fn no_pair() -> Pair
 
 // Before the first byte.
 pub fn unread() -> Player
-    ensures { λ r. ⌜ r ≡ freshPlayer false 0 0 ⌝ }
+    ensures { λ r. ⌜ r ≡ freshPlayer false TwoRounds 0 0 ⌝ }
 {
-    fresh(false, 0, 0)
+    fresh(false, Family::TwoRounds, 0, 0)
 }
 
 // The player at a fault, which ends the file.
@@ -80,22 +84,28 @@ pub fn stop(p: Player, number: u8) -> Player
 }
 
 // The phase of round number `given`, counted from 1.
-pub fn phase_of(given: u32) -> u16
-    ensures { λ r. ⌜ r ≡ phaseOf given % 65536 ⌝ }
+pub fn phase_of(family: Family, given: u32) -> u16
+    ensures { λ r. ⌜ r ≡ phaseOf family given % 65536 ⌝ }
 {
-    ((given / 2 + given % 2) % 65536) as u16
+    match family {
+        Family::TwoRounds => ((given / 2 + given % 2) % 65536) as u16,
+        Family::OneRound => (given % 65536) as u16,
+    }
 }
 
 // Whether round number `given` ends its phase.
-pub fn ends_phase(given: u32) -> bool
-    ensures { λ r. ⌜ r ≡ endsPhase given ⌝ }
+pub fn ends_phase(family: Family, given: u32) -> bool
+    ensures { λ r. ⌜ r ≡ endsPhase family given ⌝ }
 {
-    given % 2 == 0
+    match family {
+        Family::TwoRounds => given % 2 == 0,
+        Family::OneRound => true,
+    }
 }
 
-// A round more than a number of rounds, up to the last round of the last phase.
+// A round more than a number of rounds, up to the most that a file has in either family.
 fn one_more(given: u32) -> u32
-    ensures { λ r. ⌜ r ≡ min (given + 1) mostRounds ⌝ }
+    ensures { λ r. ⌜ r ≡ min (given + 1) (mostRounds TwoRounds) ⌝ }
 {
     if given < MOST_ROUNDS {
         given + 1
@@ -115,8 +125,10 @@ fn struck_before(p: Player) -> u64
 pub fn given_round(p: Player, struck: u32) -> Player
     ensures { λ r. ⌜ r ≡ withRoundGiven p struck ⌝ }
 {
+    let family = p.family;
     Player {
         begun: p.begun,
+        family,
         n: p.n,
         f: p.f,
         listeners: p.listeners,

@@ -37,7 +37,7 @@ begun-by : (p : Player) → endingOf p ≡ 0 → p .begun ≡ true
 unfolding endingOf
 begun-by p e = go (p .begun) (eqb (p .fault) 0) refl e
   where
-    go : (b ok : Bool) → eqb (p .fault) 0 ≡ ok → check ok (p .fault) (check (b && eqb (p .have) 0 && endsPhase (p .given)) refusal.run-record 0) ≡ 0 → b ≡ true
+    go : (b ok : Bool) → eqb (p .fault) 0 ≡ ok → check ok (p .fault) (check (b && eqb (p .have) 0 && endsPhase (p .family) (p .given)) refusal.run-record 0) ≡ 0 → b ≡ true
     go true ok f e = refl
     go false true f e = absurd (omega arith)
     go false false f e = absurd (eqb-false (p .fault) 0 f e)
@@ -54,7 +54,7 @@ module _ {a : List ℕ} {p : Player} {carry : List ℕ} {M : Memory} (L : StateA
 
   ends-by : ending F ≡ endingOf p
   unfolding ending endingOf
-  ends-by = rw (empty-length (F .part), ← L .have, L .player .fault, L .player .begun, L .player .given)
+  ends-by = rw (empty-length (F .part), ← L .have, L .player .fault, L .player .begun, L .player .family, L .player .given)
 
   -- the rounds ws are played in all, and the memory holds what they leave
   ends : {n : ℕ} {line v : Text} {M′ : Memory} (ws : List Round) → roundsPlayed F ≡ ws
@@ -91,7 +91,7 @@ module _ {a : List ℕ} {p : Player} {carry : List ℕ} {M : Memory} (L : StateA
       ends (F .rounds .last ∷ F .rounds .played) (rw (eq-eqb (ending F) 0 (ends-by ∙ sym e ∙ z), pending))
       (rw (begun, played .shows) (sym (append-assoc title _ (bytesOf line))))
       e v (λ b. played .keeps) (λ same. absurd (omega (arith, ap length same)))
-      (rw begun (next-grown (F .setup .n) (F .setup .listeners) (F .setup .f) (F .setup .first) (F .rounds .played) (F .rounds .last) (played .shows)))
+      (rw begun (next-grown (F .setup .family) (F .setup .n) (F .setup .listeners) (F .setup .f) (F .setup .first) (F .rounds .played) (F .rounds .last) (played .shows)))
 
   -- no round is played
   pub ends-unplayed : {line v : Text} {n : ℕ} → n ≡ endingOf p → (n ≡ 0 → p .pending ≡ false) → bytesOf v ≡ verdict n → line .len ≡ 0

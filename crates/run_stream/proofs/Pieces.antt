@@ -118,8 +118,8 @@ grown-from e g = rw e at g
 -- nothing shown, no end played
 grown-nothing : {n m : ℕ} {es es′ : List PhaseEnd} {R : Ring} {text : List ℕ} → text ≡ [] → Grown n m es es′ R text → es′ ≡ es
 grown-nothing z (none e t) = e
-grown-nothing {n} {m} {es} {R} z (one collect r e t) =
-    absurd (omega (arith, line-some n m (length es) (endHere collect es R), ap length (sym t ∙ z)))
+grown-nothing {n} {m} {es} {R} z (one collect confess r e t) =
+    absurd (omega (arith, line-some n m (length es) (endHere collect confess es R), ap length (sym t ∙ z)))
 
 module _ {bytes : List ℕ} {p : Player} {carry₀ : List ℕ} {M₀ : Memory} where
   pub still-first : Still bytes p carry₀ M₀ p carry₀ M₀ 0

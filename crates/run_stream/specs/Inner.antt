@@ -9,4 +9,4 @@ use Rattle.run_state.specs.declared.Player.{Player}
 
 -- how the file ends, by the player's numbers
 unfoldable pub endingOf : Player → ℕ
-endingOf p = check (eqb (p .fault) 0) (p .fault) (check (p .begun && eqb (p .have) 0 && endsPhase (p .given)) refusal.run-record 0)
+endingOf p = check (eqb (p .fault) 0) (p .fault) (check (p .begun && eqb (p .have) 0 && endsPhase (p .family) (p .given)) refusal.run-record 0)

@@ -169,7 +169,8 @@ fn ending(p: Player) -> u8
     if fault != 0 {
         return fault;
     }
-    if p.begun && p.have == 0 && run_state::ends_phase(p.given) {
+    let family = p.family;
+    if p.begun && p.have == 0 && run_state::ends_phase(family, p.given) {
         return 0;
     }
     refusal::RUN_RECORD

@@ -6,6 +6,7 @@ use mathlib.Core.Bool.{Bool, true, false, not, cond, _&&_, _||_, true≢false}
 use mathlib.Core.List.{List, [], _∷_, _++_, append-assoc}
 use Prim.Native.Nat.{ℕ, suc, _+_, _-_, _*_, _≤_, _<_}
 use native.Mathlib.Omega.{arith}
+use native.Mathlib.Nat.{le-refl}
 use native.Mathlib.Decide.{decLt}
 use lib.Dec.{eqb, ltb, leb}
 use lib.ListN.{length, getD, take}
@@ -13,13 +14,16 @@ use lib.Seq.{length-take-le, take-all}
 use lib.IntN.{ℤ, pos}
 use borrow.Author.Tests.{ltb-true, lt-ltb}
 use Rattle.terms.specs.declared.Entry.{Entry}
+use Rattle.terms.specs.declared.Family.{Family}
+use Rattle.terms.specs.declared.Family.the-variants.{TwoRounds, OneRound}
+use Rattle.terms.specs.Sizes.{roundsOf}
 use Rattle.convergence.specs.Counting.{Each}
 use Rattle.convergence.specs.Phases.{spread}
 use Rattle.convergence.specs.Demand3.{Demand3}
 use Rattle.run_listing.specs.Held.{endIn}
 use Rattle.run_listing.proofs.Lowest.{found-held}
 use Rattle.ring_spec.specs.Rounds.{PhaseEnd, receivers, isReceiver, isOut, asEnd, ringAfter, afterRound}
-use Rattle.ring_spec.proofs.Counts.{counted}
+use Rattle.ring_spec.proofs.Counts.{Counted, counted}
 use Rattle.run_spec.specs.RunFile.{File, unread, roundsGiven, RecordKind, start, round, plant, listeners, strikes, other, kindIn, lengthIn, isAllowed, thenPlayed, withRecord, feed, readFile, endsSoFar, ending, roundsPlayed, endsPlayed, ringFrom, endsFrom}
 use Rattle.run_spec.specs.Listing.{title, shown, listing}
 use Rattle.run_spec.proofs.Streaming.{feed-append}
@@ -44,21 +48,39 @@ use Rattle.run_whole.specs.declared.PlayResult.{PlayResult}
 use Rattle.run_whole.specs.Buffers.{Buffers, mostEnds, hasRoom, row}
 use Rattle.run_whole.specs.Whole.{endNumber, HoldsEnd, Whole}
 use Rattle.run_whole.specs.Inner.{Put, EndKept, Rows, HoldsSoFar, Going}
+use Rattle.run_whole.proofs.FirstKind.{few-in}
 use Rattle.run_whole.proofs.Rows.{rows-at, rows-recount}
 use Rattle.run_whole.proofs.Telling.{roomy, AtEnd, told-put, told-more, out-long}
 
 -- ---- the file so far
 
 -- how many phase ends it can have
-few-so-far : (s : List ℕ) → 16 * length (endsSoFar (readFile s)) ≤ length s + 6
+ends-within : (K : Family) {bytes rounds ends phase round : ℕ} → 10 + 8 * rounds ≤ bytes → Counted K rounds ends phase round
+    → 8 * roundsOf K * ends ≤ bytes + 8 * roundsOf K
+ends-within TwoRounds l C = omega arith
+ends-within OneRound l C = omega arith
+
+few-so-far : (s : List ℕ) → let k = 8 * roundsOf (readFile s .setup .family) in k * length (endsSoFar (readFile s)) ≤ length s + k
 few-so-far s = go (F .setup .begun) refl
   where
     F : File
     F = readFile s
 
-    go : (b : Bool) → F .setup .begun ≡ b → 16 * length (cond b (endsFrom (F .setup) (F .rounds .played)) []) ≤ length s + 6
-    go true e = let C = counted (F .setup .n) (F .setup .f) (F .setup .first) (F .rounds .played) in omega (arith, cost s .records e, C .played, C .counts)
+    k : ℕ
+    k = 8 * roundsOf (F .setup .family)
+
+    go : (b : Bool) → F .setup .begun ≡ b → k * length (cond b (endsFrom (F .setup) (F .rounds .played)) []) ≤ length s + k
+    go true e =
+        ends-within (F .setup .family) (omega (arith, cost s .records e)) (counted (F .setup .family) (F .setup .n) (F .setup .f) (F .setup .first) (F .rounds .played))
     go false e = omega arith
+
+-- none before a start
+none-so-far : (F : File) → F .setup .begun ≡ false → length (endsSoFar F) ≡ 0
+none-so-far F e = rw e refl
+
+none-played : (F : File) → F .setup .begun ≡ false → length (endsPlayed F) ≡ 0
+unfolding endsPlayed
+none-played F e = rw e refl
 
 -- A start gives the number of heads, and nothing after it another; once a round was given, nothing gives another number of listeners. n, m and r: the heads, the
 -- listeners and the rounds given at first.
@@ -70,7 +92,7 @@ record Counts (n m r : ℕ) (F : File) (k : ℕ) : Type 0 where
 
 module _ (n m r : ℕ) where
   counts-on : (K : RecordKind) (F : File) (s : List ℕ) (k : ℕ) → isAllowed K F (lengthIn s) ≡ true → Counts n m r F k → Counts n m r (withRecord K F s) (suc k)
-  counts-on start F s k may C = absurd (true≢false (sym (C .begun) ∙ start-place F (lengthIn s) may))
+  counts-on (start K) F s k may C = absurd (true≢false (sym (C .begun) ∙ start-place F (lengthIn s) K may))
   counts-on round F s k may C =
       record {
         begun = C .begun;
@@ -121,7 +143,7 @@ rows-then a b ends words = go (F .setup .begun) refl
     counted-on e (yes some) R = let C = same-counts a b e in rw (C .heads, C .listeners some) R
     counted-on e (no none) R =
         rw (same-counts a b e .heads)
-        (rows-recount (F .setup .n) (F .setup .listeners) (G .setup .listeners) (F .setup .f) (F .setup .first) (F .rounds .played) ends words (omega arith) R)
+        (rows-recount (F .setup .family) (F .setup .n) (F .setup .listeners) (G .setup .listeners) (F .setup .f) (F .setup .first) (F .rounds .played) ends words (omega arith) R)
 
     go : (c : Bool) → F .setup .begun ≡ c → let es = cond c (endsFrom (F .setup) (F .rounds .played)) [] in
         Rows (F .setup .n) (F .setup .listeners) es ends words → Rows (G .setup .n) (G .setup .listeners) es ends words
@@ -143,12 +165,12 @@ unfolding Rows
 none-told n m B = record { len = refl; out = refl; count = refl; rows = tt; more-rows = refl; more-words = refl; long = refl; wide = refl }
 
 pub going-first : {file : List ℕ} {p : Player} {carry : List ℕ} {M : Memory} {t : Text} {l : ℕ} {out : List ℕ} (B : Buffers)
-    → hasRoom (length file) (length (B .out)) (length (B .ends)) (length (B .words)) ≡ true → StateAt [] p carry M → bytesOf t ≡ title → t .len ≤ 64
+    → hasRoom file (length (B .out)) (length (B .ends)) (length (B .words)) ≡ true → StateAt [] p carry M → bytesOf t ≡ title → t .len ≤ 64
     → Put t 0 l (B .out) out
     → Going file (record { player = p; used = 0; len = l; count = 0 }) carry M B (record { out = out; ends = B .ends; words = B .words })
 unfolding unread feed
 going-first {file} {t} B room L text short P =
-    let R = roomy (length file) B room in
+    let R = roomy file B room in
     let (is, put) = P .puts short (omega (arith, R .out)) in
     let told = told-put (none-told (readFile [] .setup .n) (readFile [] .setup .listeners) B) (bytesOf t) (t .len) (P .long short) put in
     record {
@@ -191,14 +213,15 @@ module _ {file : List ℕ} {at : Place} {carry : List ℕ} {M : Memory} {B₀ B 
       let L = S .advances .state in
       let F = readFile (a ++ b) in
       let long = ap length is ∙ length-take-le (at .used + used) file within in
-      let few : length (endsSoFar F) ≤ mostEnds (length file) = omega (arith, few-so-far (a ++ b)) in
+      let few : length (endsSoFar F) ≤ mostEnds file =
+      rw is (few-in (at .used + used) file within _ (none-so-far (readFile (take (at .used + used) file))) (few-so-far (take (at .used + used) file))) in
       let ended : (x : PhaseEnd) → endsSoFar F ≡ x ∷ endsSoFar (readFile a) → ringBefore F .round ≡ 0
       → AtEnd (F .setup .n) (F .setup .listeners) x (ringBefore F) (q .before) (M′ .positions) =
       λ x e r.
       let begun = begun-so F x _ e in
       record { is = sym (L .player .before); held = held-at-end false (a ++ b) begun (L .memory .keeps begun) r x (rw begun at e) } in
       let (told, small) =
-      told-more (told-then b) (roomy (length file) B₀ (G .room)) (G .small) short few {R = ringBefore F} ended P flag (rw (← L .player .n, ← L .player .listeners) at K) (S .grown) in
+      told-more (told-then b) (roomy file B₀ (G .room)) (G .small) short few {R = ringBefore F} ended P flag (rw (← L .player .n, ← L .player .listeners) at K) (S .grown) in
       record {
         room = G .room;
         within = within;
@@ -313,9 +336,9 @@ module _ {file : List ℕ} {at : Place} {carry : List ℕ} {M : Memory} {B₀ B 
       let is : s ≡ file = take-all (at .used) file (omega arith) in
       let F = readFile s in
       let L = G .state in
-      let room = roomy (length file) B₀ (G .room) in
+      let room = roomy file B₀ (G .room) in
       let n-s = ap length is in
-      let few : length (endsPlayed F) ≤ mostEnds (length file) = omega (arith, few-ends s) in
+      let few : length (endsPlayed F) ≤ mostEnds file = few-in (at .used) file (omega arith) _ (none-played F) (few-ends s) in
       let ended : (x : PhaseEnd) → endsPlayed F ≡ x ∷ endsSoFar F → ringAtEnd F .round ≡ 0
       → AtEnd (F .setup .n) (F .setup .listeners) x (ringAtEnd F) (at .player .struck) (M′ .positions) =
       λ x e z.

@@ -1,3 +1,4 @@
+pub mod FirstKind
 pub mod Rows
 pub mod Telling
 pub mod Going

@@ -9,6 +9,7 @@ use lib.ListN.{length, getD, take, drop, length-append, List·getD-append}
 use lib.Seq.{take-add, take-take, take-at, drop-at, take-length, length-take-le, getD-at, paste}
 use lib.IntN.{ℤ, pos}
 use Rattle.terms.specs.declared.Entry.{Entry}
+use Rattle.terms.specs.declared.Family.{Family}
 use Rattle.convergence.specs.Counting.{Each}
 use Rattle.ring_spec.specs.Rounds.{Round, PhaseEnd, receivers, isReceiver, isOut, allListeners, endsAfter}
 use Rattle.ring_spec.proofs.Receivers.{first-out-as}
@@ -130,10 +131,10 @@ rows-at n m (x ∷ es) ends words R e l = go (decLt e (length es)) (rows-at n m 
         rw k (rw same at (R .0))
 
 -- the start's row, with any other number of listeners
-pub rows-recount : (n m k f : ℕ) (v : ℕ → ℤ) (ws : List Round) (ends : List ℤ) (words : List ℕ) → length ws ≡ 0
-    → Rows n m (endsAfter n f v ws) ends words → Rows n k (endsAfter n f v ws) ends words
+pub rows-recount : (K : Family) (n m k f : ℕ) (v : ℕ → ℤ) (ws : List Round) (ends : List ℤ) (words : List ℕ) → length ws ≡ 0
+    → Rows n m (endsAfter K n f v ws) ends words → Rows n k (endsAfter K n f v ws) ends words
 unfolding Rows endsAfter
-rows-recount n m k f v [] ends words z (H, R) = (
+rows-recount K n m k f v [] ends words z (H, R) = (
   record {
     marks = H .marks;
     held = λ i l s. H .held i l (sym (first-sound n m k i l) ∙ s);
@@ -141,4 +142,4 @@ rows-recount n m k f v [] ends words z (H, R) = (
   },
   tt,
 )
-rows-recount n m k f v (w ∷ ws) ends words z R = absurd (omega arith)
+rows-recount K n m k f v (w ∷ ws) ends words z R = absurd (omega arith)

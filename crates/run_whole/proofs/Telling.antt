@@ -28,7 +28,7 @@ pub record Roomy (most : ℕ) (B : Buffers) : Type 0 where
   pub ends : 48 * most ≤ length (B .ends)
   pub words : most ≤ length (B .words)
 
-pub roomy : (k : ℕ) (B : Buffers) → hasRoom k (length (B .out)) (length (B .ends)) (length (B .words)) ≡ true → Roomy (mostEnds k) B
+pub roomy : (k : List ℕ) (B : Buffers) → hasRoom k (length (B .out)) (length (B .ends)) (length (B .words)) ≡ true → Roomy (mostEnds k) B
 unfolding hasRoom
 roomy k B h =
     let (front, words) = and-both _ _ h in
@@ -135,9 +135,9 @@ module _ {n m : ℕ} {text : List ℕ} {es : List PhaseEnd} {l c : ℕ} {B₀ B 
         let fits : l ≤ length (B₀ .out) = omega (arith, T .count, room .out) in
         let (is, put) = P .puts short (omega (arith, out-long T fits)) in
         (rw (e, is, same, rows, marks) (told-put T (bytesOf t) (t .len) long put), omega arith)
-    told-more {some} flag K (one collect r e z) =
+    told-more {some} flag K (one collect confess r e z) =
         let long = P .long short in
-        let x = endHere collect es R in
+        let x = endHere collect confess es R in
         let some-bytes = line-some n m (length es) x in
         let n-line = ap length z in
         let on : some ≡ true = flag ∙ ap not (ne-eqb (t .len) 0 (omega arith)) in

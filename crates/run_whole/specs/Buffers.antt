@@ -1,11 +1,12 @@
 -- The buffers that a whole file is played into: its listing, and a row of 48 numbers, one for each head and listener, and a mark word for each phase end.
-use mathlib.Core.Bool.{Bool, _&&_}
+use mathlib.Core.Bool.{Bool, cond, _&&_}
 use mathlib.Core.List.{List}
 use Prim.Native.Nat.{ℕ, _+_, _*_, _/_}
-use lib.Dec.{leb}
-use lib.ListN.{take, drop}
+use lib.Dec.{eqb, leb}
+use lib.ListN.{length, take, drop}
 use lib.IntN.{ℤ}
 use denote.Ref.{now}
+use Rattle.fields.specs.Bytes.{at2}
 use Rattle.run_state.specs.Memory.{Lent}
 
 pub record Buffers : Type 0 where
@@ -21,13 +22,17 @@ lent out ends words = record { out = now (out .entry); ends = now (ends .entry);
 abbrev pub left : Lent (List ℕ) → Lent (List ℤ) → Lent (List ℕ) → Buffers
 left out ends words = record { out = now (out .exit); ends = now (ends .exit); words = now (words .exit) }
 
--- how many phase ends a file of so many bytes can have: a start takes 10 bytes at least, and a phase 16
-abbrev pub mostEnds : ℕ → ℕ
-mostEnds len = len / 16 + 1
+-- how many bytes a phase takes at least, by the kind of the first record: a round record takes 8, and in a ring of one round a phase has one
+abbrev pub phaseBytes : List ℕ → ℕ
+phaseBytes file = cond (eqb (at2 file 2) 0x14) 8 16
 
--- whether buffers of these lengths have room for a file of so many bytes: 64 bytes for each line, 48 numbers and a word for each phase end
-unfoldable pub hasRoom : ℕ → ℕ → ℕ → ℕ → Bool
-hasRoom len out ends words = leb (64 * (mostEnds len + 2)) out && leb (48 * mostEnds len) ends && leb (mostEnds len) words
+-- how many phase ends a file can have at most: the start, which takes 10 bytes at least, and one for each phase
+abbrev pub mostEnds : List ℕ → ℕ
+mostEnds file = length file / phaseBytes file + 1
+
+-- whether buffers of these lengths have room for a file: 64 bytes for each line, 48 numbers and a word for each phase end
+unfoldable pub hasRoom : List ℕ → ℕ → ℕ → ℕ → Bool
+hasRoom file out ends words = leb (64 * (mostEnds file + 2)) out && leb (48 * mostEnds file) ends && leb (mostEnds file) words
 
 -- row e of a table with 48 numbers to a row
 abbrev pub row : ℕ → List ℤ → List ℤ

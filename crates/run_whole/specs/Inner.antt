@@ -61,7 +61,7 @@ pub record HoldsSoFar (n m : ℕ) (text : List ℕ) (es : List PhaseEnd) (l c : 
 
 -- at a place of the file, with buffers that have room for all of it
 pub record Going (file : List ℕ) (at : Place) (carry : List ℕ) (M : Memory) (B₀ B : Buffers) : Type 0 where
-  pub room : hasRoom (length file) (length (B₀ .out)) (length (B₀ .ends)) (length (B₀ .words)) ≡ true
+  pub room : hasRoom file (length (B₀ .out)) (length (B₀ .ends)) (length (B₀ .words)) ≡ true
   pub within : at .used ≤ length file
   pub state : StateAt (take (at .used) file) (at .player) carry M
   pub told : let F = readFile (take (at .used) file) in HoldsSoFar (F .setup .n) (F .setup .listeners) (shown F) (endsSoFar F) (at .len) (at .count) B₀ B

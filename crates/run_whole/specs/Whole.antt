@@ -50,7 +50,8 @@ pub record Whole (s : List ℕ) (r : PlayResult) (B B′ : Buffers) : Type 0 whe
   pub more-rows : drop (48 * r .ends) (B′ .ends) ≡ drop (48 * r .ends) (B .ends)
   pub more-words : drop (r .ends) (B′ .words) ≡ drop (r .ends) (B .words)
   pub demand3 : let S = readFile s .setup in
-      (m e k : ℕ) → m ≤ S .listeners → e + k < r .ends → Demand3 receivers (Halves (S .n) (S .f)) k (endAt (S .n) m B′ e) (endAt (S .n) m B′ (e + k))
+      (m e k : ℕ) → m ≤ S .listeners → e + k < r .ends
+      → Demand3 receivers (Halves (S .family) (S .n) (S .f)) k (endAt (S .n) m B′ e) (endAt (S .n) m B′ (e + k))
 
 -- by whether the buffers have room: if not, 24, and they are as they were
 abbrev pub Plays : Bool → List ℕ → PlayResult → Buffers → Buffers → Type 0

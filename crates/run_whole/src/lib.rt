@@ -3,11 +3,11 @@
 ghost use mathlib.Core.Bool.{true};
 ghost use mathlib.Core.List.{List};
 ghost use mathlib.Core.Path.{_≡_};
-ghost use Prim.Native.Nat.{ℕ, _+_, _*_, _≤_, _<_};
+ghost use Prim.Native.Nat.{ℕ, _+_, _*_, _/_, _≤_, _<_};
 ghost use lib.ListN.{length};
 ghost use lib.Seq.{paste};
 ghost use Rattle.run_state.specs.Memory.{memoryBefore, memoryAfter};
-ghost use Rattle.run_whole.specs.Buffers.{Buffers, lent, left, hasRoom};
+ghost use Rattle.run_whole.specs.Buffers.{Buffers, lent, left, mostEnds, hasRoom};
 ghost use Rattle.run_whole.specs.Whole.{Whole, Plays, PlaysInto};
 ghost use Rattle.run_whole.specs.Inner.{Put, soundNumber, soundRow, wordAt, EndKept, Going};
 use frame_slots::PlantedBytes;
@@ -35,11 +35,22 @@ struct Place {
     count: usize,
 }
 
-// Whether buffers of these lengths have room for a file of so many bytes.
-fn has_room(len: usize, out: usize, ends: usize, words: usize) -> bool
-    ensures { λ r. ⌜ r ≡ hasRoom len out ends words ⌝ }
+// How many phase ends a file can have at most: by the kind of its first record a phase takes 8 bytes at least, or 16.
+fn most_ends(file: &[u8]) -> usize
+    ensures { λ r. ⌜ r ≡ mostEnds (now (file .entry)) ⌝ }
+    ensures { λ r. ⌜ r ≤ length (now (file .entry)) / 8 + 1 ⌝ }
 {
-    let most = len / 16 + 1;
+    if fields::half_at(file, 2) == run_judge::START_ONE {
+        return file.len() / 8 + 1;
+    }
+    file.len() / 16 + 1
+}
+
+// Whether buffers of these lengths have room for a file.
+fn has_room(file: &[u8], out: usize, ends: usize, words: usize) -> bool
+    ensures { λ r. ⌜ r ≡ hasRoom (now (file .entry)) out ends words ⌝ }
+{
+    let most = most_ends(file);
     if out / 64 < most + 2 {
         return false;
     }
@@ -234,7 +245,7 @@ fn run(
     planted: &mut PlantedBytes,
     lengths: &mut PlantedLengths,
 ) -> PlayResult
-    requires { ⌜ hasRoom (length (now file)) (length (now out)) (length (now ends)) (length (now words)) ≡ true ⌝ }
+    requires { ⌜ hasRoom (now file) (length (now out)) (length (now ends)) (length (now words)) ≡ true ⌝ }
     ensures { λ r. ⌜ Whole (now (file .entry)) r (lent out ends words) (left out ends words) ⌝ }
 {
     let title = run_listing::title_line();
@@ -273,12 +284,12 @@ fn run(
 }
 
 // Plays a whole file: its listing at the front of out, and for each phase end a row of ends and a word of words. Refused 24 if one of the three is too
-// short for the most phase ends that a file of this length can have.
+// short for the most phase ends that a file of this length and kind can have.
 pub fn play(file: &[u8], out: &mut [u8], ends: &mut [i32], words: &mut [u64]) -> PlayResult
-    ensures { λ r. ⌜ Plays (hasRoom (length (now (file .entry))) (length (now (out .entry))) (length (now (ends .entry))) (length (now (words .entry))))
+    ensures { λ r. ⌜ Plays (hasRoom (now (file .entry)) (length (now (out .entry))) (length (now (ends .entry))) (length (now (words .entry))))
         (now (file .entry)) r (lent out ends words) (left out ends words) ⌝ }
 {
-    if !has_room(file.len(), out.len(), ends.len(), words.len()) {
+    if !has_room(file, out.len(), ends.len(), words.len()) {
         return PlayResult {
             number: refusal::BUFFER,
             len: 0,
@@ -317,10 +328,10 @@ pub extern "C" fn focus_play(
     size: &mut usize,
     count: &mut usize,
 ) -> u8
-    ensures { λ r. ⌜ PlaysInto (hasRoom (length (now (file .entry))) (length (now (out .entry))) (length (now (ends .entry))) (length (now (words .entry))))
+    ensures { λ r. ⌜ PlaysInto (hasRoom (now (file .entry)) (length (now (out .entry))) (length (now (ends .entry))) (length (now (words .entry))))
         (now (file .entry)) r (now (size .entry)) (now (size .exit)) (now (count .entry)) (now (count .exit)) (lent out ends words) (left out ends words) ⌝ }
 {
-    if !has_room(file.len(), out.len(), ends.len(), words.len()) {
+    if !has_room(file, out.len(), ends.len(), words.len()) {
         return refusal::BUFFER;
     }
     let played = play(file, out, ends, words);

@@ -2,7 +2,7 @@
 -- positions in order say all that settling asks of a table.
 use mathlib.Core.Path.{_≡_, ap, sym, _∙_}
 use mathlib.Core.List.{List}
-use Prim.Native.Nat.{ℕ, _-_, _*_, _≤_, _<_, min}
+use Prim.Native.Nat.{ℕ, _-_, _≤_, _<_, min}
 use native.Mathlib.Omega.{arith}
 use native.Mathlib.Decide.{decLe}
 use lib.ListN.{length, getD, take, length-take}
@@ -13,7 +13,7 @@ use Rattle.terms.specs.Refusals as refusal
 use Rattle.terms.specs.Positions.{half}
 use Rattle.terms.specs.declared.Entry.{Entry}
 use Rattle.convergence.specs.Counting.{Each}
-use Rattle.convergence.specs.Settling.{Rule, nulls, trim, twoRounds, ordered, lowKept, highKept, middle, enough}
+use Rattle.convergence.specs.Settling.{Rule, nulls, ordered, lowKept, highKept, middle, enough}
 use Rattle.convergence.proofs.Order.{length-ordered}
 use Rattle.convergence.proofs.Same.{ordered-same}
 use Rattle.settle_midpoint.specs.declared.Settled.{Settled}
@@ -38,7 +38,7 @@ settling-after r n R E h = rw (h .counts, h .holds, padded-front (ordered n E)) 
 -- ---- as the code works it out
 
 -- a: the array; c: how many of its positions count; z: the nulls; r: how an odd sum is rounded
-module _ (a : List ℤ) (L n f r : ℕ) {c z : ℕ} (full : length a ≡ 32) (counted : c ≡ min L 32) (nulls-are : z ≡ n - c) where
+module _ (a : List ℤ) (L n r : ℕ) (R : Rule) {c z : ℕ} (full : length a ≡ 32) (counted : c ≡ min L 32) (nulls-are : z ≡ n - c) where
   abbrev l : List ℤ
   l = take L a
 
@@ -52,9 +52,9 @@ module _ (a : List ℤ) (L n f r : ℕ) {c z : ℕ} (full : length a ≡ 32) (co
       go (yes h) = take-all c a (omega arith) ∙ sym (take-all L a (omega arith))
       go (no h) = let e : c ≡ L = omega arith in rw e
 
-  pub too-few-refuses : 3 * f < z → Settled.Refused refusal.trusted ≡ settlingFrom r n (twoRounds f) l
+  pub too-few-refuses : R .most < z → Settled.Refused refusal.trusted ≡ settlingFrom r n R l
   unfolding settlingFrom
-  too-few-refuses h = rw (front-length, ← nulls-are, lt-leb z (3 * f) h)
+  too-few-refuses h = rw (front-length, ← nulls-are, lt-leb z (R .most) h)
 
   low-is : (t : ℕ) → getD (take c a) t (pos 0) ≡ lowKept t l
   unfolding lowKept
@@ -65,9 +65,9 @@ module _ (a : List ℤ) (L n f r : ℕ) {c z : ℕ} (full : length a ≡ 32) (co
   high-is t = rw (front-is, front-length)
 
   -- t: the trim; x and y: the lowest and the highest kept, y at place k; m: the new position
-  pub enough-settles : {t k : ℕ} {x y m : ℤ} → z ≤ 3 * f → t ≡ trim f z → x ≡ getD (take c a) t (pos 0) → k ≡ c - 1 - t
+  pub enough-settles : {t k : ℕ} {x y m : ℤ} → z ≤ R .most → t ≡ R .trim z → x ≡ getD (take c a) t (pos 0) → k ≡ c - 1 - t
       → y ≡ getD (take c a) k (pos 0) → m ≡ half r (x +ℤ y)
-      → Settled.New (record { low = x; high = y; trim = t; position = m }) ≡ settlingFrom r n (twoRounds f) l
+      → Settled.New (record { low = x; high = y; trim = t; position = m }) ≡ settlingFrom r n R l
   unfolding settlingFrom middle
   enough-settles {t} few trim-is at-t top at-k is-half =
-      rw (is-half, at-k, top, at-t, low-is t, high-is t, trim-is, front-length, ← nulls-are, le-leb z (3 * f) few)
+      rw (is-half, at-k, top, at-t, low-is t, high-is t, trim-is, front-length, ← nulls-are, le-leb z (R .most) few)

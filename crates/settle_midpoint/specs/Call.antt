@@ -7,6 +7,7 @@ use Rattle.terms.specs.Refusals as refusal
 use Rattle.terms.specs.Refusals.{check, unlessRefused}
 use Rattle.terms.specs.Sizes.{checkSize, isPhase}
 use Rattle.terms.specs.declared.Entry.{Entry}
+use Rattle.terms.specs.declared.Family.the-variants.{TwoRounds}
 use Rattle.marks.specs.Marks.{marksBelow}
 use Rattle.entries.specs.Entries.{entryAt, entriesFit, numbers}
 use Rattle.convergence.specs.Settling.{twoRounds}
@@ -21,7 +22,7 @@ entriesGiven n m s = entryAt m (numbers s n)
 -- all but 25, which settling gives
 unfoldable pub listRefusal : ℕ → ℕ → ℕ → ℕ → List ℕ → ℕ
 listRefusal n f p m s =
-    checkSize n f
+    checkSize TwoRounds n f
     (check (isPhase p) refusal.phase
     (check (eqb (length s) (4 * n)) refusal.kind-length
     (check (marksBelow m n) refusal.marks

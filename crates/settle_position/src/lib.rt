@@ -16,6 +16,7 @@ ghost use Rattle.settle_midpoint.specs.Answers.{settling};
 use settle_midpoint::Order;
 use settle_trust::Links;
 use terms::Entry;
+use terms::Family;
 use terms::Lists;
 use terms::Numbers;
 use terms::Words;
@@ -216,7 +217,7 @@ pub fn settle_entries(
         len = decide_entry(lists, marks, reference, same, d, j, &mut positions, len);
         j += 1;
     }
-    settle_midpoint::middle_of(Order { len, positions }, n, f, up)
+    settle_midpoint::middle_of(Order { len, positions }, Family::TwoRounds, n, f, up)
 }
 
 // The new position from what the links gave, with the list of the link `reference` (of 32) as reference.

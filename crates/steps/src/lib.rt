@@ -2,9 +2,10 @@
 ghost use mathlib.Core.Path.{_≡_};
 ghost use lib.IntN.{_+ℤ_};
 ghost use Rattle.terms.specs.Positions.{isPosition, half};
-ghost use Rattle.terms.specs.Sizes.{sizeRefusal, isPhase};
+ghost use Rattle.terms.specs.Sizes.{isLimit, limitNumber, sizeRefusal, isPhase};
 ghost use Rattle.convergence.specs.Counting.{bit};
 ghost use Rattle.convergence.specs.Phases.{rounding};
+use terms::Family;
 use terms::refusal;
 
 pub mod scale;
@@ -37,9 +38,29 @@ pub fn is_phase(phase: u32) -> bool
     1 <= phase && phase <= 65535
 }
 
-// Whether a ring of n heads with the struck limit f is taken: 0, or 1 for the head count, or 2 for the limit.
-pub fn size_refusal(n: u32, f: u32) -> u8
-    ensures { λ r. ⌜ r ≡ sizeRefusal n f ⌝ }
+// Whether f is a struck limit for n heads: 2n at least 7f + 2, and in a ring of one round n at least 4f + 1.
+fn is_limit(family: Family, n: u32, f: u32) -> bool
+    ensures { λ r. ⌜ r ≡ isLimit family n f ⌝ }
+{
+    match family {
+        Family::TwoRounds => 7 * (f as u64) + 2 <= 2 * (n as u64),
+        Family::OneRound => 4 * (f as u64) + 1 <= n as u64,
+    }
+}
+
+// Its refusal.
+fn limit_number(family: Family) -> u8
+    ensures { λ r. ⌜ r ≡ limitNumber family ⌝ }
+{
+    match family {
+        Family::TwoRounds => refusal::STRUCK_LIMIT,
+        Family::OneRound => refusal::ONE_ROUND_LIMIT,
+    }
+}
+
+// Whether a ring of n heads with the struck limit f is taken: 0, or 1 for the head count, or for the limit 2, and 18 in a ring of one round.
+pub fn size_refusal(family: Family, n: u32, f: u32) -> u8
+    ensures { λ r. ⌜ r ≡ sizeRefusal family n f ⌝ }
 {
     if n == 0 {
         return refusal::HEAD_COUNT;
@@ -47,8 +68,8 @@ pub fn size_refusal(n: u32, f: u32) -> u8
     if 32 < n {
         return refusal::HEAD_COUNT;
     }
-    if 2 * (n as u64) < 7 * (f as u64) + 2 {
-        return refusal::STRUCK_LIMIT;
+    if !is_limit(family, n, f) {
+        return limit_number(family);
     }
     0
 }

@@ -86,6 +86,10 @@ register = 16
 abbrev pub listener : ℕ
 listener = 17
 
+-- n below 4f + 1, in a ring of one round; where 2 stands in others (document 02, A9)
+abbrev pub one-round-limit : ℕ
+one-round-limit = 18
+
 -- link already heard this round
 abbrev pub heard : ℕ
 heard = 21

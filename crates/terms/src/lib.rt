@@ -35,6 +35,12 @@ pub type Words = [u32; HEADS];
 
 pub type Lists = [Numbers; HEADS];
 
+// A ring is of one of two families: its phases have two rounds, collection and confession, or one (document 02, A9).
+pub enum Family {
+    TwoRounds,
+    OneRound,
+}
+
 // An entry is either null or a position; zero steps is a position.
 pub enum Entry {
     Null,

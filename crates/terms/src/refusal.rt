@@ -35,6 +35,8 @@ pub const REGISTER: u8 = 16; // a write to another byte of the window than 10 an
 
 pub const LISTENER: u8 = 17; // a listener is told to send
 
+pub const ONE_ROUND_LIMIT: u8 = 18; // n below 4f + 1, in a ring of one round
+
 // From the state.
 pub const HEARD: u8 = 21; // link already heard this round
 

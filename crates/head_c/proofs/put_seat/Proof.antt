@@ -26,9 +26,16 @@ slice-write-h-14 c =
     let b = held .before .before .before .before .before .before .before .before .before .before in
     simp length-set (omega (arith, b .pre))
 
+slice-write-h-15 : tie.Need-slice-write-h-15
+slice-write-h-15 c =
+    let held = c .before .before .before .before .before .before .before .before .before .before in
+    let b = held .before .before .before .before .before .before .before .before .before .before in
+    simp length-set (omega (arith, b .pre))
+
 returns : tie.Need-returns
 returns c =
-    let middle = c .before in
+    let third = c .before in
+    let middle = third .before in
     let high = middle .before .before in
     let low = high .before .before in
     let ranged = low .before .before in
@@ -43,7 +50,8 @@ returns c =
     (word-is (λ x. x .low) (low .unsigned .ensures) (record { sfits = low .before .struct-told .given .0 .1 }) kept)
     (word-is (λ x. x .high) (high .unsigned2 .ensures) (record { sfits = high .before .struct-told2 .given .1 .0 .1 }) kept)
     (ap (λ (x : Kept). x .trim) kept)
-    (word-is (λ x. x .position) (c .unsigned3 .ensures) (record { sfits = middle .struct-told3 .given .1 .1 .1 .0 .1 }) kept)
+    (word-is (λ x. x .position) (third .unsigned3 .ensures) (record { sfits = middle .struct-told3 .given .1 .1 .1 .0 .1 }) kept)
+    (c .family-number .ensures)
 
 pub put-seat-spec : {M : Type 1} → statement M
 put-seat-spec =
@@ -78,5 +86,7 @@ put-seat-spec =
     (λ c. simp length-set (omega arith))
     (λ c κs. search needs)
     slice-write-h-14
+    (λ c κs. search needs)
+    slice-write-h-15
     (λ c. simp length-set)
     returns)

@@ -8,12 +8,15 @@ returns : tie.Need-returns
 unfolding seatOf
 returns c =
     let r = c .before .before .before .before .before .before .before in
-    rw (r .range-in .ensures, r .before .before .before .before .before .before .entry-in .ensures)
+    let e = r .before .before .before .before .before .before in
+    rw (r .range-in .ensures, e .entry-in .ensures, e .before .before .before .family-in .ensures)
 
 pub seat-in-spec : {M : Type 1} → statement M
 seat-in-spec =
     tie.close
     (tie.spec
+    (λ c. search needs)
+    (λ c κs. search needs)
     (λ c. search needs)
     (λ c. search needs)
     (λ c κs. search needs)

@@ -12,8 +12,9 @@ returns c =
 
 returns-2 : tie.Need-returns-2
 returns-2 c =
-    let p = sym (c .before .is-phase .ensures) ∙ not-false _ (c .if1 .left) in
-    rw p
+    let d = c .before in
+    let p = sym (d .before .is-phase .ensures) ∙ not-false _ (d .if1 .left) in
+    rw (p, c .rounds-of .ensures)
 
 pub is-time-spec : {M : Type 1} → statement M
-is-time-spec = tie.close (tie.spec (λ c κs. search needs) returns returns-2)
+is-time-spec = tie.close (tie.spec (λ c κs. search needs) returns (λ c κs. search needs) returns-2)

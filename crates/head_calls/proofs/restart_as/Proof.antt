@@ -5,7 +5,8 @@ use borrow.Author.Needs.{needs}
 use Rattle.terms.specs.Refusals as refusal
 use Rattle.terms.specs.Refusals.{check}
 use Rattle.head_spec.specs.Calls.{isTime, restarted}
-use Rattle.head_spec.proofs.Proper.{ProperHead, number-small}
+use Rattle.convergence.proofs.Demand3.{size-large}
+use Rattle.head_spec.proofs.Proper.{ProperHead, rounds-few, number-small}
 use Rattle.head_spec.proofs.Stops.{answer-taken}
 use Rattle.head_calls.specs.Steps.{checkMember, restartAs}
 use Rattle.head_calls.proofs.Answers.{refuses, proper-restarted-as}
@@ -15,7 +16,7 @@ use Rattle.head_calls.proofs.restart_as.Tie as tie
 -- what was checked
 checked : (c : tie.After-member-refusal)
     → let a = c .before .before .before .args in
-    c .member-refusal .result ≡ checkMember (a .listens) (a .n) (a .f) (a .number) (check (isTime (a .phase) (a .round)) refusal.phase 0)
+    c .member-refusal .result ≡ checkMember (a .family) (a .listens) (a .n) (a .f) (a .number) (check (isTime (a .family) (a .phase) (a .round)) refusal.phase 0)
 checked c = rw (c .member-refusal .ensures, c .before .check .ensures, c .before .before .is-time .ensures)
 
 returns : tie.Need-returns
@@ -27,11 +28,11 @@ module _ (c : tie.Else1) where
   abbrev first : tie.Start
   first = c .before .before .before .before
 
-  accepted : let a = first .args in checkMember (a .listens) (a .n) (a .f) (a .number) (check (isTime (a .phase) (a .round)) refusal.phase 0) ≡ 0
+  accepted : let a = first .args in checkMember (a .family) (a .listens) (a .n) (a .f) (a .number) (check (isTime (a .family) (a .phase) (a .round)) refusal.phase 0) ≡ 0
   accepted = sym (checked (c .before)) ∙ c .if1 .left
 
-  proper : let a = first .args in ProperHead (restarted (a .n) (a .f) (a .number) (a .phase) (a .round))
-  proper = proper-restarted-as (first .args .listens) _ _ _ _ _ accepted
+  proper : let a = first .args in ProperHead (restarted (a .family) (a .n) (a .f) (a .number) (a .phase) (a .round))
+  proper = proper-restarted-as (first .args .family) (first .args .listens) _ _ _ _ _ accepted
 
 cast-healed-seat : tie.Need-cast-healed-seat
 unfolding restarted
@@ -39,7 +40,7 @@ cast-healed-seat c = omega (arith, proper c .seat .size .most)
 
 cast-healed-seat-2 : tie.Need-cast-healed-seat-2
 unfolding restarted
-cast-healed-seat-2 c = omega (arith, proper c .seat .size .most, proper c .seat .size .limit)
+cast-healed-seat-2 c = let S = proper c .seat .size in omega (arith, S .most, size-large (first c .args .family) _ _ (S .limit))
 
 cast-healed-seat-3 : tie.Need-cast-healed-seat-3
 unfolding restarted
@@ -51,7 +52,7 @@ cast-healed-seat-4 c = omega (arith, proper c .seat .to-last)
 
 cast-healed-seat-5 : tie.Need-cast-healed-seat-5
 unfolding restarted
-cast-healed-seat-5 c = omega (arith, proper c .seat .round)
+cast-healed-seat-5 c = omega (arith, proper c .seat .round, rounds-few (first c .args .family))
 
 returns-2 : tie.Need-returns-2
 unfolding restartAs restarted

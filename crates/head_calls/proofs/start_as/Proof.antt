@@ -2,6 +2,7 @@
 use mathlib.Core.Path.{_≡_, sym, _∙_}
 use native.Mathlib.Omega.{arith}
 use borrow.Author.Needs.{needs}
+use Rattle.convergence.proofs.Demand3.{size-large}
 use Rattle.head_spec.proofs.Proper.{Sized}
 use Rattle.head_spec.proofs.Stops.{answer-taken}
 use Rattle.head_calls.specs.Steps.{checkMember, startAs}
@@ -18,20 +19,20 @@ module _ (c : tie.Else1) where
   abbrev first : tie.Start
   first = c .before .before
 
-  accepted : let a = first .args in checkMember (a .listens) (a .n) (a .f) (a .number) (a .rest) ≡ 0
+  accepted : let a = first .args in checkMember (a .family) (a .listens) (a .n) (a .f) (a .number) (a .rest) ≡ 0
   accepted = sym (c .before .member-refusal .ensures) ∙ c .if1 .left
 
-  size : Sized (first .args .n) (first .args .f)
-  size = member-sized (first .args .listens) _ _ _ _ accepted
+  size : Sized (first .args .family) (first .args .n) (first .args .f)
+  size = member-sized (first .args .family) (first .args .listens) _ _ _ _ accepted
 
 cast-opening-seat : tie.Need-cast-opening-seat
 cast-opening-seat c = omega (arith, size c .most)
 
 cast-opening-seat-2 : tie.Need-cast-opening-seat-2
-cast-opening-seat-2 c = omega (arith, size c .most, size c .limit)
+cast-opening-seat-2 c = omega (arith, size c .most, size-large (first c .args .family) _ _ (size c .limit))
 
 cast-opening-seat-3 : tie.Need-cast-opening-seat-3
-cast-opening-seat-3 c = omega (arith, member-small (first c .args .listens) _ _ _ _ (accepted c))
+cast-opening-seat-3 c = omega (arith, member-small (first c .args .family) (first c .args .listens) _ _ _ _ (accepted c))
 
 returns-2 : tie.Need-returns-2
 unfolding startAs

@@ -20,8 +20,15 @@ use Rattle.frame_spec.specs.Written.{frameOf}
 use Rattle.frame_spec.proofs.ReadsBack.{reads-back}
 use Rattle.head_spec.specs.Record.{heardEntry}
 use Rattle.ring_play.specs.declared.Stage.{Stage}
-use Rattle.ring_play.specs.Memory.{heads, ToldAlike, sends, InRange, listEntry, rowIn}
-use Rattle.ring_play.specs.Inner.Collection.{ownEntry, sentBy, heardOf, heardWith, Shared}
+use Rattle.convergence.specs.Settling.{oneRound}
+use Rattle.convergence.specs.Phases.{rounding}
+use Rattle.settle_midpoint.specs.Answers.{settling}
+use Rattle.settle_midpoint.specs.declared.Settled.{Settled}
+use Rattle.settle_midpoint.proofs.Middle.{settling-same}
+use Rattle.entries.specs.Tables.{tableAt}
+use Rattle.entries.proofs.TableAt.{table-at}
+use Rattle.ring_play.specs.Memory.{heads, ToldAlike, sends, InRange, listEntry, rowIn, positionOf, heardPosition}
+use Rattle.ring_play.specs.Inner.Collection.{ownEntry, sentBy, heardOf, heardWith, Shared, settledFrom}
 use Rattle.ring_play.proofs.round.Filling.{filledTo, Filled, filled-none, filled-passed, filled-stored, filled-yet}
 
 -- ---- what is heard
@@ -119,3 +126,18 @@ filled-row picked new old marks lists i {t} h a b e q =
   where
     row : ℕ → List ℤ → Table
     row m l = record { marks = m; entries = l }
+
+-- ---- a phase of one round
+
+-- x: what was settled of the list t; n, r: the heads and the rounding, as the code has them
+pub position-settled : (s : Stage) (t : Table) {n r : ℕ} {x : Settled} → n ≡ heads s → r ≡ rounding (s .phase)
+    → x ≡ settling r n (oneRound (s .f)) (tableAt t) → positionOf x ≡ settledFrom s (tableAt t)
+unfolding settledFrom
+position-settled s t p q e = ap positionOf (rw (p, q) at e)
+
+pub concluded : (s : Stage) (positions : List ℤ) → s .phase < 65536 → InRange s positions → (plant : ℕ → ℕ → List ℕ) (i : ℕ)
+    → settledFrom s (tableAt (tableOf (heads s) (heardWith s (sentBy s positions) plant i))) ≡ heardPosition s positions plant i
+unfolding settledFrom heardPosition
+concluded s positions small fit plant i =
+    ap (λ (t : Table). positionOf (settling (rounding (s .phase)) (heads s) (oneRound (s .f)) (tableAt t))) (heard-list s positions small fit plant i)
+    ∙ ap positionOf (settling-same (rounding (s .phase)) (heads s) (oneRound (s .f)) _ _ (table-at (heads s) (listEntry s positions plant i) (omega arith)))

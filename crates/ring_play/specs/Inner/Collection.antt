@@ -12,7 +12,10 @@ use Rattle.entries.specs.Tables.{tableOf}
 use Rattle.frame_spec.specs.Said.{said}
 use Rattle.head_spec.specs.Record.{heardEntry}
 use Rattle.ring_play.specs.declared.Stage.{Stage}
-use Rattle.ring_play.specs.Memory.{heads}
+use Rattle.convergence.specs.Settling.{oneRound}
+use Rattle.convergence.specs.Phases.{rounding}
+use Rattle.settle_midpoint.specs.Answers.{settling}
+use Rattle.ring_play.specs.Memory.{heads, positionOf}
 
 -- what head k sends
 abbrev pub ownEntry : Stage → List ℤ → ℕ → Entry
@@ -35,3 +38,7 @@ pub record Shared (s : Stage) (t : Table) : Type 0 where
   pub entry : ℕ → Entry
   pub is : t ≡ tableOf (heads s) entry
   pub none : (k : ℕ) → bitOf (s .struck) k ≡ true → entry k ≡ Entry.Null
+
+-- the position that a receiver settles from these entries, in a phase of one round
+unfoldable pub settledFrom : Stage → (ℕ → Entry) → ℤ
+settledFrom s E = positionOf (settling (rounding (s .phase)) (heads s) (oneRound (s .f)) E)

@@ -16,11 +16,15 @@ returns : tie.Need-returns
 returns c = rw (few (c .before) ∙ not-true _ (c .if1 .taken))
 
 returns-2 : tie.Need-returns-2
-returns-2 c = rw (few (c .before .before) ∙ not-false _ (c .before .if1 .left), le-ltb _ _ (c .if2 .taken))
+returns-2 c =
+    let d = c .before .before in
+    rw (few (d .before) ∙ not-false _ (d .if1 .left), ← c .before .most-rounds .ensures, le-ltb _ _ (c .if2 .taken))
 
 returns-3 : tie.Need-returns-3
-returns-3 c = rw (few (c .before .before) ∙ not-false _ (c .before .if1 .left), lt-ltb _ _ (c .if2 .left))
+returns-3 c =
+    let d = c .before .before in
+    rw (few (d .before) ∙ not-false _ (d .if1 .left), ← c .before .most-rounds .ensures, lt-ltb _ _ (c .if2 .left))
 
 pub round-fault-spec : {M : Type 1} → statement M
 round-fault-spec =
-    tie.close (tie.spec (λ c κs. search needs) (λ c κs. search needs) returns returns-2 returns-3)
+    tie.close (tie.spec (λ c κs. search needs) (λ c κs. search needs) returns (λ c κs. search needs) returns-2 returns-3)

@@ -11,21 +11,23 @@ use borrow.Author.Tests.{eq-eqb, ne-eqb, not-true, not-false}
 use Rattle.terms.specs.Refusals as refusal
 use Rattle.terms.specs.Refusals.{check}
 use Rattle.terms.specs.Sizes.{checkSize}
-use Rattle.settle_midpoint.proofs.Checks.{size-refused, size-taken}
+use Rattle.terms.specs.declared.Family.{Family}
+use Rattle.terms.proofs.Sizes.{size-refused, size-taken}
 use Rattle.run_spec.specs.RunFile.{positionsFit, startFault}
 use Rattle.run_judge.proofs.start_fault.Statement.{statement}
 use Rattle.run_judge.proofs.start_fault.Tie as tie
 
 -- the row of checks, of the counts read
-abbrev row : List ℕ → ℕ → ℕ → ℕ
-row s n f =
+abbrev row : Family → List ℕ → ℕ → ℕ → ℕ
+row K s n f =
     check (eqb (length s) (6 + 4 * n)) refusal.run-record
-    (checkSize n f
+    (checkSize K n f
     (check (positionsFit s n) refusal.position 0))
 
 at-tests : (c : tie.After-byte-at2)
-    → let s = now (c .before .before .before .args .bytes) in
-    startFault s ≡ row s (c .before .byte-at .result) (c .byte-at2 .result)
+    → let a = c .before .before .before .args in
+    let s = now (a .bytes) in
+    startFault (a .family) s ≡ row (a .family) s (c .before .byte-at .result) (c .byte-at2 .result)
 at-tests c = rw (c .before .byte-at .ensures, c .byte-at2 .ensures)
 
 returns : tie.Need-returns
@@ -34,8 +36,12 @@ returns c = rw (at-tests (c .before), ne-eqb _ _ (c .if1 .taken))
 returns-2 : tie.Need-returns-2
 returns-2 c =
     let d = c .before .before in
+    let b = d .before in
+    let a = b .before .before .before .args in
+    let n = b .before .byte-at .result in
     let e = c .before .size-refusal .ensures in
-    rw (at-tests (d .before), eq-eqb _ _ (d .if1 .left)) (e ∙ size-refused _ _ _ (λ q. c .if2 .taken (e ∙ q)))
+    rw (at-tests b, eq-eqb _ _ (d .if1 .left))
+    (e ∙ size-refused (a .family) n (b .byte-at2 .result) (check (positionsFit (now (a .bytes)) n) refusal.position 0) (λ q. c .if2 .taken (e ∙ q)))
 
 returns-3 : tie.Need-returns-3
 returns-3 c =
@@ -43,7 +49,7 @@ returns-3 c =
     let d = b .before .before in
     let z = sym (b .before .size-refusal .ensures) ∙ b .if2 .left in
     let m = sym (c .before .positions-fit .ensures) ∙ not-true _ (c .if3 .taken) in
-    rw (at-tests (d .before), eq-eqb _ _ (d .if1 .left), size-taken _ _ _ z, m)
+    rw (at-tests (d .before), eq-eqb _ _ (d .if1 .left), size-taken _ _ _ _ z, m)
 
 returns-4 : tie.Need-returns-4
 returns-4 c =
@@ -51,7 +57,7 @@ returns-4 c =
     let d = b .before .before in
     let z = sym (b .before .size-refusal .ensures) ∙ b .if2 .left in
     let m = sym (c .before .positions-fit .ensures) ∙ not-false _ (c .if3 .left) in
-    rw (at-tests (d .before), eq-eqb _ _ (d .if1 .left), size-taken _ _ _ z, m)
+    rw (at-tests (d .before), eq-eqb _ _ (d .if1 .left), size-taken _ _ _ _ z, m)
 
 pub start-fault-spec : {M : Type 1} → statement M
 start-fault-spec =

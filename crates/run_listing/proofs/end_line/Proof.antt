@@ -25,7 +25,7 @@ returns c =
           (longer-then (t3 .put-entry2 .ensures)
           (longer-then (t4 .put-number2 .ensures)
           (longer-then (t5 .put-digits .ensures) (c .put-digits2 .ensures))))))
-          ∙ fields-are (a .n) (a .m) (a .phase) (a .collect) (a .confess) (now (a .positions)) (o .before .ends-of .ensures) (w .spread-of .ensures)
+          ∙ fields-are (a .n) (a .m) (a .phase) (a .collect) (a .confess) (a .struck) (now (a .positions)) (o .before .ends-of .ensures) (w .spread-of .ensures)
           (h1 .heads-of .ensures) (h2 .heads-of2 .ensures),
       search needs,
     )

@@ -8,6 +8,7 @@ use native.Mathlib.Omega.{arith}
 use borrow.Author.Needs.{needs}
 use borrow.Author.Tests.{ne-eqb}
 use denote.Ref.{now}
+use Rattle.terms.specs.declared.Family.the-variants.{TwoRounds, OneRound}
 use Rattle.run_spec.specs.RunFile.{readFile, isFirst, isBare, start, round, plant, listeners, strikes, other, recordKind, kindIn, lengthIn, isAllowed}
 use Rattle.run_state.specs.Memory.{Memory}
 use Rattle.run_record.proofs.Records.{start-place, round-place, plant-place, plant-taken, listeners-place, strikes-place}
@@ -30,9 +31,9 @@ returns : tie.Need-returns
 returns c =
     let m = c .before .before in
     let s = now (m .before .before .before .args .bytes) in
-    let kind : kindIn s ≡ start = ap recordKind (sym (m .before .half-at .ensures) ∙ m .match .keys1) in
+    let kind : kindIn s ≡ start TwoRounds = ap recordKind (sym (m .before .half-at .ensures) ∙ m .match .keys1) in
     let (next, room) = c .take-start .ensures in
-    (λ a T H may whole. rw kind (next (readFile a) (lent (m .before)) (start-place (readFile a) (lengthIn s) (rw kind at may)) T H), room)
+    (λ a T H may whole. rw kind (next (readFile a) (lent (m .before)) (start-place (readFile a) (lengthIn s) TwoRounds (rw kind at may)) T H), room)
 
 returns-2 : tie.Need-returns-2
 returns-2 c =
@@ -70,11 +71,19 @@ returns-5 c =
 
 returns-6 : tie.Need-returns-6
 returns-6 c =
+    let m = c .before .before in
+    let s = now (m .before .before .before .args .bytes) in
+    let kind : kindIn s ≡ start OneRound = ap recordKind (sym (m .before .half-at .ensures) ∙ m .match .keys6) in
+    let (next, room) = c .take-start2 .ensures in
+    (λ a T H may whole. rw kind (next (readFile a) (lent (m .before)) (start-place (readFile a) (lengthIn s) OneRound (rw kind at may)) T H), room)
+
+returns-7 : tie.Need-returns-7
+returns-7 c =
     let m = c .before in
     let s = now (m .before .before .before .args .bytes) in
     let r = m .match .rest in
     let kind : kindIn s ≡ other =
-    ap recordKind (sym (m .before .half-at .ensures)) ∙ simp (ne-eqb _ _ (r .0 .0 .0 .0 .1), ne-eqb _ _ (r .0 .0 .0 .1), ne-eqb _ _ (r .0 .0 .1), ne-eqb _ _ (r .0 .1), ne-eqb _ _ (r .1)) in
+    ap recordKind (sym (m .before .half-at .ensures)) ∙ simp (ne-eqb _ _ (r .0 .0 .0 .0 .0 .1), ne-eqb _ _ (r .0 .0 .0 .0 .1), ne-eqb _ _ (r .0 .0 .0 .1), ne-eqb _ _ (r .0 .0 .1), ne-eqb _ _ (r .0 .1), ne-eqb _ _ (r .1)) in
     (λ a T H may whole. absurd (true≢false (sym (rw kind at may))), c .refuse .ensures .1)
 
 pub take-allowed-spec : {M : Type 1} → statement M
@@ -88,9 +97,11 @@ take-allowed-spec =
     (λ c κs. search needs)
     (λ c κs. search needs)
     (λ c κs. search needs)
+    (λ c κs. search needs)
     returns
     returns-2
     returns-3
     returns-4
     returns-5
-    returns-6)
+    returns-6
+    returns-7)

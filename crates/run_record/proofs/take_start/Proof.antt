@@ -16,7 +16,7 @@ returns c =
     let t = c .before in
     let (next, room) = c .refuse .ensures in (
       λ F M begun T H.
-          rw (judged-stopped start F _ _ (t .before .start-fault .ensures) (t .if1 .taken)) (next F _ T H),
+          rw (judged-stopped (start (t .before .before .before .args .family)) F _ _ (t .before .start-fault .ensures) (t .if1 .taken)) (next F _ T H),
       room,
     )
 
@@ -28,14 +28,15 @@ returns-2 c =
     let d = h .before .before .before in
     let n = d .before in
     let t = n .before in
+    let K = t .before .before .before .args .family in
     let s = now (t .before .before .before .args .bytes) in
     let (text, room) = c .end-line .ensures in (
       λ F M begun T H.
           let e = t .before .start-fault .ensures in
-          rw (judged-taken start F s e (t .if1 .left))
-          (start-next s begun (sym e ∙ t .if1 .left) (λ j b. h .store-heads .ensures j b ∙ d .first-positions .ensures j b)
-          (f .fresh .ensures ∙ ap₂ (freshPlayer true) (n .byte-at .ensures) (l .byte-at2 .ensures))
-          (text ∙ ap (λ (m : ℕ). endLine m 0 0 (h .store-heads .last .1 .0) 0 0) (n .byte-at .ensures))
+          rw (judged-taken (start K) F s e (t .if1 .left))
+          (start-next s K begun (sym e ∙ t .if1 .left) (λ j b. h .store-heads .ensures j b ∙ d .first-positions .ensures j b)
+          (f .fresh .ensures ∙ ap₂ (freshPlayer true K) (n .byte-at .ensures) (l .byte-at2 .ensures))
+          (text ∙ ap (λ (m : ℕ). endLine m 0 0 (h .store-heads .last .1 .0) 0 0 0) (n .byte-at .ensures))
           room),
       room,
     )

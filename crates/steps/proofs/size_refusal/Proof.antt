@@ -1,9 +1,10 @@
 -- `steps::size_refusal` meets its contract: each of its tests is one of the definition's, in the same order.
+use mathlib.Core.Path.{sym, _∙_}
 use Prim.Native.Nat.{_≤_}
 use native.Mathlib.Nat.{pos-of-ne-zero}
 use borrow.Author.Needs.{needs}
-use borrow.Author.Tests.{le-leb, lt-leb}
-use Rattle.terms.specs.Sizes.{isCount, isLimit}
+use borrow.Author.Tests.{le-leb, lt-leb, not-true, not-false}
+use Rattle.terms.specs.Sizes.{isCount}
 use Rattle.steps.proofs.size_refusal.Statement.{statement}
 use Rattle.steps.proofs.size_refusal.Tie as tie
 
@@ -18,17 +19,21 @@ returns-2 c =
     simp (le-leb 1 _ h, lt-leb _ 32 (c .if2 .taken))
 
 returns-3 : tie.Need-returns-3
-unfolding isCount isLimit
+unfolding isCount
 returns-3 c =
-    let h : 1 ≤ c .before .before .before .args .n = pos-of-ne-zero (c .before .before .if1 .left) in
-    simp (le-leb 1 _ h, le-leb _ 32 (c .before .if2 .left), lt-leb _ _ (c .if3 .taken))
+    let l = c .before .before in
+    let h : 1 ≤ l .before .before .before .args .n = pos-of-ne-zero (l .before .before .if1 .left) in
+    let q = sym (l .is-limit .ensures) ∙ not-true _ (c .before .if3 .taken) in
+    rw (le-leb 1 _ h, le-leb _ 32 (l .before .if2 .left), q, c .limit-number .ensures)
 
 returns-4 : tie.Need-returns-4
-unfolding isCount isLimit
+unfolding isCount
 returns-4 c =
-    let h : 1 ≤ c .before .before .before .args .n = pos-of-ne-zero (c .before .before .if1 .left) in
-    simp (le-leb 1 _ h, le-leb _ 32 (c .before .if2 .left), le-leb _ _ (c .if3 .left))
+    let l = c .before in
+    let h : 1 ≤ l .before .before .before .args .n = pos-of-ne-zero (l .before .before .if1 .left) in
+    let q = sym (l .is-limit .ensures) ∙ not-false _ (c .if3 .left) in
+    rw (le-leb 1 _ h, le-leb _ 32 (l .before .if2 .left), q)
 
 pub size-refusal-spec : {M : Type 1} → statement M
 size-refusal-spec =
-    tie.close (tie.spec returns returns-2 (λ c. search needs) (λ c. search needs) (λ c. search needs) returns-3 returns-4)
+    tie.close (tie.spec returns returns-2 (λ c κs. search needs) (λ c κs. search needs) returns-3 returns-4)

@@ -38,7 +38,7 @@ returns c S held =
     held _ (f .0) (f .1) ∙ told-list (a .s) (S .entry) (plantedIn (now (a .planted)) (now (a .lengths))) (a .i) _ (f .2)
 
 list-for-requires : tie.Need-list-for-requires
-list-for-requires c κs = let p = c .before .before .before .before .before .before .pre in (p .0, p .4)
+list-for-requires c κs = let p = c .before .before .before .before .before .before .pre in (omega (arith, p .0), p .4)
 
 returns-2 : tie.Need-returns-2
 returns-2 c S held = c .list-for .ensures S
