@@ -2,16 +2,17 @@
 
 use crate::random::Random;
 use crate::ring::{has, marks, LISTENER};
+use crate::rules::family::Family::{self, OneRound, TwoRounds};
 use crate::rules::frames::{half, word};
 use crate::rules::head::MOST_LISTENERS;
-use crate::rules::midpoint::highest_limit;
-use crate::rules::records::{self, fitted, LISTENERS, PLANTED, ROUND, START, STRIKE};
+use crate::rules::records::{self, fitted, LISTENERS, PLANTED, ROUND, START, START_ONE, STRIKE};
 use crate::spoil::out_of_range;
 
 pub type Records = Vec<Vec<u8>>;
 
 /// The right records of a run, to be spoilt.
 pub struct Right {
+    pub family: Family,
     pub n: usize,
     pub f: usize,
     pub listeners: usize,
@@ -66,16 +67,27 @@ impl Right {
             2 => {
                 let n = random.pick(&[0, 33, 33, 34, 64, 255]);
                 let f = random.pick(&[0, self.f, 255]);
-                record = records::start(n, f, &vec![random.pick(&[0, i32::MAX]); n]);
+                record = records::start(self.family, n, f, &vec![random.pick(&[0, i32::MAX]); n]);
                 1
             }
             3 | 4 => {
-                let least = highest_limit(self.n) + 1;
-                record[5] = random.pick(&[least, least, least + 1, 37, 73, 110, 147, 255]).max(least) as u8;
+                let least = self.family.highest_limit(self.n) + 1;
+                // 7f + 2 or 4f + 1 is small again in 8 bits
+                let (small, number) = match self.family {
+                    TwoRounds => ([37, 73, 110, 147], 2),
+                    OneRound => ([64, 65, 128, 192], 18),
+                };
+                if self.family == OneRound && random.chance(1, 2) {
+                    let f = 1 + random.below(8);
+                    let positions = random.pick(&[0, 0, i32::MAX]);
+                    return self.with(0, vec![records::start(OneRound, 4 * f, f, &vec![positions; 4 * f])], 1, 18);
+                }
+                let limits = [&[least, least, least + 1, 255], &small[..]].concat();
+                record[5] = random.pick(&limits).max(least) as u8;
                 if random.chance(1, 3) {
                     record[6..10].copy_from_slice(&out_of_range(random).to_le_bytes());
                 }
-                2
+                number
             }
             _ => {
                 let at = 6 + 4 * random.below(self.n);
@@ -192,23 +204,30 @@ impl Right {
         let mut record = if at == 0 || random.chance(1, 3) { self.records[0].clone() } else { records::round(0) };
         match random.below(4) {
             0 => record[..2].copy_from_slice(&[random.below(4) as u8, 0]),
-            1 if at > 0 => record = random.pick(&[&self.records[0], &records::start(0, 0, &[])]).clone(),
+            1 if at > 0 => record = self.other_start(random),
             2 => {
                 record[1] = 0xff;
                 return self.with(at, vec![record], usize::MAX, 13);
             }
             _ => {
-                let kinds = [0, 1, 2, 3, 4, 0x13, 0x14, 0x15, 0x110, 0x111, 0x112, 0x1000, 0x8011, 0xffff];
+                let kinds = [0, 1, 2, 3, 4, 0x13, 0x15, 0x16, 0x110, 0x114, 0x111, 0x112, 0x1000, 0x8011, 0xffff];
                 record[2..4].copy_from_slice(&random.pick::<u16>(&kinds).to_le_bytes());
             }
         }
         self.with(at, vec![record], at, 13)
     }
 
+    /// A start record of either family, for a place where none may stand.
+    fn other_start(&self, random: &mut Random) -> Vec<u8> {
+        let mut start = random.pick(&[&self.records[0], &records::start(self.family, 0, 0, &[])]).clone();
+        start[2] = random.pick(&[START, START_ONE]) as u8;
+        start
+    }
+
     /// A file that ends too early or too late.
     pub fn ending_fault(&self, random: &mut Random) -> Faulty {
         let length = self.records.len();
-        match random.below(6) {
+        match random.below(if self.family == OneRound { 4 } else { 6 }) {
             0 => self.with(0, Vec::new(), usize::MAX, 13),
             1 => self.with(0, Vec::new(), 1, 13),
             2 => {
@@ -224,6 +243,7 @@ impl Right {
         }
     }
 
+    /// A one-round phase has no inside.
     fn inside_phase(&self, random: &mut Random) -> Faulty {
         let rounds = |end: usize| self.records[..end].iter().filter(|record| half(record, 2) == ROUND).count();
         let inside: Vec<usize> = (0..self.records.len()).filter(|&end| rounds(end) % 2 == 1).collect();
@@ -294,7 +314,7 @@ pub fn damaged(random: &mut Random, mut records: Records) -> Vec<u8> {
         }
         4 => records.truncate(at + 1),
         5 => {
-            let (kind, right) = random.pick(&[(START, 26), (ROUND, 4), (PLANTED, 2), (STRIKE, 2), (LISTENERS, 1)]);
+            let (kind, right) = random.pick(&[(START, 26), (START_ONE, 26), (ROUND, 4), (PLANTED, 2), (STRIKE, 2), (LISTENERS, 1)]);
             let length = if random.chance(1, 2) { right } else { random.below(20) };
             let mut body = random.bytes(length);
             body.iter_mut().for_each(|byte| *byte &= random.pick(&[0, 1, 3, 0xff]));

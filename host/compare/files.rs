@@ -3,9 +3,10 @@
 use crate::faults::{damaged, Faulty, Right};
 use crate::phases::{edge, liars, quiet, stubborn, twofold, TWOFOLD};
 use crate::random::Random;
+use crate::rules::family::Family::{self, OneRound, TwoRounds};
 use crate::rules::frames::half;
 use crate::rules::head::{LAST_PHASE, MOST_LISTENERS};
-use crate::rules::midpoint::{highest_limit, LIMIT};
+use crate::rules::midpoint::LIMIT;
 use crate::rules::records;
 use crate::run::Run;
 
@@ -51,6 +52,7 @@ const SHARES: [(Kind, usize); 14] = [
 
 pub struct File {
     pub kind: Kind,
+    pub family: Family,
     pub n: usize,
     pub f: usize,
     pub listeners: usize,
@@ -67,8 +69,10 @@ pub fn file(seed: u64) -> File {
     }
     let shares = SHARES.iter().flat_map(|&(kind, share)| vec![kind; share]);
     let kind = random.pick(&shares.collect::<Vec<_>>());
-    let run = run(&mut random, kind);
-    let right = Right { n: run.ring.n, f: run.ring.f, listeners: run.ring.listeners.len(), records: run.records() };
+    // a third of the files; what is twofold needs lists
+    let family = if kind != Twofold && random.chance(1, 3) { OneRound } else { TwoRounds };
+    let run = run(&mut random, family, kind);
+    let right = Right { family, n: run.ring.n, f: run.ring.f, listeners: run.ring.listeners.len(), records: run.records() };
     let faulty = match kind {
         StartFault => right.start_fault(&mut random),
         RoundFault => right.round_fault(&mut random),
@@ -108,20 +112,21 @@ fn begun(kind: Kind, run: &Run, bytes: Vec<u8>) -> File {
 }
 
 fn made(kind: Kind, run: &Run, bytes: Vec<u8>, listing: String, whole: bool) -> File {
-    File { kind, n: run.ring.n, f: run.ring.f, listeners: run.ring.listeners.len(), bytes, listing, whole }
+    let family = if run.ring.one_round { OneRound } else { TwoRounds };
+    File { kind, family, n: run.ring.n, f: run.ring.f, listeners: run.ring.listeners.len(), bytes, listing, whole }
 }
 
 /// The lines that stand when these records were accepted: the last round given is not played yet.
 fn standing(run: &Run, accepted: &[Vec<u8>]) -> String {
     let rounds = accepted.iter().filter(|record| half(record, 2) == records::ROUND).count();
-    let ends = if accepted.is_empty() { 0 } else { 1 + rounds.saturating_sub(1) / 2 };
+    let ends = if accepted.is_empty() { 0 } else { 1 + rounds.saturating_sub(1) / run.ring.phase_rounds() };
     TITLE.to_owned() + &run.ring.lines[..ends].concat()
 }
 
 /// The right run from which a file of this kind is made.
-fn run(random: &mut Random, kind: Kind) -> Run {
-    let (n, f) = size(random, kind);
-    let mut run = Run::new(f, &positions(random, n, kind), listeners(random));
+fn run(random: &mut Random, family: Family, kind: Kind) -> Run {
+    let (n, f) = size(random, family, kind);
+    let mut run = Run::new(family, f, &positions(random, n, kind), listeners(random));
     run.zeros = random.chance(1, 4);
     for _ in 0..phases(random, n, kind) {
         match (kind, random.below(8)) {
@@ -132,7 +137,7 @@ fn run(random: &mut Random, kind: Kind) -> Run {
             (Stubborn, _) => {
                 stubborn(random, &mut run);
                 let (low, high) = run.ring.range();
-                assert!((n, f) != (8, 2) || high - low == 2, "document 01's case: spread 2 stays 2");
+                assert!(family == OneRound || (n, f) != (8, 2) || high - low == 2, "document 01's case: spread 2 stays 2");
             }
             (_, 0) => quiet(random, &mut run),
             (_, 1 | 2) if f > 0 => edge(random, &mut run),
@@ -146,7 +151,7 @@ fn run(random: &mut Random, kind: Kind) -> Run {
 /// How many phases; now and then more than a byte can count.
 fn phases(random: &mut Random, n: usize, kind: Kind) -> usize {
     match kind {
-        Stubborn if n == 8 && random.chance(1, 8) => 250 + random.below(20),
+        Stubborn if matches!(n, 5 | 8) && random.chance(1, 8) => 250 + random.below(20),
         Stubborn | Twofold => 1 + random.below(4),
         StartFault | RoundFault | PlantedFault | ListenersFault | StrikeFault | FormFault | EndingFault | Damaged => random.below(5),
         _ if n <= 12 => random.below(13),
@@ -154,16 +159,20 @@ fn phases(random: &mut Random, n: usize, kind: Kind) -> usize {
     }
 }
 
-fn size(random: &mut Random, kind: Kind) -> (usize, usize) {
-    let known = [(5, 1), (8, 2), (9, 2), (12, 3), (22, 6), (23, 6), (32, 8)];
+fn size(random: &mut Random, family: Family, kind: Kind) -> (usize, usize) {
+    let known: &[(usize, usize)] = match family {
+        TwoRounds => &[(5, 1), (8, 2), (9, 2), (12, 3), (22, 6), (23, 6), (32, 8)],
+        OneRound => &[(4, 0), (5, 1), (8, 1), (9, 2), (12, 2), (13, 3), (29, 7), (32, 7)],
+    };
     let needs_struck = matches!(kind, Edge | PlantedFault);
     match random.below(4) {
         _ if kind == Twofold => random.pick(&TWOFOLD),
-        0 | 1 => random.pick(&known),
-        2 if kind == Stubborn => (8, 2),
+        0 | 1 if needs_struck => random.pick(&known[known.len() - 7..]),
+        0 | 1 => random.pick(known),
+        2 if kind == Stubborn && family == TwoRounds => (8, 2),
         _ => loop {
             let n = 1 + random.below(32);
-            let f = random.below(highest_limit(n) + 1);
+            let f = random.below(family.highest_limit(n) + 1);
             if f > 0 || !needs_struck {
                 break (n, f);
             }
@@ -197,10 +206,11 @@ fn positions(random: &mut Random, n: usize, kind: Kind) -> Vec<i32> {
     (0..n).map(position).collect()
 }
 
-/// All 65,535 phases, the last ones with strikes; then nothing, or a round record too many.
+/// All 65,535 phases, the last ones with strikes; then nothing, or a round record too many. Every other one is of a one-round ring.
 fn long(random: &mut Random, turn: u64) -> File {
+    let family = if turn % 2 == 1 { OneRound } else { TwoRounds };
     let (n, f) = if turn % 5 == 2 { (5, 1) } else { random.pick(&[(1, 0), (3, 0)]) };
-    let mut run = Run::new(f, &positions(random, n, Long), if turn % 5 == 2 { 2 } else { random.below(2) });
+    let mut run = Run::new(family, f, &positions(random, n, Long), if turn % 5 == 2 { 2 } else { random.below(2) });
     while run.ring.phase() <= LAST_PHASE {
         if f > 0 && (run.ring.phase() + 8 > LAST_PHASE || random.chance(1, 4096)) {
             stubborn(random, &mut run);
@@ -210,10 +220,10 @@ fn long(random: &mut Random, turn: u64) -> File {
     }
     let (more, number) = match turn % 5 {
         0 => (records::round(0), 26),
-        1 => (records::round(u32::MAX), 14),
+        1 => (records::round(f as u32), 26),
         2 => return played_out(Long, &run),
-        3 => (records::round(0)[..7].to_vec(), 13),
-        _ => (records::round(f as u32), 26),
+        3 => (records::round(u32::MAX), 14),
+        _ => (records::round(0)[..7].to_vec(), 13),
     };
     let mut records = run.records();
     let sound = records.len();

@@ -22,7 +22,10 @@ mod wire;
 
 use files::{File, Kind};
 use listing::{halving, End, Listing, NUMBERS};
+use rules::family::Family::{self, OneRound, TwoRounds};
+use rules::frames::half;
 use rules::head::MOST_LISTENERS;
+use rules::records::START_ONE;
 use std::collections::BTreeMap;
 use std::io::{self, Write};
 use std::process::ExitCode;
@@ -39,6 +42,9 @@ struct Seen {
     phases: usize,
     unhalved: usize,
     largest: usize,
+    /// Files of one-round rings, and their phases.
+    one_round: u64,
+    one_round_phases: usize,
     /// Files whose rings have listeners, and how many of these have the most.
     listeners: u64,
     sixteen: u64,
@@ -49,7 +55,11 @@ impl Seen {
         self.files += 1;
         *self.kinds.entry(file.kind).or_default() += 1;
         *self.numbers.entry(listing.number).or_default() += 1;
-        self.phases += listing.ends.len().saturating_sub(1);
+        let phases = listing.ends.len().saturating_sub(1);
+        self.phases += phases;
+        if file.family == OneRound {
+            (self.one_round, self.one_round_phases) = (self.one_round + 1, self.one_round_phases + phases);
+        }
         let unhalved = |pair: &&[End]| pair[1].spread() > (pair[0].spread() + 1) / 2;
         self.unhalved += listing.ends.windows(2).filter(unhalved).count();
         self.largest = self.largest.max(file.n);
@@ -61,6 +71,7 @@ impl Seen {
         let kinds: Vec<String> = self.kinds.iter().map(|(kind, count)| format!("{kind:?} {count}")).collect();
         println!("kinds: {}", kinds.join(", "));
         println!("with listeners: {}, with {MOST_LISTENERS} of them: {}", self.listeners, self.sixteen);
+        println!("of one-round rings: {}, with {} phases", self.one_round, self.one_round_phases);
         println!("phases in which the spread did not halve, at sizes without that promise: {}", self.unhalved);
         let of = |number: &u8| self.numbers.get(number).copied().unwrap_or(0);
         let refused: Vec<String> = NUMBERS.iter().map(|number| format!("{} by {number}", of(number))).collect();
@@ -69,9 +80,13 @@ impl Seen {
     }
 }
 
-/// The size in the start record, which stands first wherever a line is printed.
-fn size(file: &File) -> (usize, usize) {
-    if file.bytes.len() < 6 { (file.n, file.f) } else { (file.bytes[4] as usize, file.bytes[5] as usize) }
+/// The family and the size in the start record, which stands first wherever a line is printed.
+fn ring(file: &File) -> (Family, usize, usize) {
+    if file.bytes.len() < 6 {
+        return (file.family, file.n, file.f);
+    }
+    let family = if half(&file.bytes, 2) == START_ONE { OneRound } else { TwoRounds };
+    (family, file.bytes[4] as usize, file.bytes[5] as usize)
 }
 
 /// One listing against what is known of its file.
@@ -81,9 +96,9 @@ fn check(file: &File, bytes: &[u8]) -> Result<Listing, String> {
     if !fits {
         return Err(format!("not as the model has it: {}", first_difference(bytes, known)));
     }
-    let (n, f) = size(file);
-    let listing = listing::read(bytes, n, f)?;
-    listing::converges(&listing.ends, n, f)?;
+    let (family, n, f) = ring(file);
+    let listing = listing::read(bytes, family, n, f)?;
+    listing::converges(&listing.ends, family, n, f)?;
     Ok(listing)
 }
 
@@ -116,10 +131,10 @@ fn compare_file(file: &File, seed: u64, ours: &str, other: &str) -> Result<Listi
 }
 
 fn about(seed: u64, file: &File) -> String {
-    let halves = if halving(file.n, file.f) { "halving" } else { "not halving" };
+    let halves = if halving(file.family, file.n, file.f) { "halving" } else { "not halving" };
     let lines = file.listing.lines().count();
     let known = if file.whole { "the listing" } else { "the beginning of the listing" };
-    let size = format!("n {}, f {} ({halves}), {} listeners, {} bytes", file.n, file.f, file.listeners, file.bytes.len());
+    let size = format!("{:?}, n {}, f {} ({halves}), {} listeners, {} bytes", file.family, file.n, file.f, file.listeners, file.bytes.len());
     format!("seed {seed}: {:?}, {size}; {known} is known, {lines} lines", file.kind)
 }
 

@@ -3,6 +3,7 @@
 use crate::random::Random;
 use crate::ring::{has, marks, Given, Ring};
 use crate::rules::frames::Said;
+use crate::rules::midpoint::LIMIT;
 use crate::run::{any, list, value, Lies, Run};
 
 /// Up to f heads, often those of the round before, often none of them.
@@ -51,7 +52,7 @@ fn tell(random: &mut Random, ring: &Ring, lies: &mut Lies, from: usize, struck: 
 
 /// A phase in which anything may happen.
 pub fn liars(random: &mut Random, run: &mut Run) {
-    for _ in 0..2 {
+    for _ in 0..run.ring.phase_rounds() {
         let heads = strikes(random, &run.ring);
         let struck = marks(&heads) | silenced(random, &run.ring);
         let mut lies = Lies::of(&run.ring);
@@ -64,7 +65,7 @@ pub fn liars(random: &mut Random, run: &mut Run) {
 
 /// A phase without a strike on a head.
 pub fn quiet(random: &mut Random, run: &mut Run) {
-    for _ in 0..2 {
+    for _ in 0..run.ring.phase_rounds() {
         let (lies, struck) = (Lies::of(&run.ring), silenced(random, &run.ring));
         run.play(struck, lies);
     }
@@ -152,9 +153,58 @@ impl Edge {
 
 /// A phase in which one lie decides. It needs f of 1 or more.
 pub fn edge(random: &mut Random, run: &mut Run) {
+    if run.ring.one_round {
+        return most_nulls(random, run);
+    }
     let edge = Edge::choose(random, &run.ring);
     edge.collect(random, run);
     edge.confess(random, run);
+}
+
+/// A one-round phase with as many struck heads as may be, none of them struck in the round before, whose heads are silent now: up to 2f nulls. Each
+/// struck head tells one position to each half of its neighbours, or what counts as null: nothing, silence, or a frame of another kind.
+fn most_nulls(random: &mut Random, run: &mut Run) {
+    let ring = &run.ring;
+    let heads = random.some(&ring.heads(|i| !has(ring.before, i)), ring.f);
+    let struck = marks(&heads) | silenced(random, ring);
+    let mut lies = Lies::of(ring);
+    let nulls = random.pick(&[0, 0, 1, 2, 3, 4, 4]); // kinds of null, of the four things that are sent
+    for from in heads {
+        let (one, other) = (value(random, ring), value(random, ring));
+        for to in ring.receivers(|i| !has(struck, i)) {
+            let position = Some(Said::Position(if to % 2 == 0 { one } else { other }));
+            match random.below(4) {
+                kind if kind >= nulls => lies.give(from, to, position),
+                0 => lies.say(from, to, Said::Silence),
+                1 => lies.of_other_round(random, from, to),
+                2 => lies.spoil(random, from, to, &position),
+                _ => {}
+            }
+        }
+    }
+    run.play(struck, lies);
+}
+
+/// A one-round phase that keeps two camps apart as far as it goes: the struck heads, those of the middle, tell each neighbour a position of its own
+/// side or beyond it.
+fn torn(random: &mut Random, run: &mut Run) {
+    let ring = &run.ring;
+    let mut order = random.some(&ring.heads(|i| !has(ring.before, i)), ring.n);
+    order.sort_by_key(|&i| ring.positions[i]);
+    let middle = ring.positions[order[order.len() / 2]];
+    let from = (order.len() - ring.f) / 2;
+    let heads = &order[from..from + ring.f];
+    let struck = marks(heads) | silenced(random, ring);
+    let ((low, high), mut lies) = (ring.range(), Lies::of(ring));
+    for &from in heads {
+        for to in ring.receivers(|i| !has(struck, i)) {
+            let below = if to < ring.n { ring.positions[to] < middle } else { to % 2 == 0 };
+            let beyond = random.pick(&[0, 0, 1, LIMIT]);
+            let side = if below { low - beyond } else { high + beyond };
+            lies.say(from, to, Said::Position(side.clamp(-LIMIT, LIMIT)));
+        }
+    }
+    run.play(struck, lies);
 }
 
 /// The sizes at which two positions can both have support n - f.
@@ -192,6 +242,9 @@ pub fn twofold(random: &mut Random, run: &mut Run) {
 /// A phase that keeps two camps apart as far as it goes: heads struck in confession confess to the neighbours whose middle this moves away from
 /// their own side. At (8,2) with positions 0 and 2 it keeps spread 2 for ever.
 pub fn stubborn(random: &mut Random, run: &mut Run) {
+    if run.ring.one_round {
+        return torn(random, run);
+    }
     let ring = &run.ring;
     let mut order = random.some(&ring.heads(|i| !has(ring.before, i)), ring.n);
     order.sort_by_key(|&i| ring.positions[i]);

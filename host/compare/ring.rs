@@ -1,5 +1,6 @@
-//! The model: a ring as document 01 has it, without a byte. What a struck head does is, for each neighbour, what that neighbour makes of it. Of
-//! host/plain it shares what a frame can say, and no rule. Listeners (document 02, A6) are numbered from 32; they settle as heads do and say nothing.
+//! The model: a ring as documents 01 and 02 have it, without a byte. What a struck head does is, for each neighbour, what that neighbour makes of it. Of
+//! host/plain it shares what a frame can say, and no rule. Listeners (document 02, A6) are numbered from 32; they settle as heads do and say nothing. In a
+//! one-round ring (A9) each round is a phase.
 
 use crate::rules::frames::Said;
 use crate::rules::midpoint::Entry;
@@ -33,6 +34,7 @@ pub fn marks(heads: &[usize]) -> u64 {
 }
 
 pub struct Ring {
+    pub one_round: bool,
     pub n: usize,
     pub f: usize,
     /// None if the memory was lost.
@@ -49,22 +51,33 @@ pub struct Ring {
 }
 
 impl Ring {
-    pub fn start(f: usize, positions: &[i32], listeners: usize) -> Ring {
+    pub fn start(one_round: bool, f: usize, positions: &[i32], listeners: usize) -> Ring {
         let n = positions.len();
         let positions = positions.iter().copied().map(Some).collect();
         let (lists, listeners) = (vec![Vec::new(); n], vec![None; listeners]);
-        let mut ring = Ring { n, f, positions, lists, listeners, before: 0, rounds: 0, lines: Vec::new() };
-        ring.print(0);
+        let mut ring = Ring { one_round, n, f, positions, lists, listeners, before: 0, rounds: 0, lines: Vec::new() };
+        ring.print(0, 0);
         ring
+    }
+
+    /// How many rounds a phase has.
+    pub fn phase_rounds(&self) -> usize {
+        if self.one_round { 1 } else { 2 }
     }
 
     /// The phase that the next round belongs to.
     pub fn phase(&self) -> usize {
-        self.rounds / 2 + 1
+        self.rounds / self.phase_rounds() + 1
     }
 
+    /// Whether positions are sent in the next round, and not lists.
     pub fn collecting(&self) -> bool {
-        self.rounds % 2 == 0
+        self.one_round || self.rounds % 2 == 0
+    }
+
+    /// Whether the next round ends its phase.
+    fn ends(&self) -> bool {
+        self.one_round || self.rounds % 2 == 1
     }
 
     pub fn heads(&self, wanted: impl Fn(usize) -> bool) -> Vec<usize> {
@@ -83,7 +96,7 @@ impl Ring {
 
     pub fn play(&mut self, round: &Round) {
         let said: Vec<Given> = (0..self.n).map(|i| self.says(i, round)).collect();
-        let ends = !self.collecting();
+        let ends = self.ends();
         for i in 0..self.n {
             if has(round.struck, i) {
                 self.positions[i] = None;
@@ -94,10 +107,10 @@ impl Ring {
             if ends {
                 self.positions[i] = Some(self.settled(&heard));
             } else {
-                self.lists[i] = heard.iter().map(|given| if let Some(Said::Position(v)) = given { Some(*v) } else { None }).collect();
+                self.lists[i] = heard.iter().map(position).collect();
             }
         }
-        // What a listener hears in collection is never asked for.
+        // What a listener hears in a collection round, which ends no phase, is never asked for.
         for i in self.listening() {
             if has(round.struck, i) {
                 self.listeners[i - LISTENER] = None;
@@ -106,8 +119,10 @@ impl Ring {
             }
         }
         self.rounds += 1;
-        if ends {
-            self.print(round.struck);
+        if ends && self.one_round {
+            self.print(round.struck, 0);
+        } else if ends {
+            self.print(self.before, round.struck);
         }
         self.before = round.struck;
     }
@@ -130,10 +145,13 @@ impl Ring {
     }
 
     fn settled(&self, heard: &[&Given]) -> i32 {
-        let mut kept: Vec<i32> = (0..self.n).filter_map(|j| self.trusted(j, heard)).collect();
-        let nulls = self.n - kept.len();
-        assert!(nulls <= 3 * self.f, "more than 3f nulls with at most f struck in a round");
-        let trim = if nulls <= self.f { self.f } else { (3 * self.f - nulls + 1) / 2 };
+        let mut kept: Vec<i32> = match self.one_round {
+            true => heard.iter().filter_map(position).collect(),
+            false => (0..self.n).filter_map(|j| self.trusted(j, heard)).collect(),
+        };
+        let (nulls, f) = (self.n - kept.len(), self.f);
+        assert!(nulls <= if self.one_round { 2 * f } else { 3 * f }, "too many nulls with at most f struck in a round");
+        let trim = if self.one_round || nulls <= f { f } else { (3 * f - nulls + 1) / 2 };
         kept.sort_unstable();
         (kept[trim] + kept[kept.len() - 1 - trim] + (self.phase() % 2 == 0) as i32) >> 1
     }
@@ -160,11 +178,11 @@ impl Ring {
         reach.next().filter(|_| reach.next().is_none()).map(|name| name.0)
     }
 
-    /// The mark words are those of heads alone.
-    fn print(&mut self, confess: u64) {
+    /// The line of the phase that has just ended. The mark words are those of heads alone.
+    fn print(&mut self, collect: u64, confess: u64) {
         let (low, high) = self.range();
-        let (collect, confess) = (self.before as u32, confess as u32);
-        self.lines.push(format!("{} {low} {high} {} {collect:08x} {confess:08x}\n", self.rounds / 2, high - low));
+        let (collect, confess) = (collect as u32, confess as u32);
+        self.lines.push(format!("{} {low} {high} {} {collect:08x} {confess:08x}\n", self.phase() - 1, high - low));
     }
 
     /// The lowest and the highest position held, by heads and listeners.
@@ -172,4 +190,8 @@ impl Ring {
         let held = self.positions.iter().chain(&self.listeners).flatten();
         (*held.clone().min().expect("a sound head"), *held.max().expect("a sound head"))
     }
+}
+
+fn position(given: &&Given) -> Entry {
+    if let Some(Said::Position(v)) = given { Some(*v) } else { None }
 }

@@ -2,6 +2,7 @@
 
 use crate::random::Random;
 use crate::ring::{has, Given, Lie, Ring, Round, LISTENER};
+use crate::rules::family::Family;
 use crate::rules::frames::Said;
 use crate::rules::midpoint::LIMIT;
 use crate::rules::records;
@@ -18,9 +19,9 @@ pub struct Run {
 }
 
 impl Run {
-    pub fn new(f: usize, positions: &[i32], listeners: usize) -> Run {
-        let start = records::start(positions.len(), f, positions);
-        Run { ring: Ring::start(f, positions, listeners), zeros: false, start, rounds: Vec::new() }
+    pub fn new(family: Family, f: usize, positions: &[i32], listeners: usize) -> Run {
+        let start = records::start(family, positions.len(), f, positions);
+        Run { ring: Ring::start(family == Family::OneRound, f, positions, listeners), zeros: false, start, rounds: Vec::new() }
     }
 
     pub fn play(&mut self, struck: u64, lies: Lies) {
@@ -77,6 +78,13 @@ impl Lies {
     pub fn give(&mut self, from: usize, to: usize, given: Given) {
         let bytes = self.link(from).says(&given);
         self.lies.insert((from, to), Lie { bytes, given });
+    }
+
+    /// A frame that is right but for its round, which gives nothing.
+    pub fn of_other_round(&mut self, random: &mut Random, from: usize, to: usize) {
+        let said = self.link(from).of_other_round(random);
+        let bytes = self.link(from).says(&Some(said));
+        self.lies.insert((from, to), Lie { bytes, given: None });
     }
 
     /// A frame that says it but for one thing, and so gives nothing.

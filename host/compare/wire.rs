@@ -49,7 +49,8 @@ impl Link {
         bytes
     }
 
-    fn of_other_round(&self, random: &mut Random) -> Said {
+    /// What is said in the other round; in a one-round ring, in none.
+    pub fn of_other_round(&self, random: &mut Random) -> Said {
         match (self.collecting, random.chance(1, 2)) {
             (true, true) => Said::List(vec![Some(0); self.n]),
             (true, false) => Said::Confession,

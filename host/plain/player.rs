@@ -1,9 +1,10 @@
 //! The run file: records as they come, rounds of a whole ring, and the listing.
 
+use crate::rules::family::Family;
 use crate::rules::frames::{half, word};
 use crate::rules::head::{Head, FIRST_LISTENER, LAST_PHASE, MOST_LISTENERS};
-use crate::rules::midpoint::{marked, size};
-use crate::rules::records::{LISTENERS, LONGEST, PLANTED, ROUND, START, STRIKE};
+use crate::rules::midpoint::marked;
+use crate::rules::records::{LISTENERS, LONGEST, PLANTED, ROUND, START, START_ONE, STRIKE};
 use std::io::{self, Read, Write};
 
 /// The mark words of a round's struck heads and struck listeners.
@@ -26,6 +27,7 @@ struct Round {
 
 /// The ring after an accepted start. A struck head or listener has no record.
 struct Ring {
+    family: Family,
     n: usize,
     f: usize,
     /// The n heads, then the listeners.
@@ -39,15 +41,15 @@ struct Ring {
 }
 
 impl Ring {
-    fn start(record: &[u8]) -> Result<Ring, u8> {
+    fn start(family: Family, record: &[u8]) -> Result<Ring, u8> {
         if record.len() < 6 || record.len() != 6 + 4 * record[4] as usize {
             return Err(13);
         }
         let (n, f) = (record[4] as usize, record[5] as usize);
-        size(n, f)?;
-        let start = |i: usize| Head::start(n, f, i, word(record, 6 + 4 * i) as i32).map(Some);
+        family.size(n, f)?;
+        let start = |i: usize| Head::start(family, n, f, i, word(record, 6 + 4 * i) as i32).map(Some);
         let heads = (0..n).map(start).collect::<Result<_, u8>>()?;
-        Ok(Ring { n, f, heads, played: 0, before: Struck::default(), given: 0, waiting: None, last: START })
+        Ok(Ring { family, n, f, heads, played: 0, before: Struck::default(), given: 0, waiting: None, last: half(record, 2) })
     }
 
     /// The number of the head or listener at a place among `heads`.
@@ -63,11 +65,11 @@ impl Ring {
 
     /// Just after the start: how many listeners there are.
     fn listeners(&mut self, record: &[u8]) -> Result<(), u8> {
-        if self.last != START || record.len() != 5 || !(1..=MOST_LISTENERS).contains(&(record[4] as usize)) {
+        if !matches!(self.last, START | START_ONE) || record.len() != 5 || !(1..=MOST_LISTENERS).contains(&(record[4] as usize)) {
             return Err(13);
         }
         for number in FIRST_LISTENER..FIRST_LISTENER + record[4] as usize {
-            self.heads.push(Some(Head::start_listener(self.n, self.f, number)?));
+            self.heads.push(Some(Head::start_listener(self.family, self.n, self.f, number)?));
         }
         Ok(())
     }
@@ -95,7 +97,7 @@ impl Ring {
         if marks.count_ones() as usize > self.f || (self.n..32).any(|j| marked(marks, j)) {
             return Ok(Err(14));
         }
-        if self.given == 2 * LAST_PHASE {
+        if self.given == self.family.rounds() * LAST_PHASE {
             return Ok(Err(26));
         }
         self.play(output)?;
@@ -125,14 +127,15 @@ impl Ring {
             Some(round) => round,
             None => return Ok(()),
         };
-        let (phase, stage) = (self.played / 2 + 1, self.played % 2);
+        let rounds = self.family.rounds();
+        let (phase, stage) = (self.played / rounds + 1, self.played % rounds);
         for at in 0..self.heads.len() {
             let number = self.number(at);
             let restart = if at < self.n { Head::restart } else { Head::restart_listener };
             if round.struck.has(number) {
                 self.heads[at] = None;
             } else if self.before.has(number) {
-                self.heads[at] = Some(restart(self.n, self.f, number, phase, stage).unwrap());
+                self.heads[at] = Some(restart(self.family, self.n, self.f, number, phase, stage).unwrap());
             }
         }
         let sent: Vec<_> = self.heads[..self.n].iter().map(|head| head.as_ref().map(|head| head.says().unwrap())).collect();
@@ -150,15 +153,17 @@ impl Ring {
         for head in self.heads.iter_mut().flatten() {
             head.end_round().unwrap();
         }
-        if stage == 1 {
-            self.line(output, phase, self.before.heads, round.struck.heads)?;
+        match (self.family, stage) {
+            (Family::TwoRounds, 0) => {}
+            (Family::TwoRounds, _) => self.line(output, phase, self.before.heads, round.struck.heads)?,
+            (Family::OneRound, _) => self.line(output, phase, round.struck.heads, 0)?,
         }
         self.before = round.struck;
         self.played += 1;
         Ok(())
     }
 
-    /// Over the sound heads and listeners; line 0 is printed before there are listeners.
+    /// Over the sound heads and listeners, which have a record; line 0 is printed before there are listeners.
     fn line(&self, output: &mut impl Write, phase: usize, collect: u32, confess: u32) -> io::Result<()> {
         let sound = self.heads.iter().flatten().map(|head| head.position.unwrap());
         let (low, high) = (sound.clone().min().unwrap(), sound.max().unwrap());
@@ -183,8 +188,9 @@ fn record(input: &mut impl Read) -> io::Result<Option<Result<Vec<u8>, u8>>> {
 /// Takes one record: the ring after it.
 fn take(ring: Option<Ring>, bytes: &[u8], output: &mut impl Write) -> io::Result<Result<Ring, u8>> {
     match (half(bytes, 2), ring) {
-        (START, None) => {
-            let ring = match Ring::start(bytes) {
+        (kind @ (START | START_ONE), None) => {
+            let family = if kind == START { Family::TwoRounds } else { Family::OneRound };
+            let ring = match Ring::start(family, bytes) {
                 Ok(ring) => ring,
                 Err(number) => return Ok(Err(number)),
             };
@@ -226,10 +232,10 @@ pub fn play(mut input: impl Read, output: &mut impl Write) -> io::Result<()> {
     }
 }
 
-/// The file ends after the start, with its listeners, or after a confession round.
+/// The file ends after the start, with its listeners, or after the last round of a phase.
 fn ending(ring: Option<Ring>, output: &mut impl Write) -> io::Result<Option<u8>> {
     match ring {
-        Some(mut ring) if ring.given % 2 == 0 => ring.play(output).map(|()| None),
+        Some(mut ring) if ring.given % ring.family.rounds() == 0 => ring.play(output).map(|()| None),
         _ => Ok(Some(13)),
     }
 }

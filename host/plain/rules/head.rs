@@ -1,7 +1,8 @@
 //! A head's record and its calls.
 
+use super::family::Family;
 use super::frames::{self, Said};
-use super::midpoint::{is_phase, is_position, settle, size, Entry, Kept};
+use super::midpoint::{is_phase, is_position, settle, settle_once, Entry, Kept};
 
 pub const LAST_PHASE: usize = 65_535;
 /// The number of the first listener, whatever n is, and how many there can be.
@@ -10,6 +11,7 @@ pub const MOST_LISTENERS: usize = 16;
 
 /// A head, or a listener (document 02, A6): a listener has a number of its own, hears and closes as a head does, and sends nothing.
 pub struct Head {
+    family: Family,
     pub(super) n: usize,
     pub(super) f: usize,
     pub(super) number: usize,
@@ -31,59 +33,59 @@ fn is_listener(number: usize) -> bool {
 impl Head {
     /// A head of no ring: what was never started.
     pub fn none() -> Head {
-        Head { healed: false, ..Head::healed(0, 0, 0, 0, 0) }
+        Head { healed: false, ..Head::healed(Family::TwoRounds, 0, 0, 0, 0, 0) }
     }
 
-    fn healed(n: usize, f: usize, number: usize, phase: usize, round: usize) -> Head {
+    fn healed(family: Family, n: usize, f: usize, number: usize, phase: usize, round: usize) -> Head {
         let (list, heard) = (vec![None; n], vec![None; n]);
-        Head { n, f, number, phase, round, healed: true, ended: false, position: None, kept: None, list, heard }
+        Head { family, n, f, number, phase, round, healed: true, ended: false, position: None, kept: None, list, heard }
     }
 
-    /// 1, 2, 3, 4.
-    pub fn start(n: usize, f: usize, number: usize, position: i32) -> Result<Head, u8> {
-        size(n, f)?;
+    /// 1, 2 (or 18), 3, 4.
+    pub fn start(family: Family, n: usize, f: usize, number: usize, position: i32) -> Result<Head, u8> {
+        family.size(n, f)?;
         if number >= n {
             return Err(3);
         }
         if !is_position(position) {
             return Err(4);
         }
-        Ok(Head { healed: false, position: Some(position), ..Head::healed(n, f, number, 1, 0) })
+        Ok(Head { healed: false, position: Some(position), ..Head::healed(family, n, f, number, 1, 0) })
     }
 
-    /// 1, 2, 3, 5.
-    pub fn restart(n: usize, f: usize, number: usize, phase: usize, round: usize) -> Result<Head, u8> {
-        size(n, f)?;
+    /// 1, 2 (or 18), 3, 5.
+    pub fn restart(family: Family, n: usize, f: usize, number: usize, phase: usize, round: usize) -> Result<Head, u8> {
+        family.size(n, f)?;
         if number >= n {
             return Err(3);
         }
-        Head::resumed(n, f, number, phase, round)
+        Head::resumed(family, n, f, number, phase, round)
     }
 
     /// 5.
-    fn resumed(n: usize, f: usize, number: usize, phase: usize, round: usize) -> Result<Head, u8> {
-        if !is_phase(phase) || round > 1 {
+    fn resumed(family: Family, n: usize, f: usize, number: usize, phase: usize, round: usize) -> Result<Head, u8> {
+        if !is_phase(phase) || round >= family.rounds() {
             return Err(5);
         }
-        Ok(Head::healed(n, f, number, phase, round))
+        Ok(Head::healed(family, n, f, number, phase, round))
     }
 
-    /// Document 02, A6: "A listener is started under its own number, without a position". 1, 2, 3.
-    pub fn start_listener(n: usize, f: usize, number: usize) -> Result<Head, u8> {
-        size(n, f)?;
+    /// Document 02, A6: "A listener is started under its own number, without a position". 1, 2 (or 18), 3.
+    pub fn start_listener(family: Family, n: usize, f: usize, number: usize) -> Result<Head, u8> {
+        family.size(n, f)?;
         if !is_listener(number) {
             return Err(3);
         }
-        Ok(Head { healed: false, ..Head::healed(n, f, number, 1, 0) })
+        Ok(Head { healed: false, ..Head::healed(family, n, f, number, 1, 0) })
     }
 
-    /// 1, 2, 3, 5.
-    pub fn restart_listener(n: usize, f: usize, number: usize, phase: usize, round: usize) -> Result<Head, u8> {
-        size(n, f)?;
+    /// 1, 2 (or 18), 3, 5.
+    pub fn restart_listener(family: Family, n: usize, f: usize, number: usize, phase: usize, round: usize) -> Result<Head, u8> {
+        family.size(n, f)?;
         if !is_listener(number) {
             return Err(3);
         }
-        Head::resumed(n, f, number, phase, round)
+        Head::resumed(family, n, f, number, phase, round)
     }
 
     /// 26, 3, 21, then what the frame is refused for.
@@ -137,20 +139,28 @@ impl Head {
         Ok(frame.len())
     }
 
-    /// 26, 25. A collection round ends; of a confession round the position is only offered (document 02, A8).
+    /// 26, 25. A collection round ends; of a phase's last round the position is only offered (document 02, A8). In a one-round ring every round is one.
     pub fn close(&mut self) -> Result<Option<Kept>, u8> {
         if self.ended {
             return Err(26);
+        }
+        if self.family == Family::OneRound {
+            return settle_once(self.f, self.phase, &self.positions_heard()).map(Some);
         }
         if self.round == 1 {
             let trusted: Vec<_> = (0..self.n).map(|j| self.trusted(j)).collect();
             return settle(self.f, self.phase, &trusted).map(Some);
         }
-        let entry = |said: &Option<Said>| if let Some(Said::Position(v)) = said { Some(*v) } else { None };
-        self.list = self.heard.iter().map(entry).collect();
+        self.list = self.positions_heard();
         self.round = 1;
         self.open();
         Ok(None)
+    }
+
+    /// One entry per link: the position heard, else null.
+    fn positions_heard(&self) -> Vec<Entry> {
+        let entry = |said: &Option<Said>| if let Some(Said::Position(v)) = said { Some(*v) } else { None };
+        self.heard.iter().map(entry).collect()
     }
 
     /// What was offered becomes the position, and the phase ends.

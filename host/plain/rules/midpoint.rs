@@ -1,5 +1,6 @@
-//! Positions, sizes, tables of entries, and the midpoint of a trusted table.
+//! Positions, tables of entries, what a head settles from its entries, and the midpoint of a trusted table.
 
+use super::family::Family;
 use super::frames::word;
 use super::head::LAST_PHASE;
 
@@ -12,25 +13,9 @@ pub fn is_position(v: i32) -> bool {
     (-LIMIT..=LIMIT).contains(&v)
 }
 
-/// 1, 2.
-pub fn size(n: usize, f: usize) -> Result<(), u8> {
-    if !(1..=32).contains(&n) {
-        return Err(1);
-    }
-    if 2 * n < 7 * f + 2 {
-        return Err(2);
-    }
-    Ok(())
-}
-
 /// Phases are numbered 1 to 65,535.
 pub fn is_phase(phase: usize) -> bool {
     (1..=LAST_PHASE).contains(&phase)
-}
-
-/// The highest struck limit that n heads allow.
-pub fn highest_limit(n: usize) -> usize {
-    (2 * n - 2) / 7
 }
 
 pub fn marked(marks: u32, j: usize) -> bool {
@@ -72,7 +57,7 @@ fn half(sum: i32, phase: usize) -> i32 {
     }
 }
 
-/// 25 if more than 3f entries are null; the new position at the end of a phase, with what it is the middle of.
+/// 25 if more than 3f entries are null; the new position at the end of a two-round phase, with what it is the middle of.
 pub fn settle(f: usize, phase: usize, trusted: &[Entry]) -> Result<Kept, u8> {
     let mut order: Vec<i32> = trusted.iter().flatten().copied().collect();
     let nulls = trusted.len() - order.len();
@@ -85,9 +70,26 @@ pub fn settle(f: usize, phase: usize, trusted: &[Entry]) -> Result<Kept, u8> {
     Ok(Kept { low, high, trim, position: half(low + high, phase) })
 }
 
+/// 25 if more than 2f entries are null; the new position at the end of a one-round phase (document 02, A9): of the positions heard, the lowest and the
+/// highest are taken away f times.
+pub fn settle_once(f: usize, phase: usize, heard: &[Entry]) -> Result<Kept, u8> {
+    let mut left: Vec<i32> = heard.iter().flatten().copied().collect();
+    if heard.len() - left.len() > 2 * f {
+        return Err(25);
+    }
+    for _ in 0..f {
+        let lowest = (0..left.len()).min_by_key(|&at| left[at]).unwrap();
+        left.swap_remove(lowest);
+        let highest = (0..left.len()).max_by_key(|&at| left[at]).unwrap();
+        left.swap_remove(highest);
+    }
+    let (low, high) = (*left.iter().min().unwrap(), *left.iter().max().unwrap());
+    Ok(Kept { low, high, trim: f, position: half(low + high, phase) })
+}
+
 /// 1, 2, 5, 8, 10, 11, 25; the new position of a trusted table in a phase, with what it is the middle of.
 pub fn midpoint(n: usize, f: usize, phase: usize, marks: u32, entries: &[u8]) -> Result<Kept, u8> {
-    size(n, f)?;
+    Family::TwoRounds.size(n, f)?;
     if !is_phase(phase) {
         return Err(5);
     }

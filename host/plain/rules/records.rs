@@ -1,11 +1,15 @@
 //! The records of a run file, as they are written.
 
+use super::family::Family;
+
 pub const START: u16 = 0x10;
 pub const ROUND: u16 = 0x11;
 pub const PLANTED: u16 = 0x12;
 /// Document 02, A6: the listeners struck in a round, and how many listeners there are.
 pub const STRIKE: u16 = 0x13;
 pub const LISTENERS: u16 = 0x15;
+/// A9: the start of a one-round run.
+pub const START_ONE: u16 = 0x14;
 
 /// The most bytes that can be planted on a link.
 pub const LONGEST: usize = 140;
@@ -26,10 +30,10 @@ pub fn fitted(mut bytes: Vec<u8>) -> Vec<u8> {
     bytes
 }
 
-pub fn start(n: usize, f: usize, positions: &[i32]) -> Vec<u8> {
+pub fn start(family: Family, n: usize, f: usize, positions: &[i32]) -> Vec<u8> {
     let mut rest = vec![n as u8, f as u8];
     rest.extend(positions.iter().flat_map(|v| v.to_le_bytes()));
-    record(START, &rest)
+    record(if family == Family::OneRound { START_ONE } else { START }, &rest)
 }
 
 pub fn round(struck: u32) -> Vec<u8> {

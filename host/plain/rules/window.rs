@@ -1,5 +1,6 @@
 //! Document 02, A5: a head as sixteen bytes on a bus, with the pending events and the mask that stand beside it, and the offer that does (A8).
 
+use super::family::Family;
 use super::head::Head;
 use super::midpoint::Kept;
 
@@ -19,28 +20,28 @@ pub struct Device {
 
 impl Device {
     /// A start clears events and mask.
-    pub fn start(&mut self, n: usize, f: usize, number: usize, position: i32) -> Result<(), u8> {
-        self.head = Head::start(n, f, number, position)?;
+    pub fn start(&mut self, family: Family, n: usize, f: usize, number: usize, position: i32) -> Result<(), u8> {
+        self.head = Head::start(family, n, f, number, position)?;
         (self.events, self.mask, self.offer) = (0, 0, None);
         Ok(())
     }
 
-    pub fn restart(&mut self, n: usize, f: usize, number: usize, phase: usize, round: usize) -> Result<(), u8> {
-        self.head = Head::restart(n, f, number, phase, round)?;
+    pub fn restart(&mut self, family: Family, n: usize, f: usize, number: usize, phase: usize, round: usize) -> Result<(), u8> {
+        self.head = Head::restart(family, n, f, number, phase, round)?;
         self.events |= STRIKE_OVER;
         self.offer = None;
         Ok(())
     }
 
     /// A listener's start and restart change events and mask as a head's do.
-    pub fn start_listener(&mut self, n: usize, f: usize, number: usize) -> Result<(), u8> {
-        self.head = Head::start_listener(n, f, number)?;
+    pub fn start_listener(&mut self, family: Family, n: usize, f: usize, number: usize) -> Result<(), u8> {
+        self.head = Head::start_listener(family, n, f, number)?;
         (self.events, self.mask, self.offer) = (0, 0, None);
         Ok(())
     }
 
-    pub fn restart_listener(&mut self, n: usize, f: usize, number: usize, phase: usize, round: usize) -> Result<(), u8> {
-        self.head = Head::restart_listener(n, f, number, phase, round)?;
+    pub fn restart_listener(&mut self, family: Family, n: usize, f: usize, number: usize, phase: usize, round: usize) -> Result<(), u8> {
+        self.head = Head::restart_listener(family, n, f, number, phase, round)?;
         self.events |= STRIKE_OVER;
         self.offer = None;
         Ok(())
