@@ -2,6 +2,7 @@
 from rig import wire
 from rig.words import read_frame
 
+ONE_ROUND_SIZES = [(1, 0), (2, 0), (5, 1), (5, 1), (6, 1), (8, 1), (9, 2), (9, 2), (13, 3)] * 3 + [(29, 7)]
 SIZES = [(1, 0), (2, 0), (5, 1), (5, 1), (6, 1), (7, 1), (8, 2), (8, 2), (9, 2), (12, 3)] * 3 + [(32, 8)]
 EDGES = [0, 1, -1, 1000000, -1000000]
 BEYOND = [1000001, -1000001, 2 ** 31 - 1, -2 ** 31]
@@ -44,24 +45,25 @@ def frame(rng, n, sender, phase, collecting):
 
 def run_file(rng):
     """One that a player takes to its end, but for a rare start out of range."""
-    n, f = rng.choice(SIZES)
-    out = [wire.record(wire.START, bytes([n, f]) + wire.signed_bytes([steps(rng, 0.001) for _ in range(n)]))]
+    one_round = rng.random() < 0.3
+    n, f = rng.choice(ONE_ROUND_SIZES if one_round else SIZES)
+    out = [wire.record(wire.START_ONE if one_round else wire.START, bytes([n, f]) + wire.signed_bytes([steps(rng, 0.001) for _ in range(n)]))]
     listeners = rng.choice([0, 0, 1, 2, 16])
     if listeners:
         out.append(wire.record(wire.LISTENERS, bytes([listeners])))
-    for given in range(2 * rng.randrange(3)):
+    for given in range(rng.randrange(5) if one_round else 2 * rng.randrange(3)):
         struck = rng.sample(range(n), rng.randint(0, f))
         out.append(wire.record(wire.ROUND, wire.marks_of(struck).to_bytes(4, 'little')))
         silenced = rng.getrandbits(16) % 2 ** listeners if rng.random() < 0.5 else 0
         if silenced or rng.random() < 0.2:
             out.append(wire.record(wire.STRIKE, silenced.to_bytes(2, 'little')))
         receivers = [*range(n), *(32 + j for j in range(listeners) if not wire.marked(silenced, j))]
-        out.extend(planted(rng, n, struck, receivers, given))
+        phase, collecting = (given + 1, True) if one_round else (given // 2 + 1, given % 2 == 0)
+        out.extend(planted(rng, n, struck, receivers, phase, collecting))
     return b''.join(out)
 
 
-def planted(rng, n, struck, receivers, given):
-    phase, collecting = given // 2 + 1, given % 2 == 0
+def planted(rng, n, struck, receivers, phase, collecting):
     for sender in sorted(struck):
         shared = frame(rng, n, sender, phase, collecting)
         for receiver in receivers:
@@ -81,7 +83,7 @@ def damaged(rng, data):
             data[:at] + data[to:],
             data[:at] + any_bytes(rng, 8) + data[to:],
             data[:to] + data[at:],
-            data[:at] + bytes([rng.choice([0, 1, 2, 4, 8, 16, 17, 18, 19, 21, 255])]) + data[at + 1:],
+            data[:at] + bytes([rng.choice([0, 1, 2, 4, 8, 16, 17, 18, 19, 20, 21, 255])]) + data[at + 1:],
         ])
     return data
 

@@ -74,13 +74,16 @@ def read_line(words, place):
 
 
 def read_start(words, place):
+    kind = wire.START
+    if words[:1] == ['one-round']:
+        kind, words = wire.START_ONE, words[1:]
     if len(words) < 3 or words[2] != ':':
         raise TextError('start: head count, struck limit, a colon and the positions are wanted, as in "start 2 0: 10 20"')
     n, f = number(words[0], 0, 255, 'head count'), number(words[1], 0, 255, 'struck limit')
     positions = [signed(word, 'position') for word in unfolded(words[3:])]
     if len(positions) != n:
         raise TextError('start: %d heads, but %d positions' % (n, len(positions)))
-    return wire.record(wire.START, bytes([n, f]) + wire.signed_bytes(positions))
+    return wire.record(kind, bytes([n, f]) + wire.signed_bytes(positions))
 
 
 def read_round(words, place):
@@ -182,7 +185,7 @@ def usual_note(record, place, following):
     if kind == wire.ROUND:
         told_next = following and wire.kind_of(following) == wire.STRIKE
         healed = write_heads([number for number in healed if number < wire.FIRST_LISTENER or not told_next])
-        return 'phase %d, %s%s' % (place.phase, place.round_name, '; healed: ' + healed if healed else '')
+        return place.round_name + ('; healed: ' + healed if healed else '')
     if kind == wire.STRIKE:
         healed = write_heads([number for number in healed if number >= wire.FIRST_LISTENER])
         return 'healed: ' + healed if healed else ''
@@ -194,7 +197,7 @@ def usual_note(record, place, following):
 
 def write_line(record, place, note):
     kind, size = wire.kind_of(record), len(record)
-    if kind == wire.START and size >= 6 and size == 6 + 4 * record[4]:
+    if kind in (wire.START, wire.START_ONE) and size >= 6 and size == 6 + 4 * record[4]:
         return Line(write_start(record), note)
     if kind == wire.ROUND and size == 8:
         heads = write_heads(wire.heads_in(wire.word(record, 4)))
@@ -212,4 +215,5 @@ def write_line(record, place, note):
 
 def write_start(record):
     positions = [str(value) for value in wire.signed(record, 6, record[4])]
-    return ' '.join(['start %d %d:' % (record[4], record[5]), *folded(positions)])
+    words = 'start one-round' if wire.kind_of(record) == wire.START_ONE else 'start'
+    return ' '.join(['%s %d %d:' % (words, record[4], record[5]), *folded(positions)])

@@ -46,6 +46,14 @@ def no_more(lines, at):
         raise ListingError('%d: the listing goes on after its last line' % (at + 1))
 
 
+def no_confession(listing):
+    """The listing of a one-round ring: no head is struck in confession."""
+    for at, end in enumerate(listing.ends, 2):
+        if end.confess:
+            raise ListingError('%d: a one-round ring has no confession round to be struck in' % at)
+    return listing
+
+
 def part(listing, first, last):
     """The listing with the phases from `first` to `last` alone."""
     ends = [end for end in listing.ends if first <= end.phase <= last]

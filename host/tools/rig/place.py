@@ -1,13 +1,14 @@
 """Where a record stands: what the start and round records before it have fixed, and whether a player takes it there."""
 from rig import wire
 
-LAST_ROUND = 2 * 65535
+LAST_PHASE = 65535
 LIMIT = 1000000
 
 
 class Place:
     def __init__(self):
         self.begun = False
+        self.phase_rounds = 2        # how many rounds a phase has: 1 in a one-round ring
         self.n = self.f = 0
         self.listeners = 0           # how many
         self.rounds = 0              # round records so far
@@ -19,15 +20,22 @@ class Place:
 
     @property
     def phase(self):
-        return max(1, (self.rounds + 1) // 2)
+        return max(1, -(-self.rounds // self.phase_rounds))
 
     @property
     def collecting(self):
-        return self.rounds % 2 == 1
+        """Whether the round is one in which positions are sent, and the first of its phase."""
+        return self.phase_rounds == 1 or self.rounds % 2 == 1
+
+    @property
+    def inside(self):
+        return self.rounds % self.phase_rounds != 0
 
     @property
     def round_name(self):
-        return 'collection' if self.collecting else 'confession'
+        if self.phase_rounds == 1:
+            return 'phase %d' % self.phase
+        return 'phase %d, %s' % (self.phase, 'collection' if self.collecting else 'confession')
 
     def healed(self):
         return wire.heads_in(self.before & ~self.struck)
@@ -35,8 +43,9 @@ class Place:
     def follow(self, record):
         """Goes past one whole record, taken or not."""
         self.last = kind = wire.kind_of(record)
-        if kind == wire.START and len(record) >= 6:
+        if kind in (wire.START, wire.START_ONE) and len(record) >= 6:
             self.begun, self.n, self.f = True, record[4], record[5]
+            self.phase_rounds = 1 if kind == wire.START_ONE else 2
         elif kind == wire.LISTENERS and len(record) == 5:
             self.listeners = min(record[4], wire.MOST_LISTENERS)
         elif kind == wire.STRIKE and len(record) == 6:
@@ -57,7 +66,8 @@ class Place:
 
 def fault(place, record):
     """None, or the number with which a player refuses the record, and why. Up to here it has refused none."""
-    judges = {wire.START: start_fault, wire.LISTENERS: listeners_fault, wire.ROUND: round_fault, wire.STRIKE: strike_fault, wire.PLANT: plant_fault}
+    judges = {wire.START: start_fault, wire.START_ONE: start_fault, wire.LISTENERS: listeners_fault, wire.ROUND: round_fault,
+              wire.STRIKE: strike_fault, wire.PLANT: plant_fault}
     judge = judges.get(wire.kind_of(record))
     return judge(place, record) if judge else (13, 'unknown kind')
 
@@ -70,7 +80,9 @@ def start_fault(place, record):
     n, f = record[4], record[5]
     if not 1 <= n <= 32:
         return 1, 'head count'
-    if 2 * n < 7 * f + 2:
+    if wire.kind_of(record) == wire.START_ONE and n < 4 * f + 1:
+        return 18, 'struck limit too high for a one-round ring'
+    if wire.kind_of(record) == wire.START and 2 * n < 7 * f + 2:
         return 2, 'struck limit too high'
     if any(abs(v) > LIMIT for v in wire.signed(record, 6, n)):
         return 4, 'position out of range'
@@ -87,13 +99,13 @@ def round_fault(place, record):
         return 14, 'a mark at %d or above' % place.n
     if len(heads) > place.f:
         return 14, 'more than %d struck' % place.f
-    if place.rounds >= LAST_ROUND:
+    if place.rounds >= place.phase_rounds * LAST_PHASE:
         return 26, 'phase 65535 has had its rounds'
     return None
 
 
 def listeners_fault(place, record):
-    if place.last != wire.START:
+    if place.last not in (wire.START, wire.START_ONE):
         return 13, 'listeners not just after the start'
     if len(record) != 5:
         return 13, 'wrong length'
@@ -139,7 +151,7 @@ def end_fault(place, rest):
         return 13, 'cut short'
     if not place.begun:
         return 13, 'the file ends before a start'
-    if place.collecting:
+    if place.inside:
         return 13, 'the file ends inside a phase'
     return None
 
@@ -157,7 +169,7 @@ def frame_fault(place, link, frame):
     if len(frame) != lengths[kind]:
         return 8, 'length wrong for its kind and count' if kind == wire.LIST else 'length wrong for its kind'
     if (kind in (wire.POSITION, wire.SILENCE)) != place.collecting:
-        return 22, 'frame of the other round'
+        return 22, 'frame of the other round' if place.phase_rounds == 2 else 'a one-round ring has no such frame'
     if frame[4] != link:
         return 9, 'sender is not the link'
     if wire.half(frame, 5) != place.phase:

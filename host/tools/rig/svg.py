@@ -1,6 +1,7 @@
 """The picture of a listing as SVG: positions, spread and strikes over the phases, one below the other.
 
-A phase end stands at a point of the common axis; the two rounds of its phase fill the way to it from the end before, collection first.
+A phase end stands at a point of the common axis; the two rounds of its phase fill the way to it from the end before, collection first. In a
+one-round ring its one round fills all of the way.
 """
 import math
 from xml.sax.saxutils import escape
@@ -23,9 +24,9 @@ BAND, EDGE, BOUND = '#cfe4f5', '#0b62a4', '#8c97a1'
 COLLECT, CONFESS = '#e08a00', '#7b3fa0'
 
 
-def draw(listing, name):
+def draw(listing, name, one_round=False):
     shown = parts.columns(listing.ends, MOST_COLUMNS)
-    body, height = (no_phase(), 120) if not shown else panels(shown)
+    body, height = (no_phase(), 120) if not shown else panels(shown, one_round)
     head = '<svg xmlns="http://www.w3.org/2000/svg" width="%d" height="%d" viewBox="0 0 %d %d" font-family="%s" font-size="12">' % (
         WIDTH, height, WIDTH, height, 'Helvetica, Arial, DejaVu Sans, sans-serif')
     out = [head, '<title>%s</title>' % escape(name), '<rect width="100%" height="100%" fill="white"/>']
@@ -33,10 +34,10 @@ def draw(listing, name):
     return '\n'.join(out) + '\n'
 
 
-def panels(shown):
+def panels(shown, one_round):
     axis = Axis(shown)
     heads = parts.heads_shown(shown)
-    strikes, bottom = strikes_panel(shown, axis, heads)
+    strikes, bottom = strikes_panel(shown, axis, heads, one_round)
     return positions_panel(shown, axis) + spread_panel(shown, axis) + strikes + phase_axis(shown, axis, bottom), bottom + 52
 
 
@@ -189,15 +190,19 @@ def bound_legend():
 
 # ---- strikes
 
-def strikes_panel(shown, axis, heads):
+def strikes_panel(shown, axis, heads, one_round):
     """A row for each head up to the highest that is ever struck; and where the panel ends."""
     title = text(LEFT, STRIKES_TOP - 14, 'heads struck' if heads else 'no head is struck', weight='bold')
     if not heads:
         return [title], STRIKES_TOP - 4
     row = 16 if heads <= 12 else 9
-    out = [title] + strikes_legend()
+    out = [title] + ([] if one_round else strikes_legend())
     for at, column in enumerate(shown):
-        out += strike_boxes(axis.x(at) - axis.step, axis.step / 2, column, row)
+        x, half = axis.x(at) - axis.step, axis.step / 2
+        rounds = [(column.collect, x, COLLECT, ', collection'), (column.confess, x + half, CONFESS, ', confession')]
+        if one_round:
+            rounds, half = [(column.collect, x, COLLECT, '')], axis.step
+        out += [box for one in rounds for box in strike_boxes(*one, half, parts.phases(column), row)]
     for head in range(heads + 1):
         out.append(line(LEFT, STRIKES_TOP + head * row, WIDTH - RIGHT, STRIKES_TOP + head * row))
     for head in range(0, heads, 1 if row == 16 else 4):
@@ -205,13 +210,12 @@ def strikes_panel(shown, axis, heads):
     return out, STRIKES_TOP + heads * row
 
 
-def strike_boxes(x, half, column, row):
-    """A box for neighbours that are struck in the same round, in the round's half of the phase."""
-    gap = 1 if half > 4 else 0
-    for marks, at, colour, name in ((column.collect, x, COLLECT, 'collection'), (column.confess, x + half, CONFESS, 'confession')):
-        for run in neighbours(wire.heads_in(marks)):
-            words = 'phase %s, %s: struck %s' % (parts.phases(column), name, write_heads(run)) if gap else ''
-            yield box(at + gap, STRIKES_TOP + run[0] * row, half - 2 * gap, len(run) * row, colour, words)
+def strike_boxes(marks, x, colour, name, width, phases, row):
+    """A box for neighbours that are struck in the same round, in the round's part of the phase."""
+    gap = 1 if width > 4 else 0
+    for run in neighbours(wire.heads_in(marks)):
+        words = 'phase %s%s: struck %s' % (phases, name, write_heads(run)) if gap else ''
+        yield box(x + gap, STRIKES_TOP + run[0] * row, width - 2 * gap, len(run) * row, colour, words)
 
 
 def strikes_legend():

@@ -5,6 +5,7 @@ import struct
 POSITION, SILENCE, LIST, CONFESSION = 1, 2, 3, 4    # kinds of frames
 START, ROUND, PLANT = 0x10, 0x11, 0x12              # kinds of run records
 STRIKE, LISTENERS = 0x13, 0x15                      # and of document 02, A6
+START_ONE = 0x14                                    # and A9
 FIRST_LISTENER, MOST_LISTENERS = 32, 16
 
 
