@@ -1,4 +1,4 @@
-/* The calls of heads and listeners: every refusal alone, and every set of faults together, so each order of two among them: the first in the order of checks
+/* The calls of heads and listeners, in rings of two rounds and of one: every refusal alone, and every set of faults together, so each order of two among them: the first in the order of checks
  * decides. A refusal leaves the block, the buffer and the numbers lent as they were. The number of checks is printed; the first that fails stops
  * the program. */
 #include "check.h"
@@ -20,16 +20,24 @@ static size_t sevens(uint8_t *frame, unsigned sender, unsigned phase) {
     return put_list(frame, sender, phase, 5, 0x1f, entries);
 }
 
-/* a restart under a head's number, or under a listener's */
-static uint8_t restart(focus_head *head, uint32_t n, uint32_t f, uint32_t number, uint32_t phase, uint32_t round, int listens) {
-    return listens ? focus_listener_restart(head, n, f, number, phase, round) : focus_head_restart(head, n, f, number, phase, round);
+/* a start under a head's number, or under a listener's, in a two-round ring or in a one-round one */
+static uint8_t start(focus_head *head, uint32_t n, uint32_t f, uint32_t number, int32_t position, int listens, int once) {
+    if (listens)
+        return once ? focus_one_round_listener_start(head, n, f, number) : focus_listener_start(head, n, f, number);
+    return once ? focus_one_round_start(head, n, f, number, position) : focus_head_start(head, n, f, number, position);
+}
+
+static uint8_t restart(focus_head *head, uint32_t n, uint32_t f, uint32_t number, uint32_t phase, uint32_t round, int listens, int once) {
+    if (listens)
+        return once ? focus_one_round_listener_restart(head, n, f, number, phase, round) : focus_listener_restart(head, n, f, number, phase, round);
+    return once ? focus_one_round_restart(head, n, f, number, phase, round) : focus_head_restart(head, n, f, number, phase, round);
 }
 
 /* a member of a ring of five under this number, in phase p and round 1, with the first `lists` links heard */
 static focus_head confessing(uint32_t number, unsigned phase, unsigned lists) {
     focus_head head = {{0}};
     uint8_t frame[FOCUS_FRAME_MAX];
-    same("restart", restart(&head, 5, 1, number, phase, 1, number >= 32), 0);
+    same("restart", restart(&head, 5, 1, number, phase, 1, number >= 32, 0), 0);
     for (unsigned k = 0; k < lists; k++)
         same("hear", focus_head_hear(&head, k, frame, sevens(frame, k, phase)), 0);
     return head;
@@ -53,41 +61,62 @@ static focus_head ended(void) {
 /* numbers that are listeners', and numbers that are not */
 static const uint32_t listeners[6] = {32, 33, 40, 45, 46, 47}, no_listeners[6] = {0, 4, 31, 48, 256 + 32, UINT32_MAX};
 
-static void starts(void) {
-    static const uint8_t order[] = {FOCUS_HEAD_COUNT, FOCUS_STRUCK_LIMIT, FOCUS_HEAD_NUMBER, FOCUS_POSITION};
+/* the number of a struck limit that is too high */
+static uint8_t limit(int once) {
+    return once ? FOCUS_ONE_ROUND_LIMIT : FOCUS_STRUCK_LIMIT;
+}
+
+static void starts(int once) {
+    const uint8_t order[] = {FOCUS_HEAD_COUNT, limit(once), FOCUS_HEAD_NUMBER, FOCUS_POSITION};
     for (int faults = 0; faults < 16; faults++) {
         focus_head head = in_confession(9, 2), before = head;
         uint32_t n = faults & 1 ? 33 : 5, f = faults & 2 ? 20 : 1, number = faults & 4 ? n : n - 1;
         tried = faults;
-        uint8_t got = focus_head_start(&head, n, f, number, faults & 8 ? -1000001 : -1000000);
+        uint8_t got = start(&head, n, f, number, faults & 8 ? -1000001 : -1000000, 0, once);
         answered("start", got, first(faults, order, 4), &head, &before);
     }
 }
 
-static void listener_starts(void) {
-    static const uint8_t order[] = {FOCUS_HEAD_COUNT, FOCUS_STRUCK_LIMIT, FOCUS_HEAD_NUMBER};
+static void listener_starts(int once) {
+    const uint8_t order[] = {FOCUS_HEAD_COUNT, limit(once), FOCUS_HEAD_NUMBER};
     for (int faults = 0; faults < 8; faults++)
         for (size_t t = 0; t < 6; t++) {
             focus_head head = in_confession(9, 2), before = head;
             uint32_t n = faults & 1 ? 33 : 5, f = faults & 2 ? 20 : 1, number = faults & 4 ? no_listeners[t] : listeners[t];
             tried = faults;
-            answered("a listener's start", focus_listener_start(&head, n, f, number), first(faults, order, 3), &head, &before);
+            answered("a listener's start", start(&head, n, f, number, 0, 1, once), first(faults, order, 3), &head, &before);
         }
 }
 
-static void restarts(int listens) {
-    static const uint8_t order[] = {FOCUS_HEAD_COUNT, FOCUS_STRUCK_LIMIT, FOCUS_HEAD_NUMBER, FOCUS_PHASE};
-    static const uint32_t times[][2] = {{0, 0}, {65536, 1}, {1, 2}, {7, 255}, {0, 9}, {UINT32_MAX, UINT32_MAX}};
+/* In a one-round ring round 1 is refused too. */
+static void restarts(int listens, int once) {
+    const uint8_t order[] = {FOCUS_HEAD_COUNT, limit(once), FOCUS_HEAD_NUMBER, FOCUS_PHASE};
+    const uint32_t times[][2] = {{0, 0}, {65536, 1 - once}, {1, 2 - once}, {7, 255}, {0, 9}, {UINT32_MAX, UINT32_MAX}};
     static const uint32_t heads[6] = {0, 1, 2, 3, 4, 4}, no_heads[6] = {5, 31, 32, 47, 256, UINT32_MAX};
     for (int faults = 0; faults < 16; faults++)
         for (size_t t = 0; t < 6; t++) {
             focus_head head = in_confession(9, 2), before = head;
             const uint32_t *numbers = listens ? (faults & 4 ? no_listeners : listeners) : faults & 4 ? no_heads : heads;
             uint32_t n = faults & 1 ? 0 : 5, f = faults & 2 ? UINT32_MAX : 1;
-            uint32_t phase = faults & 8 ? times[t][0] : 65535, round = faults & 8 ? times[t][1] : t % 2;
+            uint32_t phase = faults & 8 ? times[t][0] : 65535, round = faults & 8 ? times[t][1] : once ? 0 : t % 2;
             tried = faults;
-            answered("restart", restart(&head, n, f, numbers[t], phase, round, listens), first(faults, order, 4), &head, &before);
+            answered("restart", restart(&head, n, f, numbers[t], phase, round, listens, once), first(faults, order, 4), &head, &before);
         }
+}
+
+/* Which sizes a one-round ring takes: n at least 4f + 1. */
+static void one_round_sizes(void) {
+    tried = 0;
+    for (uint32_t n = 1; n <= 32; n++)
+        for (uint32_t f = 0; f < 300; f++) {
+            focus_head head = {{0}};
+            uint8_t want = n < 4 * f + 1 ? FOCUS_ONE_ROUND_LIMIT : 0;
+            same("a size", focus_one_round_start(&head, n, f, 0, 7), want);
+            same("a listener's size", focus_one_round_listener_restart(&head, n, f, 47, 1, 0), want);
+        }
+    focus_head head = {{0}};
+    same("f at which 4f is 0 again", focus_one_round_start(&head, 5, 1u << 30, 0, 7), FOCUS_ONE_ROUND_LIMIT);
+    same("f at which 4f + 1 is 5 again", focus_one_round_restart(&head, 5, (1u << 30) + 1, 0, 1, 0), FOCUS_ONE_ROUND_LIMIT);
 }
 
 enum { ENDED = 1, NUMBER = 2, HEARD = 4, LENGTH = 8, KIND = 16, KIND_LENGTH = 32 };
@@ -346,11 +375,206 @@ static void listens(void) {
     same("it is the head's", memcmp(&kept, &range, sizeof kept), 0);
 }
 
+/* ---- one-round rings */
+
+static size_t position_frame(uint8_t *frame, unsigned sender, unsigned phase, int32_t value) {
+    uint8_t rest[4];
+    put4(rest, value);
+    return put_frame(frame, 1, sender, phase, rest, 4);
+}
+
+/* A head or listener of a one-round ring in a phase, with so many links heard: link k says 10 (k + 1). */
+static focus_head once_in(uint32_t n, uint32_t f, uint32_t number, unsigned phase, unsigned heard) {
+    focus_head head = {{0}};
+    uint8_t frame[FOCUS_FRAME_MAX];
+    same("restart", restart(&head, n, f, number, phase, 0, number >= 32, 1), 0);
+    for (unsigned k = 0; k < heard; k++)
+        same("hear", focus_head_hear(&head, k, frame, position_frame(frame, k, phase, 10 * (int32_t)(k + 1))), 0);
+    return head;
+}
+
+static focus_head once_ended(uint32_t number) {
+    focus_head head = once_in(5, 1, number, 65535, 5);
+    same("close", focus_head_close(&head), 0);
+    same("adopt", focus_head_adopt(&head), 0);
+    return head;
+}
+
+/* A position on link 1, or a list (which is of the other round), with those faults of a set that lie in the frame: its length. */
+static size_t faulty_position(uint8_t *frame, int faults, unsigned phase) {
+    unsigned sender = faults & SENDER ? 2 : 1, told = faults & PHASE ? phase - 1 : phase;
+    if (faults & ROUND)
+        return faulty_list(frame, faults, phase);
+    size_t length = position_frame(frame, sender, told, faults & ENTRY ? 1000001 : 1000000);
+    if (faults & KIND)
+        frame[2] = 5;
+    if (faults & KIND_LENGTH)
+        frame[0] = (uint8_t)++length;
+    if (faults & LENGTH)
+        frame[length++] = 0;
+    return length;
+}
+
+/* Hearing in a one-round ring: a list is refused 22 after 8, and before 9, 23, 10 and 11. */
+static void one_round_hears(void) {
+    static const uint8_t order[] = {FOCUS_ENDED, FOCUS_HEAD_NUMBER, FOCUS_HEARD,       FOCUS_STATED_LENGTH, FOCUS_KIND, FOCUS_KIND_LENGTH,
+                                    FOCUS_OTHER_ROUND, FOCUS_SENDER, FOCUS_OTHER_PHASE, FOCUS_MARKS,  FOCUS_ENTRY};
+    for (int faults = 0; faults < HEAR; faults++) {
+        if (faults & MARKS && !(faults & ROUND))
+            continue; /* only a list has marks */
+        uint8_t frame[FOCUS_FRAME_MAX + 1];
+        unsigned phase = faults & ENDED ? 65535 : 9;
+        tried = faults;
+        focus_head head = faults & ENDED ? once_ended(0) : once_in(5, 1, 0, phase, 0);
+        if (faults & HEARD && !(faults & ENDED))
+            same("hear", focus_head_hear(&head, 1, frame, put_frame(frame, 2, 1, phase, NULL, 0)), 0);
+        focus_head before = head;
+        size_t length = faulty_position(frame, faults, phase);
+        answered("hear", focus_head_hear(&head, faults & NUMBER ? 5 : 1, frame, length), first(faults, order, 11), &head, &before);
+    }
+    uint8_t frame[FOCUS_FRAME_MAX];
+    focus_head head = once_in(5, 1, 0, 9, 0), before = head;
+    answered("a confession", focus_head_hear(&head, 1, frame, put_frame(frame, 4, 2, 8, NULL, 0)), FOCUS_OTHER_ROUND, &head, &before);
+}
+
+/* 25 by the nulls alone, of what was not heard and of silence: at more than 2f of them. The trim is f however many there are. */
+static void one_round_closes(void) {
+    static const struct { uint32_t n, f; } sizes[] = {{1, 0}, {4, 0}, {5, 1}, {9, 2}, {29, 7}, {32, 7}};
+    for (size_t s = 0; s < sizeof sizes / sizeof *sizes; s++)
+        for (unsigned heard = 0; heard <= sizes[s].n; heard++) {
+            uint32_t n = sizes[s].n, f = sizes[s].f;
+            focus_head head = once_in(n, f, 0, 3, heard), before;
+            focus_kept kept = {-777, -777, -777, -777};
+            uint8_t frame[FOCUS_FRAME_MAX], want = n - heard > 2 * f ? FOCUS_TRUSTED : 0;
+            tried = (int)(100 * s + heard);
+            for (unsigned k = heard; k < n; k += 2) /* every other null is a silence */
+                same("silence", focus_head_hear(&head, k, frame, put_frame(frame, 2, k, 3, NULL, 0)), 0);
+            before = head;
+            uint8_t got = focus_head_close(&head);
+            same("an offer", focus_head_offer(&head, &kept), want == 0);
+            if (want != 0) { /* all that it leaves is its event */
+                same("clear the event", focus_head_set_register(&head, FOCUS_WINDOW_EVENTS, FOCUS_EVENT_TOO_FEW), 0);
+                answered("close", got, want, &head, &before);
+                continue;
+            }
+            same("close", got, 0);
+            same("the trim", kept.trim, f);
+            same("the lowest kept", kept.lowest, 10 * (int)(f + 1));
+            same("the highest kept", kept.highest, 10 * (int)(heard - f));
+            same("the position", kept.position, 5 * (int)(heard + 1));
+        }
+}
+
+/* The window of a one-round head: phase, and byte 3 as it is to be. */
+static void window_is(const char *what, const focus_head *head, unsigned phase, uint8_t status) {
+    uint8_t bytes[FOCUS_WINDOW_BYTES];
+    focus_head_window(head, bytes);
+    same(what, bytes[3], status);
+    same(what, bytes[4] + 256u * bytes[5], phase);
+}
+
+/* Every round offers and adopts; what comes of the next phase before the adoption is refused 23; bit 2 of the window is 0 to the end, and after phase 65,535 phase
+ * and round stay. */
+static void one_round_phases(uint32_t number) {
+    uint8_t frame[FOCUS_FRAME_MAX], buffer[FOCUS_FRAME_MAX];
+    size_t length = 99;
+    focus_head head = once_in(5, 1, number, 65533, 5), before;
+    focus_kept kept;
+    int32_t position = -777;
+    uint8_t healed = 2, held = 0;
+    for (unsigned phase = 65533; phase <= 65535; phase++) {
+        tried = (int)phase;
+        if (phase > 65533)
+            for (unsigned k = 0; k < 5; k++)
+                same("hear", focus_head_hear(&head, k, frame, position_frame(frame, k, phase, k < 2 ? 6 : 7)), 0);
+        window_is("before the closing", &head, phase, held | healed);
+        before = head;
+        answered("adopt too early", focus_head_adopt(&head), FOCUS_NO_OFFER, &head, &before);
+        same("close", focus_head_close(&head), 0);
+        window_is("offered", &head, phase, held | healed);
+        before = head;
+        if (phase < 65535) {
+            uint8_t got = focus_head_hear(&head, 0, frame, position_frame(frame, 0, phase + 1, 7));
+            answered("the next phase before adoption, on a link that was heard", got, FOCUS_HEARD, &head, &before);
+        }
+        same("close again", focus_head_close(&head), 0);
+        same("the same is offered", same_block(&head, &before), 1);
+        same("adopt", focus_head_adopt(&head), 0);
+        /* 30; then half of 6 and 7, up in the even phase and down in the odd one */
+        same("a position", focus_head_position(&head, &position), 1);
+        same("it is the midpoint", position, phase == 65533 ? 30 : phase == 65534 ? 7 : 6);
+        same("a range", focus_head_kept(&head, &kept), 1);
+        same("it is what was offered", kept.position == position && kept.trim == 1 && kept.lowest == (phase == 65533 ? 20 : 6), 1);
+        healed = 0, held = 1;
+        window_is("adopted", &head, phase < 65535 ? phase + 1 : 65535, held);
+        same("adopt twice", focus_head_adopt(&head), FOCUS_NO_OFFER);
+    }
+    before = head;
+    answered("hear at the end", focus_head_hear(&head, 9, frame, 0), FOCUS_ENDED, &head, &before);
+    answered("write at the end", focus_head_write(&head, buffer, sizeof buffer, &length), FOCUS_ENDED, &head, &before);
+    answered("close at the end", focus_head_close(&head), FOCUS_ENDED, &head, &before);
+    answered("adopt at the end", focus_head_adopt(&head), FOCUS_NO_OFFER, &head, &before);
+}
+
+/* An offer ends by an accepted frame, which here is one on a link not heard yet; a frame of the next phase leaves it. */
+static void one_round_offers(void) {
+    uint8_t frame[FOCUS_FRAME_MAX];
+    focus_kept kept = {-777, -777, -777, -777};
+    focus_head head = once_in(5, 1, 0, 3, 4), before;
+    tried = 0;
+    same("close", focus_head_close(&head), 0);
+    before = head;
+    answered("a frame of the next phase", focus_head_hear(&head, 4, frame, position_frame(frame, 4, 4, 7)), FOCUS_OTHER_PHASE, &head, &before);
+    answered("a list", focus_head_hear(&head, 4, frame, sevens(frame, 4, 3)), FOCUS_OTHER_ROUND, &head, &before);
+    answered("a restart in round 1", focus_one_round_restart(&head, 5, 1, 0, 3, 1), FOCUS_PHASE, &head, &before);
+    same("the offer stands", focus_head_offer(&head, &kept), 1);
+    same("half of 20 and 30", kept.position, 25);
+    same("an accepted frame", focus_head_hear(&head, 4, frame, position_frame(frame, 4, 3, 50)), 0);
+    same("it has lapsed", focus_head_adopt(&head), FOCUS_NO_OFFER);
+    same("offer anew", focus_head_close(&head), 0);
+    same("the new offer", focus_head_offer(&head, &kept), 1);
+    same("the middle of five", kept.position, 30);
+    same("restart", focus_one_round_restart(&head, 5, 1, 0, 3, 0), 0);
+    same("no offer is left", focus_head_offer(&head, &kept), 0);
+}
+
+/* A block is of the family in which it was started or restarted last, with what it writes and how it closes. */
+static void families(void) {
+    uint8_t frame[FOCUS_FRAME_MAX];
+    size_t length = 0;
+    focus_head head = once_in(5, 1, 0, 3, 5), two = {{0}};
+    tried = 0;
+    same("restart in the other family", focus_head_restart(&head, 5, 1, 0, 3, 0), 0);
+    same("a two-round head", focus_head_restart(&two, 5, 1, 0, 3, 0), 0);
+    same("strike over", focus_head_set_register(&head, FOCUS_WINDOW_EVENTS, 7) + focus_head_set_register(&two, FOCUS_WINDOW_EVENTS, 7), 0);
+    same("is one of two rounds", same_block(&head, &two), 1);
+    same("close the collection round", focus_head_close(&head), 0);
+    same("nothing is offered", focus_head_adopt(&head), FOCUS_NO_OFFER);
+    same("start in the other family", focus_one_round_start(&head, 5, 1, 0, 7), 0);
+    same("write", focus_head_write(&head, frame, sizeof frame, &length), 0);
+    same("a position", frame[2], 1);
+    same("nothing heard", focus_head_close(&head), FOCUS_TRUSTED);
+    same("restart", focus_one_round_restart(&head, 5, 1, 0, 9, 0), 0);
+    same("write", focus_head_write(&head, frame, sizeof frame, &length), 0);
+    same("silence", frame[2], 2);
+    same("a listener", focus_one_round_listener_start(&head, 5, 1, 40), 0);
+    same("sends nothing", focus_head_write(&head, frame, 0, &length), FOCUS_LISTENER);
+}
+
 int main(void) {
-    starts();
-    listener_starts();
-    restarts(0);
-    restarts(1);
+    for (int once = 0; once < 2; once++) {
+        starts(once);
+        listener_starts(once);
+        restarts(0, once);
+        restarts(1, once);
+    }
+    one_round_sizes();
+    one_round_hears();
+    one_round_closes();
+    one_round_phases(0);
+    one_round_phases(47);
+    one_round_offers();
+    families();
     hears();
     batches();
     batch_cuts();

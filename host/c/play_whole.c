@@ -4,9 +4,9 @@
 
 #define BACK 0x5a /* what the buffers hold before a call */
 
-static uint8_t file[1 << 16], stored[1 << 16], out[FOCUS_PLAY_OUT(1 << 16)];
-static int32_t rows[FOCUS_PLAY_ROWS(1 << 16)];
-static uint64_t words[FOCUS_PLAY_ENDS(1 << 16)];
+static uint8_t file[1 << 16], stored[1 << 16], out[FOCUS_PLAY_OUT(1 << 16, FOCUS_PLAY_ONE_ROUND)];
+static int32_t rows[FOCUS_PLAY_ROWS(1 << 16, FOCUS_PLAY_ONE_ROUND)];
+static uint64_t words[FOCUS_PLAY_ENDS(1 << 16, FOCUS_PLAY_ONE_ROUND)];
 
 static size_t read_whole(const char *name, uint8_t *into) {
     FILE *from = fopen(name, "rb");
@@ -41,12 +41,18 @@ static void all_untouched(void) {
     untouched("words", words, 0, sizeof words);
 }
 
+/* Plays the file with so much less room than it needs. */
+static uint8_t play(size_t bytes, size_t less_out, size_t less_rows, size_t less_words, size_t *length, size_t *ends) {
+    size_t phase = FOCUS_PLAY_PHASE(file, bytes);
+    return focus_play(file, bytes, out, FOCUS_PLAY_OUT(bytes, phase) - less_out, rows, FOCUS_PLAY_ROWS(bytes, phase) - less_rows, words,
+                      FOCUS_PLAY_ENDS(bytes, phase) - less_words, length, ends);
+}
+
 /* One buffer too short by one: 24, and nothing is written. */
 static void too_short(size_t bytes, size_t less_out, size_t less_rows, size_t less_words) {
     size_t length = 7, ends = 9;
     fill_back();
-    same("short", focus_play(file, bytes, out, FOCUS_PLAY_OUT(bytes) - less_out, rows, FOCUS_PLAY_ROWS(bytes) - less_rows, words,
-                             FOCUS_PLAY_ENDS(bytes) - less_words, &length, &ends), FOCUS_BUFFER);
+    same("short", play(bytes, less_out, less_rows, less_words, &length, &ends), FOCUS_BUFFER);
     same("length", (long long)length, 7);
     same("ends", (long long)ends, 9);
     all_untouched();
@@ -58,8 +64,10 @@ static unsigned listeners(void) {
     return at + 5 <= sizeof file && file[at + 2] == 0x15 && file[at + 3] == 0 ? file[at + 4] : 0;
 }
 
-/* Line e of the listing is what row e and word e say, for the sound ones of n heads and m listeners. */
+/* Line e of the listing is what row e and word e say, for the sound ones of n heads and m listeners. The word is the last column, or in a one-round file the one
+ * before it. */
 static void line_as_row(const char *line, size_t e, unsigned n, unsigned m) {
+    int one_round = file[2] == 0x14;
     unsigned phase, collect, confess;
     long low, high, spread, least = 0, most = 0;
     same("line", sscanf(line, "%u %ld %ld %ld %x %x", &phase, &low, &high, &spread, &collect, &confess), 6);
@@ -75,7 +83,9 @@ static void line_as_row(const char *line, size_t e, unsigned n, unsigned m) {
         some = 1;
     }
     same("phase", phase, (long long)e);
-    same("word", confess, (uint32_t)words[e]);
+    same("word", one_round ? collect : confess, (uint32_t)words[e]);
+    if (one_round)
+        same("no confession round", confess, 0);
     if (e == 0)
         same("no listener at the start", (long long)(words[e] >> 32), 65535);
     same("low", low, least);
@@ -89,7 +99,7 @@ static void play_one(const char *run, const char *listing) {
     too_short(bytes, 0, 1, 0);
     too_short(bytes, 0, 0, 1);
     fill_back();
-    uint8_t number = focus_play(file, bytes, out, FOCUS_PLAY_OUT(bytes), rows, FOCUS_PLAY_ROWS(bytes), words, FOCUS_PLAY_ENDS(bytes), &length, &ends);
+    uint8_t number = play(bytes, 0, 0, 0, &length, &ends);
     same("length", (long long)length, (long long)want);
     same("listing", memcmp(out, stored, want), 0);
     untouched("behind the listing", out, length, sizeof out);

@@ -1,6 +1,7 @@
 //! A call with all its arguments, made on both sides: the proved export, and the second implementation.
 
 use crate::exported::{self, Block, EVENTS};
+use crate::rules::family::Family::{self, OneRound};
 use crate::rules::frames;
 use crate::rules::midpoint::{self, Kept};
 use crate::rules::scale;
@@ -29,10 +30,10 @@ pub enum Call {
     MidpointKept { n: u32, f: u32, phase: u32, marks: u32, entries: Bytes, out: [i32; 4] },
     Scale { steps: i32, numerator: u32, denominator: u32, out: i64 },
     Unscale { nanometres: i64, numerator: u32, denominator: u32, out: i32 },
-    Start { n: u32, f: u32, number: u32, position: i32 },
-    Restart { n: u32, f: u32, number: u32, phase: u32, round: u32 },
-    StartListener { n: u32, f: u32, number: u32 },
-    RestartListener { n: u32, f: u32, number: u32, phase: u32, round: u32 },
+    Start { family: Family, n: u32, f: u32, number: u32, position: i32 },
+    Restart { family: Family, n: u32, f: u32, number: u32, phase: u32, round: u32 },
+    StartListener { family: Family, n: u32, f: u32, number: u32 },
+    RestartListener { family: Family, n: u32, f: u32, number: u32, phase: u32, round: u32 },
     Hear { link: u32, frame: Bytes },
     HearBatch { batch: Bytes, answers: Bytes, room: usize, out: usize },
     Write { buffer: Bytes, room: usize, out: usize },
@@ -62,6 +63,10 @@ impl Call {
     /// The call's place among `tally::CALLS`.
     pub fn index(&self) -> usize {
         match self {
+            Call::Start { family: OneRound, .. } => 21,
+            Call::Restart { family: OneRound, .. } => 22,
+            Call::StartListener { family: OneRound, .. } => 23,
+            Call::RestartListener { family: OneRound, .. } => 24,
             Call::FrameCheck { .. } => 0,
             Call::Midpoint { .. } => 1,
             Call::MidpointKept { .. } => 2,
@@ -110,10 +115,10 @@ impl Call {
             Call::Unscale { nanometres, numerator, denominator, mut out } => {
                 (exported::unscale(nanometres, numerator, denominator, &mut out), out as i64)
             }
-            Call::Start { n, f, number, position } => (block.start(n, f, number, position), 0),
-            Call::Restart { n, f, number, phase, round } => (block.restart(n, f, number, phase, round), 0),
-            Call::StartListener { n, f, number } => (block.start_listener(n, f, number), 0),
-            Call::RestartListener { n, f, number, phase, round } => (block.restart_listener(n, f, number, phase, round), 0),
+            Call::Start { family, n, f, number, position } => (block.start(family, n, f, number, position), 0),
+            Call::Restart { family, n, f, number, phase, round } => (block.restart(family, n, f, number, phase, round), 0),
+            Call::StartListener { family, n, f, number } => (block.start_listener(family, n, f, number), 0),
+            Call::RestartListener { family, n, f, number, phase, round } => (block.restart_listener(family, n, f, number, phase, round), 0),
             Call::Hear { link, .. } => (block.hear(link, &mut lent), 0),
             Call::HearBatch { room, mut out, .. } => (block.hear_batch(&mut batch, &mut lent[..room], &mut out), out as i64),
             Call::Write { room, mut out, .. } => (block.write(&mut lent[..room], &mut out), out as i64),
@@ -164,13 +169,13 @@ impl Call {
             Call::Unscale { nanometres, numerator, denominator, out } => {
                 valued(scale::unscale(nanometres, numerator, denominator).map(|step| step.unwrap_or(NO_STEP)), out)
             }
-            Call::Start { n, f, number, position } => (device.start(n as usize, f as usize, number as usize, position), 0),
-            Call::Restart { n, f, number, phase, round } => {
-                (device.restart(n as usize, f as usize, number as usize, phase as usize, round as usize), 0)
+            Call::Start { family, n, f, number, position } => (device.start(family, n as usize, f as usize, number as usize, position), 0),
+            Call::Restart { family, n, f, number, phase, round } => {
+                (device.restart(family, n as usize, f as usize, number as usize, phase as usize, round as usize), 0)
             }
-            Call::StartListener { n, f, number } => (device.start_listener(n as usize, f as usize, number as usize), 0),
-            Call::RestartListener { n, f, number, phase, round } => {
-                (device.restart_listener(n as usize, f as usize, number as usize, phase as usize, round as usize), 0)
+            Call::StartListener { family, n, f, number } => (device.start_listener(family, n as usize, f as usize, number as usize), 0),
+            Call::RestartListener { family, n, f, number, phase, round } => {
+                (device.restart_listener(family, n as usize, f as usize, number as usize, phase as usize, round as usize), 0)
             }
             Call::Hear { link, .. } => (device.hear(link as usize, &lent), 0),
             Call::HearBatch { ref batch, room, out, .. } => {

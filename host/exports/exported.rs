@@ -1,6 +1,7 @@
 //! The proved calls, as host/include/focus.h declares them. Whatever is lent is taken as mutable here, even if a call only reads it, so that a
 //! change would be seen.
 
+use crate::rules::family::Family::{self, OneRound, TwoRounds};
 use std::ops::Range;
 
 mod c {
@@ -16,6 +17,10 @@ mod c {
         pub fn focus_head_restart(head: *mut Block, n: u32, f: u32, number: u32, phase: u32, round: u32) -> u8;
         pub fn focus_listener_start(head: *mut Block, n: u32, f: u32, number: u32) -> u8;
         pub fn focus_listener_restart(head: *mut Block, n: u32, f: u32, number: u32, phase: u32, round: u32) -> u8;
+        pub fn focus_one_round_start(head: *mut Block, n: u32, f: u32, number: u32, position: i32) -> u8;
+        pub fn focus_one_round_restart(head: *mut Block, n: u32, f: u32, number: u32, phase: u32, round: u32) -> u8;
+        pub fn focus_one_round_listener_start(head: *mut Block, n: u32, f: u32, number: u32) -> u8;
+        pub fn focus_one_round_listener_restart(head: *mut Block, n: u32, f: u32, number: u32, phase: u32, round: u32) -> u8;
         pub fn focus_head_hear(head: *mut Block, link: u32, frame: *const u8, length: usize) -> u8;
         pub fn focus_head_hear_batch(head: *mut Block, batch: *const u8, length: usize, answers: *mut u8, room: usize, count: *mut usize) -> u8;
         pub fn focus_head_write(head: *const Block, buffer: *mut u8, room: usize, length: *mut usize) -> u8;
@@ -40,9 +45,9 @@ pub fn as_in_header() -> bool {
     include_str!("../include/focus.h").contains(&format!("opaque[{WORDS}]"))
 }
 
-/// The bytes of a block, words 14, 15 and 23, that no call changes; those of its pending events, which a closing refused 25 changes; and the word that says
+/// The bytes of a block, words 15 and 23, that no call changes; those of its pending events, which a closing refused 25 changes; and the word that says
 /// whether an offer stands.
-pub const BESIDE: [Range<usize>; 2] = [56..64, 92..96];
+pub const BESIDE: [Range<usize>; 2] = [60..64, 92..96];
 pub const EVENTS: Range<usize> = 64..68;
 pub const OFFERED: Range<usize> = 72..76;
 
@@ -72,20 +77,32 @@ pub fn unscale(nanometres: i64, numerator: u32, denominator: u32, steps: &mut i3
 }
 
 impl Block {
-    pub fn start(&mut self, n: u32, f: u32, number: u32, position: i32) -> u8 {
-        unsafe { c::focus_head_start(self, n, f, number, position) }
+    pub fn start(&mut self, family: Family, n: u32, f: u32, number: u32, position: i32) -> u8 {
+        match family {
+            TwoRounds => unsafe { c::focus_head_start(self, n, f, number, position) },
+            OneRound => unsafe { c::focus_one_round_start(self, n, f, number, position) },
+        }
     }
 
-    pub fn restart(&mut self, n: u32, f: u32, number: u32, phase: u32, round: u32) -> u8 {
-        unsafe { c::focus_head_restart(self, n, f, number, phase, round) }
+    pub fn restart(&mut self, family: Family, n: u32, f: u32, number: u32, phase: u32, round: u32) -> u8 {
+        match family {
+            TwoRounds => unsafe { c::focus_head_restart(self, n, f, number, phase, round) },
+            OneRound => unsafe { c::focus_one_round_restart(self, n, f, number, phase, round) },
+        }
     }
 
-    pub fn start_listener(&mut self, n: u32, f: u32, number: u32) -> u8 {
-        unsafe { c::focus_listener_start(self, n, f, number) }
+    pub fn start_listener(&mut self, family: Family, n: u32, f: u32, number: u32) -> u8 {
+        match family {
+            TwoRounds => unsafe { c::focus_listener_start(self, n, f, number) },
+            OneRound => unsafe { c::focus_one_round_listener_start(self, n, f, number) },
+        }
     }
 
-    pub fn restart_listener(&mut self, n: u32, f: u32, number: u32, phase: u32, round: u32) -> u8 {
-        unsafe { c::focus_listener_restart(self, n, f, number, phase, round) }
+    pub fn restart_listener(&mut self, family: Family, n: u32, f: u32, number: u32, phase: u32, round: u32) -> u8 {
+        match family {
+            TwoRounds => unsafe { c::focus_listener_restart(self, n, f, number, phase, round) },
+            OneRound => unsafe { c::focus_one_round_listener_restart(self, n, f, number, phase, round) },
+        }
     }
 
     pub fn hear(&mut self, link: u32, frame: &mut [u8]) -> u8 {

@@ -3,11 +3,12 @@
 use crate::calls::{Bytes, Call};
 use crate::damage::damaged;
 use crate::random::Random;
-use crate::rules::midpoint::{highest_limit, LIMIT};
+use crate::rules::family::Family::{self, TwoRounds};
+use crate::rules::midpoint::LIMIT;
 use crate::spoil::out_of_range;
 
-/// Ends of numbers, and struck limits f for which 7f + 2 is small again in 8 or in 32 bits.
-const EDGES: [u32; 12] = [0, 1, 31, 32, 33, 37, 110, 255, 256, 613_566_757, 1 << 31, u32::MAX];
+/// Ends of numbers, and struck limits f for which 7f + 2 or 4f + 1 is small again in 8 or in 32 bits.
+const EDGES: [u32; 14] = [0, 1, 31, 32, 33, 37, 64, 110, 255, 256, 613_566_757, 1 << 30, 1 << 31, u32::MAX];
 
 pub fn position(random: &mut Random) -> i32 {
     match random.below(5) {
@@ -35,15 +36,15 @@ pub fn near(random: &mut Random, right: u32, often: usize) -> u32 {
 }
 
 /// An accepted n and f.
-pub fn size(random: &mut Random) -> (usize, usize) {
-    let n = if random.chance(1, 3) { random.pick(&[1, 5, 8, 9, 12, 23, 32]) } else { 1 + random.below(32) };
-    let most = highest_limit(n);
+pub fn size(random: &mut Random, family: Family) -> (usize, usize) {
+    let n = if random.chance(1, 3) { random.pick(&[1, 5, 8, 9, 12, 23, 29, 32]) } else { 1 + random.below(32) };
+    let most = family.highest_limit(n);
     (n, if random.chance(1, 2) { most } else { random.below(most + 1) })
 }
 
 /// The midpoint, alone or with what it kept.
 pub fn midpoint(random: &mut Random) -> Call {
-    let (n, f) = size(random);
+    let (n, f) = size(random, TwoRounds);
     let mut marks = u32::MAX >> (32 - n);
     for _ in 0..random.below(3 * f + 3) {
         marks &= !(1 << random.below(32));
@@ -60,7 +61,7 @@ pub fn midpoint(random: &mut Random) -> Call {
     if random.chance(1, 30) {
         marks |= 1 << random.below(32);
     }
-    let f = if random.chance(1, 30) { highest_limit(n) + 1 } else { f };
+    let f = if random.chance(1, 30) { TwoRounds.highest_limit(n) + 1 } else { f };
     let (n, f) = (near(random, n as u32, 25), near(random, f as u32, 25));
     let phase = if random.chance(1, 3) { random.pick(&[1, 2, 3, 65534, 65535]) } else { 1 + random.below(65535) };
     let phase = if random.chance(1, 30) { random.pick(&[0, 65536, 65537, 1 << 17]) } else { near(random, phase as u32, 40) };

@@ -1,4 +1,4 @@
-//! Compares the proved C exports with the second implementation of document 01 (host/plain) on calls made from seeds: the camera's calls, and
+//! Compares the proved C exports with the second implementation of documents 01 and 02 (host/plain) on calls made from seeds: the camera's calls, and
 //! whole sequences of calls on a head's block against a head of that implementation.
 //!
 //!     exports COUNT [SEED]    at least COUNT calls, from the seed on
@@ -77,7 +77,8 @@ impl Pair {
             self.blocks[1].0[words].fill(self.calls as u8);
         }
         let (export, plain) = (call.exported(&mut self.blocks[1]), call.plain(&mut self.device));
-        self.known |= matches!(call, Call::Start { .. } | Call::Restart { .. }) && plain.number == 0;
+        let opens = matches!(call, Call::Start { .. } | Call::Restart { .. } | Call::StartListener { .. } | Call::RestartListener { .. });
+        self.known |= opens && plain.number == 0;
         let known = tally.count(call.index(), plain.number);
         let guarded = [0, 2].iter().all(|&at| self.blocks[at] == Block([0xa5; SIZE]));
         let beside = BESIDE.into_iter().all(|words| self.blocks[1].0[words].iter().all(|&byte| byte == self.calls as u8));

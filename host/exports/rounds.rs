@@ -4,9 +4,10 @@ use crate::calls::{Bytes, Call};
 use crate::damage::damaged;
 use crate::inputs::{four, near, position, size};
 use crate::random::Random;
+use crate::rules::family::Family::{self, OneRound, TwoRounds};
 use crate::rules::frames::{self, Said};
 use crate::rules::head::LAST_PHASE;
-use crate::rules::midpoint::{highest_limit, Entry};
+use crate::rules::midpoint::Entry;
 use crate::spoil::out_of_range;
 
 /// Makes a call on both sides: its number if they agree.
@@ -16,6 +17,7 @@ pub type Ask<'a> = &'a mut dyn FnMut(Call) -> Result<u8, String>;
 struct Writer<'a> {
     random: &'a mut Random,
     ask: Ask<'a>,
+    family: Family,
     n: usize,
     f: usize,
     phase: usize,
@@ -26,7 +28,7 @@ struct Writer<'a> {
 
 /// A sequence on a head that was not started: of a block of zeros every call but closing is known, of any other block only what a start refuses.
 pub fn sequence(random: &mut Random, zeros: bool, ask: Ask) -> Result<(), String> {
-    let mut writer = Writer { random, ask, n: 0, f: 0, phase: 0, round: 0, turns: 0 };
+    let mut writer = Writer { random, ask, family: TwoRounds, n: 0, f: 0, phase: 0, round: 0, turns: 0 };
     for _ in 0..writer.random.below(4) {
         if zeros {
             writer.looks()?;
@@ -45,27 +47,34 @@ pub fn sequence(random: &mut Random, zeros: bool, ask: Ask) -> Result<(), String
 }
 
 impl Writer<'_> {
-    fn opened(&mut self, n: u32, f: u32, phase: u32, round: u32) {
-        (self.n, self.f, self.phase, self.round) = (n as usize, f as usize, phase as usize, round as usize);
+    fn opened(&mut self, family: Family, n: u32, f: u32, phase: u32, round: u32) {
+        (self.family, self.n, self.f, self.phase, self.round) = (family, n as usize, f as usize, phase as usize, round as usize);
         self.turns += 1;
+    }
+
+    /// Two rounds, or in two cases of five one.
+    fn any_family(&mut self) -> Family {
+        if self.random.chance(2, 5) { OneRound } else { TwoRounds }
     }
 
     /// A start or a restart that is taken.
     fn opening(&mut self) -> Result<(), String> {
-        let (n, f) = size(self.random);
-        self.open(n as u32, f as u32, false)
+        let family = self.any_family();
+        let (n, f) = size(self.random, family);
+        self.open(family, n as u32, f as u32, false)
     }
 
     /// A start or a restart in which most numbers are wrong.
     fn refused_opening(&mut self) -> Result<(), String> {
-        let (n, f) = size(self.random);
-        let f = if self.random.chance(1, 4) { highest_limit(n) + 1 } else { f };
+        let family = self.any_family();
+        let (n, f) = size(self.random, family);
+        let f = if self.random.chance(1, 4) { family.highest_limit(n) + 1 } else { f };
         let (n, f) = (near(self.random, n as u32, 4), near(self.random, f as u32, 4));
-        self.open(n, f, true)
+        self.open(family, n, f, true)
     }
 
     /// Of a head, or in one case of three of a listener.
-    fn open(&mut self, n: u32, f: u32, spoilt: bool) -> Result<(), String> {
+    fn open(&mut self, family: Family, n: u32, f: u32, spoilt: bool) -> Result<(), String> {
         let often = if spoilt { 3 } else { usize::MAX };
         let random = &mut *self.random;
         let listens = random.chance(1, 3);
@@ -75,19 +84,23 @@ impl Writer<'_> {
         let number = if spoilt && random.chance(1, 4) { random.pick(&beside) } else { near(random, number, often) };
         if random.chance(1, 2) {
             let position = if random.chance(1, often) { out_of_range(random) } else { position(random) };
-            let call = if listens { Call::StartListener { n, f, number } } else { Call::Start { n, f, number, position } };
+            let call = if listens { Call::StartListener { family, n, f, number } } else { Call::Start { family, n, f, number, position } };
             if (self.ask)(call)? == 0 {
-                self.opened(n, f, 1, 0);
+                self.opened(family, n, f, 1, 0);
             }
             return Ok(());
         }
         let any = 1 + random.below(LAST_PHASE);
         let phase = random.pick(&[1, 2, 255, 256, LAST_PHASE - 1, LAST_PHASE, LAST_PHASE, any]) as u32;
-        let round = random.below(2) as u32;
+        let rounds = if spoilt { 2 } else { family.rounds() };
+        let round = random.below(rounds) as u32;
         let (phase, round) = (near(random, phase, often), near(random, round, often));
-        let call = if listens { Call::RestartListener { n, f, number, phase, round } } else { Call::Restart { n, f, number, phase, round } };
+        let call = match listens {
+            true => Call::RestartListener { family, n, f, number, phase, round },
+            false => Call::Restart { family, n, f, number, phase, round },
+        };
         if (self.ask)(call)? == 0 {
-            self.opened(n, f, phase, round);
+            self.opened(family, n, f, phase, round);
         }
         Ok(())
     }
@@ -164,7 +177,7 @@ impl Writer<'_> {
         if (self.ask)(Call::Close)? != 0 {
             return Ok(());
         }
-        if self.round == 1 {
+        if self.round + 1 == self.family.rounds() {
             return self.adopt();
         }
         self.turns += 1;
@@ -180,7 +193,8 @@ impl Writer<'_> {
             self.wrong_frame(link)?;
         }
         if self.random.chance(1, 6) {
-            self.hear(link, frames::write(&Said::Confession, link, self.phase))?;
+            let said = if self.round == 0 { Said::Silence } else { Said::Confession };
+            self.hear(link, frames::write(&said, link, self.phase))?;
         }
         if self.random.chance(1, 6) {
             (self.ask)(Call::Close)?;
@@ -253,13 +267,16 @@ impl Writer<'_> {
         (self.ask)(Call::Interrupt).map(drop)
     }
 
+    /// Positions, and some nulls: in a one-round ring mostly few enough for a new position, and often just so many.
     fn collection(&mut self) -> Vec<Option<Said>> {
-        let said = |random: &mut Random| match random.below(8) {
-            0 => None,
-            1 => Some(Said::Silence),
-            _ => Some(Said::Position(position(random))),
-        };
-        (0..self.n).map(|_| said(self.random)).collect()
+        let most = if self.random.chance(1, 3) { self.n } else { 2 * self.f };
+        let count = if self.random.chance(1, 2) { most } else { self.random.below(most + 2) };
+        let null = self.random.some(&(0..self.n).collect::<Vec<_>>(), count.min(self.n));
+        let mut given: Vec<_> = (0..self.n).map(|_| Some(Said::Position(position(self.random)))).collect();
+        for link in null {
+            given[link] = if self.random.chance(1, 2) { Some(Said::Silence) } else { None };
+        }
+        given
     }
 
     /// A list of n entries, a few of them null.

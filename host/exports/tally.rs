@@ -2,7 +2,7 @@
 
 /// Each call with the numbers it can give, in the order of its checks. A position, a kept range or an offer is answered 1 if there is one, else 0; the interrupt
 /// line 1 if it is up.
-pub const CALLS: [(&str, &[u8]); 21] = [
+pub const CALLS: [(&str, &[u8]); 25] = [
     ("frame_check", &[0, 6, 7, 8]),
     ("midpoint", &[0, 1, 2, 5, 8, 10, 11, 25]),
     ("midpoint_kept", &[0, 1, 2, 5, 8, 10, 11, 25]),
@@ -24,6 +24,10 @@ pub const CALLS: [(&str, &[u8]); 21] = [
     ("head_interrupt", &[0, 1]),
     ("head_adopt", &[0, 27]),
     ("head_offer", &[0, 1]),
+    ("one_round_start", &[0, 1, 18, 3, 4]),
+    ("one_round_restart", &[0, 1, 18, 3, 5]),
+    ("one_round_listener_start", &[0, 1, 18, 3]),
+    ("one_round_listener_restart", &[0, 1, 18, 3, 5]),
 ];
 
 #[derive(Default)]

@@ -28,7 +28,7 @@ enum focus_refusal {
     FOCUS_STRUCK_LIMIT = 2, /* struck limit too high */
     FOCUS_HEAD_NUMBER = 3,  /* head or link number n or more, or a listener's outside 32 to 47 */
     FOCUS_POSITION = 4,     /* position out of range */
-    FOCUS_PHASE = 5,        /* phase out of range, or round neither 0 (collection) nor 1 (confession) */
+    FOCUS_PHASE = 5,        /* phase out of range, or round neither 0 (collection) nor 1 (confession); in a one-round ring, not 0 */
     FOCUS_STATED_LENGTH = 6, /* fewer than 4 bytes, or the length field differs from the bytes given */
     FOCUS_KIND = 7,         /* unknown kind */
     FOCUS_KIND_LENGTH = 8,  /* a length wrong for its kind and count */
@@ -41,8 +41,9 @@ enum focus_refusal {
     FOCUS_BATCH_ENTRY = 15, /* an entry's length field is missing, below 4 or runs past the end (document 02, A1) */
     FOCUS_REGISTER = 16,    /* a write to a byte of the window other than 10 and 11, or a read past byte 15 (document 02, A5) */
     FOCUS_LISTENER = 17,    /* a listener is told to send (document 02, A6) */
+    FOCUS_ONE_ROUND_LIMIT = 18, /* n below 4f + 1, in a one-round ring; where 2 stands in others (document 02, A9) */
     FOCUS_HEARD = 21,       /* link already heard this round */
-    FOCUS_OTHER_ROUND = 22,/* frame of the other round */
+    FOCUS_OTHER_ROUND = 22, /* frame of the other round; in a one-round ring, a list or confession */
     FOCUS_OTHER_PHASE = 23, /* frame of another phase */
     FOCUS_BUFFER = 24,      /* buffer too short */
     FOCUS_TRUSTED = 25,     /* too few trusted */
@@ -96,20 +97,27 @@ uint8_t focus_unscale(int64_t nanometres, uint32_t numerator, uint32_t denominat
 
 /* ---- a whole run file: crates/run_whole/src/lib.rt */
 
+/* How many bytes of a run file a phase takes at least. A round record takes 8, and a phase has two of them; in a file
+ * that begins with a record of kind 0014, a one-round ring's, it has one. */
+enum focus_phase_bytes { FOCUS_PLAY_ONE_ROUND = 8, FOCUS_PLAY_TWO_ROUNDS = 16 };
+#define FOCUS_PLAY_PHASE(file, bytes) \
+    ((bytes) >= 4 && (file)[2] == 0x14 && (file)[3] == 0 ? FOCUS_PLAY_ONE_ROUND : FOCUS_PLAY_TWO_ROUNDS)
+
 /* How many phase ends a run file of so many bytes can have, the start among them; and the room that its listing and
- * its rows need. */
-#define FOCUS_PLAY_ENDS(bytes) ((bytes) / 16 + 1)
-#define FOCUS_PLAY_OUT(bytes) (64 * (FOCUS_PLAY_ENDS(bytes) + 2))
-#define FOCUS_PLAY_ROWS(bytes) (48 * FOCUS_PLAY_ENDS(bytes))
+ * its rows need. phase is FOCUS_PLAY_PHASE of the file; with FOCUS_PLAY_ONE_ROUND there is room for any file. */
+#define FOCUS_PLAY_ENDS(bytes, phase) ((bytes) / (phase) + 1)
+#define FOCUS_PLAY_OUT(bytes, phase) (64 * (FOCUS_PLAY_ENDS(bytes, phase) + 2))
+#define FOCUS_PLAY_ROWS(bytes, phase) (48 * FOCUS_PLAY_ENDS(bytes, phase))
 
 /* Plays a run file of any bytes: its listing at the front of out, and for each phase end e, counted from the start, a
  * row of 48 numbers from rows[48 * e] on and a mark word words[e]. Numbers 0 to 31 of a row are for heads and 32 to 47
  * for the listeners of these numbers: the position of each one that is sound at that end, and 0 elsewhere. The word
- * has a bit for each head and listener struck in the confession round; at the start, row 0, the bits of all listeners,
- * which hold no position yet. The listing's length is put in *length and the number of phase ends in *ends; what is
+ * has a bit for each head and listener struck in the phase's last round: the confession round, which the listing's last
+ * column shows, or in a one-round ring its only one, which the column before that shows. At the start, row 0, it has
+ * the bits of all listeners, which hold no position yet. The listing's length is put in *length and the number of phase ends in *ends; what is
  * behind them in the three buffers stays as it was.
- * Returns the number of the file's first fault (1, 2, 4, 13, 14, 26), or 0 if it is played to its end. Returns 24,
- * with nothing written, if a buffer is shorter than the three macros say. Sizes of rows and words are in numbers, not
+ * Returns the number of the file's first fault (1, 2, 18, 4, 13, 14, 26), or 0 if it is played to its end. Returns 24,
+ * with nothing written, if a buffer is shorter than the macros say by the file's own phase. Sizes of rows and words are in numbers, not
  * bytes. Takes about 230 KB of stack.
  * Promised: `PlaysInto` (crates/run_whole/specs/Whole.antt), with demand 3 for any two of the rows. */
 uint8_t focus_play(const uint8_t *file, size_t bytes, uint8_t *out, size_t out_size, int32_t *rows, size_t rows_size,
@@ -120,10 +128,11 @@ uint8_t focus_play(const uint8_t *file, size_t bytes, uint8_t *out, size_t out_s
 
 /* A head's block: 1,116 words all shift, of which each call changes those that it must, in place. Words 16 and 17 are
  * the pending events and the mask of its window, words 18 to 22 what is offered (word 18 is 0 if no offer stands, and
- * 19 to 22 are not looked at then); 14, 15 and 23 are room for later calls: no call changes them.
+ * 19 to 22 are not looked at then). Word 14 is the family of its ring: 0 if a phase has two rounds, else it has one. Words
+ * 15 and 23 are room for later calls: no call changes them.
  *
- * A block is made by focus_head_start, focus_head_restart, focus_listener_start or focus_listener_restart that
- * answers 0, of whatever it held. Of such a block, after any calls: its record is one that the paper's calls can
+ * A block is made by a start or restart, of a head or a listener, of either family, that answers 0, of whatever it
+ * held. Of such a block, after any calls: its record is one that the paper's calls can
  * reach, so demand 2 holds of it, and what it offers is what its round settles (crates/head_c/specs/Made.antt). Every
  * other content is some record too, so no block makes a call undefined; but nothing is promised of the ring then. A
  * block of zeros is a head of a ring of no heads, in phase 0: hearing is refused 3, and closing is taken (0), so a
@@ -155,6 +164,24 @@ uint8_t focus_listener_start(focus_head *head, uint32_t n, uint32_t f, uint32_t 
 /* Restarts a listener whose strike is over, as focus_head_restart does a head. Refusals 1, 2, 3, 5. */
 uint8_t focus_listener_restart(focus_head *head, uint32_t n, uint32_t f, uint32_t number, uint32_t phase, uint32_t round);
 
+/* A one-round ring (document 02, A9) takes n at least 4f + 1. Each of its rounds is a phase: heads send positions, healed
+ * ones silence, each drops nulls and then f entries from each end, and every closing offers and waits to be adopted. Its
+ * heads and listeners are kept in blocks like the others, and all calls on a block serve both families: a block is of
+ * the family in which it was started or restarted last. In a one-round ring the round is 0 for ever: lists and
+ * confessions are refused 22, and bit 2 of the window's byte 3 stays 0.
+ * These four are the starts and restarts above for such a ring. Refusals 1, 18, 3, 4. */
+uint8_t focus_one_round_start(focus_head *head, uint32_t n, uint32_t f, uint32_t number, int32_t position);
+
+/* Refusals 1, 18, 3, 5: any round but 0 is 5. */
+uint8_t focus_one_round_restart(focus_head *head, uint32_t n, uint32_t f, uint32_t number, uint32_t phase, uint32_t round);
+
+/* Refusals 1, 18, 3. */
+uint8_t focus_one_round_listener_start(focus_head *head, uint32_t n, uint32_t f, uint32_t number);
+
+/* Refusals 1, 18, 3, 5: any round but 0 is 5. */
+uint8_t focus_one_round_listener_restart(focus_head *head, uint32_t n, uint32_t f, uint32_t number, uint32_t phase,
+                                         uint32_t round);
+
 /* Hears the bytes of one frame on a link. An accepted frame ends an offer. Refusals 26, 3, 21, 6, 7, 8, 22, 9, 23, 10,
  * 11. (A block that no start made may say n above 32: a frame on a link from 32 on is accepted then and changes
  * nothing, since a block has no words for it.) */
@@ -174,10 +201,10 @@ uint8_t focus_head_hear_batch(focus_head *head, const uint8_t *batch, size_t len
  * Refusals 26, 17 for a listener, 24. */
 uint8_t focus_head_write(const focus_head *head, uint8_t *buffer, size_t room, size_t *length);
 
-/* Closes the round. A collection round ends: its list stands, and the confession round is open. A confession round only
- * offers a new position (document 02, A8): the head stays as it is in every way, phase, round, position, kept range and
- * window, until the offer is adopted. Closing again offers the same again. Refusals 26, 25, of which 25 is an event and
- * changes nothing else. */
+/* Closes the round. A collection round ends: its list stands, and the confession round is open. A confession round, and
+ * every round of a one-round ring, only offers a new position (document 02, A8): the head stays as it is in every way, phase, round, position, kept range and
+ * window, until the offer is adopted. Closing again offers the same again. Refusals 26, 25 (more than 3f nulls; in a one-round
+ * ring more than 2f), of which 25 is an event and changes nothing else. */
 uint8_t focus_head_close(focus_head *head);
 
 /* Adopts what is offered: the head holds the new position and its kept range, the next phase is open, and the event of
@@ -205,7 +232,7 @@ uint8_t focus_head_kept(const focus_head *head, focus_kept *kept);
  * promise, crates/head_window/specs/Window.antt says what each byte is
  *
  * Bytes 0 to 2 are n, f and the head's number. Byte 3 has bit 0 if a position is held, bit 1 if the head was healed in
- * this round, bit 2 in a confession round. Bytes 4 and 5 are the phase, 6 to 9 the position, or 0 if there is none, each
+ * this round, bit 2 in a confession round, which a one-round ring has none of. Bytes 4 and 5 are the phase, 6 to 9 the position, or 0 if there is none, each
  * lowest byte first. After the last phase end phase and bit 2 stay, and bit 1 is 0. Byte 10 is the pending events, byte
  * 11 the mask. All else is 0. Refusal 26 is not checked here: the window goes on after the last phase end.
  *
