@@ -3,6 +3,7 @@
 use crate::clock::{black_box, now};
 use crate::exported::{self, Block, SIZE};
 use crate::random::Random;
+use crate::rules::family::Family::{self, OneRound, TwoRounds};
 use crate::rules::frames::{self, Said};
 use crate::rules::head::Head;
 use crate::rules::midpoint::{self, Entry, Kept, LIMIT};
@@ -130,10 +131,10 @@ fn window(wanted: Wanted) -> Option<Row> {
     let position = |i: usize| 15_625 * i as i32 - 500_000;
     let block = |i: usize| {
         let mut block = Block([0; SIZE]);
-        block.start(5, 1, 2, position(i));
+        block.start(TwoRounds, 5, 1, 2, position(i));
         block
     };
-    let device = |i: usize| Device { head: Head::start(5, 1, 2, position(i)).expect("a start that is taken"), events: 0, mask: 0, offer: None };
+    let device = |i: usize| Device { head: Head::start(TwoRounds, 5, 1, 2, position(i)).expect("a start that is taken"), events: 0, mask: 0, offer: None };
     let export = |blocks: &mut Vec<Block>| {
         let mut bytes = [0; 16];
         let mut read = |block: &mut Block| {
@@ -149,6 +150,7 @@ fn window(wanted: Wanted) -> Option<Row> {
 
 /// A round as a head hears it: its frames by link.
 struct Heard {
+    family: Family,
     n: usize,
     f: usize,
     round: usize,
@@ -167,19 +169,28 @@ impl Heard {
             _ => Said::List(truth.clone()),
         };
         let frames = (0..n).map(|k| frames::write(&said(k), k, PHASE)).collect();
-        Heard { n, f, round, frames }
+        Heard { family: TwoRounds, n, f, round, frames }
+    }
+
+    /// A round of a one-round ring, in which `healed` links are silent and the others give a position each.
+    fn once(n: usize, f: usize, healed: usize) -> Heard {
+        let mut heard = Heard { family: OneRound, ..Heard::new(n, f, 0, 0, 0) };
+        for k in 0..healed {
+            heard.frames[k] = frames::write(&Said::Silence, k, PHASE);
+        }
+        heard
     }
 
     fn blocks(&self) -> Vec<Block> {
         let mut blocks = vec![Block([0; SIZE]); MANY];
         for block in &mut blocks {
-            block.restart(self.n as u32, self.f as u32, 0, PHASE as u32, self.round as u32);
+            block.restart(self.family, self.n as u32, self.f as u32, 0, PHASE as u32, self.round as u32);
         }
         blocks
     }
 
     fn heads(&self) -> Vec<Head> {
-        (0..MANY).map(|_| Head::restart(self.n, self.f, 0, PHASE, self.round).expect("a restart that is taken")).collect()
+        (0..MANY).map(|_| Head::restart(self.family, self.n, self.f, 0, PHASE, self.round).expect("a restart that is taken")).collect()
     }
 
     fn tell_blocks(&self, (blocks, frames): &mut (Vec<Block>, Vec<Vec<u8>>)) -> u64 {
@@ -270,6 +281,10 @@ pub fn rows(wanted: Wanted) -> Vec<Row> {
         rows.push(confession.closing(wanted, "a confession round, lists that agree"));
         rows.push(lies.closing(wanted, "a confession round, f confessions and f liars"));
         rows.push(confession.adopting(wanted));
+    }
+    for (n, f) in [(5, 1), (29, 7)] {
+        rows.push(Heard::once(n, f, 0).closing(wanted, "a one-round ring's round"));
+        rows.push(Heard::once(n, f, 2 * f).closing(wanted, "a one-round ring's round, 2f null"));
     }
     rows.into_iter().flatten().collect()
 }

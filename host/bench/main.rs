@@ -33,8 +33,9 @@ mod spoil;
 mod wire;
 
 use players::{failed, Players, Timed};
+use rules::family::Family;
 use rules::head::LAST_PHASE;
-use runs::{runs, with_listeners, Run, Strikes};
+use runs::{of_one_round, runs, with_listeners, Run, Strikes};
 use std::io;
 use std::process::ExitCode;
 
@@ -109,10 +110,28 @@ fn print_listeners(players: &Players, missed: &mut bool) -> io::Result<()> {
     Ok(())
 }
 
+fn print_one_round(players: &Players, missed: &mut bool) -> io::Result<()> {
+    println!("\n## One-round rings\n\nThe same, and rigplay's time for a phase in times of that for a phase of the two-round run named.\n");
+    println!("| Run file | phases | bytes | rigplay | plain | ratio | beside | a phase | bar |\n|---|--:|--:|--:|--:|--:|---|--:|---|");
+    for (run, beside) in of_one_round() {
+        let (name, timed) = (run.name(), players.time(&run, TURNS)?);
+        let times = players.multiple(&beside, &run, 2 * TURNS)?;
+        let mut bar = String::new();
+        if let Some(&(_, most)) = bars::ONE_ROUND.iter().find(|(row, _)| *row == name) {
+            let (met, words) = bars::verdict(times, most, 1.0);
+            (*missed, bar) = (*missed | !met, words);
+        }
+        let (ours, others, ratio) = (timed.rigplay * 1e3, timed.plain * 1e3, bars::said(timed.ratio()));
+        let (beside, times) = (beside.name(), bars::said(times));
+        println!("| {name} | {} | {} | {ours:.1} | {others:.1} | {ratio} | {beside} | {times} | {bar} |", run.phases, timed.bytes);
+    }
+    Ok(())
+}
+
 fn print_memory(players: &Players, bytes: u64, missed: &mut bool) -> io::Result<()> {
     let phase = 2 * 8 + 8 * 24 * (17 + 146);
     let phases = (bytes / phase) as usize + 1;
-    let run = Run { n: 32, f: 8, strikes: Strikes::Others, phases: phases.min(LAST_PHASE), listeners: 0 };
+    let run = Run { family: Family::TwoRounds, n: 32, f: 8, strikes: Strikes::Others, phases: phases.min(LAST_PHASE), listeners: 0 };
     let (bytes, used) = players.stream(&run)?;
     let met = used.resident < bars::MEMORY;
     *missed |= !met;
@@ -156,6 +175,7 @@ fn all(players: &Players, bytes: u64) -> io::Result<bool> {
     print_players(players, &mut missed)?;
     print_memory(players, bytes, &mut missed)?;
     print_listeners(players, &mut missed)?;
+    print_one_round(players, &mut missed)?;
     Ok(missed)
 }
 

@@ -2,6 +2,7 @@
 
 use crate::random::Random;
 use crate::ring::{has, Ring};
+use crate::rules::family::Family::{self, OneRound, TwoRounds};
 use crate::rules::frames::{self, Said};
 use crate::rules::head::{FIRST_LISTENER, MOST_LISTENERS};
 use crate::rules::midpoint::LIMIT;
@@ -27,6 +28,7 @@ use Strikes::*;
 
 #[derive(Clone, Copy)]
 pub struct Run {
+    pub family: Family,
     pub n: usize,
     pub f: usize,
     pub strikes: Strikes,
@@ -41,7 +43,7 @@ pub fn runs() -> Vec<Run> {
     for (n, f, quiet, struck) in [(5, 1, 30_000, 30_000), (32, 8, 6_000, 1_000)] {
         for strikes in [Quiet, Others, Same, Alike, Lists, Mix] {
             let phases = if strikes == Quiet { quiet } else { struck };
-            runs.push(Run { n, f, strikes, phases, listeners: 0 });
+            runs.push(Run { family: TwoRounds, n, f, strikes, phases, listeners: 0 });
         }
     }
     runs
@@ -49,8 +51,22 @@ pub fn runs() -> Vec<Run> {
 
 /// Those with listeners, each timed beside the same run without.
 pub fn with_listeners() -> [Run; 2] {
-    let run = |n, f, phases| Run { n, f, strikes: Others, phases, listeners: MOST_LISTENERS };
+    let run = |n, f, phases| Run { family: TwoRounds, n, f, strikes: Others, phases, listeners: MOST_LISTENERS };
     [run(5, 1, 10_000), run(32, 8, 1_000)]
+}
+
+/// Those of one-round rings, each with the two-round run that it is timed beside: of the same number of phases, with the highest f that the family takes, or with
+/// an f of 1.
+pub fn of_one_round() -> Vec<(Run, Run)> {
+    let mut pairs = Vec::new();
+    for (once, twice, quiet, struck) in [((5, 1), (5, 1), 30_000, 30_000), ((29, 7), (32, 8), 6_000, 1_000)] {
+        for strikes in [Quiet, Others, Mix] {
+            let phases = if strikes == Quiet { quiet } else { struck };
+            let run = |family, (n, f)| Run { family, n, f, strikes, phases, listeners: 0 };
+            pairs.push((run(OneRound, once), run(TwoRounds, twice)));
+        }
+    }
+    pairs
 }
 
 impl Run {
@@ -64,7 +80,8 @@ impl Run {
             Mix => "struck, anything to each neighbour",
         };
         let listeners = if self.listeners == 0 { String::new() } else { format!(", {} listeners", self.listeners) };
-        format!("({},{}) {strikes}{listeners}", self.n, self.f)
+        let rounds = if self.family == OneRound { "one round, " } else { "" };
+        format!("({},{}) {rounds}{strikes}{listeners}", self.n, self.f)
     }
 
     /// The mark word of the heads struck in a round, counted from 0.
@@ -80,11 +97,12 @@ impl Run {
 
     /// Any position, or in confession any list, as a frame.
     fn wild(&self, random: &mut Random, round: usize, from: usize) -> Vec<u8> {
-        let said = match round % 2 {
+        let rounds = self.family.rounds();
+        let said = match round % rounds {
             0 => Said::Position(random.between(-LIMIT, LIMIT)),
             _ => Said::List(self.positions(random).into_iter().map(Some).collect()),
         };
-        frames::write(&said, from, round / 2 + 1)
+        frames::write(&said, from, round / rounds + 1)
     }
 
     fn wild_round(&self, random: &mut Random, round: usize, out: &mut Vec<u8>) {
@@ -122,19 +140,20 @@ impl Run {
     pub fn write(&self, out: &mut impl Write) -> io::Result<u64> {
         let mut random = Random::new(1);
         let positions = self.positions(&mut random);
-        let mut ring = Ring::start(self.f, &positions, self.listeners);
-        let mut piece = records::start(self.n, self.f, &positions);
+        let mut ring = Ring::start(self.family == OneRound, self.f, &positions, self.listeners);
+        let mut piece = records::start(self.family, self.n, self.f, &positions);
         if self.listeners > 0 {
             piece.extend(records::listeners(self.listeners));
         }
         let mut written = 0;
-        for round in 0..2 * self.phases {
+        let rounds = self.family.rounds() * self.phases;
+        for round in 0..rounds {
             if matches!(self.strikes, Lists | Mix) {
                 self.modelled_round(&mut random, &mut ring, self.struck(round), &mut piece);
             } else {
                 self.wild_round(&mut random, round, &mut piece);
             }
-            if piece.len() >= 1 << 16 || round + 1 == 2 * self.phases {
+            if piece.len() >= 1 << 16 || round + 1 == rounds {
                 out.write_all(&piece)?;
                 written += piece.len() as u64;
                 piece.clear();
