@@ -165,15 +165,15 @@ fn size(random: &mut Random, family: Family, kind: Kind) -> (usize, usize) {
         OneRound => &[(4, 0), (5, 1), (8, 1), (9, 2), (12, 2), (13, 3), (29, 7), (32, 7)],
     };
     let needs_struck = matches!(kind, Edge | PlantedFault);
+    let fits = |&(_, f): &(usize, usize)| f > 0 || !needs_struck;
     match random.below(4) {
         _ if kind == Twofold => random.pick(&TWOFOLD),
-        0 | 1 if needs_struck => random.pick(&known[known.len() - 7..]),
-        0 | 1 => random.pick(known),
+        0 | 1 => random.pick(&known.iter().copied().filter(fits).collect::<Vec<_>>()),
         2 if kind == Stubborn && family == TwoRounds => (8, 2),
         _ => loop {
             let n = 1 + random.below(32);
             let f = random.below(family.highest_limit(n) + 1);
-            if f > 0 || !needs_struck {
+            if fits(&(n, f)) {
                 break (n, f);
             }
         },

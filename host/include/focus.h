@@ -114,11 +114,11 @@ enum focus_phase_bytes { FOCUS_PLAY_ONE_ROUND = 8, FOCUS_PLAY_TWO_ROUNDS = 16 };
  * for the listeners of these numbers: the position of each one that is sound at that end, and 0 elsewhere. The word
  * has a bit for each head and listener struck in the phase's last round: the confession round, which the listing's last
  * column shows, or in a one-round ring its only one, which the column before that shows. At the start, row 0, it has
- * the bits of all listeners, which hold no position yet. The listing's length is put in *length and the number of phase ends in *ends; what is
- * behind them in the three buffers stays as it was.
+ * the bits of all listeners, which hold no position yet. The listing's length is put in *length and the number of phase
+ * ends in *ends; what is behind them in the three buffers stays as it was.
  * Returns the number of the file's first fault (1, 2, 18, 4, 13, 14, 26), or 0 if it is played to its end. Returns 24,
- * with nothing written, if a buffer is shorter than the macros say by the file's own phase. Sizes of rows and words are in numbers, not
- * bytes. Takes about 230 KB of stack.
+ * with nothing written, if a buffer is shorter than the three macros say with the file's own phase. Sizes of rows and
+ * words are in numbers, not bytes. Takes about 230 KB of stack.
  * Promised: `PlaysInto` (crates/run_whole/specs/Whole.antt), with demand 3 for any two of the rows. */
 uint8_t focus_play(const uint8_t *file, size_t bytes, uint8_t *out, size_t out_size, int32_t *rows, size_t rows_size,
                    uint64_t *words, size_t words_size, size_t *length, size_t *ends);
@@ -132,11 +132,10 @@ uint8_t focus_play(const uint8_t *file, size_t bytes, uint8_t *out, size_t out_s
  * 15 and 23 are room for later calls: no call changes them.
  *
  * A block is made by a start or restart, of a head or a listener, of either family, that answers 0, of whatever it
- * held. Of such a block, after any calls: its record is one that the paper's calls can
- * reach, so demand 2 holds of it, and what it offers is what its round settles (crates/head_c/specs/Made.antt). Every
- * other content is some record too, so no block makes a call undefined; but nothing is promised of the ring then. A
- * block of zeros is a head of a ring of no heads, in phase 0: hearing is refused 3, and closing is taken (0), so a
- * forgotten start is not noticed there.
+ * held. Of such a block, after any calls: its record is one that the paper's calls can reach, so demand 2 holds of it,
+ * and what it offers is what its round settles (crates/head_c/specs/Made.antt). Every other content is some record too,
+ * so no block makes a call undefined; but nothing is promised of the ring then. A block of zeros is a head of a ring of
+ * no heads, in phase 0: hearing is refused 3, and closing is taken (0), so a forgotten start is not noticed there.
  * Promised of each call: crates/head_c/specs/Blocks.antt says which record a block is, crates/head_c/specs/Events.antt
  * what stands beside it after a call, and crates/head_c/src which words change. */
 typedef struct focus_head {
@@ -202,9 +201,10 @@ uint8_t focus_head_hear_batch(focus_head *head, const uint8_t *batch, size_t len
 uint8_t focus_head_write(const focus_head *head, uint8_t *buffer, size_t room, size_t *length);
 
 /* Closes the round. A collection round ends: its list stands, and the confession round is open. A confession round, and
- * every round of a one-round ring, only offers a new position (document 02, A8): the head stays as it is in every way, phase, round, position, kept range and
- * window, until the offer is adopted. Closing again offers the same again. Refusals 26, 25 (more than 3f nulls; in a one-round
- * ring more than 2f), of which 25 is an event and changes nothing else. */
+ * every round of a one-round ring, only offers a new position (document 02, A8): the head stays as it is in every way,
+ * phase, round, position, kept range and window, until the offer is adopted. Closing again offers the same again.
+ * Refusals 26, 25 (more than 3f nulls; in a one-round ring more than 2f), of which 25 is an event and changes nothing
+ * else. */
 uint8_t focus_head_close(focus_head *head);
 
 /* Adopts what is offered: the head holds the new position and its kept range, the next phase is open, and the event of
@@ -232,9 +232,10 @@ uint8_t focus_head_kept(const focus_head *head, focus_kept *kept);
  * promise, crates/head_window/specs/Window.antt says what each byte is
  *
  * Bytes 0 to 2 are n, f and the head's number. Byte 3 has bit 0 if a position is held, bit 1 if the head was healed in
- * this round, bit 2 in a confession round, which a one-round ring has none of. Bytes 4 and 5 are the phase, 6 to 9 the position, or 0 if there is none, each
- * lowest byte first. After the last phase end phase and bit 2 stay, and bit 1 is 0. Byte 10 is the pending events, byte
- * 11 the mask. All else is 0. Refusal 26 is not checked here: the window goes on after the last phase end.
+ * this round, bit 2 in a confession round, which a one-round ring does not have. Bytes 4 and 5 are the phase, 6 to 9 the
+ * position, or 0 if there is none, each lowest byte first. After the last phase end phase and bit 2 stay, and bit 1 is 0.
+ * Byte 10 is the pending events, byte 11 the mask. All else is 0. Refusal 26 is not checked here: the window goes on
+ * after the last phase end.
  *
  * Events and mask stand beside the head. A start clears both, a restart sets FOCUS_EVENT_STRIKE_OVER, an adoption, which
  * ends a phase, sets FOCUS_EVENT_PHASE_END, and a closing that is refused 25 sets FOCUS_EVENT_TOO_FEW and changes nothing
