@@ -87,7 +87,7 @@ pub fn hear_batch(h: &mut Head, batch: &[u8], answers: &mut [u8], count: &mut us
     out.refusal
 }
 
-// Closes the round, or refuses 26, 25: it ends a collection round, and answers the position of a confession round, which is the offer that stands beside the record
+// Closes the round, or refuses 26, 25: it ends a collection round, and answers the position of a phase's last round, which is the offer that stands beside the record
 // then. `head_calls::offered` and `head_calls::lapsed` say what becomes of an offer.
 pub fn close(h: &mut Head) -> Closed
     ensures { λ r. ⌜ (r ≡ close (now (h .entry)) .closed) × (now (h .exit) ≡ close (now (h .entry)) .head) ⌝ }

@@ -1,4 +1,5 @@
-// A collection round of a whole ring, played on the heads' memory: the list of each head that is not struck. What all unstruck heads say is heard once.
+// The rounds of a whole ring in which heads send positions, played on the heads' memory: a collection round, which leaves the list of each head that is not struck,
+// and a phase of one round, which leaves a position. What all unstruck heads say is heard once.
 ghost use mathlib.Core.Bool.{cond};
 ghost use mathlib.Core.Path.{_≡_};
 ghost use Prim.Native.Nat.{ℕ, _<_};

@@ -12,7 +12,7 @@ use Rattle.ring_spec.specs.Rounds.{Ring, receivers, isReceiver}
 use Rattle.ring_play.specs.Memory.{rowIn}
 use Rattle.run_state.specs.Memory.{Memory}
 
--- of the heads that were not struck in the round before: a collection round finds each with a position; a head healed in it has none in the confession round
+-- of the heads that were not struck in the round before: round 0 finds each with a position; a head healed in collection has none in the confession round
 pub record HeadsOf (n m : ℕ) (R : Ring) (M : Memory) : Type 0 where
   pub collection : R .round ≡ 0
       → Each n (λ i. bitOf (R .before) i ≡ false → R .heads i .seat .position ≡ Entry.Position (getD (M .positions) i (pos 0)))

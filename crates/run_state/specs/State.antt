@@ -30,7 +30,7 @@ pub record PlayerOf (p : Player) (F : File) : Type 0 where
   pub fault : F .fault ≡ p .fault
 
 -- The memory holds what the records of the heads hold, and what is planted in the pending round. Free, since nothing reads it: the numbers of receivers that
--- were struck or that the ring does not have, those of listeners before their first phase end, the lists in a collection round, the slots if no round is pending,
+-- were struck or that the ring does not have, those of listeners before their first phase end, the lists in round 0, the slots if no round is pending,
 -- those of senders that the ring does not have, and the bytes of a slot past its length.
 pub record MemoryOf (F : File) (M : Memory) : Type 0 where
   pub keeps : F .setup .begun ≡ true → HeadsOf (F .setup .n) (F .setup .listeners) (ringBefore F) M
