@@ -10,6 +10,7 @@ use lib.IntN.{pos}
 use lib.ListN.{length, take, drop, length-drop}
 use lib.Seq.{drop-drop}
 use borrow.Author.Tests.{leb-true, eq-eqb, ne-eqb}
+use Rattle.terms.specs.declared.Family.the-variants.{TwoRounds}
 use Rattle.fields.specs.Bytes.{at2}
 use Rattle.head_spec.specs.declared.Head.{Head}
 use Rattle.head_spec.specs.declared.Offer.{Offer}
@@ -80,5 +81,5 @@ pub none-left : (script : List ℕ) (at : ℕ) → length script ≤ at → leng
 none-left script at l = rw (length-drop at script) (omega arith)
 
 -- all of it
-pub starts : (script : List ℕ) {h : Head} → h ≡ started 1 0 0 (pos 0) → playedUpTo (length script) script (record { number = 0; head = h; offer = Offer.Nothing }) ≡ played script
+pub starts : (script : List ℕ) {h : Head} → h ≡ started TwoRounds 1 0 0 (pos 0) → playedUpTo (length script) script (record { number = 0; head = h; offer = Offer.Nothing }) ≡ played script
 starts script e = rw e

@@ -6,6 +6,8 @@ use lib.Dec.{ltb, leb, eqb}
 use lib.IntN.{pos}
 use lib.ListN.{length, getD, take, drop, replicate}
 use Rattle.terms.specs.Refusals.{leaves}
+use Rattle.terms.specs.declared.Family.{Family}
+use Rattle.terms.specs.declared.Family.the-variants.{TwoRounds, OneRound}
 use Rattle.fields.specs.Bytes.{at2, at4, signedAt}
 use Rattle.head_spec.specs.declared.Head.{Head}
 use Rattle.head_spec.specs.declared.Answer.{Answer}
@@ -20,13 +22,21 @@ use Rattle.headplay.specs.declared.Outcome.{Outcome}
 abbrev pub answered : Answer → Offer → Outcome
 answered a o = record { number = a .refusal; head = a .head; offer = lapsed (a .refusal) o }
 
+-- the family of the ring that calls 0 to 3 are for: byte 23, 0 for phases of two rounds
+abbrev pub familyIn : ℕ → Family
+familyIn zero = TwoRounds
+familyIn (suc b) = OneRound
+
+abbrev pub familyAt : List ℕ → Family
+familyAt s = familyIn (getD s 23 0)
+
 -- calls 0 to 3, with the arguments of the record s
 unfoldable pub opening : ℕ → List ℕ → Head → Answer
 opening c s h =
-    cond (eqb c 0) (start h (at4 s 3) (at4 s 7) (at4 s 11) (signedAt s 15))
-    (cond (eqb c 1) (restart h (at4 s 3) (at4 s 7) (at4 s 11) (at4 s 15) (at4 s 19))
-    (cond (eqb c 2) (startListener h (at4 s 3) (at4 s 7) (at4 s 11))
-    (restartListener h (at4 s 3) (at4 s 7) (at4 s 11) (at4 s 15) (at4 s 19))))
+    cond (eqb c 0) (start h (familyAt s) (at4 s 3) (at4 s 7) (at4 s 11) (signedAt s 15))
+    (cond (eqb c 1) (restart h (familyAt s) (at4 s 3) (at4 s 7) (at4 s 11) (at4 s 15) (at4 s 19))
+    (cond (eqb c 2) (startListener h (familyAt s) (at4 s 3) (at4 s 7) (at4 s 11))
+    (restartListener h (familyAt s) (at4 s 3) (at4 s 7) (at4 s 11) (at4 s 15) (at4 s 19))))
 
 -- frames heard in one call, with room for so many answers
 unfoldable pub batched : Head → List ℕ → ℕ → Offer → Outcome
@@ -71,4 +81,4 @@ playedUpTo (suc m) s x =
 
 -- no script has more records than bytes; at first the head is head 0 of a ring of one, at 0
 abbrev pub played : List ℕ → Outcome
-played s = playedUpTo (length s) s (record { number = 0; head = started 1 0 0 (pos 0); offer = Offer.Nothing })
+played s = playedUpTo (length s) s (record { number = 0; head = started TwoRounds 1 0 0 (pos 0); offer = Offer.Nothing })

@@ -6,7 +6,7 @@
 //     0 start: n, f, number, position           3 restart_listener: n, f, number, phase, round      6 write: room
 //     1 restart: n, f, number, phase, round     4 hear: link, then the frame                        7 close
 //     2 start_listener: n, f, number            5 hear_batch: room for answers, then the batch      8 adopt
-// Any other number is a look at the record.
+// Any other number is a look at the record. Of calls 0 to 3, byte 23 is the family: 0, or missing, if phases have two rounds, else one (document 02, A9).
 //
 // A line: the call's name and what it gave (a frame or the answers to a batch in hexadecimal, `listed`, or the lowest and highest kept, the trim and the position), a colon, the call's
 // number, then what the host holds: phase, round, position or `none`, and the offer or `none`. The last line is `end`, or `cut` if the script ends inside a record.
@@ -15,11 +15,12 @@ ghost use mathlib.Core.List.{List};
 ghost use Prim.Native.Nat.{ℕ};
 ghost use lib.IntN.{pos};
 ghost use lib.ListN.{length, take};
+ghost use Rattle.terms.specs.declared.Family.the-variants.{TwoRounds};
 ghost use Rattle.head_spec.specs.Batch.{hearBatch, batchAnswers, batchCount};
 ghost use Rattle.head_spec.specs.Calls.{started, start, restart, startListener, restartListener, hear, close, adopt, writeAnswer, writeBuffer};
 ghost use Rattle.head_spec.specs.Offers.{lapsedBy};
 ghost use Rattle.head_lent.specs.Answers.{closedNumber, writtenNumber, writtenOr};
-ghost use Rattle.headplay.specs.Script.{answered, opening, batched, written, closed, turn, recordSize, played};
+ghost use Rattle.headplay.specs.Script.{answered, familyAt, opening, batched, written, closed, turn, recordSize, played};
 use head_spec::Answer;
 use head_spec::Closed;
 use head_spec::Closing;
@@ -31,39 +32,48 @@ use libc::STDIN_FILENO;
 use libc::STDOUT_FILENO;
 use settle_midpoint::Kept;
 use terms::Entry;
+use terms::Family;
 use terms::Table;
 
 // ---- The record, lent: each function puts it into a local, lends that to the call, and gives back what the call answers and the record that it left.
 
-fn start(h: Head, n: u32, f: u32, number: u32, position: i32) -> Answer
-    ensures { λ r. ⌜ r ≡ start h n f number position ⌝ }
+fn start(h: Head, family: Family, n: u32, f: u32, number: u32, position: i32) -> Answer
+    ensures { λ r. ⌜ r ≡ start h family n f number position ⌝ }
 {
     let mut g = h;
-    let refusal = head_lent::start(&mut g, n, f, number, position);
+    let refusal = head_lent::start(&mut g, family, n, f, number, position);
     Answer { refusal, head: g }
 }
 
-fn restart(h: Head, n: u32, f: u32, number: u32, phase: u32, round: u32) -> Answer
-    ensures { λ r. ⌜ r ≡ restart h n f number phase round ⌝ }
+fn restart(h: Head, family: Family, n: u32, f: u32, number: u32, phase: u32, round: u32) -> Answer
+    ensures { λ r. ⌜ r ≡ restart h family n f number phase round ⌝ }
 {
     let mut g = h;
-    let refusal = head_lent::restart(&mut g, n, f, number, phase, round);
+    let refusal = head_lent::restart(&mut g, family, n, f, number, phase, round);
     Answer { refusal, head: g }
 }
 
-fn start_listener(h: Head, n: u32, f: u32, number: u32) -> Answer
-    ensures { λ r. ⌜ r ≡ startListener h n f number ⌝ }
+fn start_listener(h: Head, family: Family, n: u32, f: u32, number: u32) -> Answer
+    ensures { λ r. ⌜ r ≡ startListener h family n f number ⌝ }
 {
     let mut g = h;
-    let refusal = head_lent::start_listener(&mut g, n, f, number);
+    let refusal = head_lent::start_listener(&mut g, family, n, f, number);
     Answer { refusal, head: g }
 }
 
-fn restart_listener(h: Head, n: u32, f: u32, number: u32, phase: u32, round: u32) -> Answer
-    ensures { λ r. ⌜ r ≡ restartListener h n f number phase round ⌝ }
+fn restart_listener(
+    h: Head,
+    family: Family,
+    n: u32,
+    f: u32,
+    number: u32,
+    phase: u32,
+    round: u32,
+) -> Answer
+    ensures { λ r. ⌜ r ≡ restartListener h family n f number phase round ⌝ }
 {
     let mut g = h;
-    let refusal = head_lent::restart_listener(&mut g, n, f, number, phase, round);
+    let refusal = head_lent::restart_listener(&mut g, family, n, f, number, phase, round);
     Answer { refusal, head: g }
 }
 
@@ -182,10 +192,21 @@ fn answered(a: Answer, offer: Offer) -> Outcome
     }
 }
 
+// The family of the ring that a start or restart is for: byte 23 is 0, or missing, for phases of two rounds.
+fn family_at(s: &[u8]) -> Family
+    ensures { λ r. ⌜ r ≡ familyAt (now (s .entry)) ⌝ }
+{
+    if fields::byte_at(s, 23) == 0 {
+        return Family::TwoRounds;
+    }
+    Family::OneRound
+}
+
 // Calls 0 to 3.
 fn opening(call: u8, s: &[u8], h: Head) -> Answer
     ensures { λ r. ⌜ r ≡ opening call (now (s .entry)) h ⌝ }
 {
+    let family = family_at(s);
     let n = fields::word_at(s, 3);
     let f = fields::word_at(s, 7);
     let number = fields::word_at(s, 11);
@@ -193,18 +214,18 @@ fn opening(call: u8, s: &[u8], h: Head) -> Answer
     let fifth = fields::word_at(s, 19);
     if call == 0 {
         text(b"start");
-        return start(h, n, f, number, fields::signed(fourth));
+        return start(h, family, n, f, number, fields::signed(fourth));
     }
     if call == 1 {
         text(b"restart");
-        return restart(h, n, f, number, fourth, fifth);
+        return restart(h, family, n, f, number, fourth, fifth);
     }
     if call == 2 {
         text(b"start_listener");
-        return start_listener(h, n, f, number);
+        return start_listener(h, family, n, f, number);
     }
     text(b"restart_listener");
-    restart_listener(h, n, f, number, fourth, fifth)
+    restart_listener(h, family, n, f, number, fourth, fifth)
 }
 
 // The offer after frames with these answers were heard.
@@ -346,9 +367,10 @@ fn show(x: Outcome) {
 
 // Head 0 of a ring of one, at 0.
 fn first() -> Head
-    ensures { λ r. ⌜ r ≡ started 1 0 0 (pos 0) ⌝ }
+    ensures { λ r. ⌜ r ≡ started TwoRounds 1 0 0 (pos 0) ⌝ }
 {
     let seat = Seat {
+        family: Family::TwoRounds,
         n: 1,
         f: 0,
         number: 0,
