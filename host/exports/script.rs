@@ -3,6 +3,7 @@
 use crate::calls::Call;
 use crate::random::Random;
 use crate::rounds;
+use crate::rules::family::Family;
 use crate::rules::head::Head;
 use crate::rules::window::Device;
 
@@ -16,12 +17,17 @@ fn record(call: u8, numbers: &[u32], bytes: &[u8]) -> Vec<u8> {
     [&length.to_le_bytes()[..], &[call], &numbers, bytes].concat()
 }
 
+/// The byte behind the five numbers that says the family; it may be missing.
+fn of(family: Family) -> Vec<u8> {
+    if family == Family::OneRound { vec![1] } else { Vec::new() }
+}
+
 fn written(call: &Call) -> Vec<u8> {
     match call {
-        Call::Start { n, f, number, position } => record(0, &[*n, *f, *number, *position as u32], &[]),
-        Call::Restart { n, f, number, phase, round } => record(1, &[*n, *f, *number, *phase, *round], &[]),
-        Call::StartListener { n, f, number } => record(2, &[*n, *f, *number], &[]),
-        Call::RestartListener { n, f, number, phase, round } => record(3, &[*n, *f, *number, *phase, *round], &[]),
+        Call::Start { family, n, f, number, position } => record(0, &[*n, *f, *number, *position as u32, 0], &of(*family)),
+        Call::Restart { family, n, f, number, phase, round } => record(1, &[*n, *f, *number, *phase, *round], &of(*family)),
+        Call::StartListener { family, n, f, number } => record(2, &[*n, *f, *number, 0, 0], &of(*family)),
+        Call::RestartListener { family, n, f, number, phase, round } => record(3, &[*n, *f, *number, *phase, *round], &of(*family)),
         Call::Hear { link, frame } => record(4, &[*link], &frame.0),
         Call::HearBatch { batch, room, .. } => record(5, &[], &[&[*room as u8], &batch.0[..]].concat()),
         Call::Write { room, .. } => record(6, &[], &[*room as u8]),
@@ -36,7 +42,7 @@ fn written(call: &Call) -> Vec<u8> {
 pub fn script(seed: u64) -> Result<Vec<u8>, String> {
     let mut random = Random::new(seed);
     let mut script = Vec::new();
-    let head = Head::start(1, 0, 0, 0).map_err(|number| format!("refused {number}"))?;
+    let head = Head::start(Family::TwoRounds, 1, 0, 0, 0).map_err(|number| format!("refused {number}"))?;
     let mut device = Device { head, events: 0, mask: 0, offer: None };
     rounds::sequence(&mut random, true, &mut |call| {
         script.extend(written(&call));

@@ -1,5 +1,6 @@
 //! One head's shift: a script of calls, a line for each call. crates/headplay/src/main.rt says what a script and a line are.
 
+use crate::rules::family::Family;
 use crate::rules::head::Head;
 use crate::rules::midpoint::Kept;
 use crate::rules::window::Device;
@@ -35,12 +36,13 @@ fn time(device: &Device) -> (usize, usize) {
 /// The call of a record: its name, and what it gives.
 fn turn(device: &mut Device, record: &[u8]) -> (&'static str, Result<String, u8>) {
     let [n, f, number, fourth, fifth] = [0, 1, 2, 3, 4].map(|k| word(record, k));
+    let family = if field(record, 23, 1) == 0 { Family::TwoRounds } else { Family::OneRound };
     let nothing = |()| String::new();
     match record[2] {
-        0 => ("start", device.start(n, f, number, fourth as u32 as i32).map(nothing)),
-        1 => ("restart", device.restart(n, f, number, fourth, fifth).map(nothing)),
-        2 => ("start_listener", device.start_listener(n, f, number).map(nothing)),
-        3 => ("restart_listener", device.restart_listener(n, f, number, fourth, fifth).map(nothing)),
+        0 => ("start", device.start(family, n, f, number, fourth as u32 as i32).map(nothing)),
+        1 => ("restart", device.restart(family, n, f, number, fourth, fifth).map(nothing)),
+        2 => ("start_listener", device.start_listener(family, n, f, number).map(nothing)),
+        3 => ("restart_listener", device.restart_listener(family, n, f, number, fourth, fifth).map(nothing)),
         4 => ("hear", device.hear(n, record.get(7..).unwrap_or(&[])).map(nothing)),
         5 => {
             let mut answers = vec![0; field(record, 3, 1)];
@@ -53,9 +55,9 @@ fn turn(device: &mut Device, record: &[u8]) -> (&'static str, Result<String, u8>
             ("write", length.map(|length| hexadecimal(&buffer[..length])))
         }
         7 => {
-            let (_, round) = time(device);
+            let ends = device.head.family == Family::OneRound || time(device).1 == 1;
             let offered = |device: &Device| device.offer.map_or(String::new(), kept);
-            ("close", device.close().map(|()| if round == 0 { " listed".to_owned() } else { offered(device) }))
+            ("close", device.close().map(|()| if ends { offered(device) } else { " listed".to_owned() }))
         }
         8 => ("adopt", device.adopt().map(nothing)),
         _ => ("look", Ok(String::new())),
@@ -64,7 +66,7 @@ fn turn(device: &mut Device, record: &[u8]) -> (&'static str, Result<String, u8>
 
 /// Plays a script.
 pub fn play(script: &[u8], output: &mut impl Write) -> io::Result<()> {
-    let head = Head::start(1, 0, 0, 0).expect("a ring of one");
+    let head = Head::start(Family::TwoRounds, 1, 0, 0, 0).expect("a ring of one");
     let mut device = Device { head, events: 0, mask: 0, offer: None };
     let mut rest = script;
     while !rest.is_empty() {

@@ -11,7 +11,7 @@ pub const MOST_LISTENERS: usize = 16;
 
 /// A head, or a listener (document 02, A6): a listener has a number of its own, hears and closes as a head does, and sends nothing.
 pub struct Head {
-    family: Family,
+    pub family: Family,
     pub(super) n: usize,
     pub(super) f: usize,
     pub(super) number: usize,
