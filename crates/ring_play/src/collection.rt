@@ -208,6 +208,27 @@ fn position_of(s: Stage, list: Table) -> i32
     }
 }
 
+// The new position of receiver i, after those before it have theirs: receivers that are told alike settle the same.
+fn position_after(
+    s: Stage,
+    sent: Table,
+    planted: &[u8],
+    lengths: &[u8],
+    i: usize,
+    last: Before,
+    positions: &[i32],
+) -> i32
+    requires { ⌜ (i < 48) × SettlesBefore s i last × (length (now positions) ≡ 48) × Shared s sent ⌝ }
+    ensures { λ r. ⌜ ((S : Shared s sent)
+        → HeldBefore s i (λ m. settledFrom s (tableAt (tableOf (heads s) (heardWith s (S .entry) (plantedIn (now (planted .entry)) (now (lengths .entry))) m)))) (λ m. getD (now (positions .entry)) m (pos 0))
+        → r ≡ settledFrom s (tableAt (tableOf (heads s) (heardWith s (S .entry) (plantedIn (now (planted .entry)) (now (lengths .entry))) i)))) ⌝ }
+{
+    match round::told_before(s, planted, lengths, i, last) {
+        Before::As(m) => positions[m],
+        Before::None => position_of(s, list_for(s, sent, planted, lengths, i)),
+    }
+}
+
 // Stores the new position of each receiver that is not struck.
 fn fill_positions(s: Stage, sent: Table, planted: &[u8], lengths: &[u8], positions: &mut [i32])
     requires { ⌜ (length (now positions) ≡ 48) × Shared s sent ⌝ }
@@ -217,12 +238,13 @@ fn fill_positions(s: Stage, sent: Table, planted: &[u8], lengths: &[u8], positio
         (getD (now (positions .entry)) i (pos 0))) ⌝ }
 {
     let end = round::receiver_end(s);
+    let mut last = Before::None;
     let mut i: usize = 0;
     while i < end {
         if round::settles(s, i) {
-            let list = list_for(s, sent, planted, lengths, i);
-            let v = position_of(s, list);
-            positions[i] = v;
+            let told = position_after(s, sent, planted, lengths, i, last, positions);
+            last = Before::As(i);
+            positions[i] = told;
         }
         i += 1;
     }
