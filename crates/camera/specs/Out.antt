@@ -12,11 +12,7 @@ use Rattle.steps.specs.declared.scale.Unscaled.{Unscaled}
 use Rattle.steps.specs.declared.scale.Unscaled.the-variants as unscale
 use Rattle.steps.specs.Unscale.{Answers}
 
--- of the midpoint: the number, and the new position or what stood there
-abbrev pub settledNumber : Settled → ℕ
-settledNumber (Refused c) = c
-settledNumber (New k) = 0
-
+-- of the midpoint, beside its number: the new position or what stood there
 abbrev pub settledOr : Settled → ℤ → ℤ
 settledOr (Refused c) old = old
 settledOr (New k) old = k .position

@@ -17,7 +17,7 @@ use Rattle.convergence.specs.Settling.{nulls, trim, twoRounds, insert, ordered,
 use Rattle.convergence.specs.Trust.{Given, nothing, confessed, gave, support, confessions, seen, trusted}
 use Rattle.convergence.specs.Phases.{rounding}
 use Rattle.convergence.specs.Demand3.{Halves}
-use Rattle.settle_midpoint.specs.Answers.{settling}
+use Rattle.settle_midpoint.specs.Answers.{settling, settledNumber}
 use Rattle.settle_midpoint.specs.declared.Settled.{Settled}
 use Rattle.settle_midpoint.specs.declared.Settled.the-variants.{Refused, New}
 
@@ -41,17 +41,13 @@ abbrev pub settledEntry : Settled → Entry
 settledEntry (Refused c) = Null
 settledEntry (New k) = Position (k .position)
 
-abbrev pub refusalNumber : Settled → ℕ
-refusalNumber (Refused c) = c
-refusalNumber (New k) = 0
-
 abbrev pub PointHolds : Point → Type 0
 PointHolds (taken n f) = sizeRefusal TwoRounds n f ≡ 0
 PointHolds (refused n f c) = sizeRefusal TwoRounds n f ≡ c
 PointHolds (halving n f) = Halves TwoRounds n f
 PointHolds (no-halving n f) = Halves TwoRounds n f → ⊥
 PointHolds (settles p n f l v) = settledEntry (settling (rounding p) n (twoRounds f) (table l)) ≡ Position v
-PointHolds (too-few n f l) = refusalNumber (settling (rounding 1) n (twoRounds f) (table l)) ≡ 25
+PointHolds (too-few n f l) = settledNumber (settling (rounding 1) n (twoRounds f) (table l)) ≡ 25
 PointHolds (trusts n f l j e) = trusted n f (links l) j ≡ e
 
 abbrev pub All : List Point → Type 0

@@ -12,26 +12,26 @@ pub enum Answer {
 }
 
 // A refusal number, 0 for none.
-pub fn of_code(code: u8) -> Answer {
+pub(crate) fn of_code(code: u8) -> Answer {
     if code == 0 {
         return Answer::Taken;
     }
     Answer::Refused(code)
 }
 
-pub fn of_steps(v: i32) -> Answer {
+pub(crate) fn of_steps(v: i32) -> Answer {
     Answer::Number(print::wide(v))
 }
 
 // A count of heads or of bytes; null if it is more than 65,535.
-pub fn of_count(n: usize) -> Answer {
+pub(crate) fn of_count(n: usize) -> Answer {
     if n < 65536 {
         return Answer::Number(n as i64);
     }
     Answer::Null
 }
 
-pub fn of_entry(e: Entry) -> Answer {
+pub(crate) fn of_entry(e: Entry) -> Answer {
     match e {
         Entry::Null => Answer::Null,
         Entry::Position(v) => of_steps(v),
@@ -39,14 +39,14 @@ pub fn of_entry(e: Entry) -> Answer {
 }
 
 // The new position.
-pub fn of_settled(s: Settled) -> Answer {
+pub(crate) fn of_settled(s: Settled) -> Answer {
     match s {
         Settled::Refused(code) => Answer::Refused(code),
         Settled::New(kept) => of_steps(kept.position),
     }
 }
 
-pub fn of_scaled(s: Scaled) -> Answer {
+pub(crate) fn of_scaled(s: Scaled) -> Answer {
     match s {
         Scaled::Refused(code) => Answer::Refused(code),
         Scaled::Nanometres(x) => Answer::Number(x),
@@ -63,7 +63,7 @@ fn show(a: Answer) {
 }
 
 // Words with an answer in place of each `#`.
-pub fn fill(words: &[u8], answers: [Answer; 4]) {
+pub(crate) fn fill(words: &[u8], answers: [Answer; 4]) {
     let mut k: usize = 0;
     let mut at: usize = 0;
     while at < words.len() {
@@ -77,7 +77,7 @@ pub fn fill(words: &[u8], answers: [Answer; 4]) {
     }
 }
 
-pub fn line(a: Answer) {
+pub(crate) fn line(a: Answer) {
     show(a);
     print::text(b"\n");
 }
@@ -93,7 +93,7 @@ fn code(a: Answer) -> i64 {
 }
 
 // Our answer, and in parentheses what a wrong reading gives, after these words.
-pub fn compare(ours: Answer, words: &[u8], wrong: Answer) {
+pub(crate) fn compare(ours: Answer, words: &[u8], wrong: Answer) {
     show(ours);
     print::text(words);
     show(wrong);

@@ -91,7 +91,7 @@ fn too_long_line() {
     answer(&io::large_buffer());
 }
 
-pub fn section() {
+pub(crate) fn section() {
     frame_lines(&FRAMES);
     list_frame_line(5, 32);
     list_frame_line(32, 140);

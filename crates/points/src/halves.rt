@@ -40,7 +40,7 @@ fn half_up_line(c: Pair) {
 }
 
 // How far two positions lie apart.
-pub fn distance(a: i32, b: i32) -> u32 {
+pub(crate) fn distance(a: i32, b: i32) -> u32 {
     let x = fields::unsigned(a);
     let y = fields::unsigned(b);
     if a < b {
@@ -49,7 +49,7 @@ pub fn distance(a: i32, b: i32) -> u32 {
     std::num::wrapping_sub_u32(x, y)
 }
 
-pub fn spread(a: i32, b: i32) -> Answer {
+pub(crate) fn spread(a: i32, b: i32) -> Answer {
     Number(distance(a, b) as i64)
 }
 
@@ -78,7 +78,7 @@ fn four(words: &[u8], a: i32, b: i32, c: i32, d: i32) {
     );
 }
 
-pub fn section() {
+pub(crate) fn section() {
     let mut i: usize = 0;
     while i < ODD_BELOW_ZERO.len() {
         half_down_line(ODD_BELOW_ZERO[i]);

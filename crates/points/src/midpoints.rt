@@ -64,7 +64,7 @@ fn bytes_of(entries: [i32; 8]) -> [u8; 32] {
 }
 
 // A short list as a table.
-pub fn table_of(marks: u32, list: [i32; 8]) -> Table {
+pub(crate) fn table_of(marks: u32, list: [i32; 8]) -> Table {
     let mut entries = [0i32; 32];
     let mut j: usize = 0;
     while j < 8 {
@@ -115,7 +115,7 @@ fn trims() {
     }
 }
 
-pub fn section() {
+pub(crate) fn section() {
     trims();
     let mut i: usize = 0;
     while i < MIDPOINTS.len() {

@@ -2,22 +2,22 @@
 use libc::STDOUT_FILENO;
 use terms::Table;
 
-pub fn text(words: &[u8]) {
+pub(crate) fn text(words: &[u8]) {
     io::write_all(STDOUT_FILENO, words);
 }
 
 // Words, then a number.
-pub fn count(words: &[u8], n: u64) {
+pub(crate) fn count(words: &[u8], n: u64) {
     text(words);
     io::print_decimal(STDOUT_FILENO, n);
 }
 
-pub fn wide(v: i32) -> i64 {
+pub(crate) fn wide(v: i32) -> i64 {
     v as i64
 }
 
 // A number with a sign.
-pub fn number(v: i64) {
+pub(crate) fn number(v: i64) {
     if v < 0 {
         count(b"-", 1 + (-1 - v) as u64);
     } else {
@@ -26,14 +26,14 @@ pub fn number(v: i64) {
 }
 
 // A space before all but the first of a list.
-pub fn space(j: usize) {
+pub(crate) fn space(j: usize) {
     if 0 < j {
         text(b" ");
     }
 }
 
 // An entry, by its mark.
-pub fn entry(is_position: bool, v: i32) {
+pub(crate) fn entry(is_position: bool, v: i32) {
     if is_position {
         number(wide(v));
     } else {
@@ -42,7 +42,7 @@ pub fn entry(is_position: bool, v: i32) {
 }
 
 // The first n entries of a table.
-pub fn table(n: usize, t: Table) {
+pub(crate) fn table(n: usize, t: Table) {
     let mut j: usize = 0;
     while j < 32 {
         if j < n {
@@ -54,7 +54,7 @@ pub fn table(n: usize, t: Table) {
 }
 
 // Words, then the heads that are marked.
-pub fn heads(words: &[u8], marks: u32) {
+pub(crate) fn heads(words: &[u8], marks: u32) {
     text(words);
     if marks == 0 {
         text(b" none");
@@ -73,7 +73,7 @@ fn byte(b: u8) {
 }
 
 // Bytes in hexadecimal.
-pub fn bytes(s: &[u8]) {
+pub(crate) fn bytes(s: &[u8]) {
     let mut k: usize = 0;
     while k < s.len() {
         space(k);
@@ -83,7 +83,7 @@ pub fn bytes(s: &[u8]) {
 }
 
 // The first len bytes; all of them if they are fewer.
-pub fn front(s: &[u8], len: usize) -> &[u8] {
+pub(crate) fn front(s: &[u8], len: usize) -> &[u8] {
     if len < s.len() {
         return &s[0..len];
     }

@@ -104,7 +104,7 @@ fn receivers(first: Round, second: Round) {
     );
 }
 
-pub fn section() {
+pub(crate) fn section() {
     let mut i: usize = 0;
     while i < ROUNDS.len() {
         round_line(ROUNDS[i]);

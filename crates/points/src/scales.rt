@@ -50,7 +50,7 @@ fn scale_line(c: Scaling) {
     }
 }
 
-pub fn section() {
+pub(crate) fn section() {
     let mut i: usize = 0;
     while i < SCALES.len() {
         scale_line(SCALES[i]);

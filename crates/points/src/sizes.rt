@@ -73,7 +73,7 @@ fn sizes() {
     }
 }
 
-pub fn section() {
+pub(crate) fn section() {
     sizes();
     let mut i: usize = 0;
     while i < HALVING.len() {

@@ -162,7 +162,7 @@ fn trusted_line(c: Given) {
     }
 }
 
-pub fn section() {
+pub(crate) fn section() {
     let mut i: usize = 0;
     while i < TRUSTED.len() {
         trusted_line(TRUSTED[i]);

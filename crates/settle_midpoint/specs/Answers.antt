@@ -15,6 +15,11 @@ use Rattle.settle_midpoint.specs.declared.Settled.{Settled}
 abbrev pub kept : ℕ → ℕ → List ℤ → Kept
 kept r t l = record { low = lowKept t l; high = highKept t l; trim = t; position = middle r t l }
 
+-- the number of an answer: 0, or that of the refusal
+abbrev pub settledNumber : Settled → ℕ
+settledNumber (Settled.Refused c) = c
+settledNumber (Settled.New k) = 0
+
 -- from n entries, by the rule R: r says how an odd sum is rounded
 unfoldable pub settling : ℕ → ℕ → Rule → (ℕ → Entry) → Settled
 settling r n R E =

@@ -2,7 +2,8 @@
 use mathlib.Core.Path.{refl}
 use mir.Facts.{toZ-ofZ}
 use borrow.Author.Needs.{needs}
-use Rattle.camera.specs.Out.{settledNumber, settledOr}
+use Rattle.settle_midpoint.specs.Answers.{settledNumber}
+use Rattle.camera.specs.Out.{settledOr}
 use Rattle.terms.proofs.Refusals.{given-out}
 use Rattle.camera.proofs.focus_midpoint.Statement.{statement}
 use Rattle.camera.proofs.focus_midpoint.Tie as tie

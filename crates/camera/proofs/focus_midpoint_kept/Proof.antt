@@ -2,7 +2,8 @@
 use mathlib.Core.Path.{refl}
 use borrow.Author.Needs.{needs}
 use Rattle.settle_midpoint.proofs.Stored.{stored}
-use Rattle.camera.specs.Out.{settledNumber, keptOr}
+use Rattle.settle_midpoint.specs.Answers.{settledNumber}
+use Rattle.camera.specs.Out.{keptOr}
 use Rattle.terms.proofs.Refusals.{given-out}
 use Rattle.camera.proofs.focus_midpoint_kept.Statement.{statement}
 use Rattle.camera.proofs.focus_midpoint_kept.Tie as tie
