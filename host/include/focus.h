@@ -103,9 +103,15 @@ enum focus_phase_bytes { FOCUS_PLAY_ONE_ROUND = 8, FOCUS_PLAY_TWO_ROUNDS = 16 };
 #define FOCUS_PLAY_PHASE(file, bytes) \
     ((bytes) >= 4 && (file)[2] == 0x14 && (file)[3] == 0 ? FOCUS_PLAY_ONE_ROUND : FOCUS_PLAY_TWO_ROUNDS)
 
+/* The most phase ends that any run file has: the start, and those of phases 1 to 65,535. */
+#define FOCUS_PLAY_ALL_ENDS 65536
+
 /* How many phase ends a run file of so many bytes can have, the start among them; and the room that its listing and
- * its rows need. phase is FOCUS_PLAY_PHASE of the file; with FOCUS_PLAY_ONE_ROUND there is room for any file. */
-#define FOCUS_PLAY_ENDS(bytes, phase) ((bytes) / (phase) + 1)
+ * its rows need. phase is FOCUS_PLAY_PHASE of the file; with FOCUS_PLAY_ONE_ROUND there is room for any file of so many
+ * bytes. However long a file is, it never has more than FOCUS_PLAY_ALL_ENDS, so all three buffers together never need
+ * more than about 17 MB: a listing of 64 * 65,538 bytes, rows of 48 * 65,536 numbers of 4 bytes, and 65,536 words of 8. */
+#define FOCUS_PLAY_ENDS(bytes, phase) \
+    ((bytes) / (phase) < FOCUS_PLAY_ALL_ENDS ? (bytes) / (phase) + 1 : FOCUS_PLAY_ALL_ENDS)
 #define FOCUS_PLAY_OUT(bytes, phase) (64 * (FOCUS_PLAY_ENDS(bytes, phase) + 2))
 #define FOCUS_PLAY_ROWS(bytes, phase) (48 * FOCUS_PLAY_ENDS(bytes, phase))
 

@@ -12,15 +12,13 @@ use lib.ListN.{length, length-append}
 use borrow.Author.Tests.{leb-true, eqb-true, ltb-false, eq-eqb, ne-eqb, not-true, not-false}
 use Rattle.terms.specs.Refusals.{leaves, unlessRefused}
 use Rattle.terms.specs.Refusals as refusal
-use Rattle.terms.specs.Sizes.{isCount, roundsOf}
+use Rattle.terms.specs.Sizes.{isCount}
 use Rattle.terms.specs.declared.Family.{Family}
-use Rattle.terms.specs.declared.Family.the-variants.{TwoRounds, OneRound}
 use Rattle.terms.proofs.Booleans.{and-both}
 use Rattle.convergence.specs.Counting.{bit}
 use Rattle.head_spec.proofs.Proper.{both-passed}
 use Rattle.ring_spec.specs.Rounds.{Plant, Round}
-use Rattle.ring_spec.proofs.Counts.{Counted, counted}
-use Rattle.run_spec.specs.RunFile.{File, unread, Rounds, roundsGiven, listenersFault, RecordKind, start, round, plant, listeners, strikes, other, lengthIn, kindIn, isAllowed, isFirst, isBare, headCountIn, listenerCountIn, lastPair, thenPlayed, recordFault, withRecord, stopped, judged, withPart, readOn, step, feed, readFile, recordsOf, accepted, ending, roundsPlayed, endsPlayed, endsFrom, allRounds}
+use Rattle.run_spec.specs.RunFile.{File, unread, Rounds, roundsGiven, listenersFault, RecordKind, start, round, plant, listeners, strikes, other, lengthIn, kindIn, isAllowed, isFirst, isBare, headCountIn, listenerCountIn, lastPair, thenPlayed, recordFault, withRecord, stopped, judged, withPart, readOn, step, feed, readFile, recordsOf, accepted}
 use Rattle.run_spec.proofs.Whole.{stands, RoundsFit, kept-on, kept-read, kept}
 use Rattle.run_spec.proofs.Streaming.{feed-append}
 
@@ -134,41 +132,6 @@ cost s =
     (λ F s k one may all sound C. costs-more (kindIn s) F s k one may all sound C)
     (record { begun = λ w. absurd (true≢false (sym w)); part = omega arith; records = λ b. absurd (true≢false (sym b)) })
     s
-
--- ---- how many phase ends that can be
-
--- the start took 10 bytes at least, and each phase 16, or 8 in a ring of one round
-ends-within : (K : Family) {bytes rounds ends phase round : ℕ} → 10 + 8 * rounds ≤ bytes → Counted K rounds ends phase round
-    → 8 * roundsOf K * ends ≤ bytes + 8 * roundsOf K
-ends-within TwoRounds l C = omega arith
-ends-within OneRound l C = omega arith
-
-pub few-ends : (s : List ℕ) → let k = 8 * roundsOf (readFile s .setup .family) in k * length (endsPlayed (readFile s)) ≤ length s + k
-unfolding endsPlayed roundsPlayed
-few-ends s = go (F .setup .begun) (eqb (ending F) 0) refl
-  where
-    F : File
-    F = readFile s
-
-    k : ℕ
-    k = 8 * roundsOf (F .setup .family)
-
-    ends : List Round → ℕ
-    ends ws = length (endsFrom (F .setup) ws)
-
-    few : (b : Bool) → F .setup .begun ≡ true → k * ends (cond b (allRounds (F .rounds)) (F .rounds .played)) ≤ length s + k
-    few true begun =
-        let ws = allRounds (F .rounds) in
-        let C = counted (F .setup .family) (F .setup .n) (F .setup .f) (F .setup .first) ws in
-        ends-within (F .setup .family) (omega (arith, cost s .records begun, length-then (F .rounds .pending) (F .rounds .played) (F .rounds .last))) C
-    few false begun =
-        let C = counted (F .setup .family) (F .setup .n) (F .setup .f) (F .setup .first) (F .rounds .played) in
-        ends-within (F .setup .family) (omega (arith, cost s .records begun)) C
-
-    go : (begun b : Bool) → F .setup .begun ≡ begun
-        → k * length (cond begun (endsFrom (F .setup) (cond b (allRounds (F .rounds)) (F .rounds .played))) []) ≤ length s + k
-    go true b e = few b e
-    go false b e = omega (arith)
 
 -- ---- the records accepted
 

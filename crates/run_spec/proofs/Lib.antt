@@ -4,4 +4,5 @@ pub mod Demand3
 pub mod Streaming
 pub mod Whole
 pub mod Bytes
+pub mod Ends
 pub mod Example

@@ -1,9 +1,9 @@
 -- The family of a file is that of the kind in its first four bytes: until a start is accepted all bytes are those of one record, and no other start is accepted after
--- it. So the bytes that a phase takes at least can be read from the file's front, and with them how many phase ends it can have.
+-- it. So the bytes that a phase takes at least can be read from the file's front, and with them and the last phase how many phase ends it can have.
 use mathlib.Core.Path.{_≡_, refl, ap, sym, _∙_}
 use mathlib.Core.Bool.{Bool, true, false, not, cond, _&&_, true≢false}
 use mathlib.Core.List.{List, [], _∷_, _++_, append-nil}
-use Prim.Native.Nat.{ℕ, zero, suc, _+_, _*_, _/_, _≤_}
+use Prim.Native.Nat.{ℕ, zero, suc, _+_, _*_, _/_, min, _≤_}
 use native.Mathlib.Omega.{arith}
 use native.Mathlib.Decide.{decLe}
 use lib.Dec.{ltb, eqb}
@@ -17,11 +17,12 @@ use Rattle.terms.specs.declared.Family.{Family}
 use Rattle.terms.specs.declared.Family.the-variants.{TwoRounds, OneRound}
 use Rattle.terms.proofs.Booleans.{and-both}
 use Rattle.fields.specs.Bytes.{at2}
-use Rattle.run_spec.specs.RunFile.{File, unread, RecordKind, start, round, plant, listeners, strikes, other, recordKind, kindIn, lengthIn, isAllowed, isBare, recordFault, withRecord, stopped, judged, withPart, readOn, step, feed, readFile}
+use Rattle.run_spec.specs.RunFile.{File, unread, RecordKind, start, round, plant, listeners, strikes, other, recordKind, kindIn, lengthIn, isAllowed, recordFault, withRecord, stopped, judged, withPart, readOn, step, feed, readFile}
 use Rattle.run_spec.proofs.Whole.{stands, heads-front, heads-take, allowed-long, RoundsFit, kept-on, kept-read}
-use Rattle.run_spec.proofs.Bytes.{first-begun, bare-pending}
+use Rattle.run_spec.proofs.Bytes.{first-begun}
+use Rattle.run_spec.proofs.Ends.{FewEnds}
 use Rattle.run_record.proofs.Records.{start-place, round-place, listeners-place, strikes-place}
-use Rattle.run_whole.specs.Buffers.{phaseBytes, mostEnds}
+use Rattle.run_whole.specs.Buffers.{phaseBytes, allEnds, mostEnds}
 
 -- after the bytes a
 record Kinds (a : List ℕ) (F : File) : Type 0 where
@@ -151,16 +152,18 @@ bytes-here k file l begun =
     sym (kind-bytes (at2 file 2)) ∙ ap bytesOfKind (sym (heads-take k file h .kind) ∙ e)
 
 -- so many ends at most
-ends-in : (K : Family) (c l m : ℕ) → 8 * roundsOf K * c ≤ l + 8 * roundsOf K → l ≤ m → c ≤ m / (8 * roundsOf K) + 1
-ends-in TwoRounds c l m h k = omega arith
-ends-in OneRound c l m h k = omega arith
+ends-in : (K : Family) (c l m : ℕ) → 8 * roundsOf K * c ≤ l + 8 * roundsOf K → l ≤ m → c ≤ allEnds → c ≤ min allEnds (m / (8 * roundsOf K) + 1)
+ends-in TwoRounds c l m h k most = omega arith
+ends-in OneRound c l m h k most = omega arith
 
-pub few-in : (k : ℕ) (file : List ℕ) → k ≤ length file → (c : ℕ) → let F = readFile (take k file) in
-    (F .setup .begun ≡ false → c ≡ 0) → 8 * roundsOf (F .setup .family) * c ≤ length (take k file) + 8 * roundsOf (F .setup .family) → c ≤ mostEnds file
-few-in k file l c none h = go (readFile (take k file) .setup .begun) refl
+pub few-in : (k : ℕ) (file : List ℕ) → k ≤ length file → {c : ℕ} → FewEnds (take k file) c → c ≤ mostEnds file
+few-in k file l {c} E = go (F .setup .begun) refl
   where
-    go : (b : Bool) → readFile (take k file) .setup .begun ≡ b → c ≤ mostEnds file
+    F : File
+    F = readFile (take k file)
+
+    go : (b : Bool) → F .setup .begun ≡ b → c ≤ mostEnds file
     go true e =
         rw (bytes-here k file l e)
-        (ends-in (readFile (take k file) .setup .family) c (length (take k file)) (length file) h (omega (arith, length-take-le k file l)))
-    go false e = omega (arith, none e)
+        (ends-in (F .setup .family) c (length (take k file)) (length file) (E .bytes) (omega (arith, length-take-le k file l)) (E .most))
+    go false e = omega (arith, E .none e)

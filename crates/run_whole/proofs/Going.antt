@@ -4,9 +4,8 @@
 use mathlib.Core.Path.{_≡_, refl, ap, sym, _∙_}
 use mathlib.Core.Bool.{Bool, true, false, not, cond, _&&_, _||_, true≢false}
 use mathlib.Core.List.{List, [], _∷_, _++_, append-assoc}
-use Prim.Native.Nat.{ℕ, suc, _+_, _-_, _*_, _≤_, _<_}
+use Prim.Native.Nat.{ℕ, suc, _+_, _-_, _≤_, _<_}
 use native.Mathlib.Omega.{arith}
-use native.Mathlib.Nat.{le-refl}
 use native.Mathlib.Decide.{decLt}
 use lib.Dec.{eqb, ltb, leb}
 use lib.ListN.{length, getD, take}
@@ -14,22 +13,19 @@ use lib.Seq.{length-take-le, take-all}
 use lib.IntN.{ℤ, pos}
 use borrow.Author.Tests.{ltb-true, lt-ltb}
 use Rattle.terms.specs.declared.Entry.{Entry}
-use Rattle.terms.specs.declared.Family.{Family}
-use Rattle.terms.specs.declared.Family.the-variants.{TwoRounds, OneRound}
-use Rattle.terms.specs.Sizes.{roundsOf}
 use Rattle.convergence.specs.Counting.{Each}
 use Rattle.convergence.specs.Phases.{spread}
 use Rattle.convergence.specs.Demand3.{Demand3}
 use Rattle.run_listing.specs.Held.{endIn}
 use Rattle.run_listing.proofs.Lowest.{found-held}
 use Rattle.ring_spec.specs.Rounds.{PhaseEnd, receivers, isReceiver, isOut, asEnd, ringAfter, afterRound}
-use Rattle.ring_spec.proofs.Counts.{Counted, counted}
 use Rattle.run_spec.specs.RunFile.{File, unread, roundsGiven, RecordKind, start, round, plant, listeners, strikes, other, kindIn, lengthIn, isAllowed, thenPlayed, withRecord, feed, readFile, endsSoFar, ending, roundsPlayed, endsPlayed, ringFrom, endsFrom}
 use Rattle.run_spec.specs.Listing.{title, shown, listing}
 use Rattle.run_spec.proofs.Streaming.{feed-append}
 use Rattle.run_spec.proofs.Demand3.{every-file}
 use Rattle.run_spec.proofs.Whole.{kept}
-use Rattle.run_spec.proofs.Bytes.{length-then, first-begun, from, cost, few-ends}
+use Rattle.run_spec.proofs.Bytes.{length-then, first-begun, from}
+use Rattle.run_spec.proofs.Ends.{few-so-far, few-ends}
 use Rattle.run_record.proofs.Records.{start-place, listeners-place}
 use Rattle.run_round.proofs.Converging.{held-at-end}
 use Rattle.run_listing.specs.declared.Text.{Text}
@@ -53,34 +49,6 @@ use Rattle.run_whole.proofs.Rows.{rows-at, rows-recount}
 use Rattle.run_whole.proofs.Telling.{roomy, AtEnd, told-put, told-more, out-long}
 
 -- ---- the file so far
-
--- how many phase ends it can have
-ends-within : (K : Family) {bytes rounds ends phase round : ℕ} → 10 + 8 * rounds ≤ bytes → Counted K rounds ends phase round
-    → 8 * roundsOf K * ends ≤ bytes + 8 * roundsOf K
-ends-within TwoRounds l C = omega arith
-ends-within OneRound l C = omega arith
-
-few-so-far : (s : List ℕ) → let k = 8 * roundsOf (readFile s .setup .family) in k * length (endsSoFar (readFile s)) ≤ length s + k
-few-so-far s = go (F .setup .begun) refl
-  where
-    F : File
-    F = readFile s
-
-    k : ℕ
-    k = 8 * roundsOf (F .setup .family)
-
-    go : (b : Bool) → F .setup .begun ≡ b → k * length (cond b (endsFrom (F .setup) (F .rounds .played)) []) ≤ length s + k
-    go true e =
-        ends-within (F .setup .family) (omega (arith, cost s .records e)) (counted (F .setup .family) (F .setup .n) (F .setup .f) (F .setup .first) (F .rounds .played))
-    go false e = omega arith
-
--- none before a start
-none-so-far : (F : File) → F .setup .begun ≡ false → length (endsSoFar F) ≡ 0
-none-so-far F e = rw e refl
-
-none-played : (F : File) → F .setup .begun ≡ false → length (endsPlayed F) ≡ 0
-unfolding endsPlayed
-none-played F e = rw e refl
 
 -- A start gives the number of heads, and nothing after it another; once a round was given, nothing gives another number of listeners. n, m and r: the heads, the
 -- listeners and the rounds given at first.
@@ -214,7 +182,7 @@ module _ {file : List ℕ} {at : Place} {carry : List ℕ} {M : Memory} {B₀ B 
       let F = readFile (a ++ b) in
       let long = ap length is ∙ length-take-le (at .used + used) file within in
       let few : length (endsSoFar F) ≤ mostEnds file =
-      rw is (few-in (at .used + used) file within _ (none-so-far (readFile (take (at .used + used) file))) (few-so-far (take (at .used + used) file))) in
+      rw is (few-in (at .used + used) file within (few-so-far (take (at .used + used) file))) in
       let ended : (x : PhaseEnd) → endsSoFar F ≡ x ∷ endsSoFar (readFile a) → ringBefore F .round ≡ 0
       → AtEnd (F .setup .n) (F .setup .listeners) x (ringBefore F) (q .before) (M′ .positions) =
       λ x e r.
@@ -338,7 +306,7 @@ module _ {file : List ℕ} {at : Place} {carry : List ℕ} {M : Memory} {B₀ B 
       let L = G .state in
       let room = roomy file B₀ (G .room) in
       let n-s = ap length is in
-      let few : length (endsPlayed F) ≤ mostEnds file = few-in (at .used) file (omega arith) _ (none-played F) (few-ends s) in
+      let few : length (endsPlayed F) ≤ mostEnds file = few-in (at .used) file (omega arith) (few-ends s) in
       let ended : (x : PhaseEnd) → endsPlayed F ≡ x ∷ endsSoFar F → ringAtEnd F .round ≡ 0
       → AtEnd (F .setup .n) (F .setup .listeners) x (ringAtEnd F) (at .player .struck) (M′ .positions) =
       λ x e z.

@@ -1,7 +1,7 @@
 -- The buffers that a whole file is played into: its listing, and a row of 48 numbers, one for each head and listener, and a mark word for each phase end.
 use mathlib.Core.Bool.{Bool, cond, _&&_}
 use mathlib.Core.List.{List}
-use Prim.Native.Nat.{ℕ, _+_, _*_, _/_}
+use Prim.Native.Nat.{ℕ, _+_, _*_, _/_, min}
 use lib.Dec.{eqb, leb}
 use lib.ListN.{length, take, drop}
 use lib.IntN.{ℤ}
@@ -26,9 +26,17 @@ left out ends words = record { out = now (out .exit); ends = now (ends .exit); w
 abbrev pub phaseBytes : List ℕ → ℕ
 phaseBytes file = cond (eqb (at2 file 2) 0x14) 8 16
 
--- how many phase ends a file can have at most: the start, which takes 10 bytes at least, and one for each phase
+-- how many phase ends a file of its length can have at most: the start, which takes 10 bytes at least, and one for each phase
+abbrev pub endsByBytes : List ℕ → ℕ
+endsByBytes file = length file / phaseBytes file + 1
+
+-- how many there are at most in any file: the start, and those of phases 1 to 65,535
+abbrev pub allEnds : ℕ
+allEnds = 65536
+
+-- how many a file can have at most, by both
 abbrev pub mostEnds : List ℕ → ℕ
-mostEnds file = length file / phaseBytes file + 1
+mostEnds file = min allEnds (endsByBytes file)
 
 -- whether buffers of these lengths have room for a file: 64 bytes for each line, 48 numbers and a word for each phase end
 unfoldable pub hasRoom : List ℕ → ℕ → ℕ → ℕ → Bool

@@ -3,11 +3,11 @@
 ghost use mathlib.Core.Bool.{true};
 ghost use mathlib.Core.List.{List};
 ghost use mathlib.Core.Path.{_≡_};
-ghost use Prim.Native.Nat.{ℕ, _+_, _*_, _/_, _≤_, _<_};
+ghost use Prim.Native.Nat.{ℕ, _+_, _*_, _≤_, _<_};
 ghost use lib.ListN.{length};
 ghost use lib.Seq.{paste};
 ghost use Rattle.run_state.specs.Memory.{memoryBefore, memoryAfter};
-ghost use Rattle.run_whole.specs.Buffers.{Buffers, lent, left, mostEnds, hasRoom};
+ghost use Rattle.run_whole.specs.Buffers.{Buffers, lent, left, endsByBytes, mostEnds, hasRoom};
 ghost use Rattle.run_whole.specs.Whole.{Whole, Plays, PlaysInto};
 ghost use Rattle.run_whole.specs.Inner.{Put, soundNumber, soundRow, wordAt, EndKept, Going};
 use frame_slots::PlantedBytes;
@@ -35,15 +35,28 @@ struct Place {
     count: usize,
 }
 
-// How many phase ends a file can have at most: by the kind of its first record a phase takes 8 bytes at least, or 16.
-fn most_ends(file: &[u8]) -> usize
-    ensures { λ r. ⌜ r ≡ mostEnds (now (file .entry)) ⌝ }
-    ensures { λ r. ⌜ r ≤ length (now (file .entry)) / 8 + 1 ⌝ }
+// How many phase ends a file of its length can have at most: by the kind of its first record a phase takes 8 bytes at least, or 16.
+fn ends_by_bytes(file: &[u8]) -> usize
+    ensures { λ r. ⌜ r ≡ endsByBytes (now (file .entry)) ⌝ }
 {
     if fields::half_at(file, 2) == run_judge::START_ONE {
         return file.len() / 8 + 1;
     }
     file.len() / 16 + 1
+}
+
+// How many there are at most in any file: the start, and those of phases 1 to 65,535.
+const ALL_ENDS: usize = 65536;
+
+// How many phase ends a file can have at most: by its bytes, and by the phases that there are.
+fn most_ends(file: &[u8]) -> usize
+    ensures { λ r. ⌜ r ≡ mostEnds (now (file .entry)) ⌝ }
+{
+    let most = ends_by_bytes(file);
+    if ALL_ENDS < most {
+        return ALL_ENDS;
+    }
+    most
 }
 
 // Whether buffers of these lengths have room for a file.

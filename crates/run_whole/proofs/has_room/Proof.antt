@@ -18,10 +18,10 @@ roomFor most out ends words = leb (64 * (most + 2)) out && leb (48 * most) ends 
 -- by the number that was found
 found : (m : tie.After-most-ends) → let a = m .before .before .args in hasRoom (now (a .file)) (a .out) (a .ends) (a .words) ≡ roomFor (m .most-ends .result) (a .out) (a .ends) (a .words)
 unfolding hasRoom
-found m = let a = m .before .before .args in λ t. roomFor (sym (m .most-ends .ensures .0) t) (a .out) (a .ends) (a .words)
+found m = let a = m .before .before .args in λ t. roomFor (sym (m .most-ends .ensures) t) (a .out) (a .ends) (a .words)
 
 fits : tie.Need-add-if1
-fits c = omega (arith, c .most-ends .ensures .1, c .before .before .good .0 .0)
+fits c = omega (arith, c .most-ends .ensures)
 
 returns : tie.Need-returns
 returns c =

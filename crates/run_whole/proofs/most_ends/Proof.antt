@@ -1,29 +1,14 @@
--- `run_whole::most_ends` meets its contract: the two bytes read say how many bytes a phase takes.
-use mathlib.Core.Path.{ap, sym, _∙_}
-use mathlib.Core.Bool.{Bool, cond}
-use Prim.Native.Nat.{ℕ, _+_, _/_}
+-- `run_whole::most_ends` meets its contract: of the two numbers it answers the lower.
 use native.Mathlib.Omega.{arith}
-use lib.Dec.{eqb}
-use lib.ListN.{length}
-use denote.Ref.{now}
 use borrow.Author.Needs.{needs}
-use borrow.Author.Tests.{ne-eqb}
 use Rattle.run_whole.proofs.most_ends.Statement.{statement}
 use Rattle.run_whole.proofs.most_ends.Tie as tie
 
 returns : tie.Need-returns
-returns c =
-    let h = c .before in
-    let s = now (h .before .before .args .file) in
-    let e = sym (h .half-at .ensures) ∙ c .if1 .taken in
-    (ap (λ (k : ℕ). length s / cond (eqb k 0x14) 8 16 + 1) (sym e), omega arith)
+returns c = omega (arith, c .before .ends-by-bytes .ensures)
 
 returns-2 : tie.Need-returns-2
-returns-2 c =
-    let h = c .before in
-    let s = now (h .before .before .args .file) in
-    let e = ne-eqb _ 0x14 (λ z. c .if1 .left (h .half-at .ensures ∙ z)) in
-    (ap (λ (b : Bool). length s / cond b 8 16 + 1) (sym e), omega arith)
+returns-2 c = omega (arith, c .before .ends-by-bytes .ensures)
 
 pub most-ends-spec : {M : Type 1} → statement M
-most-ends-spec = tie.close (tie.spec (λ c κs. search needs) (λ c. search needs) returns (λ c. search needs) returns-2)
+most-ends-spec = tie.close (tie.spec (λ c κs. search needs) returns returns-2)
