@@ -1,21 +1,18 @@
 -- What the private functions promise each other. Readers of the public promises do not need this file.
 use mathlib.Core.Path.{_≡_}
 use mathlib.Core.Bool.{Bool, true, false}
-use mathlib.Core.List.{List, []}
+use mathlib.Core.List.{List}
 use Prim.Native.Nat.{ℕ, _+_, _≤_, _<_}
-use lib.ListN.{length, take}
+use lib.ListN.{length}
 use Rattle.terms.specs.Refusals as refusal
 use Rattle.run_spec.specs.RunFile.{plant, lengthIn, kindIn, allowedWhen}
-use Rattle.run_spec.specs.declared.Pair.{Pair}
-use Rattle.run_listing.specs.Texts.{bytesOf}
 use Rattle.run_state.specs.declared.Player.{Player}
 use Rattle.run_record.specs.declared.RecordResult.{RecordResult}
-use Rattle.run_state.specs.Memory.{Memory, withSlots}
 use Rattle.run_state.specs.Changes.{halted}
 use Rattle.run_record.specs.Next.{allowedTo}
 use Rattle.run_piece.specs.declared.FeedResult.{FeedResult}
-use Rattle.run_piece.specs.declared.PassResult.{PassResult}
-use Rattle.run_piece.specs.Advances.{StateAt, AdvancesOnce}
+
+pub use Rattle.run_piece.specs.Steps.{Quiet, Used, Reads, Waits, withLast, Passes}
 
 -- r bytes are missing: to the end of the header, or to the end of the record
 pub record Missing (have : ℕ) (carry : List ℕ) (r : ℕ) : Type 0 where
@@ -37,65 +34,13 @@ pub record Plants (s : List ℕ) (size : ℕ) : Type 0 where
   pub within : size ≤ length s
   pub allowed : allowedWhen plant true false true false size ≡ true
 
--- a planted record may come next: the player has no fault and no bytes of a record, and a round is pending, with these marks and this last pair
-pub record Waits (p : Player) (count number marks : ℕ) (pair : Pair) : Type 0 where
-  pub sound : p .fault ≡ 0
-  pub fresh : p .have ≡ 0
-  pub pending : p .pending ≡ true
-  pub n : p .n ≡ count
-  pub listeners : p .listeners ≡ number
-  pub struck : p .struck ≡ marks
-  pub last : p .last ≡ pair
-
--- the player with another last pair
-abbrev pub withLast : Player → Pair → Player
-withLast p last =
-    record {
-      begun = p .begun;
-      family = p .family;
-      n = p .n;
-      f = p .f;
-      listeners = p .listeners;
-      given = p .given;
-      pending = p .pending;
-      before = p .before;
-      struck = p .struck;
-      told = p .told;
-      last = last;
-      have = p .have;
-      fault = p .fault;
-    }
-
 -- what the player becomes with a record's header, by whether that record is allowed
 abbrev pub headedTo : Player → Bool → Player
 headedTo p true = halted p 4 (p .fault)
 headedTo p false = halted p 0 refusal.run-record
-
--- a step that shows nothing
-pub record Quiet (q : Player) (n : ℕ) (r : FeedResult) : Type 0 where
-  pub player : r .player ≡ q
-  pub used : r .used ≡ n
-  pub none : r .text .len ≡ 0
 
 -- a step that takes a record
 pub record RecordTaken (t : RecordResult) (n : ℕ) (r : FeedResult) : Type 0 where
   pub player : r .player ≡ t .player
   pub used : r .used ≡ n
   pub text : r .text ≡ t .text
-
--- bytes are taken, the first at least, and their line has room
-pub record Used (bytes : List ℕ) (r : FeedResult) : Type 0 where
-  pub within : r .used ≤ length bytes
-  pub some : 0 < length bytes → 0 < r .used
-  pub room : r .text .len ≤ 64
-
--- as much of the bytes as is used is read: from the memory before to that after
-abbrev pub Reads : Player → List ℕ → FeedResult → List ℕ → Memory → List ℕ → Memory → Type 0
-Reads p bytes r carry M carry′ M′ =
-    (a : List ℕ) → StateAt a p carry M → AdvancesOnce a (take (r .used) bytes) p M (r .player) (bytesOf (r .text)) carry′ M′
-
--- the same of bytes that show nothing and change what is planted alone
-abbrev pub Passes : Player → List ℕ → PassResult → List ℕ → List ℕ → List ℕ → List ℕ → Type 0
-Passes p bytes r planted lengths planted′ lengths′ =
-    (a carry : List ℕ) (M : Memory) → StateAt a p carry (withSlots M planted lengths)
-    → AdvancesOnce a (take (r .used) bytes) p (withSlots M planted lengths) (r .player) [] carry (withSlots M planted′ lengths′)
