@@ -1,6 +1,6 @@
-/* The calls of heads and listeners, in rings of two rounds and of one: every refusal alone, and every set of faults together, so each order of two among them: the first in the order of checks
- * decides. A refusal leaves the block, the buffer and the numbers lent as they were. The number of checks is printed; the first that fails stops
- * the program. */
+/* The calls of heads and listeners, in rings of two rounds and of one: every refusal alone, and every set of faults together, so each order of two among
+ * them: the first in the order of checks decides. A refusal leaves the block, the buffer and the numbers lent as they were. Then what focus.h says of blocks
+ * that no start made. The number of checks is printed; the first that fails stops the program. */
 #include "check.h"
 
 static int same_block(const focus_head *a, const focus_head *b) {
@@ -561,6 +561,26 @@ static void families(void) {
     same("sends nothing", focus_head_write(&head, frame, 0, &length), FOCUS_LISTENER);
 }
 
+/* A block of zeros is a head of a ring of no heads. A block that says n above 32 accepts frames on links from 32 on, and keeps nothing of them. */
+static void unstarted(void) {
+    enum { WORD_N = 0, WORD_PHASE = 3 };
+    uint8_t frame[FOCUS_FRAME_MAX], seven[4];
+    focus_head head = {{0}}, before = head;
+    put4(seven, 7);
+    size_t length = put_frame(frame, 1, 0, 0, seven, sizeof seven);
+    answered("no head speaks", focus_head_hear(&head, 0, frame, length), FOCUS_HEAD_NUMBER, &head, &before);
+    answered("nothing is offered", focus_head_adopt(&head), FOCUS_NO_OFFER, &head, &before);
+    same("closing is taken", focus_head_close(&head), 0);
+    head = before;
+    head.opaque[WORD_N] = 40, head.opaque[WORD_PHASE] = 1;
+    before = head;
+    length = put_frame(frame, 1, 33, 1, seven, sizeof seven);
+    same("a link that no block has words for", focus_head_hear(&head, 33, frame, length), 0);
+    same("changes nothing", same_block(&head, &before), 1);
+    same("nor is it heard", focus_head_hear(&head, 33, frame, length), 0);
+    same("link 40", focus_head_hear(&head, 40, frame, length), FOCUS_HEAD_NUMBER);
+}
+
 int main(void) {
     for (int once = 0; once < 2; once++) {
         starts(once);
@@ -584,5 +604,6 @@ int main(void) {
     offered();
     kept_ranges();
     listens();
+    unstarted();
     return all_checked();
 }
