@@ -1,4 +1,4 @@
--- A record put into a block, and hearing, leave words 15 to 23 as they were, whatever is answered; but an accepted frame clears word 18, and so ends an offer.
+-- A record put into a block, and hearing, leave words 16 to 23 as they were, whatever is answered; but an accepted frame clears word 18, and so ends an offer.
 use mathlib.Core.Path.{_≡_, refl, ap, sym, _∙_}
 use mathlib.Core.List.{List, [], _∷_}
 use mathlib.Core.Logic.{_≢_, by-cases}
@@ -20,20 +20,20 @@ use Rattle.head_c.proofs.Copying.{copied-before}
 use Rattle.head_c.proofs.Putting.{words-long, first, second, third, first-long, second-long}
 use Rattle.head_c.proofs.Hearing.{heard-below, heard-past}
 
-module _ (w : List ℕ) (block : IsBlock w) (i : ℕ) (from : 15 ≤ i) (to : i < 24) where
+module _ (w : List ℕ) (block : IsBlock w) (i : ℕ) (from : 16 ≤ i) (to : i < 24) where
   pub put-beside : (h : Head) → getD (withHead h w) i 0 ≡ getD w i 0
   unfolding withHead
   put-beside h =
-      let j = i - 15 in
-      let e : i ≡ 15 + j = omega arith in
+      let j = i - 16 in
+      let e : i ≡ 16 + j = omega arith in
       let longer = length-append (second h w) (h .links .confessed ∷ h .links .listed ∷ h .links .marks) in
       List·getD-append (third h w) _ 0 i (omega (arith, second-long h w block, longer))
       ∙ List·getD-append (second h w) _ 0 i (omega (arith, second-long h w block))
       ∙ List·getD-append (first h w) _ 0 i (omega (arith, first-long h w block))
       ∙ ap (λ (n : ℕ). getD (first h w) n 0) e
-      ∙ getD-append-add (seatWords (h .seat)) (slice 15 24 w) j 0
-      ∙ getD-drop 15 (take 24 w) j 0
-      ∙ getD-take 24 w (15 + j) 0 (omega arith)
+      ∙ getD-append-add (seatWords (h .seat)) (slice 16 24 w) j 0
+      ∙ getD-drop 16 (take 24 w) j 0
+      ∙ getD-take 24 w (16 + j) 0 (omega arith)
       ∙ ap (λ (n : ℕ). getD w n 0) (sym e)
 
   -- start, restart and adopting
@@ -95,7 +95,7 @@ heard-block w block k m = by-cases (decLt k 32)
         let long : length s ≡ 1116 = simp length-set block in
         length-paste s (92 + 32 * k) (wordsOf (t .entries)) 32 (omega arith) (omega (arith, words-long (t .entries))) ∙ long
 
-pub each-beside : (D : List Delivery) (w : List ℕ) → IsBlock w → (i : ℕ) → 15 ≤ i → i < 24 → i ≢ 18 → getD (heardEach w D) i 0 ≡ getD w i 0
+pub each-beside : (D : List Delivery) (w : List ℕ) → IsBlock w → (i : ℕ) → 16 ≤ i → i < 24 → i ≢ 18 → getD (heardEach w D) i 0 ≡ getD w i 0
 unfolding heardEach
 each-beside [] w block i from to other = refl
 each-beside (d ∷ D) w block i from to other =

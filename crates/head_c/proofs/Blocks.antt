@@ -67,6 +67,7 @@ pub record FitSeat (s : Seat) : Type 0 where
   pub round : s .round < 256
   pub position : FitEntry (s .position)
   pub last : FitLast (s .last)
+  pub since : s .since < 256
 
 abbrev none : Row
 none = record { entries = [] }
@@ -214,6 +215,7 @@ module _ (h : Head) (w : List ℕ) (block : IsBlock w) (F : Fit h) where
         ended = flag-back (s .ended) i;
         position = entry-back (s .position) (S .position) i;
         last = range-back (s .last) (S .last) i;
+        since = mod-eq-of-lt (S .since) i;
       }
 
   pub head-back : headOf w′ ≡ h

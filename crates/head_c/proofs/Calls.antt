@@ -93,6 +93,7 @@ seat-fits s P =
       round = omega (arith, P .round, rounds-few (s .family));
       position = entry-fits (s .n) (s .position) (P .position);
       last = last-fits (s .f) (s .last) (omega arith) (P .last);
+      since = omega (arith, P .since);
     }
 
 opened-fit : (s : Seat) (t : Table) → FitSeat s → FitNumbers (t .entries) → Fit (opened s t)
@@ -117,7 +118,7 @@ next-fits : (s : Seat) (k : Kept) → ProperSeat s → FitLast (LastKept.Range k
 next-fits s k P F =
     let S = seat-fits s P in
     let (phase, round) = times (isLast s) refl in
-    record { n = S .n; f = S .f; number = S .number; phase = phase; round = round; position = F .3; last = F }
+    record { n = S .n; f = S .f; number = S .number; phase = phase; round = round; position = F .3; last = F; since = omega arith }
   where
     times : (b : Bool) → isLast s ≡ b → (cond b (s .phase) (s .phase + 1) < 65536) × (cond b (s .round) 0 < 256)
     times true e = (omega (arith, P .to-last), seat-fits s P .round)

@@ -25,7 +25,7 @@ module _ (w w′ : List ℕ) where
   abbrev Same : ℕ → Type 0
   Same i = getD w′ i 0 ≡ getD w i 0
 
-  seat-same : ((i : ℕ) → i < 15 → Same i) → seatOf w′ ≡ seatOf w
+  seat-same : ((i : ℕ) → i < 16 → Same i) → seatOf w′ ≡ seatOf w
   unfolding seatOf
   seat-same h = λ i.
       record {
@@ -41,6 +41,7 @@ module _ (w w′ : List ℕ) where
         last =
             rangeIn (h 9 (omega arith) i) (signedOf (h 10 (omega arith) i)) (signedOf (h 11 (omega arith) i)) (h 12 (omega arith) i % 256)
             (signedOf (h 13 (omega arith) i));
+        since = h 15 (omega arith) i % 256;
       }
 
   numbers-same : (i : ℕ) → ((j : ℕ) → j < 32 → Same (i + j)) → numbersAt w′ i ≡ numbersAt w i
@@ -56,8 +57,8 @@ module _ (w w′ : List ℕ) where
   marks-same : ((i : ℕ) → 60 ≤ i → i < 92 → Same i) → upTo 32 (λ k. getD w′ (60 + k) 0) ≡ upTo 32 (λ k. getD w (60 + k) 0)
   marks-same h = upTo-same 32 _ _ (λ k l. h (60 + k) (omega arith) (omega arith))
 
-  -- the record is read from the words before 15 and from 24 on
-  pub head-same : ((i : ℕ) → i < 15 → Same i) → ((i : ℕ) → 24 ≤ i → Same i) → headOf w′ ≡ headOf w
+  -- the record is read from the words before 16 and from 24 on
+  pub head-same : ((i : ℕ) → i < 16 → Same i) → ((i : ℕ) → 24 ≤ i → Same i) → headOf w′ ≡ headOf w
   unfolding headOf
   head-same front back = λ i.
       record {
@@ -73,8 +74,8 @@ module _ (w w′ : List ℕ) where
         lists = lists-same (λ j l. back j (omega arith)) i;
       }
 
--- so it is no other for a word from 15 to 23
-pub set-apart : (w : List ℕ) (i x : ℕ) → 15 ≤ i → i < 24 → headOf (set w i x) ≡ headOf w
+-- so it is no other for a word from 16 to 23
+pub set-apart : (w : List ℕ) (i x : ℕ) → 16 ≤ i → i < 24 → headOf (set w i x) ≡ headOf w
 set-apart w i x from to =
     head-same w (set w i x) (λ j l. getD-set-other w i j x 0 (omega arith)) (λ j l. getD-set-other w i j x 0 (omega arith))
 

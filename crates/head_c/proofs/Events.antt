@@ -1,5 +1,5 @@
 -- What stands beside the head after a call (document 02, A5), and the offer (A8), and that neither the record nor any other word is another for them: words
--- 15 to 23 are no part of the record.
+-- 16 to 23 are no part of the record.
 use mathlib.Core.Path.{_≡_, refl, _∙_}
 use mathlib.Core.Logic.{_≢_}
 use mathlib.Core.List.{List, _∷_}
@@ -151,41 +151,38 @@ only-these-change w (hearsBatch s room) block = (go (batchRefusal s room), λ P.
     all zero small = offer-each D w block small
     all (suc c) small = refl
 
--- ---- the other words from 15 to 23 are kept by every call
+-- ---- the other word, 23, is kept by every call
 
-module _ (w : List ℕ) (block : IsBlock w) (i : ℕ) (from : 15 ≤ i) (to : i < 24) (apart : 16 ≤ i → i < 23 → ⊥) where
+module _ (w : List ℕ) (block : IsBlock w) where
   abbrev Stays : List ℕ → Type 0
-  Stays w′ = getD w′ i 0 ≡ getD w i 0
+  Stays w′ = getD w′ 23 0 ≡ getD w 23 0
 
-  other : (j : ℕ) → 16 ≤ j → j < 23 → i ≢ j
-  other j l m e = apart (omega arith) (omega arith)
-
-  set-stays : (j x : ℕ) (w′ : List ℕ) → 16 ≤ j → j < 23 → Stays w′ → Stays (set w′ j x)
-  set-stays j x w′ l m e = getD-set-other w′ j i x 0 (other j l m) ∙ e
+  set-stays : (j x : ℕ) (w′ : List ℕ) → j < 23 → Stays w′ → Stays (set w′ j x)
+  set-stays j x w′ l e = getD-set-other w′ j 23 x 0 (omega arith) ∙ e
 
   beside-stays : (b : Beside) (w′ : List ℕ) → Stays w′ → Stays (withBeside b w′)
   beside-stays b w′ e =
-      set-stays 17 (b .mask) (set w′ 16 (b .events)) (omega arith) (omega arith) (set-stays 16 (b .events) w′ (omega arith) (omega arith) e)
+      set-stays 17 (b .mask) (set w′ 16 (b .events)) (omega arith) (set-stays 16 (b .events) w′ (omega arith) e)
 
   call-stays : (b : Beside) (a : Answer) → Stays (withoutOffer (a .refusal) (withBeside b (withAnswer w a)))
-  call-stays b a = go (a .refusal) (withBeside b (withAnswer w a)) (beside-stays b (withAnswer w a) (after-beside w block i from to a))
+  call-stays b a = go (a .refusal) (withBeside b (withAnswer w a)) (beside-stays b (withAnswer w a) (after-beside w block 23 (omega arith) (omega arith) a))
     where
       go : (c : ℕ) (w′ : List ℕ) → Stays w′ → Stays (withoutOffer c w′)
-      go zero w′ e = set-stays 18 0 w′ (omega arith) (omega arith) e
+      go zero w′ e = set-stays 18 0 w′ (omega arith) e
       go (suc c) w′ e = e
 
   closing-stays : (c : Closed) (h : Head) → Stays (withClosing c h w)
   closing-stays (Closed.Refused c) h = refl
-  closing-stays Closed.Listed h = put-beside w block i from to h
+  closing-stays Closed.Listed h = put-beside w block 23 (omega arith) (omega arith) h
   closing-stays (Closed.Settled k) h =
       let w₁ = set w 18 1 in
       let w₂ = set w₁ 19 (wordOf (k .low)) in
       let w₃ = set w₂ 20 (wordOf (k .high)) in
       let w₄ = set w₃ 21 (k .trim) in
-      set-stays 22 (wordOf (k .position)) w₄ (omega arith) (omega arith)
-      (set-stays 21 (k .trim) w₃ (omega arith) (omega arith)
-      (set-stays 20 (wordOf (k .high)) w₂ (omega arith) (omega arith)
-      (set-stays 19 (wordOf (k .low)) w₁ (omega arith) (omega arith) (set-stays 18 1 w (omega arith) (omega arith) refl))))
+      set-stays 22 (wordOf (k .position)) w₄ (omega arith)
+      (set-stays 21 (k .trim) w₃ (omega arith)
+      (set-stays 20 (wordOf (k .high)) w₂ (omega arith)
+      (set-stays 19 (wordOf (k .low)) w₁ (omega arith) (set-stays 18 1 w (omega arith) refl))))
 
   pub others-stay : (c : Call) → Stays (blockAfter w c)
   unfolding blockAfter
@@ -199,12 +196,12 @@ module _ (w : List ℕ) (block : IsBlock w) (i : ℕ) (from : 15 ≤ i) (to : i 
   others-stay (hears k s) = go (hear (headOf w) k s .refusal)
     where
       go : (c : ℕ) → Stays (leaves c (heardIn w k (saidTo (headOf w .seat) k s)) w)
-      go zero = heard-beside w block i from to (other 18 (omega arith) (omega arith)) k (saidTo (headOf w .seat) k s)
+      go zero = heard-beside w block 23 (omega arith) (omega arith) (omega arith) k (saidTo (headOf w .seat) k s)
       go (suc c) = refl
   others-stay (hearsBatch s room) = go (batchRefusal s room)
     where
       go : (c : ℕ) → Stays (leaves c (heardEach w (entriesOf s)) w)
-      go zero = each-beside (entriesOf s) w block i from to (other 18 (omega arith) (omega arith))
+      go zero = each-beside (entriesOf s) w block 23 (omega arith) (omega arith) (omega arith)
       go (suc c) = refl
 
 -- so after each call the block is the record that the call by value makes

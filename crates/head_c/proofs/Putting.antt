@@ -99,8 +99,8 @@ pub put-words : (s : Seat) (w : List ℕ) → IsBlock w → {healed ended held p
     → ranged ≡ rangeNumber (s .last) → low ≡ wordOf (keptOf (s .last) .low) → high ≡ wordOf (keptOf (s .last) .high)
     → trim ≡ keptOf (s .last) .trim → middle ≡ wordOf (keptOf (s .last) .position) → family ≡ familyNumber (s .family)
     → sets w 0
-    (s .n ∷ s .f ∷ s .number ∷ s .phase ∷ s .round ∷ healed ∷ ended ∷ held ∷ position ∷ ranged ∷ low ∷ high ∷ trim ∷ middle ∷ family ∷ [])
-    ≡ paste w 0 (seatWords s) 15
+    (s .n ∷ s .f ∷ s .number ∷ s .phase ∷ s .round ∷ healed ∷ ended ∷ held ∷ position ∷ ranged ∷ low ∷ high ∷ trim ∷ middle ∷ family ∷ s .since ∷ [])
+    ≡ paste w 0 (seatWords s) 16
 put-words s w block p q r t a b c d e g = rw (p, q, r, t, a, b, c, d, e, g) (sets-eq (seatWords s) w 0 (omega arith))
 
 -- ---- a record
@@ -108,7 +108,7 @@ put-words s w block p q r t a b c d e g = rw (p, q, r, t, a, b, c, d, e, g) (set
 module _ (h : Head) (w : List ℕ) where
   -- what stands before the links heard, before the links that confessed, and before the lists
   abbrev pub first : List ℕ
-  first = seatWords (h .seat) ++ slice 15 24 w
+  first = seatWords (h .seat) ++ slice 16 24 w
 
   abbrev pub second : List ℕ
   second = first ++ (h .heard ∷ h .list .marks ∷ wordsOf (h .list .entries))
@@ -118,7 +118,7 @@ module _ (h : Head) (w : List ℕ) where
 
   module _ (block : IsBlock w) where
     pub first-long : length first ≡ 24
-    first-long = length-append (seatWords (h .seat)) (slice 15 24 w) ∙ omega (arith, length-slice 15 24 w (omega arith))
+    first-long = length-append (seatWords (h .seat)) (slice 16 24 w) ∙ omega (arith, length-slice 16 24 w (omega arith))
 
     pub second-long : length second ≡ 58
     second-long = length-append first _ ∙ omega (arith, first-long, words-long (h .list .entries))
@@ -127,7 +127,7 @@ module _ (h : Head) (w : List ℕ) where
     third-long long = length-append second _ ∙ omega (arith, second-long)
 
 -- a record with nothing heard
-pub put-record : (s : Seat) (t : Table) (w : List ℕ) → IsBlock w → {w₁ w₂ w₃ : List ℕ} → w₁ ≡ paste w 0 (seatWords s) 15
+pub put-record : (s : Seat) (t : Table) (w : List ℕ) → IsBlock w → {w₁ w₂ w₃ : List ℕ} → w₁ ≡ paste w 0 (seatWords s) 16
     → w₂ ≡ paste (set w₁ 24 0) 25 (t .marks ∷ wordsOf (t .entries)) 33 → w₃ ≡ paste w₂ 58 (blank 1058) 1058 → w₃ ≡ withHead (opened s t) w
 unfolding withHead noLinks
 put-record s t w block {w₁} {w₂} {w₃} a b c =
@@ -136,7 +136,7 @@ put-record s t w block {w₁} {w₂} {w₃} a b c =
     let y = second h w in
     let words = t .marks ∷ wordsOf (t .entries) in
     let long = first-long h w block in
-    let a′ : w₁ ≡ x ++ drop 24 w = a ∙ on-gap w (seatWords s) 15 refl 24 (omega arith) (omega arith) in
+    let a′ : w₁ ≡ x ++ drop 24 w = a ∙ on-gap w (seatWords s) 16 refl 24 (omega arith) (omega arith) in
     let b′ : w₂ ≡ y ++ drop 58 w =
     b
     ∙ rw a′ (set-paste (x ++ drop 24 w) words 24 33 0 (omega (arith, long, length-append x (drop 24 w), length-drop 24 w)))

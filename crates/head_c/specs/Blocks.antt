@@ -1,5 +1,5 @@
 -- A head as C keeps it: a block of 1,116 words, one for each number. Every block is a record, whatever it holds (`headOf`), and a record is put into
--- a block (`withHead`). Hearing changes a few words alone (`heardIn`). Words 15 to 23 are no part of a record. Words 16 to 22 are what
+-- a block (`withHead`). Hearing changes a few words alone (`heardIn`). Words 16 to 23 are no part of a record. Words 16 to 22 are what
 -- stands beside the head; each call leaves the others as they were.
 use mathlib.Core.Path.{_≡_}
 use mathlib.Core.Bool.{Bool, not, cond}
@@ -85,6 +85,7 @@ seatOf w =
       last =
           rangeIn (getD w place.ranged 0) (signedOf (getD w place.low 0)) (signedOf (getD w place.high 0)) (getD w place.trim 0 % 256)
           (signedOf (getD w place.middle 0));
+      since = getD w place.since 0 % 256;
     }
 
 unfoldable pub headOf : List ℕ → Head
@@ -126,11 +127,11 @@ abbrev pub seatWords : Seat → List ℕ
 seatWords s =
     s .n ∷ s .f ∷ s .number ∷ s .phase ∷ s .round ∷ bit (s .healed) ∷ bit (s .ended) ∷ heldNumber (s .position)
     ∷ wordOf (heldOr (s .position) (pos 0)) ∷ rangeNumber (s .last) ∷ wordOf (keptOf (s .last) .low) ∷ wordOf (keptOf (s .last) .high)
-    ∷ keptOf (s .last) .trim ∷ wordOf (keptOf (s .last) .position) ∷ familyNumber (s .family) ∷ []
+    ∷ keptOf (s .last) .trim ∷ wordOf (keptOf (s .last) .position) ∷ familyNumber (s .family) ∷ s .since ∷ []
 
 unfoldable pub withHead : Head → List ℕ → List ℕ
 withHead h w =
-    seatWords (h .seat) ++ slice 15 24 w
+    seatWords (h .seat) ++ slice 16 24 w
     ++ (h .heard ∷ h .list .marks ∷ wordsOf (h .list .entries))
     ++ (h .links .confessed ∷ h .links .listed ∷ h .links .marks)
     ++ listWords (h .lists) 32

@@ -1,7 +1,7 @@
 -- Where each number of a head stands in its block of 1,116 words. src/place.rt has the same table for the code.
 use Prim.Native.Nat.{ℕ}
 
--- ---- the seat; 15 is room for what it gets later
+-- ---- the seat
 
 abbrev pub n : ℕ
 n = 0
@@ -50,6 +50,10 @@ middle = 13
 -- the family: 0 for two rounds, else one (document 02, A9)
 abbrev pub family : ℕ
 family = 14
+
+-- phase ends since the start or restart (document 02, A10)
+abbrev pub since : ℕ
+since = 15
 
 -- ---- what C keeps beside a head: pending events and mask (document 02, A5), and an offer (A8); 23 is room for more
 

@@ -113,6 +113,7 @@ fn seat_in(h: &[u32]) -> Seat
         ended: h[place::ENDED] != 0,
         position,
         last,
+        since: (h[place::SINCE] % 256) as u8,
     }
 }
 
@@ -278,7 +279,7 @@ fn family_number(family: Family) -> u32
 // Puts the seat.
 fn put_seat(h: &mut [u32], s: Seat)
     requires { ⌜ IsBlock (now h) ⌝ }
-    ensures { λ _. ⌜ now (h .exit) ≡ paste (now (h .entry)) 0 (seatWords s) 15 ⌝ }
+    ensures { λ _. ⌜ now (h .exit) ≡ paste (now (h .entry)) 0 (seatWords s) 16 ⌝ }
 {
     let family = s.family;
     let e = s.position;
@@ -299,6 +300,7 @@ fn put_seat(h: &mut [u32], s: Seat)
     h[place::TRIM] = kept.trim as u32;
     h[place::MIDDLE] = fields::unsigned(kept.position);
     h[place::FAMILY] = family_number(family);
+    h[place::SINCE] = s.since as u32;
 }
 
 // Clears what the links gave.
@@ -933,4 +935,12 @@ pub extern "C" fn focus_head_kept(h: &Block, kept: &mut [i32; 4]) -> u8
             1
         }
     }
+}
+
+// How many phase ends the head has passed since it was started or restarted, up to 255, where the count rests.
+#[no_mangle]
+pub extern "C" fn focus_head_since(h: &Block) -> u8
+    ensures { λ r. ⌜ r ≡ headOf (now (h .entry)) .seat .since ⌝ }
+{
+    (h[place::SINCE] % 256) as u8
 }

@@ -1,6 +1,6 @@
 // Where each number of a head stands in its block. specs/Places.antt has the same table.
 
-// Of the seat; 15 is room for what it gets later.
+// Of the seat.
 pub const N: usize = 0;
 
 pub const F: usize = 1;
@@ -30,6 +30,8 @@ pub const TRIM: usize = 12;
 pub const MIDDLE: usize = 13;
 
 pub const FAMILY: usize = 14; // 0 for a ring of two rounds, and every other number one of one round
+
+pub const SINCE: usize = 15; // phase ends since the start or restart
 
 // What C keeps beside a head: pending events and mask, and an offer; 23 is room for more.
 pub const EVENTS: usize = 16;

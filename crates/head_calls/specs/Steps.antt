@@ -37,6 +37,7 @@ openingSeat K n f i e =
       ended = false;
       position = e;
       last = LastKept.Nothing;
+      since = 0;
     }
 
 -- a start of a head or a listener, and a restart

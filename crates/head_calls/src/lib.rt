@@ -2,10 +2,11 @@
 // definition of record's specs/Calls.antt; a refusal gives its number and leaves the record as it was.
 ghost use mathlib.Core.Path.{_≡_};
 ghost use mathlib.Core.Bool.{true};
+ghost use Prim.Native.Nat.{_+_, min};
 ghost use Rattle.terms.specs.Sizes.{roundsOf};
 ghost use Rattle.terms.specs.Refusals.{check};
 ghost use Rattle.head_spec.specs.Record.{noEntries, opened, rows};
-ghost use Rattle.head_spec.specs.Seats.{healedSeat, confessionSeat, nextSeat};
+ghost use Rattle.head_spec.specs.Seats.{mostCounted, healedSeat, confessionSeat, nextSeat};
 ghost use Rattle.head_spec.specs.Calls.{isTime, start, restart, startListener, restartListener, writeAnswer, writeBuffer};
 ghost use Rattle.head_spec.specs.Calls.{closedCollection, closedPhase, settlingOf, closeIn, isLastRound, close, adopt};
 ghost use Rattle.head_spec.specs.Offers.{lapsed, offered};
@@ -76,6 +77,7 @@ fn opening_seat(family: Family, n: u8, f: u8, number: u8, held: Entry) -> Seat
         ended: false,
         position: held,
         last: LastKept::Nothing,
+        since: 0,
     }
 }
 
@@ -95,6 +97,7 @@ fn healed_seat(family: Family, n: u8, f: u8, number: u8, phase: u16, round: u8) 
         ended: false,
         position: none,
         last: LastKept::Nothing,
+        since: 0, // a restart clears it
     }
 }
 
@@ -107,6 +110,13 @@ pub fn confession_seat(seat: Seat) -> Seat
     next.healed = false;
     next.ended = false;
     next
+}
+
+// A phase end more, up to 255, where the count rests.
+fn one_more(since: u8) -> u8
+    ensures { λ r. ⌜ r ≡ min mostCounted (since + 1) ⌝ }
+{
+    if since < 255 { since + 1 } else { 255 }
 }
 
 // The phase has ended and settled a position with its kept range; after phase 65,535 phase and round stay, and the head has ended.
@@ -127,6 +137,7 @@ fn next_seat(seat: Seat, kept: Kept) -> Seat
         ended: true,
         position: held,
         last,
+        since: one_more(seat.since),
     };
     if seat.phase < 65535 {
         next.phase = seat.phase + 1;

@@ -139,6 +139,7 @@ module _ (K : Family) (n f i : ℕ) where
         position = range;
         holds = λ o r h q. not-null q refl;
         last = tt;
+        since = omega arith;
       }
 
   pub proper-started : (v : ℤ) → startRefusal K n f i v ≡ 0 → ProperHead (started K n f i v)
@@ -163,6 +164,7 @@ module _ (K : Family) (n f i : ℕ) where
         position = tt;
         holds = exempt listens;
         last = tt;
+        since = omega arith;
       }
 
   pub proper-started-listener : startListenerRefusal K n f i ≡ 0 → ProperHead (startedListener K n f i)
@@ -186,6 +188,7 @@ module _ (K : Family) (n f i : ℕ) where
         position = tt;
         holds = λ o z h q. true≢false h;
         last = tt;
+        since = omega arith;
       }
 
   pub proper-restarted : (p r : ℕ) → restartRefusal K n f i p r ≡ 0 → ProperHead (restarted K n f i p r)

@@ -124,6 +124,7 @@ proper-confession {s} c P =
       position = P .position;
       holds = λ o r. absurd (omega arith);
       last = P .last;
+      since = P .since;
     }
 
 proper-next : {s : Seat} (k : Kept) → ProperSeat s → ProperKept (s .f) k → ProperSeat (nextSeat s k)
@@ -138,6 +139,7 @@ proper-next {s} k P K =
       position = K .position;
       holds = λ o r t q. not-null q refl;
       last = K;
+      since = omega arith;
     }
   where
     times : (b : Bool) → isLast s ≡ b → let p = cond b (s .phase) (s .phase + 1) in (1 ≤ p) × (p ≤ 65535) × (cond b (s .round) 0 < roundsOf (s .family))

@@ -23,6 +23,7 @@ use Rattle.head_spec.specs.declared.LastKept.{LastKept}
 use Rattle.head_spec.specs.declared.Seat.{Seat}
 use Rattle.head_spec.specs.declared.Head.{Head}
 use Rattle.head_spec.specs.Record.{rows}
+use Rattle.head_spec.specs.Seats.{mostCounted}
 
 -- an accepted size
 pub record Sized (K : Family) (n f : ℕ) : Type 0 where
@@ -51,6 +52,7 @@ pub record ProperSeat (s : Seat) : Type 0 where
   pub position : Proper (s .n) (collected (s .position))
   pub holds : isListener (s .number) ≡ false → s .round ≡ 0 → s .healed ≡ false → s .position ≢ Entry.Null
   pub last : ProperLast (s .f) (s .last)
+  pub since : s .since ≤ mostCounted
 
 -- the list held of link k
 abbrev pub listFrom : Links → List Row → ℕ → Table

@@ -1,6 +1,6 @@
 -- The seats that calls make: where a head stands after a start, a restart and the closing of each round. Calls make a seat here and nowhere else.
 use mathlib.Core.Bool.{Bool, true, false, cond}
-use Prim.Native.Nat.{ℕ, _+_}
+use Prim.Native.Nat.{ℕ, _+_, min}
 use lib.Dec.{leb}
 use lib.IntN.{ℤ}
 use Rattle.terms.specs.declared.Entry.{Entry}
@@ -23,6 +23,7 @@ firstSeat K n f i v =
       ended = false;
       position = Entry.Position v;
       last = LastKept.Nothing;
+      since = 0;
     }
 
 -- a listener's start: phase 1 opens, and it holds no position before its first phase end (document 02, A6)
@@ -39,6 +40,7 @@ listenerSeat K n f i =
       ended = false;
       position = Entry.Null;
       last = LastKept.Nothing;
+      since = 0;
     }
 
 -- a restart, in round r of phase p: the head is healed, with no position and no kept range (document 02, A2)
@@ -55,6 +57,7 @@ healedSeat K n f i p r =
       ended = false;
       position = Entry.Null;
       last = LastKept.Nothing;
+      since = 0;
     }
 
 -- the collection round is closed
@@ -71,12 +74,18 @@ confessionSeat s =
       ended = false;
       position = s .position;
       last = s .last;
+      since = s .since;
     }
+
+-- phase ends are counted up to here, where the count rests (document 02, A10)
+abbrev pub mostCounted : ℕ
+mostCounted = 255
 
 abbrev pub isLast : Seat → Bool
 isLast s = leb 65535 (s .phase)
 
--- the phase has ended and settled k; after phase 65,535 phase and round stay, and the head has ended (so bit 2 of its window stays: document 02, A5)
+-- the phase has ended and settled k, and one phase end more is counted; after phase 65,535 phase and round stay, and the head has ended (so bit 2 of its window stays:
+-- document 02, A5)
 abbrev pub nextSeat : Seat → Kept → Seat
 nextSeat s k =
     record {
@@ -90,4 +99,5 @@ nextSeat s k =
       ended = isLast s;
       position = Entry.Position (k .position);
       last = LastKept.Range k;
+      since = min mostCounted (s .since + 1);
     }

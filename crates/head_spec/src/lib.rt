@@ -23,7 +23,7 @@ pub enum Offer {
     Standing(Kept),
 }
 
-// Where a head stands: its ring, its number, the phase and round, and the position that it holds.
+// Where a head stands: its ring, its number, the phase and round, the position that it holds, and how many phase ends it has passed.
 pub struct Seat {
     pub family: Family,
     pub n: u8,
@@ -35,6 +35,7 @@ pub struct Seat {
     pub ended: bool, // phase 65,535 has ended
     pub position: Entry,
     pub last: LastKept,
+    pub since: u8, // phase ends since the start or restart, up to 255, where the count rests
 }
 
 // All that a head remembers: its seat, and what it has heard in this phase.

@@ -7,5 +7,6 @@ pub mod OnePhase
 pub mod Counts
 pub mod HeadsAlone
 pub mod Demand3
+pub mod Since
 pub mod Late
 pub mod Unrefused

@@ -2,7 +2,7 @@
 use mathlib.Core.Bool.{false, true}
 use mathlib.Core.List.{List, [], _∷_}
 use mathlib.Core.Path.{_≡_}
-use Prim.Native.Nat.{ℕ, _+_, _≤_, _<_}
+use Prim.Native.Nat.{ℕ, _+_, _≤_, _<_, min}
 use lib.ListN.{length, getD}
 use lib.IntN.{ℤ}
 use Rattle.terms.specs.Positions.{isPosition}
@@ -13,7 +13,8 @@ use Rattle.convergence.specs.Counting.{Each, AtMost}
 use Rattle.convergence.specs.Phases.{End, lowest, highest}
 use Rattle.convergence.specs.Demand3.{KeptBetween, Demand3, AcceptedSize, Halves}
 use Rattle.head_spec.specs.declared.LastKept.{LastKept}
-use Rattle.ring_spec.specs.Rounds.{Round, lost, mostRounds, PhaseEnd, receivers, asEnd, endsAfter}
+use Rattle.head_spec.specs.Seats.{mostCounted}
+use Rattle.ring_spec.specs.Rounds.{Round, lost, mostRounds, PhaseEnd, receivers, isReceiver, asEnd, ringAfter, endsAfter, endsSince}
 
 -- at most f heads are struck in each round; listeners do not count
 abbrev pub FewStruckIn : ℕ → ℕ → List Round → Type 0
@@ -56,3 +57,16 @@ RingKeepsBetween =
     → let es = endsAfter K n f v ws in
     (i : ℕ) → i + 1 < length es → let e = asEnd n m (getD es (i + 1) noEnd) in let e′ = getD es i noEnd in
     Each receivers (λ j. asEnd n m e′ .struck j ≡ false → HoldsBetween (lowest receivers e) (highest receivers e) (e′ .heads j .seat .last))
+
+-- ---- phases since the last strike (document 02, A10)
+
+-- the count of receiver i after the rounds ws: of the ended phases whose last round came after the last round that marks it, up to 255
+abbrev pub countAfter : Family → List Round → ℕ → ℕ
+countAfter K ws i = min mostCounted (endsSince K i ws)
+
+-- the record of each head and listener that is not struck in the last round holds it
+abbrev pub RingCounts : Type 0
+RingCounts =
+    (K : Family) (n m f : ℕ) (v : ℕ → ℤ) (ws : List Round) → Within K n m f v ws
+    → let R = ringAfter K n f v ws in
+    Each receivers (λ i. isReceiver n m i ≡ true → bitOf (R .before) i ≡ false → R .heads i .seat .since ≡ countAfter K ws i)

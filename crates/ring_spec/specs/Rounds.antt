@@ -3,12 +3,14 @@ use mathlib.Core.Bool.{Bool, true, false, not, cond, _&&_, _||_}
 use mathlib.Core.List.{List, [], _∷_}
 use Prim.Native.Nat.{ℕ, zero, suc, _+_, _*_, _/_, _%_}
 use lib.Dec.{eqb, ltb, leb}
+use lib.ListN.{length}
 use lib.IntN.{ℤ}
 use Rattle.terms.specs.Sizes.{endsWith}
 use Rattle.terms.specs.declared.Entry.{Entry}
 use Rattle.terms.specs.declared.Family.{Family}
 use Rattle.terms.specs.declared.Family.the-variants.{TwoRounds, OneRound}
 use Rattle.marks.specs.Marks.{bitOf}
+use Rattle.convergence.specs.Counting.{bit}
 use Rattle.convergence.specs.Phases.{End}
 use Rattle.head_spec.specs.Record.{noEntries, opened}
 use Rattle.head_spec.specs.Calls.{started, startedListener, restarted, hearAll, frameFor, close}
@@ -49,6 +51,7 @@ noSeat =
       ended = false;
       position = Entry.Null;
       last = LastKept.Nothing;
+      since = 0;
     }
 
 unfoldable pub lost : Head
@@ -169,3 +172,10 @@ module _ (K : Family) (n f : ℕ) (v : ℕ → ℤ) where
   endsAfter [] = firstEnd ∷ []
   endsAfter (w ∷ ws) =
       withEnd (endsWith K (ringAfter ws .round)) (phaseEnd K (ringAfter ws .before) (w .struck) (ringAfter (w ∷ ws) .heads)) (endsAfter ws)
+
+-- ---- phases since the last strike (document 02, A10)
+
+-- of the rounds ws, how many end a phase and come after the last that marks receiver i; all that end one, if none does
+unfoldable pub endsSince : Family → ℕ → List Round → ℕ
+endsSince K i [] = 0
+endsSince K i (w ∷ ws) = cond (bitOf (w .struck) i) 0 (endsSince K i ws + bit (endsPhase K (length (w ∷ ws))))

@@ -62,4 +62,5 @@ withLast p last =
       last = last;
       have = p .have;
       fault = p .fault;
+      since = p .since;
     }

@@ -2,7 +2,7 @@
 use mathlib.Core.Path.{_≡_, refl}
 use mathlib.Core.Bool.{Bool, true, false, not, cond}
 use mathlib.Core.List.{List, [], _∷_}
-use Prim.Native.Nat.{ℕ, _≤_, _<_}
+use Prim.Native.Nat.{ℕ, suc, _+_, _≤_, _<_}
 use native.Mathlib.Omega.{arith}
 use lib.Dec.{eqb}
 use lib.ListN.{length}
@@ -10,13 +10,16 @@ use borrow.Author.Needs.{needs}
 use borrow.Author.Tests.{ne-eqb}
 use Rattle.terms.specs.declared.Family.{Family}
 use Rattle.terms.specs.declared.Family.the-variants.{TwoRounds, OneRound}
-use Rattle.ring_spec.specs.Rounds.{Plant, mostRounds, afterRound, ringAfter}
+use Rattle.convergence.specs.Counting.{bit}
+use Rattle.ring_spec.specs.Rounds.{Plant, mostRounds, endsPhase, afterRound, ringAfter}
 use Rattle.run_spec.specs.RunFile.{File, unread, roundsGiven, RecordKind, start, round, plant, listeners, strikes, allowedWhen, isFirst, isBare, isAllowed, headCountIn, limitIn, struckIn, roundFault, listenerCountIn, listenersIn, strikesFault, senderIn, receiverIn, lastPair, plantFault, recordFault, thenPlayed, withRecord, stopped, withPart, feed, readFile, ringFrom}
 use Rattle.run_spec.proofs.Reached.{length-then}
 use Rattle.run_state.specs.declared.Player.{Player}
 use Rattle.run_state.specs.Changes.{freshPlayer, halted, withRoundGiven, withPairPlanted, withListenersGiven, withStrikesGiven}
 use Rattle.run_state.specs.Places.{firstOf, bareOf}
 use Rattle.run_state.specs.State.{ringBefore, PlayerOf}
+use Rattle.run_state.specs.Counts.{CountsOf, countsThen, countsPlayed}
+use Rattle.run_state.proofs.Counts.{none-counted, round-counted}
 
 most-of : (K : Family) → mostRounds K ≤ mostRounds TwoRounds
 most-of TwoRounds = omega arith
@@ -24,11 +27,11 @@ most-of OneRound = omega arith
 
 pub unread-tells : PlayerOf (freshPlayer false TwoRounds 0 0) (readFile [])
 unfolding feed unread ringAfter
-unread-tells = search needs
+unread-tells = let counts = none-counted TwoRounds in search needs
 
 pub start-tells : (K : Family) (F : File) (s : List ℕ) → PlayerOf (freshPlayer true K (headCountIn s) (limitIn s)) (withRecord (start K) F s)
 unfolding ringAfter
-start-tells K F s = search needs
+start-tells K F s = let counts = none-counted K in search needs
 
 module _ {F : File} {p : Player} (T : PlayerOf p F) where
   -- ---- what it tells next
@@ -48,6 +51,18 @@ module _ {F : File} {p : Player} (T : PlayerOf p F) where
       go true = refl
       go false = refl
 
+  -- and the counts when the round that was pending is played
+  round-since : (s : List ℕ) → CountsOf (F .setup .family) (withRecord round F s .rounds .played) (countsPlayed p)
+  round-since s = rw (← T .pending, ← T .family, ← T .given, ← T .struck) (go (F .rounds .pending) refl)
+    where
+      go : (b : Bool) → F .rounds .pending ≡ b
+          → CountsOf (F .setup .family) (thenPlayed b (F .rounds .played) (F .rounds .last))
+          (cond b (countsThen (endsPhase (F .setup .family) (length (F .rounds .played) + bit b)) (F .rounds .last .struck) (p .since)) (p .since))
+      go true e =
+          let z : length (F .rounds .played) + 1 ≡ suc (length (F .rounds .played)) = omega arith in
+          rw z (round-counted (F .setup .family) (F .rounds .played) (F .rounds .last) (p .since) (T .since))
+      go false e = T .since
+
   pub round-tells : (s : List ℕ) → roundsGiven F < mostRounds (F .setup .family) → PlayerOf (withRoundGiven p (struckIn s)) (withRecord round F s)
   round-tells s more =
       record {
@@ -63,6 +78,7 @@ module _ {F : File} {p : Player} (T : PlayerOf p F) where
         told = refl;
         last = refl;
         fault = refl;
+        since = round-since s;
       }
 
   pub plant-tells : (s : List ℕ) → PlayerOf (withPairPlanted p (senderIn s) (receiverIn s)) (withRecord plant F s)
@@ -87,6 +103,7 @@ module _ {F : File} {p : Player} (T : PlayerOf p F) where
         told = refl;
         last = T .last;
         fault = refl;
+        since = T .since;
       }
 
   -- ---- what it tells of a record

@@ -3,11 +3,13 @@
 use mathlib.Core.Bool.{Bool, true, false, cond}
 use mathlib.Core.List.{[]}
 use Prim.Native.Nat.{ℕ, _+_, _*_, _%_, min}
+use lib.ListN.{replicate}
 use Rattle.terms.specs.declared.Family.{Family}
 use Rattle.terms.specs.declared.Family.the-variants.{TwoRounds}
-use Rattle.ring_spec.specs.Rounds.{mostRounds}
+use Rattle.ring_spec.specs.Rounds.{mostRounds, receivers}
 use Rattle.run_spec.specs.RunFile.{lastPair}
 use Rattle.run_state.specs.declared.Player.{Player}
+use Rattle.run_state.specs.Counts.{countsPlayed}
 
 -- before the first round
 abbrev pub freshPlayer : Bool → Family → ℕ → ℕ → Player
@@ -26,6 +28,7 @@ freshPlayer begun K n f =
       last = lastPair [];
       have = 0;
       fault = 0;
+      since = replicate receivers 0;
     }
 
 -- the same but for how many bytes of a record it has, and for its fault
@@ -45,9 +48,10 @@ halted p have fault =
       last = p .last;
       have = have;
       fault = fault;
+      since = p .since;
     }
 
--- a round more, up to the most in either family: it is pending, and before it comes the round that was pending, or what was before that if none was
+-- a round more, up to the most in either family: it is pending, and before it comes the round that was pending, which is played, or what was before that if none was
 abbrev pub withRoundGiven : Player → ℕ → Player
 withRoundGiven p struck =
     record {
@@ -64,6 +68,7 @@ withRoundGiven p struck =
       last = lastPair [];
       have = 0;
       fault = 0;
+      since = countsPlayed p;
     }
 
 -- a pair more in the last round
@@ -83,6 +88,7 @@ withPairPlanted p from to =
       last = record { some = true; from = from; to = to };
       have = 0;
       fault = 0;
+      since = p .since;
     }
 
 -- the number of listeners (document 02, A6)
@@ -102,6 +108,7 @@ withListenersGiven p m =
       last = p .last;
       have = 0;
       fault = 0;
+      since = p .since;
     }
 
 -- the struck listeners of the last round: bit j of the marks for listener 32 + j
@@ -121,4 +128,5 @@ withStrikesGiven p marks =
       last = p .last;
       have = 0;
       fault = 0;
+      since = p .since;
     }

@@ -9,12 +9,13 @@ use Rattle.frame_slots.specs.Slots.{plantedIn}
 use Rattle.run_state.specs.declared.Player.{Player}
 use Rattle.run_state.specs.Memory.{Memory}
 use Rattle.run_state.specs.Heads.{HeadsOf}
+use Rattle.run_state.specs.Counts.{CountsOf}
 
 -- the ring when the rounds before the pending one are played
 abbrev pub ringBefore : File → Ring
 ringBefore F = ringFrom (F .setup) (F .rounds .played)
 
--- the player's numbers are those of the file F
+-- the player's numbers are those of the file F; since: the counts when the rounds before the pending one are played (document 02, A10)
 pub record PlayerOf (p : Player) (F : File) : Type 0 where
   pub begun : F .setup .begun ≡ p .begun
   pub family : F .setup .family ≡ p .family
@@ -28,6 +29,7 @@ pub record PlayerOf (p : Player) (F : File) : Type 0 where
   pub told : F .rounds .last .told ≡ p .told
   pub last : lastPair (F .rounds .last .plants) ≡ p .last
   pub fault : F .fault ≡ p .fault
+  pub since : CountsOf (F .setup .family) (F .rounds .played) (p .since)
 
 -- The memory holds what the records of the heads hold, and what is planted in the pending round. Free, since nothing reads it: the numbers of receivers that
 -- were struck or that the ring does not have, those of listeners before their first phase end, the lists in round 0, the slots if no round is pending,

@@ -4,41 +4,49 @@ ghost use mathlib.Core.Bool.{false, cond};
 ghost use mathlib.Core.List.{[]};
 ghost use mathlib.Core.Path.{_≡_};
 ghost use Prim.Native.Nat.{_+_, _*_, _%_, min};
+ghost use Rattle.head_spec.specs.Seats.{mostCounted};
 ghost use Rattle.terms.specs.declared.Family.the-variants.{TwoRounds};
-ghost use Rattle.ring_spec.specs.Rounds.{phaseOf, endsPhase, mostRounds};
+ghost use Rattle.ring_spec.specs.Rounds.{phaseOf, endsPhase, mostRounds, receivers};
 ghost use Rattle.run_spec.specs.RunFile.{lastPair};
 ghost use Rattle.run_state.specs.Changes.{freshPlayer, halted, withRoundGiven, withPairPlanted, withListenersGiven, withStrikesGiven};
 ghost use Rattle.run_state.specs.Places.{firstOf, bareOf};
+ghost use Rattle.run_state.specs.Counts.{aged, cleared, countsPlayed};
 use run_judge::MOST_ROUNDS;
 use run_spec::Pair;
 use terms::Family;
+use terms::RECEIVERS;
 
 // The longest record, a start with 255 positions, has 1,026 bytes; so many of a record that is cut are kept.
 pub const CARRY: usize = 1026;
 
 pub type Carry = [u8; CARRY];
 
+// Phases since the last strike (document 02, A10): of heads at places 0 to 31, of listeners at 32 to 47.
+pub type Counts = [u8; RECEIVERS];
+
 // What has been read of a run file, but for the heads' memory.
 pub struct Player {
     pub before: u64, // who was struck in the round before the last: bits 0 to 31 heads, 32 to 47 listeners
     pub struck: u64, // who is struck in the last
+    pub have: usize, // how many bytes of the record that is not yet whole
     pub given: u32, // rounds given
     pub begun: bool, // a start was accepted
     pub family: Family, // by its kind
     pub n: u8,
     pub f: u8,
     pub listeners: u8,
-    pub have: usize, // how many bytes of the record that is not yet whole
     pub pending: bool, // the last round is not yet played
     pub told: bool, // its struck listeners were given
     pub fault: u8, // the number of the first fault, 0 for none
     pub last: Pair, // the last planted pair of the last round
+    pub since: Counts, // of each head and listener, in the rounds played
 }
 
 // Before the first round.
 pub fn fresh(begun: bool, family: Family, n: u8, f: u8) -> Player
     ensures { λ r. ⌜ r ≡ freshPlayer begun family n f ⌝ }
 {
+    let since = [0u8; 48];
     Player {
         begun,
         family,
@@ -53,6 +61,7 @@ pub fn fresh(begun: bool, family: Family, n: u8, f: u8) -> Player
         last: no_pair(),
         have: 0,
         fault: 0,
+        since,
     }
 }
 
@@ -121,11 +130,65 @@ fn struck_before(p: Player) -> u64
     if p.pending { p.struck } else { p.before }
 }
 
+// One more, up to 255, where a count rests.
+fn count_more(c: u8) -> u8
+    ensures { λ r. ⌜ r ≡ min mostCounted (c + 1) ⌝ }
+{
+    if c < 255 { c + 1 } else { 255 }
+}
+
+// A phase end more, for each.
+fn aged(since: Counts) -> Counts
+    ensures { λ r. ⌜ r ≡ aged receivers since ⌝ }
+{
+    let mut out = since;
+    let mut j: usize = 0;
+    while j < 48 {
+        out[j] = count_more(since[j]);
+        j += 1;
+    }
+    out
+}
+
+// Those that the mark word marks begin anew. From the last mark on there is nothing to do.
+fn cleared(since: Counts, marks: u64) -> Counts
+    ensures { λ r. ⌜ r ≡ cleared receivers marks since ⌝ }
+{
+    let mut out = since;
+    let mut j: usize = 0;
+    while j < 48 {
+        if marks >> j == 0 {
+            return out;
+        }
+        if marks::marked_wide(marks, j) {
+            out[j] = 0;
+        }
+        j += 1;
+    }
+    out
+}
+
+// The counts when the pending round, if there is one, is played.
+pub fn counts_played(p: Player) -> Counts
+    ensures { λ r. ⌜ r ≡ countsPlayed p ⌝ }
+{
+    let since = p.since;
+    if !p.pending {
+        return since;
+    }
+    let family = p.family;
+    if ends_phase(family, p.given) {
+        return cleared(aged(since), p.struck);
+    }
+    cleared(since, p.struck)
+}
+
 // The player after an accepted round record.
 pub fn given_round(p: Player, struck: u32) -> Player
     ensures { λ r. ⌜ r ≡ withRoundGiven p struck ⌝ }
 {
     let family = p.family;
+    let since = counts_played(p);
     Player {
         begun: p.begun,
         family,
@@ -140,6 +203,7 @@ pub fn given_round(p: Player, struck: u32) -> Player
         last: no_pair(),
         have: 0,
         fault: 0,
+        since,
     }
 }
 

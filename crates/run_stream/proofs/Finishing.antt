@@ -19,6 +19,8 @@ use Rattle.run_listing.specs.Texts.{bytesOf}
 use Rattle.run_state.specs.declared.Player.{Player}
 use Rattle.run_state.specs.Memory.{Memory}
 use Rattle.run_state.specs.Heads.{HeadsOf}
+use Rattle.run_state.specs.Counts.{CountsOf, countsThen, countsPlayed}
+use Rattle.run_state.proofs.Counts.{round-counted}
 use Rattle.run_round.specs.Played.{Played}
 use Rattle.run_piece.specs.Advances.{StateAt, Grown, none}
 use Rattle.run_piece.proofs.Growing.{next-grown}
@@ -57,15 +59,16 @@ module _ {a : List ℕ} {p : Player} {carry : List ℕ} {M : Memory} (L : StateA
   ends-by = rw (empty-length (F .part), ← L .have, L .player .fault, L .player .begun, L .player .family, L .player .given)
 
   -- the rounds ws are played in all, and the memory holds what they leave
-  ends : {n : ℕ} {line v : Text} {M′ : Memory} (ws : List Round) → roundsPlayed F ≡ ws
+  ends : {n : ℕ} {line v : Text} {since : List ℕ} {M′ : Memory} (ws : List Round) → roundsPlayed F ≡ ws
       → title ++ lines (F .setup .n) (F .setup .listeners) (cond (F .setup .begun) (endsFrom (F .setup) ws) []) ≡ shown F ++ bytesOf line
       → n ≡ endingOf p → bytesOf v ≡ verdict n
       → (F .setup .begun ≡ true → HeadsOf (F .setup .n) (F .setup .listeners) (ringFrom (F .setup) ws) M′)
       → (ws ≡ F .rounds .played → M′ ≡ M)
       → Grown (F .setup .n) (F .setup .listeners) (endsSoFar F) (cond (F .setup .begun) (endsFrom (F .setup) ws) []) (ringFrom (F .setup) ws) (bytesOf line)
-      → EndsWith a M (record { number = n; line = line; verdict = v }) M′
+      → CountsOf (F .setup .family) ws since
+      → EndsWith a M (record { number = n; line = line; verdict = v; since = since }) M′
   unfolding listingOf endsPlayed roundsPlayed
-  ends {line} {v = t} ws e l i v K U G =
+  ends {line} {v = t} ws e l i v K U G C =
       let whole : listingOf F ≡ shown F ++ bytesOf line ++ bytesOf t = rw (e, l, v, i, ends-by) in
       record {
         number = i ∙ sym ends-by;
@@ -77,14 +80,24 @@ module _ {a : List ℕ} {p : Player} {carry : List ℕ} {M : Memory} (L : StateA
               demand3 = held-converges (eqb (ending F) 0) a (rw (← e) at K);
             };
         grown = rw (← e) at G;
+        counts = rw (← e) at C;
       }
+
+  -- the counts when the pending round is played
+  last-counted : F .rounds .pending ≡ true
+      → CountsOf (F .setup .family) (F .rounds .last ∷ F .rounds .played) (countsThen (endsPhase (p .family) (p .given)) (p .struck) (p .since))
+  last-counted pending =
+      let T = L .player in
+      let z : p .given ≡ suc (length (F .rounds .played)) = sym (T .given) ∙ rw pending (omega arith) in
+      rw (z, ← T .family, ← T .struck) (round-counted (F .setup .family) (F .rounds .played) (F .rounds .last) (p .since) (T .since))
 
   -- the pending round is played
   pub ends-played : {line v : Text} {M′ : Memory} {n : ℕ} → n ≡ endingOf p → n ≡ 0 → p .pending ≡ true
       → bytesOf v ≡ verdict n → (F .setup .begun ≡ true → F .rounds .pending ≡ true → Played F line M′)
-      → EndsWith a M (record { number = n; line = line; verdict = v }) M′
+      → {since : List ℕ} → since ≡ countsPlayed p
+      → EndsWith a M (record { number = n; line = line; verdict = v; since = since }) M′
   unfolding shown roundsPlayed ringAfter
-  ends-played {line} {n} e z w v P =
+  ends-played {line} {n} e z w v P {since} counted =
       let begun = L .player .begun ∙ begun-by p (sym e ∙ z) in
       let pending = L .player .pending ∙ w in
       let played = P begun pending in
@@ -92,13 +105,14 @@ module _ {a : List ℕ} {p : Player} {carry : List ℕ} {M : Memory} (L : StateA
       (rw (begun, played .shows) (sym (append-assoc title _ (bytesOf line))))
       e v (λ b. played .keeps) (λ same. absurd (omega (arith, ap length same)))
       (rw begun (next-grown (F .setup .family) (F .setup .n) (F .setup .listeners) (F .setup .f) (F .setup .first) (F .rounds .played) (F .rounds .last) (played .shows)))
+      (rw (counted, w) (last-counted pending))
 
   -- no round is played
   pub ends-unplayed : {line v : Text} {n : ℕ} → n ≡ endingOf p → (n ≡ 0 → p .pending ≡ false) → bytesOf v ≡ verdict n → line .len ≡ 0
-      → EndsWith a M (record { number = n; line = line; verdict = v }) M
+      → EndsWith a M (record { number = n; line = line; verdict = v; since = p .since }) M
   unfolding shown roundsPlayed
   ends-unplayed {line} {n} e idle v empty =
       let same =
       unplayed (eqb (ending F) 0) (F .rounds .pending) (F .rounds .played) (F .rounds .last)
       (λ t. L .player .pending ∙ idle (e ∙ sym ends-by ∙ eqb-true (ending F) 0 t)) in
-      ends (F .rounds .played) same (unshown line refl empty) e v (L .memory .keeps) (λ same. refl) (none refl (empty-text line empty))
+      ends (F .rounds .played) same (unshown line refl empty) e v (L .memory .keeps) (λ same. refl) (none refl (empty-text line empty)) (L .player .since)

@@ -10,6 +10,7 @@ use Rattle.run_spec.specs.Listing.{shown, listing}
 use Rattle.run_listing.specs.Texts.{bytesOf}
 use Rattle.run_state.specs.Memory.{Memory}
 use Rattle.run_state.specs.Heads.{HeadsOf}
+use Rattle.run_state.specs.Counts.{CountsOf}
 use Rattle.run_round.specs.Converged.{ConvergedIn}
 use Rattle.run_piece.specs.Advances.{Grown}
 use Rattle.run_stream.specs.declared.FinishResult.{FinishResult}
@@ -25,9 +26,10 @@ pub record Ends (a : List ℕ) (M : Memory) (text : List ℕ) (M′ : Memory) : 
   pub unplayed : roundsPlayed (readFile a) ≡ readFile a .rounds .played → M′ ≡ M
   pub demand3 : ConvergedIn (readFile a) (roundsPlayed (readFile a)) (M′ .positions)
 
--- and how it ends, with the text in two: the line of the last phase end, if the end plays one, and the last line
+-- and how it ends, with the text in two: the line of the last phase end, if the end plays one, and the last line; and the counts (document 02, A10)
 pub record EndsWith (a : List ℕ) (M : Memory) (r : FinishResult) (M′ : Memory) : Type 0 where
   pub number : r .number ≡ ending (readFile a)
   pub ends : Ends a M (bytesOf (r .line) ++ bytesOf (r .verdict)) M′
   pub grown :
       Grown (readFile a .setup .n) (readFile a .setup .listeners) (endsSoFar (readFile a)) (endsPlayed (readFile a)) (ringAtEnd (readFile a)) (bytesOf (r .line))
+  pub counts : CountsOf (readFile a .setup .family) (roundsPlayed (readFile a)) (r .since)

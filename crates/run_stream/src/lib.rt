@@ -19,6 +19,7 @@ use run_piece::FeedResult;
 use run_piece::PassResult;
 use run_spec::Pair;
 use run_state::Carry;
+use run_state::Counts;
 use run_state::Player;
 use terms::Lists;
 use terms::Positions;
@@ -30,11 +31,12 @@ pub const PAGE: usize = 4096;
 
 pub type Page = [u8; PAGE];
 
-// How the file ends, the last line of a phase, if its end plays one, and the last line of all.
+// How the file ends, the last line of a phase, if its end plays one, the last line of all, and the counts when all rounds that are played are played.
 pub struct FinishResult {
     pub number: u8,
     pub line: Text,
     pub verdict: Text,
+    pub since: Counts,
 }
 
 // The player with another last planted pair, after so many bytes.
@@ -193,16 +195,20 @@ pub fn finish(
     let verdict = run_listing::verdict_line(number);
     if number == 0 && p.pending {
         let line = run_round::play_round(p, positions, marks, lists, planted, lengths);
+        let since = run_state::counts_played(p);
         return FinishResult {
             number,
             line,
             verdict,
+            since,
         };
     }
+    let since = p.since;
     FinishResult {
         number,
         line: run_listing::empty(),
         verdict,
+        since,
     }
 }
 

@@ -34,6 +34,7 @@ use Rattle.run_state.specs.declared.Player.{Player}
 use Rattle.run_state.specs.Memory.{Memory}
 use Rattle.run_state.specs.Heads.{HeadsOf}
 use Rattle.run_state.specs.State.{ringBefore}
+use Rattle.run_state.specs.Counts.{CountsOf}
 use Rattle.run_piece.specs.Advances.{StateAt, AdvancesOnce}
 use Rattle.run_stream.specs.declared.FinishResult.{FinishResult}
 use Rattle.run_stream.specs.Ends.{ringAtEnd, EndsWith}
@@ -45,6 +46,7 @@ use Rattle.run_whole.specs.Buffers.{Buffers, mostEnds, hasRoom, row}
 use Rattle.run_whole.specs.Whole.{endNumber, HoldsEnd, Whole}
 use Rattle.run_whole.specs.Inner.{Put, EndKept, Rows, HoldsSoFar, Going}
 use Rattle.run_whole.proofs.FirstKind.{few-in}
+use Rattle.run_whole.proofs.Counting.{counts-held}
 use Rattle.run_whole.proofs.Rows.{rows-at, rows-recount}
 use Rattle.run_whole.proofs.Telling.{roomy, AtEnd, told-put, told-more, out-long}
 
@@ -268,7 +270,8 @@ rows-converge {n} {m} {M} h x y {ps} {qs} H I D =
     }
 
 module _ (s : List ℕ) {r : PlayResult} {B₀ B : Buffers} (number : r .number ≡ ending (readFile s))
-    (T : HoldsSoFar (readFile s .setup .n) (readFile s .setup .listeners) (listing s) (endsPlayed (readFile s)) (r .len) (r .ends) B₀ B) where
+    (T : HoldsSoFar (readFile s .setup .n) (readFile s .setup .listeners) (listing s) (endsPlayed (readFile s)) (r .len) (r .ends) B₀ B)
+    (C : CountsOf (readFile s .setup .family) (roundsPlayed (readFile s)) (r .since)) where
   whole-told : Whole s r B₀ B
   whole-told =
       let F = readFile s in
@@ -290,6 +293,8 @@ module _ (s : List ℕ) {r : PlayResult} {B₀ B : Buffers} (number : r .number 
             let z : i + k ≡ length es - 1 - e = omega arith in
             rows-converge h (endNumber es e) (endNumber es (e + k)) (at e (omega arith)) (at (e + k) l)
             (rw z at (every-file s m h i k (omega arith)));
+        counts = C;
+        records = counts-held s C;
       }
 
 module _ {file : List ℕ} {at : Place} {carry : List ℕ} {M : Memory} {B₀ B : Buffers} (G : Going file at carry M B₀ B) (all : at .used ≡ length file) where
@@ -298,7 +303,7 @@ module _ {file : List ℕ} {at : Place} {carry : List ℕ} {M : Memory} {B₀ B 
       → Put (r .line) (at .len) l (B .out) out → some ≡ not (eqb (r .line .len) 0)
       → EndKept some (at .player .n) (at .player .listeners) (at .player .struck) (M′ .positions) (at .count) c (B .ends) (B .words) ends words
       → Put (r .verdict) l l′ out out′
-      → Whole file (record { number = r .number; len = l′; ends = c }) B₀ (record { out = out′; ends = ends; words = words })
+      → Whole file (record { number = r .number; len = l′; ends = c; since = r .since }) B₀ (record { out = out′; ends = ends; words = words })
   closes {r} {M′} {l′} {c} {out′} {ends} {words} E short short′ P flag K Q =
       let s = take (at .used) file in
       let is : s ≡ file = take-all (at .used) file (omega arith) in
@@ -315,6 +320,6 @@ module _ {file : List ℕ} {at : Place} {carry : List ℕ} {M : Memory} {B₀ B 
       let (told, small) = told-more (G .told) room (G .small) short few {R = ringAtEnd F} ended P flag (rw (← L .player .n, ← L .player .listeners) at K) (E .grown) in
       let (len, put) = Q .puts short′ (omega (arith, out-long told (omega (arith, told .count, room .out)), told .count, room .out)) in
       let whole =
-      whole-told s {r = record { number = r .number; len = l′; ends = c }} {B₀ = B₀} {B = record { out = out′; ends = ends; words = words }} (E .number)
-      (rw (E .ends .shows ∙ sym (append-assoc (shown F) (bytesOf (r .line)) (bytesOf (r .verdict))), len) (told-put told (bytesOf (r .verdict)) (r .verdict .len) (Q .long short′) put)) in
+      whole-told s {r = record { number = r .number; len = l′; ends = c; since = r .since }} {B₀ = B₀} {B = record { out = out′; ends = ends; words = words }} (E .number)
+      (rw (E .ends .shows ∙ sym (append-assoc (shown F) (bytesOf (r .line)) (bytesOf (r .verdict))), len) (told-put told (bytesOf (r .verdict)) (r .verdict .len) (Q .long short′) put)) (E .counts) in
       rw (← is) whole

@@ -1,4 +1,5 @@
 pub mod FirstKind
 pub mod Rows
 pub mod Telling
+pub mod Counting
 pub mod Going

@@ -3,7 +3,7 @@ use mathlib.Core.Bool.{Bool, true, false, not, _&&_}
 use mathlib.Core.List.{List, _++_}
 use mathlib.Core.Path.{_≡_}
 use Prim.Native.Nat.{ℕ, _+_, _-_, _*_, _≤_, _<_}
-use lib.ListN.{length, getD, drop}
+use lib.ListN.{length, getD, drop, replicate}
 use lib.IntN.{ℤ, pos}
 use Rattle.terms.specs.Refusals as refusal
 use Rattle.terms.specs.declared.Entry.{Entry}
@@ -14,8 +14,9 @@ use Rattle.convergence.specs.Demand3.{Demand3, Halves}
 use Rattle.run_listing.specs.Held.{endIn}
 use Rattle.ring_spec.specs.Rounds.{PhaseEnd, receivers, isReceiver}
 use Rattle.ring_spec.specs.Converges.{noEnd}
-use Rattle.run_spec.specs.RunFile.{readFile, ending, endsPlayed}
+use Rattle.run_spec.specs.RunFile.{readFile, ending, roundsPlayed, endsPlayed, ringFrom}
 use Rattle.run_spec.specs.Listing.{listing}
+use Rattle.run_state.specs.Counts.{CountsOf}
 use Rattle.run_whole.specs.declared.PlayResult.{PlayResult}
 use Rattle.run_whole.specs.Buffers.{Buffers, row}
 
@@ -39,7 +40,8 @@ abbrev pub endAt : ℕ → ℕ → Buffers → ℕ → End
 endAt n m B e = endIn n m (getD (B .words) e 0) (row e (B .ends))
 
 -- the file s is played: how it ends; its listing, with what stands behind it as it was; its phase ends, with what stands behind them as it was; and any two of
--- these, k phases apart, keep demand 3: of the heads alone (m = 0), as the order has it, and with the first m listeners, all of them too (document 02, A6)
+-- these, k phases apart, keep demand 3: of the heads alone (m = 0), as the order has it, and with the first m listeners, all of them too (document 02, A6). The
+-- counts are those of the phases since the last strike (A10), and the record of each head and listener that is not struck in the last round played holds its count.
 pub record Whole (s : List ℕ) (r : PlayResult) (B B′ : Buffers) : Type 0 where
   pub number : r .number ≡ ending (readFile s)
   pub len : r .len ≡ length (listing s)
@@ -52,14 +54,19 @@ pub record Whole (s : List ℕ) (r : PlayResult) (B B′ : Buffers) : Type 0 whe
   pub demand3 : let S = readFile s .setup in
       (m e k : ℕ) → m ≤ S .listeners → e + k < r .ends
       → Demand3 receivers (Halves (S .family) (S .n) (S .f)) k (endAt (S .n) m B′ e) (endAt (S .n) m B′ (e + k))
+  pub counts : CountsOf (readFile s .setup .family) (roundsPlayed (readFile s)) (r .since)
+  pub records : let S = readFile s .setup in
+      S .begun ≡ true → let R = ringFrom S (roundsPlayed (readFile s)) in
+      Each receivers (λ i. isReceiver (S .n) (S .listeners) i ≡ true → bitOf (R .before) i ≡ false → R .heads i .seat .since ≡ getD (r .since) i 0)
 
 -- by whether the buffers have room: if not, 24, and they are as they were
 abbrev pub Plays : Bool → List ℕ → PlayResult → Buffers → Buffers → Type 0
 Plays true s r B B′ = Whole s r B B′
-Plays false s r B B′ = (r ≡ record { number = refusal.buffer; len = 0; ends = 0 }) × (B′ ≡ B)
+Plays false s r B B′ = (r ≡ record { number = refusal.buffer; len = 0; ends = 0; since = replicate receivers 0 }) × (B′ ≡ B)
 
--- the same from C, which lends room for the two counts: how many bytes the listing has, and how many phase ends were played. If a buffer is too short, 24, and all
--- that is lent is as it was.
-abbrev pub PlaysInto : Bool → List ℕ → ℕ → ℕ → ℕ → ℕ → ℕ → Buffers → Buffers → Type 0
-PlaysInto true s number len len′ ends ends′ B B′ = Whole s (record { number = number; len = len′; ends = ends′ }) B B′
-PlaysInto false s number len len′ ends ends′ B B′ = (number ≡ refusal.buffer) × (len′ ≡ len) × (ends′ ≡ ends) × (B′ ≡ B)
+-- the same from C, which lends room for the rest: how many bytes the listing has, how many phase ends were played, and the counts. If a buffer is too short, 24,
+-- and all that is lent is as it was.
+abbrev pub PlaysInto : Bool → List ℕ → ℕ → ℕ → ℕ → ℕ → ℕ → List ℕ → List ℕ → Buffers → Buffers → Type 0
+PlaysInto true s number len len′ ends ends′ since since′ B B′ = Whole s (record { number = number; len = len′; ends = ends′; since = since′ }) B B′
+PlaysInto false s number len len′ ends ends′ since since′ B B′ =
+    (number ≡ refusal.buffer) × (len′ ≡ len) × (ends′ ≡ ends) × (since′ ≡ since) × (B′ ≡ B)

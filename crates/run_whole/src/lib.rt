@@ -14,17 +14,20 @@ use frame_slots::PlantedBytes;
 use frame_slots::PlantedLengths;
 use run_listing::Text;
 use run_state::Carry;
+use run_state::Counts;
 use run_state::Player;
 use terms::Lists;
 use terms::Positions;
 use terms::Words;
 use terms::refusal;
 
-// How the file ends, or 24 if a buffer is too short; how many bytes the listing has; and how many phase ends were played, the start among them.
+// How the file ends, or 24 if a buffer is too short; how many bytes the listing has; how many phase ends were played, the start among them; and of each head and
+// listener the phases since its last strike.
 pub struct PlayResult {
     pub number: u8,
     pub len: usize,
     pub ends: usize,
+    pub since: Counts,
 }
 
 // A place in the file: the player there, the bytes taken, the bytes of the listing, and the phase ends.
@@ -227,6 +230,7 @@ fn close(
     let last = run_stream::finish(player, positions, marks, lists, planted, lengths);
     let line = last.line;
     let verdict = last.verdict;
+    let since = last.since;
     let len = put(out, at.len, line);
     let count = keep(
         line.len != 0,
@@ -242,6 +246,7 @@ fn close(
         number: last.number,
         len: put(out, len, verdict),
         ends: count,
+        since,
     }
 }
 
@@ -303,10 +308,12 @@ pub fn play(file: &[u8], out: &mut [u8], ends: &mut [i32], words: &mut [u64]) ->
         (now (file .entry)) r (lent out ends words) (left out ends words) ⌝ }
 {
     if !has_room(file, out.len(), ends.len(), words.len()) {
+        let since = [0u8; 48];
         return PlayResult {
             number: refusal::BUFFER,
             len: 0,
             ends: 0,
+            since,
         };
     }
     let mut carry = [0u8; run_state::CARRY];
@@ -330,24 +337,28 @@ pub fn play(file: &[u8], out: &mut [u8], ends: &mut [i32], words: &mut [u64]) ->
     )
 }
 
-// The same from C: the number of the file's first fault, 0 if it is played to its end, or 24; the length of the listing and the number of phase ends are put where
-// the caller lends room.
+// The same from C: the number of the file's first fault, 0 if it is played to its end, or 24; the counts, the length of the listing and the number of phase ends are
+// put where the caller lends room.
 #[no_mangle]
 pub extern "C" fn focus_play(
     file: &[u8],
     out: &mut [u8],
     ends: &mut [i32],
     words: &mut [u64],
+    since: &mut Counts,
     size: &mut usize,
     count: &mut usize,
 ) -> u8
     ensures { λ r. ⌜ PlaysInto (hasRoom (now (file .entry)) (length (now (out .entry))) (length (now (ends .entry))) (length (now (words .entry))))
-        (now (file .entry)) r (now (size .entry)) (now (size .exit)) (now (count .entry)) (now (count .exit)) (lent out ends words) (left out ends words) ⌝ }
+        (now (file .entry)) r (now (size .entry)) (now (size .exit)) (now (count .entry)) (now (count .exit))
+        (now (since .entry)) (now (since .exit)) (lent out ends words) (left out ends words) ⌝ }
 {
     if !has_room(file, out.len(), ends.len(), words.len()) {
         return refusal::BUFFER;
     }
     let played = play(file, out, ends, words);
+    let counts = played.since;
+    *since = counts;
     *size = played.len;
     *count = played.ends;
     played.number

@@ -32,9 +32,16 @@ slice-write-h-15 c =
     let b = held .before .before .before .before .before .before .before .before .before .before in
     simp length-set (omega (arith, b .pre))
 
+slice-write-h-16 : tie.Need-slice-write-h-16
+slice-write-h-16 c =
+    let held = c .before .before .before .before .before .before .before .before .before .before .before in
+    let b = held .before .before .before .before .before .before .before .before .before .before in
+    simp length-set (omega (arith, b .pre))
+
 returns : tie.Need-returns
 returns c =
-    let third = c .before in
+    let family = c .before in
+    let third = family .before in
     let middle = third .before in
     let high = middle .before .before in
     let low = high .before .before in
@@ -51,7 +58,7 @@ returns c =
     (word-is (λ x. x .high) (high .unsigned2 .ensures) (record { sfits = high .before .struct-told2 .given .1 .0 .1 }) kept)
     (ap (λ (x : Kept). x .trim) kept)
     (word-is (λ x. x .position) (third .unsigned3 .ensures) (record { sfits = middle .struct-told3 .given .1 .1 .1 .0 .1 }) kept)
-    (c .family-number .ensures)
+    (family .family-number .ensures)
 
 pub put-seat-spec : {M : Type 1} → statement M
 put-seat-spec =
@@ -88,5 +95,7 @@ put-seat-spec =
     slice-write-h-14
     (λ c κs. search needs)
     slice-write-h-15
+    (λ c. search needs)
+    slice-write-h-16
     (λ c. simp length-set)
     returns)

@@ -7,7 +7,7 @@ use Rattle.head_c.proofs.seat_in.Tie as tie
 returns : tie.Need-returns
 unfolding seatOf
 returns c =
-    let r = c .before .before .before .before .before .before .before in
+    let r = c .before .before .before .before .before .before .before .before in
     let e = r .before .before .before .before .before .before in
     rw (r .range-in .ensures, e .entry-in .ensures, e .before .before .before .family-in .ensures)
 
@@ -26,6 +26,8 @@ seat-in-spec =
     (λ c. search needs)
     (λ c. search needs)
     (λ c κs. search needs)
+    (λ c. search needs)
+    (λ c. search needs)
     (λ c. search needs)
     (λ c. search needs)
     (λ c. search needs)

@@ -14,13 +14,15 @@ module _ (c : tie.After-struct-told) where
 returns : tie.Need-returns
 returns c =
     let d = c .before in
-    let first = d .before .before in
-    rw (lt-leb 65535 (first .before .args .seat .phase) (d .if1 .taken), toZ-ofZ (fits first))
+    let counted = d .before .before in
+    let first = counted .before in
+    rw (lt-leb 65535 (first .before .args .seat .phase) (d .if1 .taken), toZ-ofZ (fits first), counted .one-more .ensures)
 
 returns-2 : tie.Need-returns-2
 returns-2 c =
-    let first = c .before .before in
-    rw (le-leb 65535 (first .before .args .seat .phase) (c .if1 .left), toZ-ofZ (fits first))
+    let counted = c .before .before in
+    let first = counted .before in
+    rw (le-leb 65535 (first .before .args .seat .phase) (c .if1 .left), toZ-ofZ (fits first), counted .one-more .ensures)
 
 pub next-seat-spec : {M : Type 1} → statement M
-next-seat-spec = tie.close (tie.spec (λ c. search needs) returns returns-2)
+next-seat-spec = tie.close (tie.spec (λ c κs. search needs) (λ c. search needs) returns returns-2)

@@ -10,7 +10,7 @@ returns c =
     let q = c .before .before in
     let k = q .before .before .before .before .before in
     let p = k .before .before .before .before .before .before .before in
-    let f = p .before .before .before .before in
+    let f = p .before .before .before .before .before in
     let (rooms, ends) = f .finish .ensures in
     λ file carry B all G.
     closes G all (ends _ carry (G .state)) (rooms .0) (rooms .1) (p .put .ensures) refl (k .keep .ensures) (q .put2 .ensures)
