@@ -29,6 +29,7 @@ mod c {
         pub fn focus_head_offer(head: *const Block, kept: *mut [i32; 4]) -> u8;
         pub fn focus_head_position(head: *const Block, position: *mut i32) -> u8;
         pub fn focus_head_kept(head: *const Block, kept: *mut [i32; 4]) -> u8;
+        pub fn focus_head_since(head: *const Block) -> u8;
         pub fn focus_head_register(head: *const Block, at: u32, byte: *mut u8) -> u8;
         pub fn focus_head_window(head: *const Block, bytes: *mut [u8; 16]);
         pub fn focus_head_set_register(head: *mut Block, at: u32, byte: u8) -> u8;
@@ -45,9 +46,10 @@ pub fn as_in_header() -> bool {
     include_str!("../include/focus.h").contains(&format!("opaque[{WORDS}]"))
 }
 
-/// The bytes of a block, words 15 and 23, that no call changes; those of its pending events, which a closing refused 25 changes; and the word that says
-/// whether an offer stands.
-pub const BESIDE: [Range<usize>; 2] = [60..64, 92..96];
+/// The bytes of a block, word 23, that no call changes; those of its count of phase ends; those of its pending events, which a closing refused 25
+/// changes; and the word that says whether an offer stands.
+pub const BESIDE: Range<usize> = 92..96;
+pub const SINCE: Range<usize> = 60..64;
 pub const EVENTS: Range<usize> = 64..68;
 pub const OFFERED: Range<usize> = 72..76;
 
@@ -135,6 +137,10 @@ impl Block {
 
     pub fn kept(&mut self, kept: &mut [i32; 4]) -> u8 {
         unsafe { c::focus_head_kept(self, kept) }
+    }
+
+    pub fn since(&mut self) -> u8 {
+        unsafe { c::focus_head_since(self) }
     }
 
     pub fn register(&mut self, at: u32, byte: &mut u8) -> u8 {

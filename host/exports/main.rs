@@ -5,9 +5,9 @@
 //!     exports --script SEED   the calls of the seed on a head, written as a script for crates/headplay
 //!
 //! Return numbers and lent memory must be the same, and a refused call must leave every byte of the block, but for the event of refusal 25; after each
-//! call all sixteen bytes of the head's window and its interrupt line must be the same. The first difference prints its seed,
-//! its call and both answers, and the exit status is 1; `exports 1 SEED` makes the calls of that seed again. From ENOUGH calls on, an answer that
-//! no call gave is a failure too.
+//! call all sixteen bytes of the head's window, its interrupt line and its count of phase ends must be the same. The first difference prints its
+//! seed, its call and both answers, and the exit status is 1; `exports 1 SEED` makes the calls of that seed again. From ENOUGH calls on, an answer
+//! that no call gave is a failure too.
 
 mod calls;
 mod damage;
@@ -25,7 +25,7 @@ mod spoil;
 mod tally;
 
 use calls::Call;
-use exported::{Block, BESIDE, OFFERED, SIZE};
+use exported::{Block, BESIDE, OFFERED, SINCE, SIZE};
 use random::Random;
 use rules::head::Head;
 use rules::window::Device;
@@ -56,32 +56,43 @@ impl Pair {
             block.0.copy_from_slice(&random.bytes(SIZE));
             block.0[OFFERED].fill(0); // what was offered before a start is nobody's
         }
-        // what stands beside a head that was never started is whatever is read there
+        // what stands beside a head that was never started, and its count, are whatever is read there
         let mut window = [0; 16];
         block.window(&mut window);
-        let device = Device { head: Head::none(), events: window[10], mask: window[11], offer: None };
+        let mut head = Head::none();
+        head.since = block.since();
+        let device = Device { head, events: window[10], mask: window[11], offer: None };
         Pair { blocks: [guard, block, guard], device, known: zeros, calls: 0 }
     }
 
-    /// Whether both sides show the same window and the same line; of a block that was never started the events and all behind them.
+    /// Whether both sides show the same window, line and count; of a block that was never started the events and all behind them.
     fn alike(&mut self) -> bool {
         let mut window = [0; 16];
         self.blocks[1].window(&mut window);
         let from = if self.known { 0 } else { 10 };
-        window[from..] == self.device.bytes()[from..] && self.blocks[1].interrupt() == self.device.is_up() as u8
+        let block = &mut self.blocks[1];
+        window[from..] == self.device.bytes()[from..] && block.interrupt() == self.device.is_up() as u8 && block.since() == self.device.head.since
+    }
+
+    /// Puts both counts where they are about to rest; only the low byte of the block's is looked at.
+    fn age(&mut self) {
+        let count = 252 + (self.calls / 4 % 4) as u8;
+        self.blocks[1].0[SINCE].copy_from_slice(&[count, self.calls as u8, 0, 1]);
+        self.device.head.since = count;
     }
 
     fn ask(&mut self, tally: &mut Tally, call: &Call) -> Result<u8, String> {
         self.calls += 1;
-        for words in BESIDE {
-            self.blocks[1].0[words].fill(self.calls as u8);
+        if matches!(call, Call::Adopt) && self.calls % 4 == 0 {
+            self.age();
         }
+        self.blocks[1].0[BESIDE].fill(self.calls as u8);
         let (export, plain) = (call.exported(&mut self.blocks[1]), call.plain(&mut self.device));
         let opens = matches!(call, Call::Start { .. } | Call::Restart { .. } | Call::StartListener { .. } | Call::RestartListener { .. });
         self.known |= opens && plain.number == 0;
         let known = tally.count(call.index(), plain.number);
         let guarded = [0, 2].iter().all(|&at| self.blocks[at] == Block([0xa5; SIZE]));
-        let beside = BESIDE.into_iter().all(|words| self.blocks[1].0[words].iter().all(|&byte| byte == self.calls as u8));
+        let beside = self.blocks[1].0[BESIDE].iter().all(|&byte| byte == self.calls as u8);
         let alike = self.alike();
         if export == plain && known && guarded && beside && alike {
             return Ok(plain.number);
@@ -89,7 +100,7 @@ impl Pair {
         let name = CALLS[call.index()].0;
         let beside = match (guarded, alike) {
             (false, _) => "\nmemory beside the block was changed",
-            (_, false) => "\nanother window, or another interrupt line",
+            (_, false) => "\nanother window, another interrupt line, or another count",
             _ => "",
         };
         Err(format!("call {}, focus_{name}: {call:?}\nexport: {export:?}\nplain:  {plain:?}{beside}", self.calls))

@@ -115,6 +115,9 @@ enum focus_phase_bytes { FOCUS_PLAY_ONE_ROUND = 8, FOCUS_PLAY_TWO_ROUNDS = 16 };
 #define FOCUS_PLAY_OUT(bytes, phase) (64 * (FOCUS_PLAY_ENDS(bytes, phase) + 2))
 #define FOCUS_PLAY_ROWS(bytes, phase) (48 * FOCUS_PLAY_ENDS(bytes, phase))
 
+/* The numbers of heads are below 32, those of listeners are 32 to 47. */
+#define FOCUS_RECEIVERS 48
+
 /* Plays a run file of any bytes: its listing at the front of out, and for each phase end e, counted from the start, a
  * row of 48 numbers from rows[48 * e] on and a mark word words[e]. Numbers 0 to 31 of a row are for heads and 32 to 47
  * for the listeners of these numbers: the position of each one that is sound at that end, and 0 elsewhere. The word
@@ -122,20 +125,27 @@ enum focus_phase_bytes { FOCUS_PLAY_ONE_ROUND = 8, FOCUS_PLAY_TWO_ROUNDS = 16 };
  * column shows, or in a one-round ring its only one, which the column before that shows. At the start, row 0, it has
  * the bits of all listeners, which hold no position yet. The listing's length is put in *length and the number of phase
  * ends in *ends; what is behind them in the three buffers stays as it was.
+ * since[i] is how many phases head or listener i has ended since its last strike (document 02, A10): the number of ended
+ * phases whose last round came after the last round played that marks it struck, or of all ended phases if none does, at
+ * most 255. It is what the record of i holds, but for one that the last round played marks: its memory is lost, and its
+ * number is 0. A number that no head or listener has is never struck, and counts all ended phases. In a faulty file the
+ * round that waited to be played does not count; before an accepted start all are 0.
  * Returns the number of the file's first fault (1, 2, 18, 4, 13, 14, 26), or 0 if it is played to its end. Returns 24,
- * with nothing written, if a buffer is shorter than the three macros say with the file's own phase. Sizes of rows and
- * words are in numbers, not bytes. Takes about 230 KB of stack.
- * Promised: `PlaysInto` (crates/run_whole/specs/Whole.antt), with demand 3 for any two of the rows. */
+ * with nothing written, since too, if a buffer is shorter than the three macros say with the file's own phase. Sizes of
+ * rows and words are in numbers, not bytes. Takes about 230 KB of stack.
+ * Promised: `PlaysInto` (crates/run_whole/specs/Whole.antt), with demand 3 for any two of the rows; of since, `counts`
+ * and `records` there. */
 uint8_t focus_play(const uint8_t *file, size_t bytes, uint8_t *out, size_t out_size, int32_t *rows, size_t rows_size,
-                   uint64_t *words, size_t words_size, size_t *length, size_t *ends);
+                   uint64_t *words, size_t words_size, uint8_t since[FOCUS_RECEIVERS], size_t *length, size_t *ends);
 
 /* ---- a head that C keeps: crates/head_c/src/lib.rt has what its calls promise; crates/head_spec/specs/Calls.antt
  * defines the calls */
 
 /* A head's block: 1,116 words all shift, of which each call changes those that it must, in place. Words 16 and 17 are
  * the pending events and the mask of its window, words 18 to 22 what is offered (word 18 is 0 if no offer stands, and
- * 19 to 22 are not looked at then). Word 14 is the family of its ring: 0 if a phase has two rounds, else it has one. Words
- * 15 and 23 are room for later calls: no call changes them.
+ * 19 to 22 are not looked at then). Word 14 is the family of its ring: 0 if a phase has two rounds, else it has one. Word
+ * 15 is the count of phase ends, of which only the low byte is looked at. Word 23 is room for later calls: no call changes
+ * it.
  *
  * A block is made by a start or restart, of a head or a listener, of either family, that answers 0, of whatever it
  * held. Of such a block, after any calls: its record is one that the paper's calls can reach, so demand 2 holds of it,
@@ -233,6 +243,15 @@ uint8_t focus_head_position(const focus_head *head, int32_t *position);
 /* No refusal: 1 and what the head's last phase end kept in *kept, or 0 if it passed none since it was started or
  * restarted, with *kept as it was. An offer does not show here until it is adopted. */
 uint8_t focus_head_kept(const focus_head *head, focus_kept *kept);
+
+/* No refusal: how many phase ends the head has passed since it was started or restarted, up to 255, where the count rests
+ * (document 02, A10). A start and a restart set it to 0, and an adoption, which ends a phase, adds one. Nothing else
+ * touches it: not hearing or writing, not an offer, not a closing of a collection round or one that is refused 25. A
+ * listener has one too, and so have the heads of a one-round ring. It does not stand in the window.
+ * It is for service staff who look for the head that is struck most; host/c/counts.c shows the counts of a run file.
+ * Promised: the field `since` of the head's record (crates/head_spec/specs/Seats.antt); for heads in rounds `RingCounts`
+ * (crates/ring_spec/specs/Converges.antt). */
+uint8_t focus_head_since(const focus_head *head);
 
 /* ---- the head as a register window of sixteen bytes (document 02, A5): crates/head_c/src/window.rt has what its calls
  * promise, crates/head_window/specs/Window.antt says what each byte is

@@ -8,6 +8,8 @@ pub const LAST_PHASE: usize = 65_535;
 /// The number of the first listener, whatever n is, and how many there can be.
 pub const FIRST_LISTENER: usize = 32;
 pub const MOST_LISTENERS: usize = 16;
+/// Phase ends are counted up to here (document 02, A10).
+const MOST_COUNTED: u8 = 255;
 
 /// A head, or a listener (document 02, A6): a listener has a number of its own, hears and closes as a head does, and sends nothing.
 pub struct Head {
@@ -22,6 +24,8 @@ pub struct Head {
     pub position: Entry,
     /// Of the last phase end since the start or restart.
     pub kept: Option<Kept>,
+    /// Phase ends passed since the start or restart.
+    pub since: u8,
     list: Vec<Entry>,
     heard: Vec<Option<Said>>,
 }
@@ -38,7 +42,7 @@ impl Head {
 
     fn healed(family: Family, n: usize, f: usize, number: usize, phase: usize, round: usize) -> Head {
         let (list, heard) = (vec![None; n], vec![None; n]);
-        Head { family, n, f, number, phase, round, healed: true, ended: false, position: None, kept: None, list, heard }
+        Head { family, n, f, number, phase, round, healed: true, ended: false, position: None, kept: None, since: 0, list, heard }
     }
 
     /// 1, 2 (or 18), 3, 4.
@@ -166,6 +170,9 @@ impl Head {
     /// What was offered becomes the position, and the phase ends.
     pub fn adopt(&mut self, kept: Kept) {
         (self.position, self.kept) = (Some(kept.position), Some(kept));
+        if self.since < MOST_COUNTED {
+            self.since += 1;
+        }
         self.list = vec![None; self.n];
         self.ended = self.phase == LAST_PHASE;
         if !self.ended {
