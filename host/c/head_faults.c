@@ -581,6 +581,113 @@ static void unstarted(void) {
     same("link 40", focus_head_hear(&head, 40, frame, length), FOCUS_HEAD_NUMBER);
 }
 
+/* ---- phases since the last strike */
+
+/* Hears links 0 to 4 in their round of a phase: positions of 7, or lists of sevens. */
+static void hear_sevens(focus_head *head, unsigned phase, int lists) {
+    uint8_t frame[FOCUS_FRAME_MAX];
+    for (unsigned k = 0; k < 5; k++)
+        same("hear", focus_head_hear(head, k, frame, lists ? sevens(frame, k, phase) : position_frame(frame, k, phase, 7)), 0);
+}
+
+/* Calls that leave the count: refused frames, starts and restarts, a batch, writing, the window and its writes. */
+static void untouching(focus_head *head, uint32_t number, unsigned phase, int once, unsigned count) {
+    uint8_t frame[FOCUS_FRAME_MAX], answers[2], bytes[FOCUS_WINDOW_BYTES], batch[BATCH];
+    size_t length = 0;
+    int listens = number >= 32;
+    same("a refused frame", focus_head_hear(head, 0, frame, sevens(frame, 1, phase)) != 0, 1);
+    same("a batch", focus_head_hear_batch(head, batch, put_entry(batch, 9, phase), answers, 2, &length), 0);
+    same("a refused restart", restart(head, 5, 1, number, 0, 0, listens, once), FOCUS_PHASE);
+    same("a refused start", start(head, 0, 1, number, 7, listens, once), FOCUS_HEAD_COUNT);
+    same("write", focus_head_write(head, frame, sizeof frame, &length), listens ? FOCUS_LISTENER : 0);
+    same("write with no room", focus_head_write(head, frame, 0, &length), listens ? FOCUS_LISTENER : FOCUS_BUFFER);
+    same("the mask", focus_head_set_register(head, FOCUS_WINDOW_MASK, 7), 0);
+    same("the events", focus_head_set_register(head, FOCUS_WINDOW_EVENTS, 7), 0);
+    focus_head_window(head, bytes);
+    same("the window has no count", bytes[12] | bytes[13] | bytes[14] | bytes[15], 0);
+    same("calls that leave the count", focus_head_since(head), count);
+}
+
+/* A phase of the five, from its first round to its offer: the count stays. */
+static void offered_phase(focus_head *head, uint32_t number, unsigned phase, int once, unsigned count) {
+    if (!once) {
+        hear_sevens(head, phase, 0);
+        untouching(head, number, phase, once, count);
+        same("close the collection round", focus_head_close(head), 0);
+        same("a collection round is no phase", focus_head_since(head), count);
+    }
+    same("nothing heard", focus_head_close(head), FOCUS_TRUSTED);
+    same("refused 25", focus_head_since(head), count);
+    same("adopt too early", focus_head_adopt(head), FOCUS_NO_OFFER);
+    hear_sevens(head, phase, !once);
+    untouching(head, number, phase, once, count);
+    same("close", focus_head_close(head), 0);
+    same("an offer", focus_head_since(head), count);
+    same("close again", focus_head_close(head), 0);
+    untouching(head, number, phase, once, count);
+}
+
+/* The count of phase ends: one more at each adoption, from 0 at a start and a restart to 255, where it rests. */
+static void counts(uint32_t number, int once) {
+    focus_head head;
+    int listens = number >= 32;
+    memset(&head, 0xee, sizeof head);
+    same("start", start(&head, 5, 1, number, 7, listens, once), 0);
+    same("no phase end", focus_head_since(&head), 0);
+    for (unsigned phase = 1; phase <= 258; phase++) {
+        unsigned passed = phase < 255 ? phase : 255;
+        tried = (int)phase;
+        offered_phase(&head, number, phase, once, phase <= 255 ? phase - 1 : 255);
+        same("adopt", focus_head_adopt(&head), 0);
+        same("a phase end", focus_head_since(&head), passed);
+        same("adopt twice", focus_head_adopt(&head), FOCUS_NO_OFFER);
+        same("no phase end more", focus_head_since(&head), passed);
+    }
+    for (unsigned round = 0; round < 2; round++) { /* in each round of a phase */
+        if (once && round == 1)
+            continue;
+        same("restart", restart(&head, 5, 1, number, 9, round, listens, once), 0);
+        same("a restart", focus_head_since(&head), 0);
+        if (round == 0) {
+            offered_phase(&head, number, 9, once, 0);
+        } else {
+            hear_sevens(&head, 9, 1);
+            same("close", focus_head_close(&head), 0);
+        }
+        same("no phase end yet", focus_head_since(&head), 0);
+        same("adopt", focus_head_adopt(&head), 0);
+        same("the first phase end", focus_head_since(&head), 1);
+    }
+    same("restart in the other family", restart(&head, 5, 1, number, 9, 0, listens, !once), 0);
+    same("it begins anew", focus_head_since(&head), 0);
+}
+
+/* The last phase end counts, and nothing that is refused after it. A block that no start made counts by the low byte of its word. */
+static void last_counts(void) {
+    focus_head heads[2] = {ended(), once_ended(47)};
+    uint8_t frame[FOCUS_FRAME_MAX];
+    tried = 0;
+    for (int i = 0; i < 2; i++) {
+        same("the last phase end", focus_head_since(&heads[i]), 1);
+        same("close at the end", focus_head_close(&heads[i]), FOCUS_ENDED);
+        same("hear at the end", focus_head_hear(&heads[i], 0, frame, sevens(frame, 0, 1)), FOCUS_ENDED);
+        same("adopt at the end", focus_head_adopt(&heads[i]), FOCUS_NO_OFFER);
+        same("it stays", focus_head_since(&heads[i]), 1);
+        same("start", focus_head_start(&heads[i], 5, 1, 0, 7), 0);
+        same("and begins anew", focus_head_since(&heads[i]), 0);
+    }
+    focus_head head = in_confession(3, 5);
+    same("close", focus_head_close(&head), 0);
+    head.opaque[15] = 0x12345600 + 253;
+    for (unsigned round = 0; round < 6; round++) {
+        focus_head again = head;
+        same("any word", focus_head_since(&again), 253 + round % 3);
+        same("adopt", focus_head_adopt(&again), 0);
+        same("one more", focus_head_since(&again), round % 3 == 0 ? 254 : 255);
+        head.opaque[15] = 0x12345600 * (round + 1) + 253 + (round + 1) % 3;
+    }
+}
+
 int main(void) {
     for (int once = 0; once < 2; once++) {
         starts(once);
@@ -605,5 +712,11 @@ int main(void) {
     kept_ranges();
     listens();
     unstarted();
+    for (int once = 0; once < 2; once++) {
+        counts(0, once);
+        counts(4, once);
+        counts(33, once);
+    }
+    last_counts();
     return all_checked();
 }
