@@ -1,6 +1,6 @@
 /* Shows the phases since the last strike of each head and listener of a run file (document 02, A10), for service staff who look for the head that is struck most:
  *
- *     counts FILE
+ *     counts FILE     or counts -, which reads standard input
  *
  * A line each, who was struck last first, those with the same count by number; a head that was never struck counts from the start. Then `end`, or `refused` and the
  * number of the file's first fault: the counts are those after the last round that was played. Status 0 if the file was played to its end, 1 if it was refused, and 2
@@ -13,7 +13,7 @@
 
 /* The bytes of a file, with at least 4 zeros behind them, and how many there are; NULL if it cannot be read. */
 static uint8_t *read_whole(const char *name, size_t *bytes) {
-    FILE *from = fopen(name, "rb");
+    FILE *from = strcmp(name, "-") == 0 ? stdin : fopen(name, "rb");
     size_t room = 1 << 16, got = 0, part;
     uint8_t *file = from != NULL ? calloc(room + 4, 1) : NULL;
     while (file != NULL && (part = fread(file + got, 1, room - got, from)) > 0) {

@@ -1,5 +1,6 @@
 //! From a seed to a run file, with what is known of its listing.
 
+use crate::counts;
 use crate::faults::{damaged, Faulty, Right};
 use crate::phases::{edge, liars, quiet, stubborn, twofold, TWOFOLD};
 use crate::random::Random;
@@ -60,6 +61,8 @@ pub struct File {
     /// The listing, or how it begins.
     pub listing: String,
     pub whole: bool,
+    /// The phases since the last strike, if all of the listing is known.
+    pub counts: Option<String>,
 }
 
 pub fn file(seed: u64) -> File {
@@ -89,12 +92,15 @@ pub fn file(seed: u64) -> File {
 
 fn played_out(kind: Kind, run: &Run) -> File {
     let listing = [TITLE, &run.ring.lines.concat(), "end\n"].concat();
-    made(kind, run, run.records().concat(), listing, true)
+    let counts = counts::shown(family(run), &run.records(), 0);
+    File { counts: Some(counts), ..made(kind, run, run.records().concat(), listing, true) }
 }
 
 fn refused(kind: Kind, run: &Run, faulty: Faulty) -> File {
-    let listing = format!("{}refused {}\n", standing(run, &faulty.records[..faulty.sound]), faulty.number);
-    made(kind, run, faulty.records.concat(), listing, true)
+    let accepted = &faulty.records[..faulty.sound];
+    let listing = format!("{}refused {}\n", standing(run, accepted), faulty.number);
+    let counts = counts::shown(family(run), accepted, faulty.number);
+    File { counts: Some(counts), ..made(kind, run, faulty.records.concat(), listing, true) }
 }
 
 /// A file whose listing is known as far as its bytes are those of the run.
@@ -111,9 +117,12 @@ fn begun(kind: Kind, run: &Run, bytes: Vec<u8>) -> File {
     made(kind, run, bytes, listing, false)
 }
 
+fn family(run: &Run) -> Family {
+    if run.ring.one_round { OneRound } else { TwoRounds }
+}
+
 fn made(kind: Kind, run: &Run, bytes: Vec<u8>, listing: String, whole: bool) -> File {
-    let family = if run.ring.one_round { OneRound } else { TwoRounds };
-    File { kind, family, n: run.ring.n, f: run.ring.f, listeners: run.ring.listeners.len(), bytes, listing, whole }
+    File { kind, family: family(run), n: run.ring.n, f: run.ring.f, listeners: run.ring.listeners.len(), bytes, listing, whole, counts: None }
 }
 
 /// The lines that stand when these records were accepted: the last round given is not played yet.

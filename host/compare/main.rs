@@ -1,11 +1,13 @@
 //! Compares two players of run files on files made from seeds, and both with a model that knows what must be printed.
 //!
 //!     compare OURS OTHER FROM COUNT    plays the files of COUNT seeds from FROM by both programs
+//!     compare --counts OURS OTHER FROM COUNT    the same of the phases since the last strike that both show
 //!     compare --file SEED              writes the run file of a seed to standard output
 //!     compare --about SEED             says in a line what that file is
 //!
 //! The first difference is printed, its file is written to target/host/difference.run, and the exit status is 1.
 
+mod counts;
 mod faults;
 mod files;
 mod listing;
@@ -130,6 +132,21 @@ fn compare_file(file: &File, seed: u64, ours: &str, other: &str) -> Result<Listi
     check(file, &one.listing).map_err(|what| format!("{ours} and {other} agree, but: {what}"))
 }
 
+/// The phases since the last strike, as both programs show them. Ours ends with status 1 if the file is refused.
+fn compare_counts(file: &File, ours: &str, other: &str) -> Result<(), String> {
+    let (one, two) = (programs::play(ours, &file.bytes, 1 << 16)?, programs::play(other, &file.bytes, 1 << 16)?);
+    if one.listing != two.listing {
+        return Err(format!("{ours} and {other} differ: {}", first_difference(&one.listing, &two.listing)));
+    }
+    if one.status != !one.listing.ends_with(b"end\n") as i32 {
+        return Err(format!("{ours} ends with status {}", one.status));
+    }
+    match &file.counts {
+        Some(known) if known.as_bytes() != one.listing => Err(format!("not as the marks have it: {}", first_difference(&one.listing, known.as_bytes()))),
+        _ => Ok(()),
+    }
+}
+
 fn about(seed: u64, file: &File) -> String {
     let halves = if halving(file.family, file.n, file.f) { "halving" } else { "not halving" };
     let lines = file.listing.lines().count();
@@ -138,19 +155,31 @@ fn about(seed: u64, file: &File) -> String {
     format!("seed {seed}: {:?}, {size}; {known} is known, {lines} lines", file.kind)
 }
 
+/// A difference, with its file kept.
+fn difference(seed: u64, file: &File, what: String) -> String {
+    let kept = std::fs::write(DIFFERENCE, &file.bytes).map_or_else(|error| error.to_string(), |()| "written".to_owned());
+    format!("{}\n{what}\n{DIFFERENCE}: {kept}", about(seed, file))
+}
+
 fn compare(ours: &str, other: &str, from: u64, count: u64) -> Result<Seen, String> {
     let mut seen = Seen::default();
     for seed in from..from + count {
         let file = files::file(seed);
-        match compare_file(&file, seed, ours, other) {
-            Ok(listing) => seen.count(&file, &listing),
-            Err(what) => {
-                let kept = std::fs::write(DIFFERENCE, &file.bytes).map_or_else(|error| error.to_string(), |()| "written".to_owned());
-                return Err(format!("{}\n{what}\n{DIFFERENCE}: {kept}", about(seed, &file)));
-            }
-        }
+        let listing = compare_file(&file, seed, ours, other).map_err(|what| difference(seed, &file, what))?;
+        seen.count(&file, &listing);
     }
     Ok(seen)
+}
+
+fn all_counts(ours: &str, other: &str, from: u64, count: u64) -> Result<(), String> {
+    let mut known = 0;
+    for seed in from..from + count {
+        let file = files::file(seed);
+        compare_counts(&file, ours, other).map_err(|what| difference(seed, &file, what))?;
+        known += file.counts.is_some() as u64;
+    }
+    println!("the counts of {count} files, {known} of them by their marks too");
+    Ok(())
 }
 
 fn main() -> ExitCode {
@@ -163,8 +192,9 @@ fn main() -> ExitCode {
             println!("{}", about(number(seed), &files::file(number(seed))));
             Ok(())
         }
+        ["--counts", ours, other, from, count] => all_counts(ours, other, number(from), number(count)),
         [ours, other, from, count] => compare(ours, other, number(from), number(count)).map(|seen| seen.print()),
-        _ => Err("compare OURS OTHER FROM COUNT, compare --file SEED, or compare --about SEED".to_owned()),
+        _ => Err("compare [--counts] OURS OTHER FROM COUNT, compare --file SEED, or compare --about SEED".to_owned()),
     };
     match done {
         Ok(()) => ExitCode::SUCCESS,

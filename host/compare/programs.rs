@@ -16,10 +16,12 @@ pub struct Played {
     pub status: i32,
 }
 
-/// Plays a file that is handed over in pieces of this length.
+/// Plays a file that is handed over in pieces of this length. Words behind the program's name are its arguments.
 pub fn play(program: &str, file: &[u8], piece: usize) -> Result<Played, String> {
     let fault = |what: &str, error: io::Error| format!("{program}: {what}: {error}");
-    let mut command = Command::new(program);
+    let mut words = program.split(' ');
+    let mut command = Command::new(words.next().unwrap_or(program));
+    command.args(words);
     command.stdin(Stdio::piped()).stdout(Stdio::piped());
     let mut child = command.spawn().map_err(|error| fault("no start", error))?;
     let input = child.stdin.take().expect("a piped input");

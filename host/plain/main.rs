@@ -1,5 +1,6 @@
 //! The second implementation: it reads a run file from standard input and prints its listing, by document 01's rules written once more, plainly. It
-//! shares nothing with the proved crates and serves to compare with them. `plain --shift` reads a script of calls on one head, and prints their lines.
+//! shares nothing with the proved crates and serves to compare with them. `plain --counts` prints the phases since the last strike of each head
+//! and listener instead, as host/c/counts.c does; `plain --shift` reads a script of calls on one head, and prints their lines.
 
 mod player;
 #[allow(dead_code)]
@@ -18,11 +19,15 @@ fn shift() -> io::Result<()> {
 }
 
 fn main() -> io::Result<()> {
-    if std::env::args().nth(1).as_deref() == Some("--shift") {
+    let mode = std::env::args().nth(1);
+    if mode.as_deref() == Some("--shift") {
         return shift();
     }
     let input = BufReader::with_capacity(1 << 16, io::stdin().lock());
     let mut output = BufWriter::new(io::stdout().lock());
-    player::play(input, &mut output)?;
+    match mode.as_deref() {
+        Some("--counts") => player::counts(input, &mut output)?,
+        _ => player::play(input, &mut output)?,
+    }
     output.flush()
 }

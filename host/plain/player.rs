@@ -185,19 +185,20 @@ fn record(input: &mut impl Read) -> io::Result<Option<Result<Vec<u8>, u8>>> {
     Ok(Some(if bytes.len() == length { Ok(bytes) } else { Err(13) }))
 }
 
-/// Takes one record: the ring after it.
-fn take(ring: Option<Ring>, bytes: &[u8], output: &mut impl Write) -> io::Result<Result<Ring, u8>> {
-    match (half(bytes, 2), ring) {
+/// Takes one record.
+fn take(ring: &mut Option<Ring>, bytes: &[u8], output: &mut impl Write) -> io::Result<Result<(), u8>> {
+    match (half(bytes, 2), &mut *ring) {
         (kind @ (START | START_ONE), None) => {
             let family = if kind == START { Family::TwoRounds } else { Family::OneRound };
-            let ring = match Ring::start(family, bytes) {
-                Ok(ring) => ring,
+            let started = match Ring::start(family, bytes) {
+                Ok(started) => started,
                 Err(number) => return Ok(Err(number)),
             };
-            ring.line(output, 0, 0, 0)?;
-            Ok(Ok(ring))
+            started.line(output, 0, 0, 0)?;
+            *ring = Some(started);
+            Ok(Ok(()))
         }
-        (kind, Some(mut ring)) => {
+        (kind, Some(ring)) => {
             let taken = match kind {
                 LISTENERS => ring.listeners(bytes),
                 ROUND => ring.round(bytes, output)?,
@@ -206,36 +207,62 @@ fn take(ring: Option<Ring>, bytes: &[u8], output: &mut impl Write) -> io::Result
                 _ => Err(13),
             };
             ring.last = kind;
-            Ok(taken.map(|()| ring))
+            Ok(taken)
         }
         _ => Ok(Err(13)),
     }
 }
 
-pub fn play(mut input: impl Read, output: &mut impl Write) -> io::Result<()> {
-    writeln!(output, "phase low high spread collect confess")?;
+/// Plays a file and prints the lines of its phases: the ring after the last round played, and how the file ended.
+fn played(mut input: impl Read, output: &mut impl Write) -> io::Result<(Option<Ring>, Result<(), u8>)> {
     let mut ring = None;
-    let refused = loop {
+    let ended = loop {
         let bytes = match record(&mut input)? {
-            None => break ending(ring, output)?,
-            Some(Err(number)) => break Some(number),
+            None => break ending(&mut ring, output)?,
+            Some(Err(number)) => break Err(number),
             Some(Ok(bytes)) => bytes,
         };
-        match take(ring, &bytes, output)? {
-            Ok(next) => ring = Some(next),
-            Err(number) => break Some(number),
+        if let Err(number) = take(&mut ring, &bytes, output)? {
+            break Err(number);
         }
     };
-    match refused {
-        None => writeln!(output, "end"),
-        Some(number) => writeln!(output, "refused {number}"),
-    }
+    Ok((ring, ended))
 }
 
 /// The file ends after the start, with its listeners, or after the last round of a phase.
-fn ending(ring: Option<Ring>, output: &mut impl Write) -> io::Result<Option<u8>> {
+fn ending(ring: &mut Option<Ring>, output: &mut impl Write) -> io::Result<Result<(), u8>> {
     match ring {
-        Some(mut ring) if ring.given % ring.family.rounds() == 0 => ring.play(output).map(|()| None),
-        _ => Ok(Some(13)),
+        Some(ring) if ring.given % ring.family.rounds() == 0 => ring.play(output).map(Ok),
+        _ => Ok(Err(13)),
     }
+}
+
+fn last_line(ended: Result<(), u8>, output: &mut impl Write) -> io::Result<()> {
+    match ended {
+        Ok(()) => writeln!(output, "end"),
+        Err(number) => writeln!(output, "refused {number}"),
+    }
+}
+
+pub fn play(input: impl Read, output: &mut impl Write) -> io::Result<()> {
+    writeln!(output, "phase low high spread collect confess")?;
+    let (_, ended) = played(input, output)?;
+    last_line(ended, output)
+}
+
+/// The phases since the last strike of each head and listener (document 02, A10), who was struck last first: those that its record holds. One that was
+/// struck in the last round played has no record, and its count is 0.
+pub fn counts(input: impl Read, output: &mut impl Write) -> io::Result<()> {
+    let (ring, ended) = played(input, &mut io::sink())?;
+    let mut counts: Vec<(u8, usize)> = Vec::new();
+    if let Some(ring) = &ring {
+        counts.extend(ring.heads.iter().enumerate().map(|(at, head)| (head.as_ref().map_or(0, |head| head.since), ring.number(at))));
+    }
+    counts.sort_unstable();
+    for (count, number) in counts {
+        let name = if number < FIRST_LISTENER { "head" } else { "listener" };
+        let (more, many) = (if count == u8::MAX { " or more" } else { "" }, if count == 1 { "" } else { "s" });
+        writeln!(output, "{name} {number}: {count}{more} phase{many} since its last strike or the start")?;
+    }
+    last_line(ended, output)
 }
