@@ -10,5 +10,6 @@ pub mod Halves
 pub mod Ends
 pub mod Demand3
 pub mod Same
+pub mod Quiet
 pub mod Tight
 pub mod Listeners

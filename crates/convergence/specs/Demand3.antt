@@ -1,8 +1,8 @@
 -- Demand 3, for a ring played on what its links carry. `Phases` says what a phase end is, who is struck, what the struck heads may send, and
--- what the lowest, the highest and the spread are. proofs/Demand3.antt proves `Converges`.
+-- what the lowest, the highest and the spread are. proofs/Demand3.antt proves `Converges`, proofs/Quiet.antt `QuietAgrees`.
 use mathlib.Core.Bool.{false}
 use mathlib.Core.Path.{_≡_}
-use Prim.Native.Nat.{ℕ, _+_, _-_, _*_, _/_, _^_, _≤_}
+use Prim.Native.Nat.{ℕ, suc, _+_, _-_, _*_, _/_, _^_, _≤_}
 use lib.IntN.{ℤ}
 use lib.Signed.{_≤ℤ_}
 use Rattle.terms.specs.declared.Entry.{Entry}
@@ -55,3 +55,11 @@ abbrev pub Converges : Type 0
 Converges =
     (K : Family) (n f N : ℕ) → n ≤ N → AcceptedSize K n f → (v : ℕ → ℤ) (F : ℕ → Faults) → FewStruck n f F
     → (p k : ℕ) → Demand3 N (Halves K n f) k (endAfter K n f v F p) (endAfter K n f v F (p + k))
+
+-- ---- a quiet phase (document 02, A11)
+
+-- If no head is struck in the last round of a phase, all receivers, listeners too, come to one position. That each sound one holds a position is in demand 3.
+abbrev pub QuietAgrees : Type 0
+QuietAgrees =
+    (K : Family) (n f : ℕ) (v : ℕ → ℤ) (F : ℕ → Faults) (p : ℕ) → Each n (λ j. F (suc p) .confess j ≡ false)
+    → (i j : ℕ) → endAfter K n f v F (suc p) .at i ≡ endAfter K n f v F (suc p) .at j

@@ -27,6 +27,7 @@ use Rattle.convergence.specs.Demand3.{AcceptedSize, FewStruck}
 use Rattle.convergence.proofs.Sums.{sum-same, sum-none}
 use Rattle.convergence.proofs.Same.{SameEnd, same-bounds, demand3-same}
 use Rattle.convergence.proofs.Demand3.{size-large, few-struck, kept-between-in-ring, converges}
+use Rattle.convergence.proofs.Quiet.{quiet-agrees}
 use Rattle.head_spec.specs.declared.LastKept.{LastKept}
 use Rattle.head_spec.specs.Record.{entriesBy}
 use Rattle.head_spec.specs.Calls.{started, startedListener}
@@ -34,7 +35,7 @@ use Rattle.head_spec.proofs.Proper.{Sized, first-round, start-accepted, start-l
 use Rattle.head_spec.proofs.RoundEnd.{not-last}
 use Rattle.head_spec.proofs.Hearing.{fresh-started, fresh-started-listener}
 use Rattle.ring_spec.specs.Rounds.{Round, Ring, mostRounds, roundThen, afterRound, PhaseEnd, phaseEnd, receivers, isOut, asEnd, allListeners, withEnd, firstHeads, ringAfter, endsAfter}
-use Rattle.ring_spec.specs.Converges.{FewStruckIn, noEnd, Within, RingConverges, HoldsBetween, RingKeepsBetween}
+use Rattle.ring_spec.specs.Converges.{FewStruckIn, noEnd, Within, RingConverges, HoldsBetween, RingKeepsBetween, RingQuiet}
 use Rattle.ring_spec.proofs.Receivers.{Hears, listener-large, head-out, few-out, hears, head-first, first-out}
 use Rattle.ring_spec.proofs.OneRound.{Ready, RingReady, heardAt}
 use Rattle.ring_spec.proofs.Closings.{after-confession, collection-next, confession-next}
@@ -381,3 +382,16 @@ ring-keeps-between K n m f v ws X i h k t q =
         → HoldsBetween (lowest receivers e) (highest receivers e) x
     between s LastKept.Nothing a = a
     between s (LastKept.Range y) a = let (p, q) = same-bounds s in rw (p, q) a
+
+-- a quiet phase (document 02, A11)
+pub ring-quiet : RingQuiet
+unfolding endAfter after
+ring-quiet K n m f v ws X i h quiet a b la lb qa qb =
+    let es = endsAfter K n f v ws in
+    let F = faultsOf K n m ws in
+    let p = length es - 1 - i - 1 in
+    let z : length es - 1 - i ≡ suc p = omega arith in
+    let s : SameEnd receivers (asEnd n m (getD es i noEnd)) (endAfter K n f v F (suc p)) = rw z at (refines K n m f v ws X i (omega arith)) in
+    s .at a la qa
+    ∙ quiet-agrees K n f v F p (λ j l. sym (s .struck j (omega (arith, X .most))) ∙ quiet j l) a b
+    ∙ sym (s .at b lb qb)

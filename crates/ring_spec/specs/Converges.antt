@@ -70,3 +70,15 @@ RingCounts =
     (K : Family) (n m f : ℕ) (v : ℕ → ℤ) (ws : List Round) → Within K n m f v ws
     → let R = ringAfter K n f v ws in
     Each receivers (λ i. isReceiver n m i ≡ true → bitOf (R .before) i ≡ false → R .heads i .seat .since ≡ countAfter K ws i)
+
+-- ---- a quiet phase (document 02, A11)
+
+-- if the marks of a phase end have no head, all heads and listeners that they leave hold one position
+abbrev pub OneFocus : ℕ → End → Type 0
+OneFocus n e = Each n (λ k. e .struck k ≡ false) → (i j : ℕ) → i < receivers → j < receivers → e .struck i ≡ false → e .struck j ≡ false → e .at i ≡ e .at j
+
+-- at each phase end but the start, which ends no phase
+abbrev pub RingQuiet : Type 0
+RingQuiet =
+    (K : Family) (n m f : ℕ) (v : ℕ → ℤ) (ws : List Round) → Within K n m f v ws
+    → let es = endsAfter K n f v ws in (i : ℕ) → i + 1 < length es → OneFocus n (asEnd n m (getD es i noEnd))

@@ -7,6 +7,7 @@ use mathlib.Core.List.{List, [], _∷_, _++_, append-assoc}
 use Prim.Native.Nat.{ℕ, suc, _+_, _-_, _≤_, _<_}
 use native.Mathlib.Omega.{arith}
 use native.Mathlib.Decide.{decLt}
+use native.Mathlib.Nat.{le-refl}
 use lib.Dec.{eqb, ltb, leb}
 use lib.ListN.{length, getD, take}
 use lib.Seq.{length-take-le, take-all}
@@ -19,6 +20,7 @@ use Rattle.convergence.specs.Demand3.{Demand3}
 use Rattle.run_listing.specs.Held.{endIn}
 use Rattle.run_listing.proofs.Lowest.{found-held}
 use Rattle.ring_spec.specs.Rounds.{PhaseEnd, receivers, isReceiver, isOut, asEnd, ringAfter, afterRound}
+use Rattle.ring_spec.specs.Converges.{OneFocus}
 use Rattle.run_spec.specs.RunFile.{File, unread, roundsGiven, RecordKind, start, round, plant, listeners, strikes, other, kindIn, lengthIn, isAllowed, thenPlayed, withRecord, feed, readFile, endsSoFar, ending, roundsPlayed, endsPlayed, ringFrom, endsFrom}
 use Rattle.run_spec.specs.Listing.{title, shown, listing}
 use Rattle.run_spec.proofs.Streaming.{feed-append}
@@ -47,6 +49,7 @@ use Rattle.run_whole.specs.Whole.{endNumber, HoldsEnd, Whole}
 use Rattle.run_whole.specs.Inner.{Put, EndKept, Rows, HoldsSoFar, Going}
 use Rattle.run_whole.proofs.FirstKind.{few-in}
 use Rattle.run_whole.proofs.Counting.{counts-held}
+use Rattle.run_whole.proofs.Quiet.{file-quiet}
 use Rattle.run_whole.proofs.Rows.{rows-at, rows-recount}
 use Rattle.run_whole.proofs.Telling.{roomy, AtEnd, told-put, told-more, out-long}
 
@@ -269,6 +272,14 @@ rows-converge {n} {m} {M} h x y {ps} {qs} H I D =
       halving = λ p. rw (← X .is-low, ← X .is-high, ← Y .is-low, ← Y .is-high) (D .halving p);
     }
 
+-- and a quiet phase
+rows-focus : {n m : ℕ} (x : PhaseEnd) {ps : List ℤ} {v : ℕ} → HoldsEnd n m x ps v → OneFocus n (asEnd n m x) → OneFocus n (endIn n m v ps)
+unfolding endIn
+rows-focus {n} {m} x H one =
+    rw (H .marks)
+    (λ none i j k l o p.
+    sym (H .held i k (sound-in n m m i _ (le-refl m) o)) ∙ one none i j k l o p ∙ H .held j l (sound-in n m m j _ (le-refl m) p))
+
 module _ (s : List ℕ) {r : PlayResult} {B₀ B : Buffers} (number : r .number ≡ ending (readFile s))
     (T : HoldsSoFar (readFile s .setup .n) (readFile s .setup .listeners) (listing s) (endsPlayed (readFile s)) (r .len) (r .ends) B₀ B)
     (C : CountsOf (readFile s .setup .family) (roundsPlayed (readFile s)) (r .since)) where
@@ -293,6 +304,10 @@ module _ (s : List ℕ) {r : PlayResult} {B₀ B : Buffers} (number : r .number 
             let z : i + k ≡ length es - 1 - e = omega arith in
             rows-converge h (endNumber es e) (endNumber es (e + k)) (at e (omega arith)) (at (e + k) l)
             (rw z at (every-file s m h i k (omega arith)));
+        quiet =
+            λ e l.
+            let c = T .count in
+            rows-focus (endNumber es (e + 1)) (at (e + 1) l) (file-quiet s (length es - 1 - (e + 1)) (omega arith));
         counts = C;
         records = counts-held s C;
       }

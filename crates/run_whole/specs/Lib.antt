@@ -1,3 +1,4 @@
 pub mod Buffers
 pub mod Whole
+pub mod Quiet
 pub mod Inner

@@ -13,7 +13,7 @@ use Rattle.convergence.specs.Phases.{End}
 use Rattle.convergence.specs.Demand3.{Demand3, Halves}
 use Rattle.run_listing.specs.Held.{endIn}
 use Rattle.ring_spec.specs.Rounds.{PhaseEnd, receivers, isReceiver}
-use Rattle.ring_spec.specs.Converges.{noEnd}
+use Rattle.ring_spec.specs.Converges.{noEnd, OneFocus}
 use Rattle.run_spec.specs.RunFile.{readFile, ending, roundsPlayed, endsPlayed, ringFrom}
 use Rattle.run_spec.specs.Listing.{listing}
 use Rattle.run_state.specs.Counts.{CountsOf}
@@ -42,6 +42,7 @@ endAt n m B e = endIn n m (getD (B .words) e 0) (row e (B .ends))
 -- the file s is played: how it ends; its listing, with what stands behind it as it was; its phase ends, with what stands behind them as it was; and any two of
 -- these, k phases apart, keep demand 3: of the heads alone (m = 0), as the order has it, and with the first m listeners, all of them too (document 02, A6). The
 -- counts are those of the phases since the last strike (A10), and the record of each head and listener that is not struck in the last round played holds its count.
+-- quiet: if the word of a phase end, the start apart, has no head, its row has one number for all that are sound (A11; specs/Quiet.antt has the request's sentence).
 pub record Whole (s : List ℕ) (r : PlayResult) (B B′ : Buffers) : Type 0 where
   pub number : r .number ≡ ending (readFile s)
   pub len : r .len ≡ length (listing s)
@@ -54,6 +55,7 @@ pub record Whole (s : List ℕ) (r : PlayResult) (B B′ : Buffers) : Type 0 whe
   pub demand3 : let S = readFile s .setup in
       (m e k : ℕ) → m ≤ S .listeners → e + k < r .ends
       → Demand3 receivers (Halves (S .family) (S .n) (S .f)) k (endAt (S .n) m B′ e) (endAt (S .n) m B′ (e + k))
+  pub quiet : let S = readFile s .setup in (e : ℕ) → e + 1 < r .ends → OneFocus (S .n) (endAt (S .n) (S .listeners) B′ (e + 1))
   pub counts : CountsOf (readFile s .setup .family) (roundsPlayed (readFile s)) (r .since)
   pub records : let S = readFile s .setup in
       S .begun ≡ true → let R = ringFrom S (roundsPlayed (readFile s)) in
