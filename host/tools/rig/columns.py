@@ -1,6 +1,8 @@
 """Phase ends put together if there are more of them than a picture has room for."""
 from collections import namedtuple
 
+from rig import listing
+
 # Phases `first` to `last`: the lowest and highest position, the largest spread, and the heads struck in any of them.
 Column = namedtuple('Column', 'first last low high spread collect confess')
 
@@ -46,6 +48,11 @@ def column(group):
 
 def phases(column):
     return str(column.first) if column.first == column.last else '%d-%d' % (column.first, column.last)
+
+
+def settles(column, one_round):
+    """Whether each of its phases settled everything."""
+    return listing.settles(column.first, column.collect, column.confess, one_round)
 
 
 def heads_shown(shown):

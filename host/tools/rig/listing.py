@@ -54,6 +54,21 @@ def no_confession(listing):
     return listing
 
 
+def settles(phase, collect, confess, one_round):
+    """Whether all sound heads and listeners stand at one position after a phase because no head was struck in its last round: in that
+    round all of them hear the same. Document 02, A11, asks it of phases without a strike in either round. The start ends no phase."""
+    return phase > 0 and not (collect if one_round else confess)
+
+
+def settled(listing, one_round):
+    """The listing, if its spreads are as `settles` has them."""
+    for at, end in enumerate(listing.ends, 2):
+        if end.spread and settles(end.phase, end.collect, end.confess, one_round):
+            hint = '' if one_round else '; of a one-round ring, say --one-round'
+            raise ListingError('%d: a spread of %d, though no head was struck in the last round%s' % (at, end.spread, hint))
+    return listing
+
+
 def part(listing, first, last):
     """The listing with the phases from `first` to `last` alone."""
     ends = [end for end in listing.ends if first <= end.phase <= last]

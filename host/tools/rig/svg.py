@@ -22,6 +22,7 @@ FEW = 40                             # columns up to which each gets its point a
 INK, FAINT, RULE = '#22303c', '#66727d', '#dde3e8'
 BAND, EDGE, BOUND = '#cfe4f5', '#0b62a4', '#8c97a1'
 COLLECT, CONFESS = '#e08a00', '#7b3fa0'
+SETTLED = '#2f9e5b'
 
 
 def draw(listing, name, one_round=False):
@@ -38,7 +39,8 @@ def panels(shown, one_round):
     axis = Axis(shown)
     heads = parts.heads_shown(shown)
     strikes, bottom = strikes_panel(shown, axis, heads, one_round)
-    return positions_panel(shown, axis) + spread_panel(shown, axis) + strikes + phase_axis(shown, axis, bottom), bottom + 52
+    spreads = spread_panel(shown, axis) + settled_marks(shown, axis, one_round)
+    return positions_panel(shown, axis) + spreads + strikes + phase_axis(shown, axis, bottom), bottom + 52
 
 
 # ---- elements
@@ -186,6 +188,17 @@ def bound_legend():
     x, y = WIDTH - RIGHT - 345, SPREAD_TOP - 32
     words = 'first spread halved with every phase, rounded up'
     return [path([(x, y), (x + 30, y)], BOUND, dashes='5 4'), text(x + 38, y + 4, words, colour=FAINT)]
+
+
+def settled_marks(shown, axis, one_round):
+    """Below the spread 0 of phases after which all stand at one position because no head was struck in the last round."""
+    foot, width = SPREAD_TOP + SPREAD_HEIGHT, min(12, axis.step)
+    at_one = [at for at, column in enumerate(shown) if parts.settles(column, one_round)]
+    words = 'phase %s: no head struck in the last round, all at one position'
+    marks = [box(axis.x(at) - width / 2, foot + 6, width, 6, SETTLED, words % parts.phases(shown[at]) if width > 4 else '') for at in at_one]
+    x, y = LEFT + 224, SPREAD_TOP - 37
+    legend = [box(x, y, 12, 6, SETTLED), text(x + 18, y + 9, 'quiet last round: all at one', colour=FAINT)]
+    return marks + (legend if marks else [])
 
 
 # ---- strikes

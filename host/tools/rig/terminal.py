@@ -17,7 +17,7 @@ def draw(listing, name, width, one_round=False):
         return '%s: %s\n' % (name, summary(listing))
     phase = right('phase', [parts.phases(row) for row in rows])
     low, high = right('lowest', [row.low for row in rows]), left('highest', [row.high for row in rows])
-    spread, digits = right('spread', [row.spread for row in rows]), left('', ['▪' * row.spread.bit_length() for row in rows])
+    spread, digits = right('spread', [row.spread for row in rows]), left('', [digits_of(row, one_round) for row in rows])
     struck = left('struck', [strikes(row, parts.heads_shown(rows), one_round) for row in rows])
     positions, rest = [phase, low, high], [column for column in (spread, digits, struck) if any(map(str.strip, column[1:]))]
     tables = [positions + rest]
@@ -26,6 +26,10 @@ def draw(listing, name, width, one_round=False):
     band = left('', Scale(rows, max(LEAST_BAND, room(tables[0], width))).bands(rows))
     tables[0].insert(2, band)
     return '\n'.join(['%s: %s' % (name, summary(listing)), ''] + [table(columns) for columns in tables] + legend(rows, one_round))
+
+
+def digits_of(row, one_round):
+    return '▪' * row.spread.bit_length() or '=' * parts.settles(row, one_round)
 
 
 def right(title, cells):
@@ -84,6 +88,8 @@ def strikes(row, heads, one_round):
 def legend(rows, one_round):
     notes = ['├──┤ lowest to highest sound position; │ if that is too narrow; ◆ all at one',
              '▪▪▪▪ as many as the spread has binary digits: halving takes one away']
+    if any(parts.settles(row, one_round) for row in rows):
+        notes.append('=    all at one, since no head was struck in the last round')
     if parts.heads_shown(rows):
         notes.append('·█   heads 0, 1, ..: not struck; struck' if one_round else
                      '·▀▄█ heads 0, 1, ..: not struck; in collection; in confession; in both')
