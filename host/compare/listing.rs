@@ -1,4 +1,4 @@
-//! What every listing must be, whatever the file: its form, and demand 3 on its phase ends.
+//! What every listing must be, whatever the file: its form, demand 3 on its phase ends, and one position where no head was struck last.
 
 use crate::files::TITLE;
 use crate::rules::family::Family::{self, OneRound};
@@ -13,6 +13,8 @@ pub const NUMBERS: [u8; 7] = [1, 2, 18, 4, 13, 14, 26];
 pub struct End {
     pub low: i32,
     pub high: i32,
+    /// The marks of the heads struck in the phase's last round.
+    pub last: u32,
 }
 
 impl End {
@@ -61,7 +63,22 @@ fn end(line: &str, family: Family, phase: usize, n: usize, f: usize) -> Option<E
     let fits = |marks: u32| marks.count_ones() <= most && (n >= 32 || marks >> n == 0);
     let right = -LIMIT <= low && low <= high && high <= LIMIT && fits(collect) && fits(confess) && (family != OneRound || confess == 0);
     let printed = || format!("{phase} {low} {high} {} {collect:08x} {confess:08x}\n", high - low);
-    (right && printed() == line).then_some(End { low, high })
+    let last = if family == OneRound { collect } else { confess };
+    (right && printed() == line).then_some(End { low, high, last })
+}
+
+/// The phase ends after a last round in which no head was struck; the start is none.
+pub fn unstruck(ends: &[End]) -> impl Iterator<Item = (usize, &End)> {
+    ends.iter().enumerate().skip(1).filter(|(_, end)| end.last == 0)
+}
+
+/// All sound heads and listeners hear the same in such a round, so they stand at one position after it. Document 02, A11, asks it of phases of which both rounds are
+/// such.
+pub fn settles(ends: &[End]) -> Result<(), String> {
+    match unstruck(ends).find(|(_, end)| end.spread() != 0) {
+        Some((phase, end)) => Err(format!("a spread of {} after phase {phase}, in whose last round no head was struck", end.spread())),
+        None => Ok(()),
+    }
 }
 
 /// Whether halving is promised: in one-round rings always.

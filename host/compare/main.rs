@@ -43,6 +43,7 @@ struct Seen {
     numbers: BTreeMap<u8, u64>,
     phases: usize,
     unhalved: usize,
+    unstruck: usize,
     largest: usize,
     /// Files of one-round rings, and their phases.
     one_round: u64,
@@ -64,6 +65,7 @@ impl Seen {
         }
         let unhalved = |pair: &&[End]| pair[1].spread() > (pair[0].spread() + 1) / 2;
         self.unhalved += listing.ends.windows(2).filter(unhalved).count();
+        self.unstruck += listing::unstruck(&listing.ends).count();
         self.largest = self.largest.max(file.n);
         self.listeners += (file.listeners > 0) as u64;
         self.sixteen += (file.listeners == MOST_LISTENERS) as u64;
@@ -75,6 +77,7 @@ impl Seen {
         println!("with listeners: {}, with {MOST_LISTENERS} of them: {}", self.listeners, self.sixteen);
         println!("of one-round rings: {}, with {} phases", self.one_round, self.one_round_phases);
         println!("phases in which the spread did not halve, at sizes without that promise: {}", self.unhalved);
+        println!("phases without a strike in the last round, after which all stand at one position: {}", self.unstruck);
         let of = |number: &u8| self.numbers.get(number).copied().unwrap_or(0);
         let refused: Vec<String> = NUMBERS.iter().map(|number| format!("{} by {number}", of(number))).collect();
         let (files, phases, largest) = (self.files, self.phases, self.largest);
@@ -101,6 +104,7 @@ fn check(file: &File, bytes: &[u8]) -> Result<Listing, String> {
     let (family, n, f) = ring(file);
     let listing = listing::read(bytes, family, n, f)?;
     listing::converges(&listing.ends, family, n, f)?;
+    listing::settles(&listing.ends)?;
     Ok(listing)
 }
 
