@@ -286,6 +286,26 @@ uint8_t focus_head_set_register(focus_head *head, uint32_t address, uint8_t byte
 /* No refusal: 1 if the interrupt line is up, that is, if a pending event is also in the mask, else 0. */
 uint8_t focus_head_interrupt(const focus_head *head);
 
+/* ---- a quiet phase (document 02, A11): when all heads stand at one position
+ *
+ * After a phase in which no head is struck in either round, all heads hold one and the same position, and so does each
+ * listener that is struck in neither. A phase may begin with healed heads and be quiet. Its last round alone decides, in
+ * rings of both families: if no head is struck in it, all heads, and each listener not struck in it, have heard the same.
+ *
+ * No call says that a phase was quiet, for no head can know it. On cables that lose nothing a head can know that a phase
+ * was not: a link gave nothing, or a frame that was refused, or a confession. (Silence is no sign: so begins a head whose
+ * strike ended with the phase before.) A head that met none of these knows nothing: a struck head may send to it what a
+ * sound one would, and lie to another neighbour alone (examples/unquiet.txt).
+ *
+ * So a measuring shot is for a host that sees all n heads, and a round later. A head that was struck is restarted in the
+ * next round in which it is not struck, which sets FOCUS_EVENT_STRIKE_OVER, bit 2 of byte 10. If in the round after a
+ * phase no head is restarted and no head is struck, then no head was struck in the last round of that phase. It takes
+ * both: a head that is struck again is not restarted yet, so that a missing event alone proves nothing; and how a strike
+ * is noticed while it lasts is no part of this firmware. In a two-round ring the heads still hold the position at the end
+ * of that round, since a collection round changes none. A head that did not adopt in time counts as struck.
+ *
+ * Promised of played files: `quiet` of `Whole` (crates/run_whole/specs/Whole.antt). */
+
 #ifdef __cplusplus
 }
 #endif
