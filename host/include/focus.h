@@ -290,12 +290,13 @@ uint8_t focus_head_interrupt(const focus_head *head);
  *
  * After a phase in which no head is struck in either round, all heads hold one and the same position, and so does each
  * listener that is struck in neither. A phase may begin with healed heads and be quiet. Its last round alone decides, in
- * rings of both families: if no head is struck in it, all heads, and each listener not struck in it, have heard the same.
+ * rings of both families: if no head is struck in it, all heads, and each listener not struck in it, hear the same and
+ * settle at the same position.
  *
  * No call says that a phase was quiet, for no head can know it. On cables that lose nothing a head can know that a phase
- * was not: a link gave nothing, or a frame that was refused, or a confession. (Silence is no sign: so begins a head whose
- * strike ended with the phase before.) A head that met none of these knows nothing: a struck head may send to it what a
- * sound one would, and lie to another neighbour alone (examples/unquiet.txt).
+ * was not: a link gave nothing, or a frame that was refused, or a confession, or two links gave lists that differ.
+ * (Silence is no sign: so begins a head whose strike ended with the phase before.) That it met none of these proves
+ * nothing: a struck head may send to it what a sound one would, and lie to another neighbour alone (examples/unquiet.txt).
  *
  * So a measuring shot is for a host that sees all n heads, and a round later. A head that was struck is restarted in the
  * next round in which it is not struck, which sets FOCUS_EVENT_STRIKE_OVER, bit 2 of byte 10. If in the round after a
