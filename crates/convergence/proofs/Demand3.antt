@@ -2,14 +2,15 @@
 -- `Links` or `OneRound` hold at each of its receivers, head or listener, and then any two ends are as `Ends` says. Besides: no receiver ever meets refusal 25, and
 -- each keeps an entry.
 use mathlib.Core.Path.{_≡_, refl}
-use mathlib.Core.Bool.{not}
+use mathlib.Core.Bool.{true, not}
 use Prim.Native.Nat.{ℕ, zero, suc, _+_, _*_, _≤_, _<_}
 use native.Mathlib.Omega.{arith}
 use native.Mathlib.Nat.{le-refl}
-use borrow.Author.Tests.{le-leb, lt-ltb}
+use borrow.Author.Tests.{le-leb, leb-true, lt-ltb}
 use lib.Dec.{ltb}
 use lib.IntN.{ℤ}
 use lib.Signed.{_<ℤ_}
+use Rattle.terms.specs.Sizes.{isLimit}
 use Rattle.terms.specs.declared.Entry.{Entry}
 use Rattle.terms.specs.declared.Entry.the-variants.{Position}
 use Rattle.terms.specs.declared.Family.{Family}
@@ -32,6 +33,12 @@ use Rattle.convergence.proofs.Ends.{number, AllHold, Inside, held-posit
 pub settled-is : (r n : ℕ) (R : Rule) (E : ℕ → Entry) → nulls n E ≤ R .most → settled r n R E ≡ Position (midpoint r n R E)
 unfolding settled enough
 settled-is r n R E h = rw le-leb
+
+-- a struck limit that is taken
+pub limit-accepted : (K : Family) (n f : ℕ) → isLimit K n f ≡ true → AcceptedSize K n f
+unfolding isLimit
+limit-accepted TwoRounds n f e = leb-true (7 * f + 2) (2 * n) e
+limit-accepted OneRound n f e = leb-true (4 * f + 1) n e
 
 -- whatever the entries are, if they are not refused: one is kept
 pub keeps-one : (K : Family) (n f : ℕ) → AcceptedSize K n f → (E : ℕ → Entry) → nulls n E ≤ ruleOf K f .most → 2 * ruleOf K f .trim (nulls n E) + nulls n E < n

@@ -1,6 +1,7 @@
 -- The proof of demand 3 for a ring played on what its links carry: `Demand3` has the theorem, and the modules before it its parts, in order.
 pub mod Sums
 pub mod Order
+pub mod Insertion
 pub mod Support
 pub mod Kept
 pub mod OnePhase
@@ -11,5 +12,6 @@ pub mod Ends
 pub mod Demand3
 pub mod Same
 pub mod Quiet
+pub mod Compare
 pub mod Tight
 pub mod Listeners

@@ -8,7 +8,7 @@ use lib.IntN.{ℤ}
 use Rattle.terms.specs.declared.Entry.{Entry}
 use Rattle.terms.specs.declared.Entry.the-variants.{Null}
 use Rattle.convergence.specs.Counting.{Each, bit}
-use Rattle.convergence.specs.Settling.{isNull, nulls, ordered, Rule, midpoint}
+use Rattle.convergence.specs.Settling.{isNull, nulls, ordered, Rule, midpoint, enough, settled}
 use Rattle.convergence.specs.Trust.{Given, nothing, confessed, gave, is, supports, support, hasConfessed, confessions, saysOf, seen, trusted}
 use Rattle.convergence.specs.Phases.{End, lesser, greater, join, soundAt, lowest, highest, spread}
 use Rattle.convergence.specs.Demand3.{Demand3}
@@ -28,6 +28,10 @@ ordered-same (suc n) E E′ h = cc (each-last h, ordered-same n E E′ (each-les
 pub midpoint-same : (r n : ℕ) (R : Rule) (E E′ : ℕ → Entry) → Each n (λ j. E j ≡ E′ j) → midpoint r n R E ≡ midpoint r n R E′
 unfolding midpoint
 midpoint-same r n R E E′ h = cc (ordered-same n E E′ h, nulls-same n E E′ h)
+
+pub settled-same : (r n : ℕ) (R : Rule) (E E′ : ℕ → Entry) → Each n (λ j. E j ≡ E′ j) → settled r n R E ≡ settled r n R E′
+unfolding settled enough
+settled-same r n R E E′ h = cc (nulls-same n E E′ h, midpoint-same r n R E E′ h)
 
 -- ---- links
 

@@ -7,10 +7,10 @@ use mathlib.Core.Logic.{_≢_}
 use Prim.Native.Nat.{ℕ, zero, suc, _+_, _-_, _*_, _≤_, _<_, min}
 use native.Mathlib.Omega.{arith}
 use native.Mathlib.Numerals.{add-one}
-use native.Mathlib.Decide.{decLt, decLe, le-ind}
+use native.Mathlib.Decide.{decLt, decLe, le-ind, ℕ-discrete}
 use lib.Dec.{eqb, leb}
-use lib.ListN.{length, set, length-set}
-use lib.Seq.{set-out}
+use lib.ListN.{length, getD, set, length-set}
+use lib.Seq.{set-out, getD-set-same, getD-set-other}
 use lib.IntN.{ℤ, pos}
 use borrow.Author.Tests.{le-leb, lt-leb, ne-eqb}
 use Rattle.terms.specs.Positions.{isPosition, eqZ}
@@ -85,3 +85,13 @@ numbers-length s (suc n) = length-set (numbers s n) n (signedAt s (4 * n)) ∙ n
 pub numbers-first-32 : (s : List ℕ) (n : ℕ) → numbers s (min n 32) ≡ numbers s n
 unfolding numbers
 numbers-first-32 s n = first-32 (numbers s) (λ k l. set-out (numbers s k) k (signedAt s (4 * k)) (rw numbers-length l)) n
+
+-- below n, up to 32, the number that was read
+pub numbers-read : (s : List ℕ) (n i : ℕ) → n ≤ 32 → i < n → getD (numbers s n) i (pos 0) ≡ signedAt s (4 * i)
+unfolding numbers
+numbers-read s zero i h l = absurd (omega arith)
+numbers-read s (suc n) i h l = go (ℕ-discrete i n) (numbers-read s n i (omega arith))
+  where
+    go : Dec (i ≡ n) → (i < n → getD (numbers s n) i (pos 0) ≡ signedAt s (4 * i)) → getD (set (numbers s n) n (signedAt s (4 * n))) i (pos 0) ≡ signedAt s (4 * i)
+    go (yes e) before = rw e (getD-set-same (numbers s n) n (signedAt s (4 * n)) (pos 0) (omega (arith, numbers-length s n)))
+    go (no e) before = getD-set-other (numbers s n) n i (signedAt s (4 * n)) (pos 0) e ∙ before (omega arith)

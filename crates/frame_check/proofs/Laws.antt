@@ -11,7 +11,7 @@ use lib.Dec.{eqb, leb}
 use lib.ListN.{length, drop}
 use borrow.Author.Tests.{eq-eqb, ne-eqb, eqb-true}
 use Rattle.frame_check.specs.Check.{Kind, position, silence, list, confession, unknown, isKnown, lengthOf, lengthField, kindField, countField, checkFrame, frameRefusal, restOf}
-use Rattle.frame_check.proofs.Checks.{passed, followed}
+use Rattle.terms.proofs.Checks.{passed, followed}
 
 -- a frame of a known kind has room for the common fields
 known-long : (k : Kind) (count : ℕ) → isKnown k ≡ true → 7 ≤ lengthOf k count

@@ -1,3 +1,2 @@
--- What other crates may cite: laws of checks in a row, and of the frame check.
-pub mod Checks
+-- What other crates may cite: laws of the frame check.
 pub mod Laws

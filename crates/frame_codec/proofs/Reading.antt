@@ -8,7 +8,7 @@ use lib.Dec.{eqb}
 use borrow.Author.Tests.{eq-eqb, ne-eqb}
 use Rattle.terms.proofs.Refusals.{refuses}
 use Rattle.frame_check.specs.Check.{kindField, senderField, phaseField, frameRefusal}
-use Rattle.frame_check.proofs.Checks.{followed}
+use Rattle.terms.proofs.Checks.{followed}
 use Rattle.frame_check.proofs.Laws.{checkFrame-refuses}
 use Rattle.frame_spec.specs.declared.Said.{Said}
 use Rattle.frame_spec.specs.Said.{Meaning, refused, roundOf, restField, refusalOf, said, saidOf}

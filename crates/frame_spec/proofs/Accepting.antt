@@ -9,7 +9,7 @@ use lib.Dec.{eqb}
 use borrow.Author.Tests.{eq-eqb, ne-eqb, eqb-true}
 use Rattle.terms.specs.Refusals.{unlessRefused}
 use Rattle.frame_check.specs.Check.{kindField, senderField, phaseField, frameRefusal}
-use Rattle.frame_check.proofs.Checks.{passed}
+use Rattle.terms.proofs.Checks.{passed}
 use Rattle.frame_check.proofs.Laws.{checkFrame-refuses}
 use Rattle.frame_spec.specs.Said.{roundOf, restField, countFits, rangeFits, refusalOf, Meaning, refused, meaning, said}
 use Rattle.frame_spec.specs.Proper.{AcceptedMeaning}

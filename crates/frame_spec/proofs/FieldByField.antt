@@ -14,7 +14,7 @@ use Rattle.fields.proofs.Bytes.{same2, same4, word-back}
 use Rattle.frame_check.specs.Check.{lengthField, senderField, phaseField}
 use Rattle.frame_spec.specs.Written.{header, entryBytes}
 use Rattle.frame_spec.specs.Proper.{AllBytes}
-use Rattle.frame_spec.proofs.Listing.{numbers-read}
+use Rattle.entries.proofs.Entries.{numbers-read}
 
 module _ (s : List ℕ) (B : AllBytes s) where
   pub word-small : (i : ℕ) → at4 s i < 4294967296

@@ -7,8 +7,8 @@ use Prim.Native.Nat.{ℕ, zero, suc, _+_, _*_, _≤_, _<_}
 use native.Mathlib.Omega.{arith}
 use native.Mathlib.Nat.{add-zero}
 use native.Mathlib.Decide.{decLt, ℕ-discrete}
-use lib.ListN.{length, getD, set, length-append, getD-replicate, List·getD-append, List·getD-eq-default}
-use lib.Seq.{getD-append-add, getD-set-same, getD-set-other}
+use lib.ListN.{length, getD, length-append, getD-replicate, List·getD-append, List·getD-eq-default}
+use lib.Seq.{getD-append-add, getD-set-other}
 use lib.IntN.{ℤ, pos}
 use Rattle.terms.proofs.Booleans.{and-both}
 use Rattle.terms.specs.Positions.{isPosition}
@@ -18,7 +18,6 @@ use Rattle.fields.specs.Bytes.{at4, signedAt, put4, wordOf}
 use Rattle.marks.specs.Marks.{bitOf}
 use Rattle.entries.specs.Entries.{fits, entriesFit, zeros, numbers}
 use Rattle.fields.proofs.Bytes.{back4, word-below}
-use Rattle.entries.proofs.Entries.{numbers-length}
 use Rattle.frame_spec.specs.Written.{entryBytes, listFrame}
 
 -- ---- the array
@@ -31,17 +30,7 @@ zeros-zero i = go (decLt i 32)
     go (yes h) = getD-replicate 32 i (pos 0) (pos 0) h
     go (no h) = List·getD-eq-default zeros (pos 0) {n = i} (omega arith)
 
--- below n, up to 32, the number that was read
-pub numbers-read : (s : List ℕ) (n i : ℕ) → n ≤ 32 → i < n → getD (numbers s n) i (pos 0) ≡ signedAt s (4 * i)
-unfolding numbers
-numbers-read s zero i h l = absurd (omega arith)
-numbers-read s (suc n) i h l = go (ℕ-discrete i n) (numbers-read s n i (omega arith))
-  where
-    go : Dec (i ≡ n) → (i < n → getD (numbers s n) i (pos 0) ≡ signedAt s (4 * i)) → getD (set (numbers s n) n (signedAt s (4 * n))) i (pos 0) ≡ signedAt s (4 * i)
-    go (yes e) before = rw e (getD-set-same (numbers s n) n (signedAt s (4 * n)) (pos 0) (omega (arith, numbers-length s n)))
-    go (no e) before = getD-set-other (numbers s n) n i (signedAt s (4 * n)) (pos 0) e ∙ before (omega arith)
-
--- from n on, 0
+-- from n on, the numbers that were read are 0
 pub numbers-none : (s : List ℕ) (n i : ℕ) → n ≤ i → getD (numbers s n) i (pos 0) ≡ pos 0
 unfolding numbers
 numbers-none s zero i h = zeros-zero i

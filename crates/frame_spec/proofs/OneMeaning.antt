@@ -15,7 +15,7 @@ use Rattle.terms.specs.Refusals as refusal
 use Rattle.fields.specs.Bytes.{at2, at4, put4}
 use Rattle.marks.specs.Marks.{marksBelow}
 use Rattle.fields.proofs.Bytes.{word-back}
-use Rattle.entries.proofs.Entries.{numbers-length}
+use Rattle.entries.proofs.Entries.{numbers-length, numbers-read}
 use Rattle.frame_check.specs.Check.{Kind, position, silence, list, confession, unknown, kindOf, isKnown, lengthOf, kindField, countField, checkFrame}
 use Rattle.frame_check.proofs.Laws.{accepted-whole, accepted-known, accepted-length, accepted-long}
 use Rattle.frame_spec.specs.Said.{roundOf, restField, countIn, marksIn, entriesIn, countFits, rangeFits, refusalOf, Meaning, refused, tableIn, meaning, said, saidOf, meant}
@@ -23,7 +23,7 @@ use Rattle.frame_spec.specs.Written.{header, frameOf}
 use Rattle.frame_spec.specs.Proper.{AllBytes, AcceptedMeaning, ProperTable, Proper, roundOfMeaning}
 use Rattle.frame_spec.proofs.Accepting.{Passed, accepted}
 use Rattle.terms.proofs.Booleans.{and-both}
-use Rattle.frame_spec.proofs.Listing.{each-fits, numbers-read, numbers-none}
+use Rattle.frame_spec.proofs.Listing.{each-fits, numbers-none}
 use Rattle.frame_spec.proofs.FieldByField.{word-small, four, common, entries-whole, drop-bytes}
 
 -- ---- what is said

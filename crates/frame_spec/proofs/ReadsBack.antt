@@ -18,13 +18,13 @@ use Rattle.fields.specs.Bytes.{signedOf, signedAt, wordOf}
 use Rattle.marks.specs.Marks.{bitOf, marksBelow}
 use Rattle.entries.specs.Entries.{numbers}
 use Rattle.fields.proofs.Bytes.{back2, back4, signed-back, word-below}
-use Rattle.entries.proofs.Entries.{numbers-length}
+use Rattle.entries.proofs.Entries.{numbers-length, numbers-read}
 use Rattle.frame_check.specs.Check.{checkFrame, frameRefusal}
 use Rattle.frame_spec.specs.Said.{Meaning, refused, collected, listed, confessed, restField, marksIn, tableIn, said}
 use Rattle.frame_spec.specs.Written.{entryBytes, positionFrame, silenceFrame, listFrame, confessionFrame, frameOf}
 use Rattle.frame_spec.specs.Proper.{ProperTable, Proper, roundOfMeaning}
 use Rattle.frame_spec.proofs.Accepting.{says}
-use Rattle.frame_spec.proofs.Listing.{fits-position, all-fit, numbers-read, numbers-none, list-length, bytes-read}
+use Rattle.frame_spec.proofs.Listing.{fits-position, all-fit, numbers-none, list-length, bytes-read}
 
 module _ (n k p : ℕ) (small : p < 65536) where
   back-silence : said n p 0 k (silenceFrame k p) ≡ collected Entry.Null

@@ -9,7 +9,7 @@ use lib.Seq.{getD-set-same}
 use borrow.Author.Tests.{ltb-true}
 use Rattle.terms.specs.Refusals.{leaves, unlessRefused}
 use Rattle.frame_check.specs.Check.{Kind, position, silence, list, confession, unknown, kindField}
-use Rattle.frame_check.proofs.Checks.{passed}
+use Rattle.terms.proofs.Checks.{passed}
 use Rattle.frame_spec.specs.Said.{Meaning, refused, restField, meaning, said, saidOf}
 use Rattle.frame_spec.specs.Proper.{AcceptedMeaning}
 use Rattle.head_spec.specs.declared.Seat.{Seat}

@@ -13,7 +13,7 @@ use Rattle.terms.specs.declared.Entry.{Entry}
 use Rattle.terms.specs.declared.Table.{Table}
 use Rattle.marks.specs.Marks.{bitOf, withMark}
 use Rattle.frame_check.specs.Check.{Kind, position, silence, list, confession, unknown, isKnown, kindField, lengthField, checkFrame}
-use Rattle.frame_check.proofs.Checks.{passed}
+use Rattle.terms.proofs.Checks.{passed}
 use Rattle.frame_spec.specs.declared.Said.{Said}
 use Rattle.frame_spec.specs.Said.{Meaning, refused, collected, listed, confessed, refusalOf, tableIn, meaning, said, saidOf, meant, restField}
 use Rattle.frame_spec.specs.Proper.{AcceptedMeaning}

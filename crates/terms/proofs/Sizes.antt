@@ -1,16 +1,17 @@
 -- The numbers of listeners: none is a head's, and all are small. And the checks of the size, before those that follow.
 use mathlib.Core.Path.{_≡_, refl}
 use mathlib.Core.Logic.{_≢_}
-use mathlib.Core.Bool.{Bool, true, false}
+use mathlib.Core.Bool.{Bool, true, false, cond}
 use Prim.Native.Nat.{ℕ, _+_, _*_, _≤_, _<_}
 use native.Mathlib.Omega.{arith}
-use lib.Dec.{leb}
+use lib.Dec.{leb, eqb}
 use borrow.Author.Tests.{leb-true, lt-leb}
 use Rattle.terms.specs.Refusals.{check}
 use Rattle.terms.specs.Sizes.{isCount, isLimit, isListener, limitNumber, checkSize, sizeRefusal}
 use Rattle.terms.specs.declared.Family.{Family}
 use Rattle.terms.specs.declared.Family.the-variants.{TwoRounds, OneRound}
 use Rattle.terms.proofs.Booleans.{and-both}
+use Rattle.terms.proofs.Checks.{followed}
 
 pub member-not-listener : (i n : ℕ) → i < n → n ≤ 32 → isListener i ≡ false
 unfolding isListener
@@ -46,6 +47,12 @@ module _ (K : Family) (n f rest : ℕ) where
 
 pub size-taken : (K : Family) (n f rest : ℕ) → sizeRefusal K n f ≡ 0 → checkSize K n f rest ≡ rest
 size-taken K n f rest e = let (count, limit, none) = size-passed K n f 0 e in rw (count, limit)
+
+-- more: the row `rest` with `last` at its end in place of 0 (`followed`); the checks of the size before both
+pub size-followed : (K : Family) (n f rest more last : ℕ) → more ≡ cond (eqb rest 0) last rest
+    → checkSize K n f more ≡ cond (eqb (checkSize K n f rest) 0) last (checkSize K n f rest)
+size-followed TwoRounds n f rest more last e = followed (isCount n) 0 _ _ last (followed (isLimit TwoRounds n f) 1 rest more last e)
+size-followed OneRound n f rest more last e = followed (isCount n) 0 _ _ last (followed (isLimit OneRound n f) 17 rest more last e)
 
 -- a size that is taken is small
 limit-small : (K : Family) (n f : ℕ) → n ≤ 32 → isLimit K n f ≡ true → f ≤ 32

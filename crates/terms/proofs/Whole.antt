@@ -99,13 +99,16 @@ pub half-lin : (r : ℕ) (x : ℤ) → (2 * plus (half r x) + minus x ≤ plus x
 unfolding half
 half-lin r x = omega (arith, floor-lin (x +ℤ pos r), sum-lin x (pos r), pos-lin r)
 
--- ---- how far b lies above a
+-- ---- differences, and how far b lies above a
 
 neg-lin : (a : ℤ) → (plus (negℤ a) ≡ minus a) × (minus (negℤ a) ≡ plus a)
 unfolding plus minus
 neg-lin (pos zero) = (refl, refl)
 neg-lin (pos (suc a)) = (refl, refl)
 neg-lin (negsuc a) = (refl, refl)
+
+pub less-lin : (a b : ℤ) → plus (a -ℤ b) + minus a + plus b ≡ plus a + minus b + minus (a -ℤ b)
+less-lin a b = omega (arith, sum-lin a (negℤ b), neg-lin b)
 
 abs-lin : (a : ℤ) → pos 0 ≤ℤ a → (natAbs a ≡ plus a) × (minus a ≡ 0)
 unfolding plus minus
@@ -115,8 +118,8 @@ abs-lin (negsuc a) h = absurd (h .le)
 pub gap-lin : (a b : ℤ) → a ≤ℤ b → gap a b + plus a + minus b ≡ plus b + minus a
 unfolding gap
 gap-lin a b h =
-    let z : pos 0 ≤ℤ (b -ℤ a) = omega (arithZ, sum-lin b (negℤ a), neg-lin a, pos-lin 0) in
-    omega (arithZ, sum-lin b (negℤ a), neg-lin a, pos-lin 0, abs-lin (b -ℤ a) z)
+    let z : pos 0 ≤ℤ (b -ℤ a) = omega (arithZ, less-lin b a, pos-lin 0) in
+    omega (arithZ, less-lin b a, pos-lin 0, abs-lin (b -ℤ a) z)
 
 pub half-between : (r : ℕ) (m M a b : ℤ) → r ≤ 1 → m ≤ℤ a → a ≤ℤ b → b ≤ℤ M → (m ≤ℤ half r (a +ℤ b)) × (half r (a +ℤ b) ≤ℤ M)
 half-between r m M a b hr h k l = omega (arithZ, sum-lin a b, half-lin r (a +ℤ b))

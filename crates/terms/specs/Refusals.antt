@@ -90,6 +90,10 @@ listener = 17
 abbrev pub one-round-limit : ℕ
 one-round-limit = 18
 
+-- a lowest above its highest, either of them out of range, or either not 0 where null (document 02, A12)
+abbrev pub limits : ℕ
+limits = 19
+
 -- link already heard this round
 abbrev pub heard : ℕ
 heard = 21

@@ -37,6 +37,8 @@ pub const LISTENER: u8 = 17; // a listener is told to send
 
 pub const ONE_ROUND_LIMIT: u8 = 18; // n below 4f + 1, in a ring of one round
 
+pub const LIMITS: u8 = 19; // a lowest above its highest, either of them out of range, or either not 0 where null
+
 // From the state.
 pub const HEARD: u8 = 21; // link already heard this round
 

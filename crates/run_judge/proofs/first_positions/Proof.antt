@@ -4,7 +4,7 @@ use native.Mathlib.Omega.{arith}
 use lib.ListN.{drop}
 use denote.Ref.{now}
 use borrow.Author.Needs.{needs}
-use Rattle.frame_spec.proofs.Listing.{numbers-read}
+use Rattle.entries.proofs.Entries.{numbers-read}
 use Rattle.run_judge.proofs.Positions.{position-dropped}
 use Rattle.run_judge.proofs.first_positions.Statement.{statement}
 use Rattle.run_judge.proofs.first_positions.Tie as tie

@@ -18,3 +18,8 @@ pub followed : (test : Bool) (n rest more last : ℕ) → more ≡ cond (eqb res
     → check test (suc n) more ≡ cond (eqb (check test (suc n) rest) 0) last (check test (suc n) rest)
 followed true n rest more last e = e
 followed false n rest more last e = rw (ne-eqb (suc n) 0 (omega arith))
+
+-- a number that this check does not give comes from the row after it
+pub comes-later : {rest : ℕ} (test : Bool) (n d : ℕ) → (n ≡ d → ⊥) → check test (suc n) rest ≡ suc d → (test ≡ true) × (rest ≡ suc d)
+comes-later true n d other e = (refl, e)
+comes-later false n d other e = absurd (other (omega arith))
