@@ -3,9 +3,11 @@ use mathlib.Core.List.{List, [], _∷_}
 use mathlib.Core.Path.{_≡_}
 use Prim.Native.Nat.{ℕ}
 use lib.IntN.{ℤ, pos, negsuc}
-use Rattle.settle_midpoint.specs.declared.Kept.{Kept}
 use Rattle.settle_midpoint.specs.declared.Settled.{Settled}
 use Rattle.settle_midpoint.specs.declared.Settled.the-variants.{Refused, New}
+use Rattle.settle_limits.specs.declared.Ranged.{Ranged}
+use Rattle.settle_limits.specs.declared.Ranged.the-variants as limits
+use Rattle.settle_limits.specs.Call as limits-call
 use Rattle.steps.specs.declared.scale.Scaled.{Scaled}
 use Rattle.steps.specs.declared.scale.Scaled.the-variants as scale
 use Rattle.steps.specs.declared.scale.Unscaled.{Unscaled}
@@ -21,6 +23,22 @@ settledOr (New k) old = k .position
 abbrev pub keptOr : Settled → List ℤ → List ℤ
 keptOr (Refused c) old = old
 keptOr (New k) old = k .low ∷ k .high ∷ pos (k .trim) ∷ k .position ∷ []
+
+-- of limits: the number, and the lowest and the highest new position, or what stood there
+abbrev pub rangedNumber : Ranged → ℕ
+rangedNumber (limits.Refused c) = c
+rangedNumber (limits.Range low high) = 0
+
+abbrev pub rangedOr : Ranged → List ℤ → List ℤ
+rangedOr (limits.Refused c) old = old
+rangedOr (limits.Range low high) old = low ∷ high ∷ []
+
+-- the number r and the lent pair are those of an answer for limits
+pub record RangeLent (n f p m : ℕ) (s : List ℕ) (r : ℕ) (old new : List ℤ) : Type 0 where
+  pub answer : Ranged
+  pub means : limits-call.Answers n f p m s answer
+  pub number : r ≡ rangedNumber answer
+  pub lent : new ≡ rangedOr answer old
 
 -- of the scale: the number, and the nanometres or what stood there
 abbrev pub scaledNumber : Scaled → ℕ

@@ -1,14 +1,17 @@
-// What the camera's C firmware calls: the frame check, the midpoint and the scale both ways, on plain numbers and byte slices. host/include/focus.h declares them.
+// What the camera's C firmware calls: the frame check, the midpoint, limits and the scale both ways, on plain numbers and byte slices. host/include/focus.h declares them.
 // Each returns 0 or the refusal's number; a result goes to memory that the caller lends, which a refusal leaves as it was.
 ghost use mathlib.Core.Path.{_≡_};
+ghost use Rattle.terms.specs.declared.Family.{Family};
 ghost use Rattle.frame_check.specs.Check.{frameRefusal};
 ghost use Rattle.settle_midpoint.specs.Call.{midpointCall};
 ghost use Rattle.steps.specs.Scale.{scaled};
 ghost use Rattle.settle_midpoint.specs.Answers.{settledNumber};
-ghost use Rattle.camera.specs.Out.{settledOr, keptOr, scaledNumber, scaledOr, StepLent};
+ghost use Rattle.camera.specs.Out.{settledOr, keptOr, RangeLent, scaledNumber, scaledOr, StepLent};
+use settle_limits::Ranged;
 use settle_midpoint::Settled;
 use steps::scale::Scaled;
 use steps::scale::Unscaled;
+use terms::Family;
 
 // The frame check: 0, 6, 7 or 8. The rest of an accepted frame starts at its byte 7.
 #[no_mangle]
@@ -28,10 +31,10 @@ pub extern "C" fn focus_midpoint(
     entries: &[u8],
     position: &mut i32,
 ) -> u8
-    ensures number { λ r. ⌜ r ≡ settledNumber (midpointCall n f phase marks (now (entries .entry))) ⌝ }
-    ensures result { λ r. ⌜ now (position .exit) ≡ settledOr (midpointCall n f phase marks (now (entries .entry))) (now (position .entry)) ⌝ }
+    ensures number { λ r. ⌜ r ≡ settledNumber (midpointCall Family.TwoRounds n f phase marks (now (entries .entry))) ⌝ }
+    ensures result { λ r. ⌜ now (position .exit) ≡ settledOr (midpointCall Family.TwoRounds n f phase marks (now (entries .entry))) (now (position .entry)) ⌝ }
 {
-    let answer = settle_midpoint::midpoint(n, f, phase, marks, entries);
+    let answer = settle_midpoint::midpoint(Family::TwoRounds, n, f, phase, marks, entries);
     match answer {
         Settled::Refused(number) => number,
         Settled::New(kept) => {
@@ -52,14 +55,36 @@ pub extern "C" fn focus_midpoint_kept(
     entries: &[u8],
     kept: &mut [i32; 4],
 ) -> u8
-    ensures number { λ r. ⌜ r ≡ settledNumber (midpointCall n f phase marks (now (entries .entry))) ⌝ }
-    ensures result { λ r. ⌜ now (kept .exit) ≡ keptOr (midpointCall n f phase marks (now (entries .entry))) (now (kept .entry)) ⌝ }
+    ensures number { λ r. ⌜ r ≡ settledNumber (midpointCall Family.TwoRounds n f phase marks (now (entries .entry))) ⌝ }
+    ensures result { λ r. ⌜ now (kept .exit) ≡ keptOr (midpointCall Family.TwoRounds n f phase marks (now (entries .entry))) (now (kept .entry)) ⌝ }
 {
-    let settled = settle_midpoint::midpoint(n, f, phase, marks, entries);
+    let settled = settle_midpoint::midpoint(Family::TwoRounds, n, f, phase, marks, entries);
     match settled {
         Settled::Refused(refused) => refused,
         Settled::New(k) => {
             *kept = [k.low, k.high, k.trim as i32, k.position];
+            0
+        }
+    }
+}
+
+// The lowest and the highest new position that any choice within the limits can bring: 0 and both, or 1, 2, 5, 8, 10, 19, 25.
+#[no_mangle]
+pub extern "C" fn focus_limits(
+    n: u32,
+    f: u32,
+    phase: u32,
+    marks: u32,
+    limits: &[u8],
+    range: &mut [i32; 2],
+) -> u8
+    ensures { λ r. ⌜ RangeLent n f phase marks (now (limits .entry)) r (now (range .entry)) (now (range .exit)) ⌝ }
+{
+    let answer = settle_limits::limits(n, f, phase, marks, limits);
+    match answer {
+        Ranged::Refused(number) => number,
+        Ranged::Range(low, high) => {
+            *range = [low, high];
             0
         }
     }

@@ -17,9 +17,7 @@ use Rattle.convergence.specs.Settling.{nulls, trim, twoRounds, insert, ordered,
 use Rattle.convergence.specs.Trust.{Given, nothing, confessed, gave, support, confessions, seen, trusted}
 use Rattle.convergence.specs.Phases.{rounding}
 use Rattle.convergence.specs.Demand3.{Halves}
-use Rattle.settle_midpoint.specs.Answers.{settling, settledNumber}
-use Rattle.settle_midpoint.specs.declared.Settled.{Settled}
-use Rattle.settle_midpoint.specs.declared.Settled.the-variants.{Refused, New}
+use Rattle.settle_midpoint.specs.Answers.{settling, settledNumber, settledEntry}
 
 -- n heads, struck limit f, and what the rules answer. Document 01's points count as phase 1 (document 02, A7); beside each odd sum is the same point in phase 2.
 pub data Point : Type 0 where
@@ -36,10 +34,6 @@ table l j = getD l j Null
 
 abbrev pub links : List Given → ℕ → Given
 links l k = getD l k nothing
-
-abbrev pub settledEntry : Settled → Entry
-settledEntry (Refused c) = Null
-settledEntry (New k) = Position (k .position)
 
 abbrev pub PointHolds : Point → Type 0
 PointHolds (taken n f) = sizeRefusal TwoRounds n f ≡ 0

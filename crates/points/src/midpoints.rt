@@ -5,6 +5,7 @@ use crate::answers::Answer::Null;
 use crate::answers::Answer::Number;
 use crate::print;
 use crate::wrong;
+use terms::Family;
 use terms::Table;
 ghost use Prim.Native.Nat.{_<_};
 
@@ -82,7 +83,7 @@ fn entries_of(c: Trusted) -> [i32; 8] {
 fn midpoint_with(c: Trusted, marks: u32) -> Answer {
     let bytes = bytes_of(entries_of(c));
     let entries = print::front(&bytes, 4 * (c.0 as usize));
-    answers::of_settled(settle_midpoint::midpoint(c.0, c.1, c.2, marks, entries))
+    answers::of_settled(settle_midpoint::midpoint(Family::TwoRounds, c.0, c.1, c.2, marks, entries))
 }
 
 // Where there are nulls, with what zeros in their place would give.

@@ -1,6 +1,6 @@
 -- The new position from positions in order. Of n entries each is a position or null, so the nulls are the n entries less the positions: the
 -- positions in order say all that settling asks of a table.
-use mathlib.Core.Path.{_≡_, ap, sym, _∙_}
+use mathlib.Core.Path.{_≡_, refl, ap, sym, _∙_}
 use mathlib.Core.List.{List}
 use Prim.Native.Nat.{ℕ, _-_, _≤_, _<_, min}
 use native.Mathlib.Omega.{arith}
@@ -16,9 +16,10 @@ use Rattle.convergence.specs.Counting.{Each}
 use Rattle.convergence.specs.Settling.{Rule, nulls, ordered, lowKept, highKept, middle, enough}
 use Rattle.convergence.proofs.Order.{length-ordered}
 use Rattle.convergence.proofs.Same.{ordered-same}
+use Rattle.settle_midpoint.specs.declared.Order.{Order}
 use Rattle.settle_midpoint.specs.declared.Settled.{Settled}
 use Rattle.settle_midpoint.specs.Answers.{settling, settlingFrom}
-use Rattle.settle_midpoint.specs.Orders.{OrderAfter}
+use Rattle.settle_midpoint.specs.Orders.{OrderAfter, orderOf, inOrder}
 use Rattle.settle_midpoint.proofs.Ordering.{padded-front}
 
 pub settling-from : (r n : ℕ) (R : Rule) (E : ℕ → Entry) → settling r n R E ≡ settlingFrom r n R (ordered n E)
@@ -34,6 +35,10 @@ settling-same r n R E E′ h = settling-from r n R E ∙ ap (settlingFrom r n R)
 -- after n entries the order says all that settling asks of them
 pub settling-after : (r n : ℕ) (R : Rule) (E : ℕ → Entry) {len : ℕ} {a : List ℤ} → OrderAfter n E len a → settlingFrom r n R (take len a) ≡ settling r n R E
 settling-after r n R E h = rw (h .counts, h .holds, padded-front (ordered n E)) (sym (settling-from r n R E))
+
+-- the same of an order
+pub order-settles : (r n : ℕ) (R : Rule) (E : ℕ → Entry) {o : Order} → o ≡ orderOf (ordered n E) → settlingFrom r n R (inOrder o) ≡ settling r n R E
+order-settles r n R E e = rw e (settling-after r n R E (record { counts = refl; holds = refl }))
 
 -- ---- as the code works it out
 

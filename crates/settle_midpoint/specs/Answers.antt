@@ -7,6 +7,7 @@ use lib.ListN.{length}
 use lib.IntN.{ℤ}
 use Rattle.terms.specs.Refusals as refusal
 use Rattle.terms.specs.declared.Entry.{Entry}
+use Rattle.terms.specs.declared.Entry.the-variants.{Null, Position}
 use Rattle.convergence.specs.Settling.{Rule, nulls, ordered, lowKept, highKept, middle, enough}
 use Rattle.settle_midpoint.specs.declared.Kept.{Kept}
 use Rattle.settle_midpoint.specs.declared.Settled.{Settled}
@@ -19,6 +20,11 @@ kept r t l = record { low = lowKept t l; high = highKept t l; trim = t; position
 abbrev pub settledNumber : Settled → ℕ
 settledNumber (Settled.Refused c) = c
 settledNumber (Settled.New k) = 0
+
+-- the new position, or none
+abbrev pub settledEntry : Settled → Entry
+settledEntry (Settled.Refused c) = Null
+settledEntry (Settled.New k) = Position (k .position)
 
 -- from n entries, by the rule R: r says how an odd sum is rounded
 unfoldable pub settling : ℕ → ℕ → Rule → (ℕ → Entry) → Settled

@@ -1,0 +1,20 @@
+-- An answer that was found to be t: number and lent memory are t's.
+use mathlib.Core.Path.{_≡_, subst}
+use mathlib.Core.List.{List, [], _∷_}
+use Prim.Native.Nat.{ℕ}
+use lib.IntN.{ℤ}
+use mir.Syntax.{w32}
+use mir.Val.{SFits}
+use mir.Facts.{toZ-ofZ}
+use Rattle.terms.proofs.Machine.{read}
+use Rattle.settle_limits.specs.declared.Ranged.{Ranged}
+use Rattle.settle_limits.specs.Call as limits-call
+use Rattle.camera.specs.Out.{rangedNumber, rangedOr, RangeLent}
+
+pub range-lent : {n f p m : ℕ} {s : List ℕ} {r : ℕ} {a t : Ranged} {old new : List ℤ} → limits-call.Answers n f p m s a → a ≡ t → r ≡ rangedNumber t → new ≡ rangedOr t old
+    → RangeLent n f p m s r old new
+range-lent {n} {f} {p} {m} {s} {t} h e k l = record { answer = t; means = subst (limits-call.Answers n f p m s) e h; number = k; lent = l }
+
+-- a pair as the machine stores it
+pub pair-stored : {low high : ℤ} → SFits w32 low → SFits w32 high → read w32 low ∷ read w32 high ∷ [] ≡ low ∷ high ∷ []
+pair-stored f g = rw (toZ-ofZ f, toZ-ofZ g)

@@ -1,0 +1,104 @@
+-- The limits call: n, f, the phase, a mark word, and 8 bytes for each entry, lowest then highest. Checks 1, 2, 5, 8 (entries not 8n bytes), 10, 19, 25.
+use mathlib.Core.Path.{_≡_}
+use mathlib.Core.Bool.{Bool, true, false, cond, _&&_}
+use mathlib.Core.List.{List}
+use Prim.Native.Nat.{ℕ, zero, suc, _+_, _*_}
+use lib.Dec.{eqb}
+use lib.ListN.{length}
+use lib.IntN.{ℤ, pos}
+use lib.Signed.{leZ}
+use Rattle.terms.specs.Refusals as refusal
+use Rattle.terms.specs.Refusals.{check}
+use Rattle.terms.specs.Sizes.{checkSize, isPhase}
+use Rattle.terms.specs.Positions.{isPosition, eqZ}
+use Rattle.terms.specs.declared.Entry.{Entry}
+use Rattle.terms.specs.declared.Entry.the-variants.{Null, Position}
+use Rattle.terms.specs.declared.Family.the-variants.{TwoRounds}
+use Rattle.fields.specs.Bytes.{signedAt}
+use Rattle.marks.specs.Marks.{bitOf, marksBelow}
+use Rattle.convergence.specs.Settling.{twoRounds, enough, settled}
+use Rattle.convergence.specs.Phases.{rounding}
+use Rattle.convergence.specs.Demand3.{HeldBetween}
+use Rattle.settle_midpoint.specs.declared.Settled.{Settled}
+use Rattle.settle_midpoint.specs.declared.Settled.the-variants.{Refused, New}
+use Rattle.settle_midpoint.specs.Answers.{settledEntry, settling}
+use Rattle.settle_limits.specs.declared.Ranged.{Ranged}
+use Rattle.settle_midpoint.specs.Call as midpoint-call
+use Rattle.settle_limits.specs.Limits.{Choice, Spans}
+
+-- the number at place k of the 8 bytes of entry j: its lowest position at 0, its highest at 4
+abbrev pub limitOf : ℕ → List ℕ → ℕ → ℤ
+limitOf k s j = signedAt s (8 * j + k)
+
+-- as an entry of a table: null if it is not marked
+unfoldable pub limitAt : ℕ → ℕ → List ℕ → ℕ → Entry
+limitAt k m s j = cond (bitOf m j) (Position (limitOf k s j)) Null
+
+abbrev pub lowests : ℕ → List ℕ → ℕ → Entry
+lowests = limitAt 0
+
+abbrev pub highests : ℕ → List ℕ → ℕ → Entry
+highests = limitAt 4
+
+-- numbers that may stand as a lowest and a highest: positions in order if the entry is marked, and else 0
+abbrev pub fits : Bool → ℤ → ℤ → Bool
+fits true a b = isPosition a && (isPosition b && leZ a b)
+fits false a b = eqZ a (pos 0) && eqZ b (pos 0)
+
+-- whether the limits of entries 0 .. n - 1 may stand so
+unfoldable pub limitsFit : ℕ → List ℕ → ℕ → Bool
+limitsFit m s zero = true
+limitsFit m s (suc j) = limitsFit m s j && fits (bitOf m j) (limitOf 0 s j) (limitOf 4 s j)
+
+-- 1, 2, 5, 8, 10, 19, before the checks that follow
+unfoldable pub checkLimits : ℕ → ℕ → ℕ → ℕ → List ℕ → ℕ → ℕ
+checkLimits n f p m s rest =
+    checkSize TwoRounds n f
+    (check (isPhase p) refusal.phase
+    (check (eqb (length s) (8 * n)) refusal.kind-length
+    (check (marksBelow m n) refusal.marks
+    (check (limitsFit m s n) refusal.limits rest))))
+
+-- and then 25: "null entries are counted as before"
+unfoldable pub limitsRefusal : ℕ → ℕ → ℕ → ℕ → List ℕ → ℕ
+limitsRefusal n f p m s = checkLimits n f p m s (check (enough n (twoRounds f) (lowests m s)) refusal.trusted 0)
+
+-- what is answered: the number of the first check that fails, and else the lowest and the highest new position
+pub data Answers (n f p m : ℕ) (s : List ℕ) : Ranged → Type 0 where
+  refused : (c : ℕ) → limitsRefusal n f p m s ≡ suc c → Answers n f p m s (Ranged.Refused (suc c))
+  range : limitsRefusal n f p m s ≡ 0 → (low high : ℤ) → Spans (rounding p) n (twoRounds f) (lowests m s) (highests m s) low high
+      → Answers n f p m s (Ranged.Range low high)
+
+-- one answer at most
+abbrev pub OneAnswer : Type 0
+OneAnswer = (n f p m : ℕ) (s : List ℕ) (a b : Ranged) → Answers n f p m s a → Answers n f p m s b → a ≡ b
+
+-- "refusal 25 in the same case": where limits are refused 25, each choice within them has too few entries too
+abbrev pub TooFewAlike : Type 0
+TooFewAlike =
+    (n f p m : ℕ) (s : List ℕ) → Answers n f p m s (Ranged.Refused refusal.trusted)
+    → (E : ℕ → Entry) → Choice n (lowests m s) (highests m s) E → settled (rounding p) n (twoRounds f) E ≡ Null
+
+-- and only there: limits that pass the checks before 25 are refused 25 if each choice has too few
+abbrev pub TooFewOnly : Type 0
+TooFewOnly =
+    (n f p m : ℕ) (s : List ℕ) → checkLimits n f p m s 0 ≡ 0
+    → ((E : ℕ → Entry) → Choice n (lowests m s) (highests m s) E → settled (rounding p) n (twoRounds f) E ≡ Null)
+    → Answers n f p m s (Ranged.Refused refusal.trusted)
+
+-- a choice within the limits, given to the midpoint call as a list that it takes, brings a new position from the one end to the other
+abbrev pub MidpointsWithin : Type 0
+MidpointsWithin =
+    (n f p m : ℕ) (s : List ℕ) (low high : ℤ) → Answers n f p m s (Ranged.Range low high)
+    → (m′ : ℕ) (s′ : List ℕ) → midpoint-call.listRefusal TwoRounds n f p m′ s′ ≡ 0 → Choice n (lowests m s) (highests m s) (midpoint-call.entriesGiven n m′ s′)
+    → HeldBetween (Position low) (Position high) (settledEntry (midpoint-call.midpointCall TwoRounds n f p m′ s′))
+
+-- ---- as the code works it out: the lowest positions and the highest are settled, each by themselves
+
+abbrev pub rangedOf : Settled → Settled → Ranged
+rangedOf (Refused c) h = Ranged.Refused c
+rangedOf (New k) (Refused c) = Ranged.Refused c
+rangedOf (New k) (New h) = Ranged.Range (k .position) (h .position)
+
+unfoldable pub rangeAt : ℕ → ℕ → ℕ → ℕ → List ℕ → Ranged
+rangeAt r n f m s = rangedOf (settling r n (twoRounds f) (lowests m s)) (settling r n (twoRounds f) (highests m s))
