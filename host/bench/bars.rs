@@ -13,8 +13,8 @@ pub const LISTENERS: (&str, f64) = ("(32,8) struck, other heads in each round, 1
 pub const ONE_ROUND: [(&str, f64); 2] =
     [("(29,7) one round, quiet", 1.0 / 2.0), ("(29,7) one round, struck, other heads in each round", 1.0 / 4.0)];
 
-/// The name of a row, and its bar. A row that is not here has none.
-pub const BARS: [(&str, f64); 11] = [
+/// The name of a row, and its bar: in times of plain, and for limits in times of the proved midpoint. A row that is not here has none.
+pub const BARS: [(&str, f64); 13] = [
     ("(5,1) struck, other heads in each round", 1.0 / 6.0),
     ("(5,1) struck, the same heads in all rounds", 1.0 / 6.0),
     ("(32,8) quiet", 1.0 / 120.0),
@@ -26,6 +26,8 @@ pub const BARS: [(&str, f64); 11] = [
     ("hearing a list, (32,8)", 1.0),
     ("hearing a batch of positions, (32,8)", 2.0),
     ("hearing a batch of lists, (32,8)", 2.0),
+    ("limits, (5,1)", 3.0),
+    ("limits, (32,8)", 3.0),
 ];
 
 pub fn of(name: &str) -> Option<f64> {

@@ -17,7 +17,7 @@ const TURNS: usize = 200;
 const WARM: usize = 5;
 const PHASE: usize = 7;
 
-/// Nanoseconds of CPU time a call.
+/// Nanoseconds of CPU time a call; `plain` is what the call is set beside: the same call of the second implementation, or the proved midpoint (`beside`).
 pub struct Row {
     pub name: String,
     pub export: f64,
@@ -101,6 +101,37 @@ fn midpoint(wanted: Wanted, n: usize, f: usize, nulls: usize) -> Option<Row> {
     let plain = |all: &mut Vec<Vec<u8>>| all.iter().map(|table| given(table)).sum();
     let ready = || all.clone();
     row(wanted, format!("midpoint, ({n},{f}), {nulls} null"), MANY, (&ready, &export), (&ready, &plain))
+}
+
+/// Tables of n positions, as entries of four bytes.
+fn tables(n: usize) -> Vec<Vec<u8>> {
+    let mut random = Random::new(4);
+    (0..MANY).map(|_| (0..n).flat_map(|_| random.between(-LIMIT, LIMIT).to_le_bytes()).collect()).collect()
+}
+
+/// Limits of 0 to 200 steps around the positions of a table.
+fn limits_of(table: &[u8]) -> Vec<u8> {
+    let ends = |entry: &[u8]| {
+        let v = i32::from_le_bytes(entry.try_into().expect("four bytes"));
+        [(v - v.rem_euclid(100)).max(-LIMIT).to_le_bytes(), (v + v.rem_euclid(101)).min(LIMIT).to_le_bytes()].concat()
+    };
+    table.chunks(4).flat_map(ends).collect()
+}
+
+/// Limits (document 02, A12), beside the midpoint of as many positions.
+fn limits(wanted: Wanted, n: usize, f: usize) -> Option<Row> {
+    let marks = u32::MAX >> (32 - n);
+    let ready = || tables(n);
+    let known = || tables(n).iter().map(|table| limits_of(table)).collect::<Vec<_>>();
+    let ask = |all: &mut Vec<Vec<u8>>| {
+        let mut range = [0; 2];
+        all.iter_mut().map(|limits| black_box(exported::limits(n as u32, f as u32, 2, marks, limits, &mut range) as u64)).sum()
+    };
+    let settle = |all: &mut Vec<Vec<u8>>| {
+        let mut out = 0;
+        all.iter_mut().map(|table| black_box(exported::midpoint(n as u32, f as u32, 2, marks, table, &mut out) as u64)).sum()
+    };
+    row(wanted, format!("limits, ({n},{f})"), MANY, (&known, &ask), (&ready, &settle))
 }
 
 /// Positions through a scale, or their readings back.
@@ -265,6 +296,12 @@ impl Heard {
         };
         row(wanted, name, MANY, (&blocks, &adopt_blocks), (&heads, &adopt_heads))
     }
+}
+
+/// The rows that are wanted of the proved calls that settle more than once, each beside the proved midpoint.
+pub fn beside(wanted: Wanted) -> Vec<Row> {
+    let rows = [limits(wanted, 5, 1), limits(wanted, 16, 4), limits(wanted, 32, 8)];
+    rows.into_iter().flatten().collect()
 }
 
 /// The rows that are wanted.

@@ -64,6 +64,12 @@ fn print_calls(missed: &mut bool) {
         let bar = held(&row.name, row.ratio(), missed);
         println!("| {} | {:.0} | {:.0} | {:.2} | {bar} |", row.name, row.export, row.plain, row.ratio());
     }
+    println!("\n## Beside the midpoint\n\nProved calls that settle more than once, in nanoseconds of CPU time a call, beside the proved midpoint.\n");
+    println!("| Call | this call | midpoint | ratio | bar |\n|---|--:|--:|--:|---|");
+    for row in calls::beside(&|_| true) {
+        let bar = held(&row.name, row.ratio(), missed);
+        println!("| {} | {:.0} | {:.0} | {:.2} | {bar} |", row.name, row.export, row.plain, row.ratio());
+    }
 }
 
 fn print_players(players: &Players, missed: &mut bool) -> io::Result<()> {
@@ -147,7 +153,8 @@ fn ratio(players: &Players, name: &str) -> io::Result<f64> {
     if let Some(run) = runs().iter().find(|run| run.name() == name) {
         return Ok(players.time(&Run { phases: run.phases / QUICK, ..*run }, 3)?.ratio());
     }
-    let rows = calls::rows(&|row| row == name);
+    let mut rows = calls::rows(&|row| row == name);
+    rows.extend(calls::beside(&|row| row == name));
     rows.first().map(calls::Row::ratio).ok_or_else(|| failed(format!("no row is named {name}")))
 }
 

@@ -24,6 +24,12 @@ struct lent_kept {
     uint64_t after;
 };
 
+struct lent_range {
+    uint64_t before;
+    focus_range value;
+    uint64_t after;
+};
+
 #define GUARD UINT64_C(0x5aa55aa5c33cc33c)
 
 /* the midpoint's answer, with the number it must give; `position` counts if that is 0 */
@@ -46,6 +52,19 @@ static void midpoint(const char *what, uint32_t n, uint32_t f, uint32_t phase, u
     same("what a refusal leaves", number == 0 || (range.value.lowest == -777 && range.value.highest == -777 && range.value.trim == -777), 1);
     same("memory beside the kept range", range.before == GUARD && range.after == GUARD, 1);
     same("the entries read with the range", memcmp(copy, entries, length), 0);
+}
+
+/* the answer for limits; `lowest` and `highest` count if the number is 0 */
+static void limits(const char *what, uint32_t n, uint32_t f, uint32_t phase, uint32_t marks, const uint8_t *bytes, size_t length, uint8_t number,
+                   int32_t lowest, int32_t highest) {
+    uint8_t copy[512];
+    struct lent_range lent = {GUARD, {-777, -888}, GUARD};
+    memcpy(copy, bytes, length);
+    same(what, focus_limits(n, f, phase, marks, bytes, length, &lent.value), number);
+    same(what, lent.value.lowest, number == 0 ? lowest : -777);
+    same(what, lent.value.highest, number == 0 ? highest : -888);
+    same("memory beside the range", lent.before == GUARD && lent.after == GUARD, 1);
+    same("the limits read", memcmp(copy, bytes, length), 0);
 }
 
 static void scale(const char *what, int32_t steps, uint32_t numerator, uint32_t denominator, uint8_t number, int64_t nanometres) {
@@ -172,6 +191,126 @@ static void midpoint_points(void) {
         midpoint("a worked point", points[i].n, points[i].f, points[i].phase, points[i].marks, entries, 4 * points[i].n, points[i].number,
                  points[i].position);
     }
+}
+
+/* ---- limits: 1, 2, 5, 8, 10, 19, 25 in every combination that can be built */
+
+static void put8(uint8_t *at, int32_t lowest, int32_t highest) {
+    put4(at, lowest);
+    put4(at + 4, highest);
+}
+
+/* the ways of 19: out of order, and each end out of range; or each end not 0 where null */
+enum { WAYS = 5 };
+
+static void wrong_limits(uint8_t *bytes, uint32_t *marks, int way) {
+    static const int32_t wrong[WAYS][2] = {{10, 9}, {-1000001, 10}, {10, 1000001}, {1, 0}, {0, -1}};
+    int entry = way < 3 ? 0 : 1;
+    if (way >= 3)
+        *marks &= ~UINT32_C(2);
+    put8(bytes + 8 * entry, wrong[way][0], wrong[way][1]);
+}
+
+/* A ring of 5 heads known from 9 to 12, 19 to 22 and so on; of 33 or of 0 as a wrong count, as for the midpoint. */
+static void limits_faults(int faults, int way) {
+    static const uint8_t order[] = {FOCUS_HEAD_COUNT, FOCUS_STRUCK_LIMIT, FOCUS_PHASE, FOCUS_KIND_LENGTH, FOCUS_MARKS, FOCUS_LIMITS, FOCUS_TRUSTED};
+    uint8_t bytes[512] = {0};
+    uint32_t n = !(faults & HEADS) ? 5 : faults & MARK ? 0 : 33;
+    uint32_t f = faults & LIMIT ? (2 * n + 4) / 7 + 1 : n == 0 ? 0 : 1;
+    uint32_t marks = n >= 32 ? UINT32_MAX : (UINT32_C(1) << n) - 1;
+    if (faults & FEW)
+        marks = n == 0 ? 0 : 1;
+    for (uint32_t j = 0; j < n && j < 32; j++)
+        if (marks >> j & 1)
+            put8(bytes + 8 * j, 10 * (int32_t)j + 9, 10 * (int32_t)j + 12);
+    if (faults & RANGE && n > 0)
+        wrong_limits(bytes, &marks, way);
+    if (faults & MARK)
+        marks |= UINT32_C(1) << n;
+    size_t length = 8 * n + (faults & BYTES ? 1 : 0);
+    tried = faults;
+    uint32_t phase = !(faults & PHASE) ? 1 + (uint32_t)way : way % 2 ? 65536 : 0;
+    limits("limits faults", n, f, phase, marks, bytes, length, first(faults, order, 7), 29, 32);
+    tried = 0;
+}
+
+static void limits_extremes(void) {
+    uint8_t bytes[512] = {0};
+    static const uint32_t wide[] = {0, 33, 255, 256, 261, 65536 + 5, UINT32_MAX / 2 + 1, UINT32_MAX};
+    for (size_t i = 0; i < sizeof wide / sizeof *wide; i++)
+        limits("head count", wide[i], UINT32_MAX, 0, UINT32_MAX, bytes, 40, FOCUS_HEAD_COUNT, 0, 0);
+    for (uint32_t n = 1; n <= 40; n++)
+        for (uint32_t f = 0; f <= 12; f++) {
+            uint32_t marks = n >= 32 ? UINT32_MAX : (UINT32_C(1) << n) - 1;
+            limits("size", n, f, 1, marks, bytes, 8 * n, n > 32 ? FOCUS_HEAD_COUNT : 2 * n < 7 * f + 2 ? FOCUS_STRUCK_LIMIT : 0, 0, 0);
+        }
+    /* every length beside 8n, the midpoint's 4n among them, and each mark above n */
+    for (size_t length = 0; length <= 300; length++)
+        limits("not 8n bytes", 32, 8, 1, UINT32_MAX, bytes, length, length == 256 ? 0 : FOCUS_KIND_LENGTH, 0, 0);
+    for (uint32_t j = 5; j < 32; j++)
+        limits("a mark at n or above", 5, 1, 1, 31 | UINT32_C(1) << j, bytes, 40, FOCUS_MARKS, 0, 0);
+    /* each entry with every pair of ends, marked and not */
+    static const int32_t ends[] = {-1000000, 1000000, -1000001, 1000001, INT32_MIN, INT32_MAX, -1, 1, 0};
+    enum { ENDS = sizeof ends / sizeof *ends };
+    for (uint32_t j = 0; j < 32; j++)
+        for (size_t i = 0; i < ENDS * ENDS; i++) {
+            int32_t low = ends[i / ENDS], high = ends[i % ENDS];
+            int fit = low >= -1000000 && high <= 1000000 && low <= high;
+            put8(bytes + 8 * j, low, high);
+            limits("an entry's limits", 32, 8, 1, UINT32_MAX, bytes, 256, fit ? 0 : FOCUS_LIMITS, 0, 0);
+            limits("a null entry's limits", 32, 8, 1, ~(UINT32_C(1) << j), bytes, 256, low == 0 && high == 0 ? 0 : FOCUS_LIMITS, 0, 0);
+            put8(bytes + 8 * j, 0, 0);
+        }
+    for (uint32_t nulls = 0; nulls <= 32; nulls++)
+        limits("nulls", 32, 8, 1, nulls == 32 ? 0 : UINT32_MAX >> nulls, bytes, 256, nulls > 24 ? FOCUS_TRUSTED : 0, 0, 0);
+    /* nothing known, at every size from 1 on: all positions are possible */
+    for (uint32_t j = 0; j < 32; j++)
+        put8(bytes + 8 * j, -1000000, 1000000);
+    limits("nothing known", 32, 8, 1, UINT32_MAX, bytes, 256, 0, -1000000, 1000000);
+    limits("one head", 1, 0, 2, 1, bytes, 8, 0, -1000000, 1000000);
+}
+
+/* Every choice within limits of 0 to 2 steps, by the midpoint call: the ends and each step between must occur, and nothing else. */
+static void limits_choices(uint32_t phase, uint32_t marks, const int32_t *lows) {
+    uint8_t bytes[40], entries[20];
+    int32_t lowest = INT32_MAX, highest = INT32_MIN, widths[5];
+    unsigned occurs = 0;
+    for (int j = 0; j < 5; j++) {
+        widths[j] = marks >> j & 1 ? (lows[j] + 2 * j) % 3 : 0;
+        put8(bytes + 8 * j, marks >> j & 1 ? lows[j] : 0, marks >> j & 1 ? lows[j] + widths[j] : 0);
+    }
+    for (int choice = 0; choice < 243; choice++) {
+        int32_t position = 0;
+        int within = 1;
+        for (int j = 0, rest = choice; j < 5; j++, rest /= 3) {
+            within &= rest % 3 <= widths[j];
+            put4(entries + 4 * j, marks >> j & 1 ? lows[j] + rest % 3 : 0);
+        }
+        if (!within)
+            continue;
+        same("a choice", focus_midpoint(5, 1, phase, marks, entries, 20, &position), 0);
+        lowest = position < lowest ? position : lowest;
+        highest = position > highest ? position : highest;
+        occurs |= 1u << position;
+    }
+    limits("all choices", 5, 1, phase, marks, bytes, 40, 0, lowest, highest);
+    for (int32_t x = lowest; x <= highest; x++)
+        same("a step between", occurs >> x & 1, 1);
+}
+
+static void limits_tables(void) {
+    for (uint32_t phase = 1; phase <= 2; phase++)
+        for (int table = 0; table < 1024; table++)
+            for (uint32_t marks = 0; marks < 32; marks++) {
+                int32_t lows[5];
+                int nulls = 0;
+                for (int j = 0; j < 5; j++) {
+                    lows[j] = 3 * (table >> 2 * j & 3);
+                    nulls += !(marks >> j & 1);
+                }
+                if (nulls <= 3 && (table + (int)marks) % 5 == 0)
+                    limits_choices(phase, marks, lows);
+            }
 }
 
 /* ---- the scale: 12 before 4 */
@@ -347,6 +486,12 @@ int main(void) {
         }
     midpoint_extremes();
     midpoint_points();
+    for (int faults = 0; faults < FAULTS; faults++)
+        for (int way = 0; way < WAYS; way++)
+            if (!(faults & HEADS && faults & MARK && faults & RANGE))
+                limits_faults(faults, way);
+    limits_extremes();
+    limits_tables();
     scales();
     unscales();
     through_and_back();

@@ -3,6 +3,7 @@
 use crate::exported::{self, Block, EVENTS};
 use crate::rules::family::Family::{self, OneRound};
 use crate::rules::frames;
+use crate::rules::limits;
 use crate::rules::midpoint::{self, Kept};
 use crate::rules::scale;
 use crate::rules::window::Device;
@@ -28,6 +29,7 @@ pub enum Call {
     FrameCheck { frame: Bytes },
     Midpoint { n: u32, f: u32, phase: u32, marks: u32, entries: Bytes, out: i32 },
     MidpointKept { n: u32, f: u32, phase: u32, marks: u32, entries: Bytes, out: [i32; 4] },
+    Limits { n: u32, f: u32, phase: u32, marks: u32, limits: Bytes, out: [i32; 2] },
     Scale { steps: i32, numerator: u32, denominator: u32, out: i64 },
     Unscale { nanometres: i64, numerator: u32, denominator: u32, out: i32 },
     Start { family: Family, n: u32, f: u32, number: u32, position: i32 },
@@ -88,6 +90,7 @@ impl Call {
             Call::Interrupt => 18,
             Call::Adopt => 19,
             Call::Offer { .. } => 20,
+            Call::Limits { .. } => 25,
         }
     }
 
@@ -95,6 +98,7 @@ impl Call {
         match self {
             Call::FrameCheck { frame } | Call::Hear { frame, .. } => frame.0.clone(),
             Call::Midpoint { entries, .. } | Call::MidpointKept { entries, .. } => entries.0.clone(),
+            Call::Limits { limits, .. } => limits.0.clone(),
             Call::HearBatch { answers, .. } => answers.0.clone(),
             Call::Write { buffer, .. } => buffer.0.clone(),
             Call::Window { out } => out.to_vec(),
@@ -111,6 +115,11 @@ impl Call {
             Call::FrameCheck { .. } => (exported::frame_check(&mut lent), 0),
             Call::Midpoint { n, f, phase, marks, mut out, .. } => (exported::midpoint(n, f, phase, marks, &mut lent, &mut out), out as i64),
             Call::MidpointKept { n, f, phase, marks, .. } => (exported::midpoint_kept(n, f, phase, marks, &mut lent, &mut kept), 0),
+            Call::Limits { n, f, phase, marks, mut out, .. } => {
+                let number = exported::limits(n, f, phase, marks, &mut lent, &mut out);
+                kept[..2].copy_from_slice(&out);
+                (number, 0)
+            }
             Call::Scale { steps, numerator, denominator, mut out } => (exported::scale(steps, numerator, denominator, &mut out), out),
             Call::Unscale { nanometres, numerator, denominator, mut out } => {
                 (exported::unscale(nanometres, numerator, denominator, &mut out), out as i64)
@@ -165,6 +174,9 @@ impl Call {
             Call::MidpointKept { n, f, phase, marks, .. } => {
                 (midpoint::midpoint(n as usize, f as usize, phase as usize, marks, &lent).map(|new| kept = four(new)), 0)
             }
+            Call::Limits { n, f, phase, marks, .. } => {
+                (limits::limits(n as usize, f as usize, phase as usize, marks, &lent).map(|(low, high)| kept[..2].copy_from_slice(&[low, high])), 0)
+            }
             Call::Scale { steps, numerator, denominator, out } => valued(scale::scale(steps, numerator, denominator), out),
             Call::Unscale { nanometres, numerator, denominator, out } => {
                 valued(scale::unscale(nanometres, numerator, denominator).map(|step| step.unwrap_or(NO_STEP)), out)
@@ -204,10 +216,11 @@ impl Call {
         Answer { number: done.err().unwrap_or(0), out, kept, lent: Bytes(lent), disturbed: false }
     }
 
-    /// The four numbers of a kept range that are lent.
+    /// The four numbers of a kept range that are lent, or the two of limits.
     fn kept(&self) -> [i32; 4] {
         match self {
             Call::MidpointKept { out, .. } | Call::Kept { out } | Call::Offer { out } => *out,
+            Call::Limits { out: [low, high], .. } => [*low, *high, 0, 0],
             _ => [0; 4],
         }
     }

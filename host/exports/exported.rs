@@ -11,6 +11,7 @@ mod c {
         pub fn focus_frame_check(frame: *const u8, length: usize) -> u8;
         pub fn focus_midpoint(n: u32, f: u32, phase: u32, marks: u32, entries: *const u8, length: usize, position: *mut i32) -> u8;
         pub fn focus_midpoint_kept(n: u32, f: u32, phase: u32, marks: u32, entries: *const u8, length: usize, kept: *mut [i32; 4]) -> u8;
+        pub fn focus_limits(n: u32, f: u32, phase: u32, marks: u32, limits: *const u8, length: usize, range: *mut [i32; 2]) -> u8;
         pub fn focus_scale(steps: i32, numerator: u32, denominator: u32, nanometres: *mut i64) -> u8;
         pub fn focus_unscale(nanometres: i64, numerator: u32, denominator: u32, steps: *mut i32) -> u8;
         pub fn focus_head_start(head: *mut Block, n: u32, f: u32, number: u32, position: i32) -> u8;
@@ -68,6 +69,10 @@ pub fn midpoint(n: u32, f: u32, phase: u32, marks: u32, entries: &mut [u8], posi
 
 pub fn midpoint_kept(n: u32, f: u32, phase: u32, marks: u32, entries: &mut [u8], kept: &mut [i32; 4]) -> u8 {
     unsafe { c::focus_midpoint_kept(n, f, phase, marks, entries.as_mut_ptr(), entries.len(), kept) }
+}
+
+pub fn limits(n: u32, f: u32, phase: u32, marks: u32, limits: &mut [u8], range: &mut [i32; 2]) -> u8 {
+    unsafe { c::focus_limits(n, f, phase, marks, limits.as_mut_ptr(), limits.len(), range) }
 }
 
 pub fn scale(steps: i32, numerator: u32, denominator: u32, nanometres: &mut i64) -> u8 {

@@ -42,33 +42,68 @@ pub fn size(random: &mut Random, family: Family) -> (usize, usize) {
     (n, if random.chance(1, 2) { most } else { random.below(most + 1) })
 }
 
+/// A ring, a phase and the marks of a trusted table: most of them right.
+struct Settling {
+    n: u32,
+    f: u32,
+    phase: u32,
+    marks: u32,
+}
+
+/// How many entries there are, their marks, and what is given with them.
+fn settling(random: &mut Random, family: Family) -> (usize, u32, Settling) {
+    let (heads, f) = size(random, family);
+    let mut marked = u32::MAX >> (32 - heads);
+    for _ in 0..random.below(3 * f + 3) {
+        marked &= !(1 << random.below(32));
+    }
+    let marks = if random.chance(1, 30) { marked | 1 << random.below(32) } else { marked };
+    let f = if random.chance(1, 30) { family.highest_limit(heads) + 1 } else { f };
+    let (n, f) = (near(random, heads as u32, 25), near(random, f as u32, 25));
+    let phase = if random.chance(1, 3) { random.pick(&[1, 2, 3, 65534, 65535]) } else { 1 + random.below(65535) };
+    let phase = if random.chance(1, 30) { random.pick(&[0, 65536, 65537, 1 << 17]) } else { near(random, phase as u32, 40) };
+    (heads, marked, Settling { n, f, phase, marks })
+}
+
+/// A number that stands in a table, but now and then another.
+fn stands(random: &mut Random, right: i32) -> [u8; 4] {
+    let value = if random.chance(1, 600) { random.next() as i32 } else { right };
+    if random.chance(1, 600) { out_of_range(random) } else { value }.to_le_bytes()
+}
+
 /// The midpoint, alone or with what it kept.
 pub fn midpoint(random: &mut Random) -> Call {
-    let (n, f) = size(random, TwoRounds);
-    let mut marks = u32::MAX >> (32 - n);
-    for _ in 0..random.below(3 * f + 3) {
-        marks &= !(1 << random.below(32));
-    }
+    let (heads, marked, Settling { n, f, phase, marks }) = settling(random, TwoRounds);
     let mut entries = Vec::new();
-    for j in 0..n {
-        let value = if marks >> j & 1 == 1 { position(random) } else { 0 };
-        let value = if random.chance(1, 600) { random.next() as i32 } else { value };
-        entries.extend(if random.chance(1, 600) { out_of_range(random) } else { value }.to_le_bytes());
+    for j in 0..heads {
+        let value = if marked >> j & 1 == 1 { position(random) } else { 0 };
+        entries.extend(stands(random, value));
     }
     if random.chance(1, 20) {
         entries.resize(random.below(200), 0);
     }
-    if random.chance(1, 30) {
-        marks |= 1 << random.below(32);
-    }
-    let f = if random.chance(1, 30) { TwoRounds.highest_limit(n) + 1 } else { f };
-    let (n, f) = (near(random, n as u32, 25), near(random, f as u32, 25));
-    let phase = if random.chance(1, 3) { random.pick(&[1, 2, 3, 65534, 65535]) } else { 1 + random.below(65535) };
-    let phase = if random.chance(1, 30) { random.pick(&[0, 65536, 65537, 1 << 17]) } else { near(random, phase as u32, 40) };
     if random.chance(1, 2) {
         return Call::MidpointKept { n, f, phase, marks, entries: Bytes(entries), out: four(random) };
     }
     Call::Midpoint { n, f, phase, marks, entries: Bytes(entries), out: random.next() as i32 }
+}
+
+/// Limits of positions: most tables so near that all choices can be tried, some as far apart as can be.
+pub fn limits(random: &mut Random) -> Call {
+    let (heads, marked, Settling { n, f, phase, marks }) = settling(random, TwoRounds);
+    let widths: &[i32] = random.pick(&[&[0, 0, 0, 1], &[0, 1, 2, 3], &[0, 1, 100, 2_000_000]]);
+    let mut limits = Vec::new();
+    for j in 0..heads {
+        let low = if marked >> j & 1 == 1 { position(random) } else { 0 };
+        let high = if marked >> j & 1 == 1 { LIMIT.min(low + random.pick(widths)) } else { 0 };
+        let (low, high) = if random.chance(1, 400) { (high, low - 1) } else { (low, high) };
+        limits.extend(stands(random, low));
+        limits.extend(stands(random, high));
+    }
+    if random.chance(1, 20) {
+        limits.resize(if random.chance(1, 4) { 4 * heads } else { random.below(300) }, 0);
+    }
+    Call::Limits { n, f, phase, marks, limits: Bytes(limits), out: [random.next() as i32, random.next() as i32] }
 }
 
 /// Four numbers that stand in lent memory.

@@ -115,6 +115,7 @@ fn compare(seed: u64, tally: &mut Tally) -> Result<(), String> {
     for _ in 0..EACH {
         pair.ask(tally, &inputs::frame_check(&mut random))?;
         pair.ask(tally, &inputs::midpoint(&mut random))?;
+        pair.ask(tally, &inputs::limits(&mut random))?;
         pair.ask(tally, &inputs::scale(&mut random))?;
         pair.ask(tally, &inputs::unscale(&mut random))?;
     }

@@ -42,6 +42,7 @@ enum focus_refusal {
     FOCUS_REGISTER = 16,    /* a write to a byte of the window other than 10 and 11, or a read past byte 15 (document 02, A5) */
     FOCUS_LISTENER = 17,    /* a listener is told to send (document 02, A6) */
     FOCUS_ONE_ROUND_LIMIT = 18, /* n below 4f + 1, in a one-round ring; where 2 stands in others (document 02, A9) */
+    FOCUS_LIMITS = 19,      /* a lowest above its highest, either of them out of range, or either not 0 where null (document 02, A12) */
     FOCUS_HEARD = 21,       /* link already heard this round */
     FOCUS_OTHER_ROUND = 22, /* frame of the other round; in a one-round ring, a list or confession */
     FOCUS_OTHER_PHASE = 23, /* frame of another phase */
@@ -78,6 +79,21 @@ typedef struct focus_kept {
  * (crates/camera/specs/Out.antt). */
 uint8_t focus_midpoint_kept(uint32_t n, uint32_t f, uint32_t phase, uint32_t marks, const uint8_t *entries, size_t length,
                             focus_kept *kept);
+
+/* The lowest and the highest of the new positions that can come of positions known within limits. */
+typedef struct focus_range {
+    int32_t lowest, highest;
+} focus_range;
+
+/* Positions known within limits: as for the midpoint, but with 8 bytes for each entry, the lowest position that it may
+ * have and then the highest, both signed, lowest byte first, both 0 where null. *range has the lowest and the highest
+ * new position that any choice within the limits brings in that phase: both occur, and so does every step between them.
+ * Returns 0 and writes *range, or 1, 2, 5, 8 (length is not 8n), 10, 19, 25. 25 is answered just if every choice within
+ * the limits is refused 25.
+ * Promised: `RangeLent` (crates/camera/specs/Out.antt), for an answer of `Answers` (crates/settle_limits/specs/Call.antt),
+ * of which there is one at most. */
+uint8_t focus_limits(uint32_t n, uint32_t f, uint32_t phase, uint32_t marks, const uint8_t *limits, size_t length,
+                     focus_range *range);
 
 /* The step scale: nanometres are steps times numerator, divided by denominator, rounded down (towards minus
  * infinity). Numerator and denominator are from 1 to 1,000,000, the numerator at least the denominator.

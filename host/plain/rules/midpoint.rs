@@ -49,7 +49,7 @@ pub struct Kept {
 }
 
 /// Half a sum: an odd one goes down in odd phases and up in even ones, towards minus and plus infinity (document 02, A7).
-fn half(sum: i32, phase: usize) -> i32 {
+pub fn half(sum: i32, phase: usize) -> i32 {
     if phase % 2 == 1 {
         sum.div_euclid(2)
     } else {
@@ -57,14 +57,18 @@ fn half(sum: i32, phase: usize) -> i32 {
     }
 }
 
-/// 25 if more than 3f entries are null; the new position at the end of a two-round phase, with what it is the middle of.
-pub fn settle(f: usize, phase: usize, trusted: &[Entry]) -> Result<Kept, u8> {
-    let mut order: Vec<i32> = trusted.iter().flatten().copied().collect();
-    let nulls = trusted.len() - order.len();
+/// 25 if more than 3f entries are null; how many are dropped from each end at the end of a two-round phase.
+pub fn trim(f: usize, nulls: usize) -> Result<usize, u8> {
     if nulls > 3 * f {
         return Err(25);
     }
-    let trim = if nulls <= f { f } else { (3 * f - nulls + 1) / 2 };
+    Ok(if nulls <= f { f } else { (3 * f - nulls + 1) / 2 })
+}
+
+/// 25; the new position at the end of a two-round phase, with what it is the middle of.
+pub fn settle(f: usize, phase: usize, trusted: &[Entry]) -> Result<Kept, u8> {
+    let mut order: Vec<i32> = trusted.iter().flatten().copied().collect();
+    let trim = trim(f, trusted.len() - order.len())?;
     order.sort_unstable();
     let (low, high) = (order[trim], order[order.len() - trim - 1]);
     Ok(Kept { low, high, trim, position: half(low + high, phase) })
