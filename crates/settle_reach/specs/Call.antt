@@ -1,0 +1,65 @@
+-- The reach call: the family, n, f, the phase, the open entry's number, a list's marks and entries, and the wanted position. Checks 1, 2 (18 in a one-round
+-- ring), 5, 3, 8 (entries not 4n bytes), 10, 11, 25.
+use mathlib.Core.Path.{_≡_}
+use mathlib.Core.Bool.{Bool, true, false, _&&_, _||_}
+use mathlib.Core.List.{List}
+use Prim.Native.Nat.{ℕ, zero, suc, _*_}
+use lib.Dec.{eqb, ltb}
+use lib.ListN.{length}
+use lib.IntN.{ℤ, pos}
+use Rattle.terms.specs.Refusals as refusal
+use Rattle.terms.specs.Refusals.{check}
+use Rattle.terms.specs.Sizes.{isPhase, checkSize}
+use Rattle.terms.specs.Positions.{isPosition}
+use Rattle.terms.specs.declared.Entry.the-variants.{Position}
+use Rattle.convergence.specs.Counting.{Each}
+use Rattle.fields.specs.Bytes.{signedAt}
+use Rattle.marks.specs.Marks.{bitOf, marksBelow}
+use Rattle.entries.specs.Entries.{fits}
+use Rattle.convergence.specs.Settling.{enough, ruleOf}
+use Rattle.convergence.specs.Phases.{rounding}
+use Rattle.settle_midpoint.specs.Call.{entriesGiven, listRefusal, midpointCall}
+use Rattle.settle_midpoint.specs.Answers.{settledEntry}
+use Rattle.terms.specs.declared.Family.{Family}
+use Rattle.settle_reach.specs.declared.Reached.{Reached}
+use Rattle.settle_reach.specs.Reach.{opened, Brings, Found}
+
+-- whether the first n numbers of the bytes s may stand in a list with the mark word m; the open entry j may be any, whatever its mark
+unfoldable pub othersFit : ℕ → ℕ → List ℕ → ℕ → Bool
+othersFit j m s zero = true
+othersFit j m s (suc k) = othersFit j m s k && (eqb k j || fits (bitOf m k) (signedAt s (4 * k)))
+
+-- 1, 2 or 18, 5, 3, 8, 10, 11, before the checks that follow
+unfoldable pub checkReach : Family → ℕ → ℕ → ℕ → ℕ → ℕ → List ℕ → ℕ → ℕ
+checkReach K n f p j m s rest =
+    checkSize K n f
+    (check (isPhase p) refusal.phase
+    (check (ltb j n) refusal.head-number
+    (check (eqb (length s) (4 * n)) refusal.kind-length
+    (check (marksBelow m n) refusal.marks
+    (check (othersFit j m s n) refusal.entry rest)))))
+
+-- and then 25: "the open entry is not null when nulls are counted"
+unfoldable pub reachRefusal : Family → ℕ → ℕ → ℕ → ℕ → ℕ → List ℕ → ℕ
+reachRefusal K n f p j m s =
+    checkReach K n f p j m s (check (enough n (ruleOf K f) (opened (entriesGiven n m s) j (pos 0))) refusal.trusted 0)
+
+-- what is answered: the number of the first check that fails, and else what is found for the wanted position x
+pub data Answers (K : Family) (n f p j m : ℕ) (s : List ℕ) (x : ℤ) : Reached → Type 0 where
+  refused : (c : ℕ) → reachRefusal K n f p j m s ≡ suc c → Answers K n f p j m s x (Reached.Refused (suc c))
+  found : reachRefusal K n f p j m s ≡ 0 → (a : Reached) → Found (Brings (rounding p) n (ruleOf K f) (entriesGiven n m s) j x) a → Answers K n f p j m s x a
+
+-- one answer at most
+abbrev pub OneAnswer : Type 0
+OneAnswer = (K : Family) (n f p j m : ℕ) (s : List ℕ) (x : ℤ) (a b : Reached) → Answers K n f p j m s x a → Answers K n f p j m s x b → a ≡ b
+
+-- a wanted position that is out of range is never refused for that, and none brings it
+abbrev pub OutOfRange : Type 0
+OutOfRange = (K : Family) (n f p j m : ℕ) (s : List ℕ) (x : ℤ) → reachRefusal K n f p j m s ≡ 0 → isPosition x ≡ false → Answers K n f p j m s x Reached.None
+
+-- the position that is answered, put into the list, makes the midpoint call give the wanted one, in either family
+abbrev pub MidpointReaches : Type 0
+MidpointReaches =
+    (K : Family) (n f p j m : ℕ) (s : List ℕ) (x u : ℤ) → Answers K n f p j m s x (Reached.Set u)
+    → (m′ : ℕ) (s′ : List ℕ) → listRefusal K n f p m′ s′ ≡ 0 → Each n (λ k. entriesGiven n m′ s′ k ≡ opened (entriesGiven n m s) j u k)
+    → settledEntry (midpointCall K n f p m′ s′) ≡ Position x
