@@ -3,11 +3,15 @@ use mathlib.Core.List.{List, [], _∷_}
 use mathlib.Core.Path.{_≡_}
 use Prim.Native.Nat.{ℕ}
 use lib.IntN.{ℤ, pos, negsuc}
+use Rattle.terms.specs.declared.Family.{Family}
 use Rattle.settle_midpoint.specs.declared.Settled.{Settled}
 use Rattle.settle_midpoint.specs.declared.Settled.the-variants.{Refused, New}
 use Rattle.settle_limits.specs.declared.Ranged.{Ranged}
 use Rattle.settle_limits.specs.declared.Ranged.the-variants as limits
 use Rattle.settle_limits.specs.Call as limits-call
+use Rattle.settle_reach.specs.declared.Reached.{Reached}
+use Rattle.settle_reach.specs.declared.Reached.the-variants as reach
+use Rattle.settle_reach.specs.Call as reach-call
 use Rattle.steps.specs.declared.scale.Scaled.{Scaled}
 use Rattle.steps.specs.declared.scale.Scaled.the-variants as scale
 use Rattle.steps.specs.declared.scale.Unscaled.{Unscaled}
@@ -49,11 +53,29 @@ abbrev pub scaledOr : Scaled → ℤ → ℤ
 scaledOr (scale.Refused c) old = old
 scaledOr (scale.Nanometres x) old = x
 
--- of a reading: -2^31 stands for none; it is no position, so it cannot be mistaken for a step
+-- -2^31 stands for none; it is no position, so it cannot be mistaken for one
 abbrev pub noStep : ℤ
 noStep = negsuc 2_147_483_647
 
--- the number, and the step, `noStep` or what stood there
+-- of an open entry: the number, and the position for it, `noStep` or what stood there
+abbrev pub reachedNumber : Reached → ℕ
+reachedNumber (reach.Refused c) = c
+reachedNumber reach.None = 0
+reachedNumber (reach.Set u) = 0
+
+abbrev pub reachedOr : Reached → ℤ → ℤ
+reachedOr (reach.Refused c) old = old
+reachedOr reach.None old = noStep
+reachedOr (reach.Set u) old = u
+
+-- the number r and the lent position are those of an answer for the wanted position x, with entry j open
+pub record PositionLent (K : Family) (n f p j m : ℕ) (s : List ℕ) (x : ℤ) (r : ℕ) (old new : ℤ) : Type 0 where
+  pub answer : Reached
+  pub means : reach-call.Answers K n f p j m s x answer
+  pub number : r ≡ reachedNumber answer
+  pub lent : new ≡ reachedOr answer old
+
+-- of a reading: the number, and the step, `noStep` or what stood there
 abbrev pub stepNumber : Unscaled → ℕ
 stepNumber (unscale.Refused c) = c
 stepNumber unscale.None = 0

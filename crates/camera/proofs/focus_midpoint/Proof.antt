@@ -1,22 +1,16 @@
--- `camera::focus_midpoint` meets its contract: it passes on what `midpoint` promises, case by case.
+-- `camera::focus_midpoint` meets its contract: it passes on what `midpoint` promises.
 use mathlib.Core.Path.{refl}
-use mir.Facts.{toZ-ofZ}
 use borrow.Author.Needs.{needs}
+use Rattle.terms.proofs.Refusals.{given-out}
 use Rattle.settle_midpoint.specs.Answers.{settledNumber}
 use Rattle.camera.specs.Out.{settledOr}
-use Rattle.terms.proofs.Refusals.{given-out}
 use Rattle.camera.proofs.focus_midpoint.Statement.{statement}
 use Rattle.camera.proofs.focus_midpoint.Tie as tie
 
 returns : tie.Need-returns
-returns c = given-out settledNumber settledOr refl refl (c .before .before .before .midpoint .ensures) (c .before .answer .given .1)
-
-returns-2 : tie.Need-returns-2
-returns-2 c =
-    given-out settledNumber settledOr refl (toZ-ofZ (record { sfits = c .struct-told .given .1 .1 .1 .0 .1 }))
-    (c .before .before .before .before .midpoint .ensures)
-    (c .before .before .answer2 .given .1)
+returns c =
+    let put = c .put-position .ensures in
+    given-out settledNumber settledOr (put .0) (put .1) (c .before .before .midpoint .ensures) refl
 
 pub focus-midpoint-spec : {M : Type 1} → statement M
-focus-midpoint-spec =
-    tie.close (tie.spec (λ c κs. search needs) (λ c. search needs) (λ c. search needs) returns returns-2)
+focus-midpoint-spec = tie.close (tie.spec (λ c κs. search needs) (λ c κs. search needs) returns)
