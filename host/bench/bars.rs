@@ -13,8 +13,8 @@ pub const LISTENERS: (&str, f64) = ("(32,8) struck, other heads in each round, 1
 pub const ONE_ROUND: [(&str, f64); 2] =
     [("(29,7) one round, quiet", 1.0 / 2.0), ("(29,7) one round, struck, other heads in each round", 1.0 / 4.0)];
 
-/// The name of a row, and its bar: in times of plain, and for limits in times of the proved midpoint. A row that is not here has none.
-pub const BARS: [(&str, f64); 13] = [
+/// The name of a row, and its bar: in times of plain, and for limits and reach in times of the proved midpoint. A row that is not here has none.
+pub const BARS: [(&str, f64); 16] = [
     ("(5,1) struck, other heads in each round", 1.0 / 6.0),
     ("(5,1) struck, the same heads in all rounds", 1.0 / 6.0),
     ("(32,8) quiet", 1.0 / 120.0),
@@ -28,6 +28,9 @@ pub const BARS: [(&str, f64); 13] = [
     ("hearing a batch of lists, (32,8)", 2.0),
     ("limits, (5,1)", 3.0),
     ("limits, (32,8)", 3.0),
+    ("reach, (5,1)", 3.0),
+    ("reach, (32,8)", 3.0),
+    ("reach in a one-round ring, (29,7)", 3.0),
 ];
 
 pub fn of(name: &str) -> Option<f64> {

@@ -1,7 +1,7 @@
 //! The proved exports against the functions of the second implementation, on the same inputs.
 
 use crate::clock::{black_box, now};
-use crate::exported::{self, Block, SIZE};
+use crate::exported::{self, Aim, Block, SIZE};
 use crate::random::Random;
 use crate::rules::family::Family::{self, OneRound, TwoRounds};
 use crate::rules::frames::{self, Said};
@@ -95,9 +95,9 @@ fn midpoint(wanted: Wanted, n: usize, f: usize, nulls: usize) -> Option<Row> {
     let all: Vec<Vec<u8>> = (0..MANY).map(|_| table(&mut random)).collect();
     let export = |all: &mut Vec<Vec<u8>>| {
         let mut out = 0;
-        all.iter_mut().map(|table| exported::midpoint(n as u32, f as u32, 2, marks, table, &mut out) as u64 + out as u64 % 8).sum()
+        all.iter_mut().map(|table| exported::midpoint(TwoRounds, n as u32, f as u32, 2, marks, table, &mut out) as u64 + out as u64 % 8).sum()
     };
-    let given = |table: &[u8]| midpoint::midpoint(n, f, 2, marks, table).map_or_else(|number| number as u64, |kept| kept.position as u64 % 8);
+    let given = |table: &[u8]| midpoint::midpoint(TwoRounds, n, f, 2, marks, table).map_or_else(|number| number as u64, |kept| kept.position as u64 % 8);
     let plain = |all: &mut Vec<Vec<u8>>| all.iter().map(|table| given(table)).sum();
     let ready = || all.clone();
     row(wanted, format!("midpoint, ({n},{f}), {nulls} null"), MANY, (&ready, &export), (&ready, &plain))
@@ -127,11 +127,29 @@ fn limits(wanted: Wanted, n: usize, f: usize) -> Option<Row> {
         let mut range = [0; 2];
         all.iter_mut().map(|limits| black_box(exported::limits(n as u32, f as u32, 2, marks, limits, &mut range) as u64)).sum()
     };
-    let settle = |all: &mut Vec<Vec<u8>>| {
-        let mut out = 0;
-        all.iter_mut().map(|table| black_box(exported::midpoint(n as u32, f as u32, 2, marks, table, &mut out) as u64)).sum()
-    };
+    let settle = |all: &mut Vec<Vec<u8>>| midpoints(TwoRounds, n, f, all);
     row(wanted, format!("limits, ({n},{f})"), MANY, (&known, &ask), (&ready, &settle))
+}
+
+/// The proved midpoint of each table: the sum of the numbers.
+fn midpoints(family: Family, n: usize, f: usize, all: &mut [Vec<u8>]) -> u64 {
+    let (marks, mut out) = (u32::MAX >> (32 - n), 0);
+    all.iter_mut().map(|table| black_box(exported::midpoint(family, n as u32, f as u32, 2, marks, table, &mut out) as u64)).sum()
+}
+
+/// Reach (document 02, A13), with each entry open in turn and wanted positions all over the range, beside the midpoint of the same tables.
+fn reach(wanted: Wanted, family: Family, n: usize, f: usize) -> Option<Row> {
+    let marks = u32::MAX >> (32 - n);
+    let ready = || tables(n);
+    let ask = |all: &mut Vec<Vec<u8>>| {
+        let mut out = 0;
+        let aim = |i: usize| Aim { number: (i % n) as u32, wanted: 31_250 * i as i32 - LIMIT };
+        let each = all.iter_mut().enumerate();
+        each.map(|(i, table)| black_box(exported::reach(family, n as u32, f as u32, 2, aim(i), marks, table, &mut out) as u64)).sum()
+    };
+    let settle = |all: &mut Vec<Vec<u8>>| midpoints(family, n, f, all);
+    let name = if family == OneRound { "reach in a one-round ring" } else { "reach" };
+    row(wanted, format!("{name}, ({n},{f})"), MANY, (&ready, &ask), (&ready, &settle))
 }
 
 /// Positions through a scale, or their readings back.
@@ -300,7 +318,11 @@ impl Heard {
 
 /// The rows that are wanted of the proved calls that settle more than once, each beside the proved midpoint.
 pub fn beside(wanted: Wanted) -> Vec<Row> {
-    let rows = [limits(wanted, 5, 1), limits(wanted, 16, 4), limits(wanted, 32, 8)];
+    let mut rows = Vec::new();
+    for (n, f) in [(5, 1), (16, 4), (32, 8)] {
+        rows.extend([limits(wanted, n, f), reach(wanted, TwoRounds, n, f)]);
+    }
+    rows.push(reach(wanted, OneRound, 29, 7));
     rows.into_iter().flatten().collect()
 }
 

@@ -54,6 +54,41 @@ static void midpoint(const char *what, uint32_t n, uint32_t f, uint32_t phase, u
     same("the entries read with the range", memcmp(copy, entries, length), 0);
 }
 
+/* a call of either family: 0 for two rounds, 1 for one */
+static uint8_t midpoint_of(int family, uint32_t n, uint32_t f, uint32_t phase, uint32_t marks, const uint8_t *entries, size_t length, int32_t *position) {
+    return (family ? focus_one_round_midpoint : focus_midpoint)(n, f, phase, marks, entries, length, position);
+}
+
+static void one_round(const char *what, uint32_t n, uint32_t f, uint32_t phase, uint32_t marks, const uint8_t *entries, size_t length, uint8_t number,
+                      int32_t position) {
+    uint8_t copy[512];
+    struct lent32 lent = {GUARD, -777, GUARD};
+    memcpy(copy, entries, length);
+    same(what, focus_one_round_midpoint(n, f, phase, marks, entries, length, &lent.value), number);
+    same(what, lent.value, number == 0 ? position : -777);
+    same("memory beside the lent room", lent.before == GUARD && lent.after == GUARD, 1);
+    same("the entries read", memcmp(copy, entries, length), 0);
+}
+
+/* a trusted table, in a family, with an entry open */
+struct table {
+    int family;
+    uint32_t n, f, phase, number, marks;
+    uint8_t entries[512];
+    size_t length;
+};
+
+static void reach(const char *what, const struct table *t, int32_t wanted, uint8_t number, int32_t position) {
+    uint8_t copy[512];
+    struct lent32 lent = {GUARD, -777, GUARD};
+    memcpy(copy, t->entries, sizeof copy);
+    uint8_t got = (t->family ? focus_one_round_reach : focus_reach)(t->n, t->f, t->phase, t->number, t->marks, t->entries, t->length, wanted, &lent.value);
+    same(what, got, number);
+    same(what, lent.value, number == 0 ? position : -777);
+    same("memory beside the lent room", lent.before == GUARD && lent.after == GUARD, 1);
+    same("the entries read", memcmp(copy, t->entries, sizeof copy), 0);
+}
+
 /* the answer for limits; `lowest` and `highest` count if the number is 0 */
 static void limits(const char *what, uint32_t n, uint32_t f, uint32_t phase, uint32_t marks, const uint8_t *bytes, size_t length, uint8_t number,
                    int32_t lowest, int32_t highest) {
@@ -96,12 +131,18 @@ static void frame(const char *what, const uint8_t *bytes, size_t length, uint8_t
 
 enum { HEADS = 1, LIMIT = 2, PHASE = 4, BYTES = 8, MARK = 16, RANGE = 32, FEW = 64, FAULTS = 128 };
 
+/* the lowest struck limit that n heads do not allow */
+static uint32_t too_high(int family, uint32_t n) {
+    return family ? n / 4 + 1 : (2 * n + 4) / 7 + 1;
+}
+
 /* A ring of 5 heads with positions 10 to 50, or of 33 (or, if a mark must stand at n or above, of 0) as a wrong count. */
-static void midpoint_faults(int faults, int null_entry) {
-    static const uint8_t order[] = {FOCUS_HEAD_COUNT, FOCUS_STRUCK_LIMIT, FOCUS_PHASE, FOCUS_KIND_LENGTH, FOCUS_MARKS, FOCUS_ENTRY, FOCUS_TRUSTED};
+static void midpoint_faults(int faults, int null_entry, int family) {
+    uint8_t limit = family ? FOCUS_ONE_ROUND_LIMIT : FOCUS_STRUCK_LIMIT;
+    const uint8_t order[] = {FOCUS_HEAD_COUNT, limit, FOCUS_PHASE, FOCUS_KIND_LENGTH, FOCUS_MARKS, FOCUS_ENTRY, FOCUS_TRUSTED};
     uint8_t entries[512] = {0};
     uint32_t n = !(faults & HEADS) ? 5 : faults & MARK ? 0 : 33;
-    uint32_t f = faults & LIMIT ? (2 * n + 4) / 7 + 1 : n == 0 ? 0 : 1;
+    uint32_t f = faults & LIMIT ? too_high(family, n) : n == 0 ? 0 : 1;
     uint32_t marks = n >= 32 ? UINT32_MAX : (UINT32_C(1) << n) - 1;
     if (faults & FEW)
         marks = n == 0 ? 0 : 1;
@@ -120,7 +161,7 @@ static void midpoint_faults(int faults, int null_entry) {
     size_t length = 4 * n + (faults & BYTES ? 1 : 0);
     tried = faults;
     uint32_t phase = !(faults & PHASE) ? 1 + (uint32_t)null_entry : null_entry ? 65536 : 0;
-    midpoint("midpoint faults", n, f, phase, marks, entries, length, first(faults, order, 7), 30);
+    (family ? one_round : midpoint)("midpoint faults", n, f, phase, marks, entries, length, first(faults, order, 7), 30);
     tried = 0;
 }
 
@@ -140,6 +181,13 @@ static void midpoint_extremes(void) {
             uint32_t marks = n >= 32 ? UINT32_MAX : (UINT32_C(1) << n) - 1;
             midpoint("size", n, f, 1, marks, entries, 4 * n, n > 32 ? FOCUS_HEAD_COUNT : 2 * n < 7 * f + 2 ? FOCUS_STRUCK_LIMIT : 0, 0);
         }
+    for (uint32_t n = 1; n <= 40; n++)
+        for (uint32_t f = 0; f <= 12; f++) {
+            uint32_t marks = n >= 32 ? UINT32_MAX : (UINT32_C(1) << n) - 1;
+            one_round("size", n, f, 1, marks, entries, 4 * n, n > 32 ? FOCUS_HEAD_COUNT : n < 4 * f + 1 ? FOCUS_ONE_ROUND_LIMIT : 0, 0);
+        }
+    for (uint32_t nulls = 0; nulls <= 29; nulls++)
+        one_round("nulls", 29, 7, 1, UINT32_MAX >> 3 >> nulls, entries, 116, nulls > 14 ? FOCUS_TRUSTED : 0, 0);
     /* every phase near the ends, and each bit beside them; all entries are 0 */
     static const uint32_t phases[] = {0, 1, 2, 65534, 65535, 65536, 65537, UINT32_C(1) << 17, UINT32_MAX - 1, UINT32_MAX};
     for (size_t i = 0; i < sizeof phases / sizeof *phases; i++)
@@ -216,7 +264,7 @@ static void limits_faults(int faults, int way) {
     static const uint8_t order[] = {FOCUS_HEAD_COUNT, FOCUS_STRUCK_LIMIT, FOCUS_PHASE, FOCUS_KIND_LENGTH, FOCUS_MARKS, FOCUS_LIMITS, FOCUS_TRUSTED};
     uint8_t bytes[512] = {0};
     uint32_t n = !(faults & HEADS) ? 5 : faults & MARK ? 0 : 33;
-    uint32_t f = faults & LIMIT ? (2 * n + 4) / 7 + 1 : n == 0 ? 0 : 1;
+    uint32_t f = faults & LIMIT ? too_high(0, n) : n == 0 ? 0 : 1;
     uint32_t marks = n >= 32 ? UINT32_MAX : (UINT32_C(1) << n) - 1;
     if (faults & FEW)
         marks = n == 0 ? 0 : 1;
@@ -311,6 +359,107 @@ static void limits_tables(void) {
                 if (nulls <= 3 && (table + (int)marks) % 5 == 0)
                     limits_choices(phase, marks, lows);
             }
+}
+
+/* ---- reach: 1, 2 or 18, 5, 3, 8, 10, 11, 25 in every combination that can be built */
+
+enum { R_HEADS = 1, R_LIMIT = 2, R_PHASE = 4, R_NUMBER = 8, R_BYTES = 16, R_MARK = 32, R_RANGE = 64, R_FEW = 128, R_FAULTS = 256 };
+
+/* A ring of 5 heads at 10, 20, 30, 40 and entry 4 open, with any bytes and any mark; of 33 or of 0 as a wrong count, as for the midpoint. */
+static void reach_faults(int faults, int way, int family) {
+    uint8_t limit = family ? FOCUS_ONE_ROUND_LIMIT : FOCUS_STRUCK_LIMIT;
+    const uint8_t order[] = {FOCUS_HEAD_COUNT, limit, FOCUS_PHASE, FOCUS_HEAD_NUMBER, FOCUS_KIND_LENGTH, FOCUS_MARKS, FOCUS_ENTRY, FOCUS_TRUSTED};
+    struct table t = {family, !(faults & R_HEADS) ? 5 : faults & R_MARK ? 0 : 33, 1, 1 + (uint32_t)way, 4, 0, {0}, 0};
+    if (faults & R_LIMIT)
+        t.f = too_high(family, t.n);
+    if (faults & R_PHASE)
+        t.phase = way ? 65536 : 0;
+    if (faults & R_NUMBER)
+        t.number = way ? UINT32_MAX : t.n;
+    for (uint32_t j = 0; j < 4 && !(faults & R_FEW); j++) {
+        t.marks |= UINT32_C(1) << j;
+        put4(t.entries + 4 * j, 10 * ((int32_t)j + 1));
+    }
+    if (faults & R_RANGE)
+        put4(t.entries, 1000001);
+    if (way) {
+        t.marks |= 16;
+        put4(t.entries + 16, INT32_MIN);
+    } else {
+        put4(t.entries + 16, 7);
+    }
+    if (faults & R_MARK)
+        t.marks |= UINT32_C(1) << t.n;
+    t.length = 4 * t.n + (faults & R_BYTES ? 1 : 0);
+    tried = faults;
+    reach("reach faults", &t, 24, first(faults, order, 8), way ? 17 : 18);
+    tried = 0;
+}
+
+static void reach_points(void) {
+    static const int32_t found[][2] = {
+        {20, -1000000}, {24, 18}, {30, 40}, {31, FOCUS_NO_STEP}, {19, FOCUS_NO_STEP}, {1000001, FOCUS_NO_STEP}, {-1000001, FOCUS_NO_STEP},
+        {INT32_MIN, FOCUS_NO_STEP}, {INT32_MAX, FOCUS_NO_STEP},
+    };
+    struct table t = {0, 5, 1, 1, 4, 15, {0}, 20}, one = {0, 1, 0, 1, 0, 0, {0}, 4};
+    for (int j = 0; j < 4; j++)
+        put4(t.entries + 4 * j, 10 * (j + 1));
+    for (size_t i = 0; i < sizeof found / sizeof *found; i++)
+        for (t.family = 0; t.family < 2; t.family++)
+            reach("a worked point", &t, found[i][0], 0, found[i][1]);
+    for (one.family = 0; one.family < 2; one.family++)
+        for (int32_t wanted = -1000002; wanted <= 1000002; wanted += wanted == -999998 ? 1999996 : 1)
+            reach("one head", &one, wanted, 0, wanted < -1000000 || wanted > 1000000 ? FOCUS_NO_STEP : wanted);
+    /* every number of null entries among the others: the open one is not counted */
+    for (uint32_t nulls = 0; nulls <= 28; nulls++) {
+        struct table wide = {0, 29, 7, 1, 28, UINT32_MAX >> 4 >> nulls, {0}, 116};
+        reach("nulls", &wide, 0, nulls > 21 ? FOCUS_TRUSTED : 0, nulls == 21 ? 0 : -1000000); /* with 3f nulls nothing is dropped */
+        wide.family = 1;
+        reach("nulls", &wide, 0, nulls > 14 ? FOCUS_TRUSTED : 0, -1000000);
+    }
+}
+
+/* the new position with u for the open entry, by the midpoint call */
+static int32_t brings(const struct table *t, int32_t u) {
+    uint8_t entries[512];
+    int32_t position = 0;
+    memcpy(entries, t->entries, sizeof entries);
+    put4(entries + 4 * t->number, u);
+    same("a table", midpoint_of(t->family, t->n, t->f, t->phase, t->marks | UINT32_C(1) << t->number, entries, t->length, &position), 0);
+    return position;
+}
+
+/* The lowest position of a table whose others are from 0 to 9, found by trying: from -40 on the new position follows the open entry, if at all. */
+static int32_t by_trying(const struct table *t, int32_t wanted) {
+    if (brings(t, -1000000) == wanted)
+        return -1000000;
+    for (int32_t u = -40; u <= 40; u++)
+        if (brings(t, u) == wanted)
+            return u;
+    return FOCUS_NO_STEP;
+}
+
+static void reach_tables(void) {
+    for (int table = 0; table < 256; table++)
+        for (uint32_t marks = 0; marks < 16; marks++) {
+            struct table t = {table % 2, 5, 1, 1 + (uint32_t)table / 2 % 2, (uint32_t)table % 5, 0, {0}, 20};
+            int nulls = 0;
+            for (uint32_t j = 0, other = 0; j < 5; j++) {
+                if (j == t.number)
+                    continue;
+                int known = marks >> other & 1;
+                nulls += !known;
+                t.marks |= (uint32_t)known << j;
+                put4(t.entries + 4 * j, known ? 3 * (table >> 2 * other & 3) : 0);
+                other++;
+            }
+            if (nulls > (t.family ? 2 : 3)) {
+                reach("too few", &t, 0, FOCUS_TRUSTED, 0);
+                continue;
+            }
+            for (int32_t wanted = -2; wanted <= 12; wanted++)
+                reach("by trying", &t, wanted, 0, by_trying(&t, wanted));
+        }
 }
 
 /* ---- the scale: 12 before 4 */
@@ -482,7 +631,8 @@ int main(void) {
         for (int null_entry = 0; null_entry < 2; null_entry++) {
             int impossible = faults & HEADS && faults & MARK && faults & RANGE; /* a count of 0 has no entries */
             if (!impossible)
-                midpoint_faults(faults, null_entry);
+                for (int family = 0; family < 2; family++)
+                    midpoint_faults(faults, null_entry, family);
         }
     midpoint_extremes();
     midpoint_points();
@@ -492,6 +642,11 @@ int main(void) {
                 limits_faults(faults, way);
     limits_extremes();
     limits_tables();
+    for (int faults = 0; faults < R_FAULTS; faults++)
+        for (int way = 0; way < 4; way++)
+            reach_faults(faults, way / 2, way % 2);
+    reach_points();
+    reach_tables();
     scales();
     unscales();
     through_and_back();

@@ -1,15 +1,16 @@
 //! A call with all its arguments, made on both sides: the proved export, and the second implementation.
 
-use crate::exported::{self, Block, EVENTS};
-use crate::rules::family::Family::{self, OneRound};
+use crate::exported::{self, Aim, Block, EVENTS};
+use crate::rules::family::Family::{self, OneRound, TwoRounds};
 use crate::rules::frames;
 use crate::rules::limits;
 use crate::rules::midpoint::{self, Kept};
+use crate::rules::reach;
 use crate::rules::scale;
 use crate::rules::window::Device;
 use std::fmt;
 
-/// What an export gives where no step reads so.
+/// What an export gives where no step reads so, and where no position brings the wanted one.
 const NO_STEP: i32 = i32::MIN;
 
 /// Bytes that are lent, printed in hexadecimal as far as a frame can go.
@@ -27,8 +28,9 @@ impl fmt::Debug for Bytes {
 #[derive(Debug)]
 pub enum Call {
     FrameCheck { frame: Bytes },
-    Midpoint { n: u32, f: u32, phase: u32, marks: u32, entries: Bytes, out: i32 },
+    Midpoint { family: Family, n: u32, f: u32, phase: u32, marks: u32, entries: Bytes, out: i32 },
     MidpointKept { n: u32, f: u32, phase: u32, marks: u32, entries: Bytes, out: [i32; 4] },
+    Reach { family: Family, n: u32, f: u32, phase: u32, aim: Aim, marks: u32, entries: Bytes, out: i32 },
     Limits { n: u32, f: u32, phase: u32, marks: u32, limits: Bytes, out: [i32; 2] },
     Scale { steps: i32, numerator: u32, denominator: u32, out: i64 },
     Unscale { nanometres: i64, numerator: u32, denominator: u32, out: i32 },
@@ -69,6 +71,8 @@ impl Call {
             Call::Restart { family: OneRound, .. } => 22,
             Call::StartListener { family: OneRound, .. } => 23,
             Call::RestartListener { family: OneRound, .. } => 24,
+            Call::Midpoint { family: OneRound, .. } => 27,
+            Call::Reach { family: OneRound, .. } => 28,
             Call::FrameCheck { .. } => 0,
             Call::Midpoint { .. } => 1,
             Call::MidpointKept { .. } => 2,
@@ -91,13 +95,14 @@ impl Call {
             Call::Adopt => 19,
             Call::Offer { .. } => 20,
             Call::Limits { .. } => 25,
+            Call::Reach { .. } => 26,
         }
     }
 
     fn lent(&self) -> Vec<u8> {
         match self {
             Call::FrameCheck { frame } | Call::Hear { frame, .. } => frame.0.clone(),
-            Call::Midpoint { entries, .. } | Call::MidpointKept { entries, .. } => entries.0.clone(),
+            Call::Midpoint { entries, .. } | Call::MidpointKept { entries, .. } | Call::Reach { entries, .. } => entries.0.clone(),
             Call::Limits { limits, .. } => limits.0.clone(),
             Call::HearBatch { answers, .. } => answers.0.clone(),
             Call::Write { buffer, .. } => buffer.0.clone(),
@@ -113,7 +118,12 @@ impl Call {
         let mut kept = self.kept();
         let (number, out) = match *self {
             Call::FrameCheck { .. } => (exported::frame_check(&mut lent), 0),
-            Call::Midpoint { n, f, phase, marks, mut out, .. } => (exported::midpoint(n, f, phase, marks, &mut lent, &mut out), out as i64),
+            Call::Midpoint { family, n, f, phase, marks, mut out, .. } => {
+                (exported::midpoint(family, n, f, phase, marks, &mut lent, &mut out), out as i64)
+            }
+            Call::Reach { family, n, f, phase, aim, marks, mut out, .. } => {
+                (exported::reach(family, n, f, phase, aim, marks, &mut lent, &mut out), out as i64)
+            }
             Call::MidpointKept { n, f, phase, marks, .. } => (exported::midpoint_kept(n, f, phase, marks, &mut lent, &mut kept), 0),
             Call::Limits { n, f, phase, marks, mut out, .. } => {
                 let number = exported::limits(n, f, phase, marks, &mut lent, &mut out);
@@ -168,11 +178,15 @@ impl Call {
         let mut kept = self.kept();
         let (done, out) = match *self {
             Call::FrameCheck { .. } => (frames::check(&lent).map(drop), 0),
-            Call::Midpoint { n, f, phase, marks, out, .. } => {
-                valued(midpoint::midpoint(n as usize, f as usize, phase as usize, marks, &lent).map(|kept| kept.position), out)
+            Call::Midpoint { family, n, f, phase, marks, out, .. } => {
+                valued(midpoint::midpoint(family, n as usize, f as usize, phase as usize, marks, &lent).map(|kept| kept.position), out)
             }
             Call::MidpointKept { n, f, phase, marks, .. } => {
-                (midpoint::midpoint(n as usize, f as usize, phase as usize, marks, &lent).map(|new| kept = four(new)), 0)
+                (midpoint::midpoint(TwoRounds, n as usize, f as usize, phase as usize, marks, &lent).map(|new| kept = four(new)), 0)
+            }
+            Call::Reach { family, n, f, phase, aim, marks, out, .. } => {
+                let found = reach::reach(family, n as usize, f as usize, phase as usize, aim.number as usize, marks, &lent, aim.wanted);
+                valued(found.map(|position| position.unwrap_or(NO_STEP)), out)
             }
             Call::Limits { n, f, phase, marks, .. } => {
                 (limits::limits(n as usize, f as usize, phase as usize, marks, &lent).map(|(low, high)| kept[..2].copy_from_slice(&[low, high])), 0)

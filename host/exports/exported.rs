@@ -11,6 +11,9 @@ mod c {
         pub fn focus_frame_check(frame: *const u8, length: usize) -> u8;
         pub fn focus_midpoint(n: u32, f: u32, phase: u32, marks: u32, entries: *const u8, length: usize, position: *mut i32) -> u8;
         pub fn focus_midpoint_kept(n: u32, f: u32, phase: u32, marks: u32, entries: *const u8, length: usize, kept: *mut [i32; 4]) -> u8;
+        pub fn focus_one_round_midpoint(n: u32, f: u32, phase: u32, marks: u32, entries: *const u8, length: usize, position: *mut i32) -> u8;
+        pub fn focus_reach(n: u32, f: u32, phase: u32, number: u32, marks: u32, entries: *const u8, length: usize, wanted: i32, position: *mut i32) -> u8;
+        pub fn focus_one_round_reach(n: u32, f: u32, phase: u32, number: u32, marks: u32, entries: *const u8, length: usize, wanted: i32, position: *mut i32) -> u8;
         pub fn focus_limits(n: u32, f: u32, phase: u32, marks: u32, limits: *const u8, length: usize, range: *mut [i32; 2]) -> u8;
         pub fn focus_scale(steps: i32, numerator: u32, denominator: u32, nanometres: *mut i64) -> u8;
         pub fn focus_unscale(nanometres: i64, numerator: u32, denominator: u32, steps: *mut i32) -> u8;
@@ -63,8 +66,27 @@ pub fn frame_check(frame: &mut [u8]) -> u8 {
     unsafe { c::focus_frame_check(frame.as_mut_ptr(), frame.len()) }
 }
 
-pub fn midpoint(n: u32, f: u32, phase: u32, marks: u32, entries: &mut [u8], position: &mut i32) -> u8 {
-    unsafe { c::focus_midpoint(n, f, phase, marks, entries.as_mut_ptr(), entries.len(), position) }
+pub fn midpoint(family: Family, n: u32, f: u32, phase: u32, marks: u32, entries: &mut [u8], position: &mut i32) -> u8 {
+    let (entries, length) = (entries.as_mut_ptr(), entries.len());
+    match family {
+        TwoRounds => unsafe { c::focus_midpoint(n, f, phase, marks, entries, length, position) },
+        OneRound => unsafe { c::focus_one_round_midpoint(n, f, phase, marks, entries, length, position) },
+    }
+}
+
+/// What the reach call is asked of a table: the number of the open entry, and the wanted position.
+#[derive(Clone, Copy, Debug)]
+pub struct Aim {
+    pub number: u32,
+    pub wanted: i32,
+}
+
+pub fn reach(family: Family, n: u32, f: u32, phase: u32, aim: Aim, marks: u32, entries: &mut [u8], position: &mut i32) -> u8 {
+    let (entries, length) = (entries.as_mut_ptr(), entries.len());
+    match family {
+        TwoRounds => unsafe { c::focus_reach(n, f, phase, aim.number, marks, entries, length, aim.wanted, position) },
+        OneRound => unsafe { c::focus_one_round_reach(n, f, phase, aim.number, marks, entries, length, aim.wanted, position) },
+    }
 }
 
 pub fn midpoint_kept(n: u32, f: u32, phase: u32, marks: u32, entries: &mut [u8], kept: &mut [i32; 4]) -> u8 {

@@ -2,9 +2,10 @@
 
 use crate::calls::{Bytes, Call};
 use crate::damage::damaged;
+use crate::exported::Aim;
 use crate::random::Random;
-use crate::rules::family::Family::{self, TwoRounds};
-use crate::rules::midpoint::LIMIT;
+use crate::rules::family::Family::{self, OneRound, TwoRounds};
+use crate::rules::midpoint::{self, LIMIT};
 use crate::spoil::out_of_range;
 
 /// Ends of numbers, and struck limits f for which 7f + 2 or 4f + 1 is small again in 8 or in 32 bits.
@@ -71,9 +72,9 @@ fn stands(random: &mut Random, right: i32) -> [u8; 4] {
     if random.chance(1, 600) { out_of_range(random) } else { value }.to_le_bytes()
 }
 
-/// The midpoint, alone or with what it kept.
-pub fn midpoint(random: &mut Random) -> Call {
-    let (heads, marked, Settling { n, f, phase, marks }) = settling(random, TwoRounds);
+/// The entries of a trusted table, and the table with which they are given.
+fn entries(random: &mut Random, family: Family) -> (Vec<u8>, usize, Settling) {
+    let (heads, marked, settling) = settling(random, family);
     let mut entries = Vec::new();
     for j in 0..heads {
         let value = if marked >> j & 1 == 1 { position(random) } else { 0 };
@@ -82,10 +83,48 @@ pub fn midpoint(random: &mut Random) -> Call {
     if random.chance(1, 20) {
         entries.resize(random.below(200), 0);
     }
-    if random.chance(1, 2) {
+    (entries, heads, settling)
+}
+
+fn family(random: &mut Random) -> Family {
+    if random.chance(1, 3) { OneRound } else { TwoRounds }
+}
+
+/// The midpoint, in either family, or with what it kept.
+pub fn midpoint(random: &mut Random) -> Call {
+    let family = family(random);
+    let (entries, _, Settling { n, f, phase, marks }) = entries(random, family);
+    if family == TwoRounds && random.chance(1, 2) {
         return Call::MidpointKept { n, f, phase, marks, entries: Bytes(entries), out: four(random) };
     }
-    Call::Midpoint { n, f, phase, marks, entries: Bytes(entries), out: random.next() as i32 }
+    Call::Midpoint { family, n, f, phase, marks, entries: Bytes(entries), out: random.next() as i32 }
+}
+
+/// An open entry, with any mark and any bytes, and a wanted position: most often one that some position brings, or one beside it.
+pub fn reach(random: &mut Random) -> Call {
+    let family = family(random);
+    let (mut entries, heads, Settling { n, f, phase, marks }) = entries(random, family);
+    let open = random.below(heads);
+    let marks = if open < 32 && random.chance(1, 2) { marks ^ 1 << open } else { marks };
+    let at = 4 * open..4 * open + 4;
+    let brought = |u: i32| {
+        let mut entries = entries.clone();
+        entries.get_mut(at.clone())?.copy_from_slice(&u.to_le_bytes());
+        Some(midpoint::midpoint(family, n as usize, f as usize, phase as usize, marks | 1 << open, &entries).ok()?.position)
+    };
+    let wanted = match random.below(8) {
+        0 => position(random),
+        1 => out_of_range(random),
+        2 => brought(-LIMIT).unwrap_or(0) - random.between(0, 1),
+        3 => brought(LIMIT).unwrap_or(0) + random.between(0, 1),
+        _ => brought(position(random)).unwrap_or(0) + random.between(-1, 1),
+    };
+    if random.chance(1, 2) {
+        let own = random.next().to_le_bytes();
+        entries.get_mut(at.clone()).map(|bytes| bytes.copy_from_slice(&own[..4]));
+    }
+    let aim = Aim { number: near(random, open as u32, 25), wanted };
+    Call::Reach { family, n, f, phase, aim, marks, entries: Bytes(entries), out: random.next() as i32 }
 }
 
 /// Limits of positions: most tables so near that all choices can be tried, some as far apart as can be.

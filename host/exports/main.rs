@@ -116,6 +116,7 @@ fn compare(seed: u64, tally: &mut Tally) -> Result<(), String> {
         pair.ask(tally, &inputs::frame_check(&mut random))?;
         pair.ask(tally, &inputs::midpoint(&mut random))?;
         pair.ask(tally, &inputs::limits(&mut random))?;
+        pair.ask(tally, &inputs::reach(&mut random))?;
         pair.ask(tally, &inputs::scale(&mut random))?;
         pair.ask(tally, &inputs::unscale(&mut random))?;
     }

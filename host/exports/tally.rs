@@ -2,7 +2,7 @@
 
 /// Each call with the numbers it can give, in the order of its checks. A position, a kept range or an offer is answered 1 if there is one, else 0; the interrupt
 /// line 1 if it is up.
-pub const CALLS: [(&str, &[u8]); 26] = [
+pub const CALLS: [(&str, &[u8]); 29] = [
     ("frame_check", &[0, 6, 7, 8]),
     ("midpoint", &[0, 1, 2, 5, 8, 10, 11, 25]),
     ("midpoint_kept", &[0, 1, 2, 5, 8, 10, 11, 25]),
@@ -29,6 +29,9 @@ pub const CALLS: [(&str, &[u8]); 26] = [
     ("one_round_listener_start", &[0, 1, 18, 3]),
     ("one_round_listener_restart", &[0, 1, 18, 3, 5]),
     ("limits", &[0, 1, 2, 5, 8, 10, 19, 25]),
+    ("reach", &[0, 1, 2, 5, 3, 8, 10, 11, 25]),
+    ("one_round_midpoint", &[0, 1, 18, 5, 8, 10, 11, 25]),
+    ("one_round_reach", &[0, 1, 18, 5, 3, 8, 10, 11, 25]),
 ];
 
 #[derive(Default)]

@@ -67,6 +67,10 @@ uint8_t focus_frame_check(const uint8_t *frame, size_t length);
 uint8_t focus_midpoint(uint32_t n, uint32_t f, uint32_t phase, uint32_t marks, const uint8_t *entries, size_t length,
                        int32_t *position);
 
+/* The same in a one-round ring: returns 0 or 1, 18, 5, 8, 10, 11, 25. */
+uint8_t focus_one_round_midpoint(uint32_t n, uint32_t f, uint32_t phase, uint32_t marks, const uint8_t *entries, size_t length,
+                                 int32_t *position);
+
 /* What a settling keeps: the lowest and highest entry kept, how many were dropped from each end, and the new
  * position, half the sum of the two, rounded by the phase. */
 typedef struct focus_kept {
@@ -95,14 +99,28 @@ typedef struct focus_range {
 uint8_t focus_limits(uint32_t n, uint32_t f, uint32_t phase, uint32_t marks, const uint8_t *limits, size_t length,
                      focus_range *range);
 
+/* What stands for no position, and for no step: no position is so low. */
+#define FOCUS_NO_STEP INT32_MIN
+
+/* One lens set to reach a focus: as for the midpoint, with entry `number` open, whose own mark and four bytes may be
+ * any, and the wanted new position, which may be any number. *position is the lowest position in range, from -1,000,000
+ * to 1,000,000, for the open entry with which the ring settles on the wanted one in that phase, or FOCUS_NO_STEP if
+ * there is none. When nulls are counted the open entry is not null.
+ * Returns 0 and writes *position, or 1, 2, 5, 3 (number is n or more), 8, 10, 11, 25.
+ * Promised: `PositionLent` (crates/camera/specs/Out.antt), for an answer of `Answers` (crates/settle_reach/specs/Call.antt),
+ * of which there is one at most; with *position for the open entry the midpoint call gives the wanted position. */
+uint8_t focus_reach(uint32_t n, uint32_t f, uint32_t phase, uint32_t number, uint32_t marks, const uint8_t *entries, size_t length,
+                    int32_t wanted, int32_t *position);
+
+/* The same in a one-round ring: returns 0 or 1, 18, 5, 3, 8, 10, 11, 25. */
+uint8_t focus_one_round_reach(uint32_t n, uint32_t f, uint32_t phase, uint32_t number, uint32_t marks, const uint8_t *entries,
+                              size_t length, int32_t wanted, int32_t *position);
+
 /* The step scale: nanometres are steps times numerator, divided by denominator, rounded down (towards minus
  * infinity). Numerator and denominator are from 1 to 1,000,000, the numerator at least the denominator.
  * Returns 0 and puts the nanometres, from -10^12 to 10^12, in *nanometres, or 12, 4.
  * Promised: number and *nanometres are those of `scaled` (crates/steps/specs/Scale.antt). */
 uint8_t focus_scale(int32_t steps, uint32_t numerator, uint32_t denominator, int64_t *nanometres);
-
-/* What stands for no step: no position is so low. */
-#define FOCUS_NO_STEP INT32_MIN
 
 /* From nanometres back to steps: the step in range, from -1,000,000 to 1,000,000, whose reading by the step scale it
  * is. Any reading is taken. No two steps read alike, since the numerator is at least the denominator.

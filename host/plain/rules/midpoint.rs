@@ -91,14 +91,22 @@ pub fn settle_once(f: usize, phase: usize, heard: &[Entry]) -> Result<Kept, u8> 
     Ok(Kept { low, high, trim: f, position: half(low + high, phase) })
 }
 
-/// 1, 2, 5, 8, 10, 11, 25; the new position of a trusted table in a phase, with what it is the middle of.
-pub fn midpoint(n: usize, f: usize, phase: usize, marks: u32, entries: &[u8]) -> Result<Kept, u8> {
-    Family::TwoRounds.size(n, f)?;
+/// 25; the new position by the family's rule.
+pub fn settle_by(family: Family, f: usize, phase: usize, entries: &[Entry]) -> Result<Kept, u8> {
+    match family {
+        Family::TwoRounds => settle(f, phase, entries),
+        Family::OneRound => settle_once(f, phase, entries),
+    }
+}
+
+/// 1, 2 or 18, 5, 8, 10, 11, 25; the new position of a trusted table in a phase, with what it is the middle of.
+pub fn midpoint(family: Family, n: usize, f: usize, phase: usize, marks: u32, entries: &[u8]) -> Result<Kept, u8> {
+    family.size(n, f)?;
     if !is_phase(phase) {
         return Err(5);
     }
     if entries.len() != 4 * n {
         return Err(8);
     }
-    settle(f, phase, &table(n, marks, entries)?)
+    settle_by(family, f, phase, &table(n, marks, entries)?)
 }
