@@ -1,6 +1,4 @@
 -- What other crates may cite: the lowest and the highest of a phase end are those of any array that holds the positions of its unstruck heads (`Lowest`).
 pub mod Heights
 pub mod Lowest
-pub mod Digits
-pub mod Writing
 pub mod Lines

@@ -10,6 +10,8 @@ use lib.ListN.{getD}
 use lib.Seq.{append-snoc}
 use lib.IntN.{ℤ, pos}
 use borrow.Author.Tests.{ltb-true}
+use Rattle.texts.specs.Numbers.{decimal, hex, spelled}
+use Rattle.texts.proofs.Digits.{hex-low, spelled-hex}
 use Rattle.terms.specs.declared.Entry.{Entry}
 use Rattle.terms.specs.declared.Family.{Family}
 use Rattle.marks.specs.Marks.{bitOf}
@@ -18,13 +20,15 @@ use Rattle.convergence.specs.Counting.{Each}
 use Rattle.convergence.specs.Phases.{apart, spread}
 use Rattle.ring_spec.specs.Rounds.{PhaseEnd, receivers, isReceiver, isOut, asEnd, allListeners, firstHeads, firstEnd}
 use Rattle.ring_spec.proofs.Receivers.{first-out, first-out-as}
-use Rattle.run_spec.specs.Listing.{decimal, textOf, line}
+use Rattle.run_spec.specs.Listing.{textOf, line}
 use Rattle.run_listing.specs.Texts.{fields, endLine}
 use Rattle.run_listing.specs.Held.{endIn}
 use Rattle.run_listing.specs.Heights.{Found}
-use Rattle.run_listing.specs.Inner.{spelled}
-use Rattle.run_listing.proofs.Digits.{spelled-heads}
 use Rattle.run_listing.proofs.Lowest.{no-listener, found-same, found-held, found-held-as}
+
+-- the last eight digits of a mark word for heads and listeners are the heads'
+spelled-heads : (x : ℕ) → spelled 16 8 (x % 4294967296) ≡ hex 8 x
+spelled-heads x = spelled-hex 8 (x % 4294967296) ∙ hex-low 8 x
 
 pub fields-are : (n m p collect confess struck : ℕ) (ps : List ℤ) {low high : Entry} {wide x y : ℕ} → Found receivers (endIn n m struck ps) low high
     → wide ≡ apart low high → x ≡ collect % 4294967296 → y ≡ confess % 4294967296

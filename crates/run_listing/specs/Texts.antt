@@ -1,18 +1,13 @@
 -- The texts of the listing as the code makes them.
 use mathlib.Core.List.{List, [], _∷_, _++_}
 use Prim.Native.Nat.{ℕ}
-use lib.ListN.{take}
 use lib.IntN.{ℤ}
 use Rattle.terms.specs.declared.Entry.{Entry}
 use Rattle.convergence.specs.Phases.{lowest, highest, spread}
-use Rattle.run_spec.specs.Listing.{decimal, textOf, hex, spaced}
+use Rattle.texts.specs.Numbers.{decimal, hex, spaced}
+use Rattle.run_spec.specs.Listing.{textOf}
 use Rattle.ring_spec.specs.Rounds.{receivers}
-use Rattle.run_listing.specs.declared.Text.{Text}
 use Rattle.run_listing.specs.Held.{endIn}
-
--- the bytes of a text
-abbrev pub bytesOf : Text → List ℕ
-bytesOf t = take (t .len) (t .bytes)
 
 -- a line of the listing, field by field
 unfoldable pub fields : ℕ → Entry → Entry → ℕ → ℕ → ℕ → List ℕ

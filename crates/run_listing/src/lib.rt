@@ -8,13 +8,16 @@ ghost use Rattle.convergence.specs.Phases.{join, apart};
 ghost use Rattle.ring_spec.specs.Rounds.{receivers, isOut};
 ghost use Rattle.run_listing.specs.Held.{endIn};
 ghost use Rattle.run_listing.specs.Heights.{heightOf, outward, Found};
-ghost use Rattle.run_listing.specs.Inner.{Reaches, Longer, spelled};
+ghost use Rattle.run_listing.specs.Inner.{Reaches};
 ghost use mathlib.Core.List.{_∷_, [], _++_};
-ghost use Rattle.run_spec.specs.Listing.{size, decimal, whole, textOf, hexDigit, title, verdict};
-ghost use Rattle.run_listing.specs.Texts.{bytesOf, endLine};
+ghost use Rattle.run_spec.specs.Listing.{textOf, title, verdict};
+ghost use Rattle.texts.specs.Numbers.{whole};
+ghost use Rattle.texts.specs.Texts.{bytesOf, Longer};
+ghost use Rattle.run_listing.specs.Texts.{endLine};
 use terms::Entry;
 use terms::Positions;
 use terms::RECEIVERS;
+use texts::Text;
 
 // The lowest and the highest position.
 pub struct Ends {
@@ -111,89 +114,6 @@ fn spread_of(low: Entry, high: Entry) -> u32
 
 // ---- The texts of a listing: its first line, a line for a phase end, and its last line.
 
-// A text of up to 64 bytes: the first len of bytes. The others are free.
-pub struct Text {
-    pub len: usize,
-    pub bytes: [u8; 64],
-}
-
-// The empty text.
-pub fn empty() -> Text
-    ensures { λ r. ⌜ r .len ≡ 0 ⌝ }
-{
-    Text {
-        len: 0,
-        bytes: [0u8; 64],
-    }
-}
-
-// A text with the bytes of a slice after it.
-fn put(t: Text, s: &[u8]) -> Text
-    requires { ⌜ t .len + length (now s) ≤ 64 ⌝ }
-    ensures { λ r. ⌜ Longer t (now (s .entry)) (length (now (s .entry))) r ⌝ }
-{
-    let at = t.len;
-    let mut bytes = t.bytes;
-    fields::put_bytes(&mut bytes, at, s);
-    Text {
-        len: at + s.len(),
-        bytes,
-    }
-}
-
-// The byte of a digit.
-fn digit(d: u32) -> u8
-    requires { ⌜ d < 16 ⌝ }
-    ensures { λ r. ⌜ r ≡ hexDigit d ⌝ }
-{
-    if d < 10 { 48 + d as u8 } else { 87 + d as u8 }
-}
-
-// A text with the last k digits of x in a base after it, and one byte more.
-fn put_digits(t: Text, base: u32, k: usize, x: u32, after: u8) -> Text
-    requires { ⌜ (0 < base) × (base ≤ 16) × (t .len + k + 1 ≤ 64) ⌝ }
-    ensures { λ r. ⌜ Longer t (spelled base k x ++ (after ∷ [])) (k + 1) r ⌝ }
-{
-    let at = t.len;
-    let mut bytes = t.bytes;
-    bytes[at + k] = after;
-    let mut rest = x;
-    let mut i = k;
-    while 0 < i {
-        i -= 1;
-        bytes[at + i] = digit(rest % base);
-        rest = rest / base;
-    }
-    Text {
-        len: at + k + 1,
-        bytes,
-    }
-}
-
-// How many decimal digits x has.
-fn size_of(x: u32) -> usize
-    ensures { λ r. ⌜ (r ≡ size 9 x) × (r ≤ 10) ⌝ }
-{
-    let mut rest = x;
-    let mut k: usize = 1;
-    while k < 10 {
-        if rest < 10 {
-            return k;
-        }
-        rest = rest / 10;
-        k += 1;
-    }
-    k
-}
-
-// A text with a number after it, and one byte more.
-fn put_number(t: Text, x: u32, after: u8) -> Text
-    requires { ⌜ t .len + 11 ≤ 64 ⌝ }
-    ensures { λ r. ⌜ Longer t (decimal x ++ (after ∷ [])) 11 r ⌝ }
-{
-    put_digits(t, 10, size_of(x), x, after)
-}
-
 // A text with a position after it, and a space.
 fn put_position(t: Text, v: i32) -> Text
     requires { ⌜ t .len + 12 ≤ 64 ⌝ }
@@ -201,9 +121,9 @@ fn put_position(t: Text, v: i32) -> Text
 {
     let h = height(v);
     if h < 2147483648 {
-        put_number(put(t, b"-"), 2147483648 - h, b' ')
+        texts::put_number(texts::put(t, b"-"), 2147483648 - h, b' ')
     } else {
-        put_number(t, h - 2147483648, b' ')
+        texts::put_number(t, h - 2147483648, b' ')
     }
 }
 
@@ -213,7 +133,7 @@ fn put_entry(t: Text, e: Entry) -> Text
     ensures { λ r. ⌜ Longer t (textOf e ++ (32 ∷ [])) 12 r ⌝ }
 {
     match e {
-        Entry::Null => put(t, b" "),
+        Entry::Null => texts::put(t, b" "),
         Entry::Position(v) => put_position(t, v),
     }
 }
@@ -223,7 +143,7 @@ pub fn title_line() -> Text
     ensures { λ r. ⌜ bytesOf r ≡ title ⌝ }
     ensures { λ r. ⌜ r .len ≤ 64 ⌝ }
 {
-    put(empty(), b"phase low high spread collect confess\n")
+    texts::put(texts::empty(), b"phase low high spread collect confess\n")
 }
 
 // The last line: `end`, or `refused` and the number.
@@ -232,9 +152,13 @@ pub fn verdict_line(number: u8) -> Text
     ensures { λ r. ⌜ r .len ≤ 64 ⌝ }
 {
     if number == 0 {
-        put(empty(), b"end\n")
+        texts::put(texts::empty(), b"end\n")
     } else {
-        put_number(put(empty(), b"refused "), number as u32, b'\n')
+        texts::put_number(
+            texts::put(texts::empty(), b"refused "),
+            number as u32,
+            b'\n',
+        )
     }
 }
 
@@ -262,9 +186,9 @@ pub fn end_line(
     let e = ends_of(positions, struck, n, m);
     let low = e.low;
     let high = e.high;
-    let t = put_number(empty(), phase as u32, b' ');
+    let t = texts::put_number(texts::empty(), phase as u32, b' ');
     let t = put_entry(put_entry(t, low), high);
-    let t = put_number(t, spread_of(low, high), b' ');
-    let t = put_digits(t, 16, 8, heads_of(collect), b' ');
-    put_digits(t, 16, 8, heads_of(confess), b'\n')
+    let t = texts::put_number(t, spread_of(low, high), b' ');
+    let t = texts::put_digits(t, 16, 8, heads_of(collect), b' ');
+    texts::put_digits(t, 16, 8, heads_of(confess), b'\n')
 }

@@ -15,8 +15,8 @@ use Rattle.run_spec.proofs.Streaming.{feed-append, part-shows, stop-shows}
 use Rattle.run_spec.proofs.Whole.{stands, Cut, Heads, heads-take, heads-stand, stands-long, feed-cut, feed-refused, feed-whole, feed-stopped, judged-empty, kept, kept-on, plant-long as plant-lengths}
 use Rattle.run_spec.proofs.Bytes.{cost, none-accepted}
 use Rattle.run_spec.specs.declared.Pair.{Pair}
-use Rattle.run_listing.specs.declared.Text.{Text}
-use Rattle.run_listing.specs.Texts.{bytesOf}
+use Rattle.texts.specs.declared.Text.{Text}
+use Rattle.texts.specs.Texts.{bytesOf}
 use Rattle.run_state.specs.declared.Player.{Player}
 use Rattle.run_record.specs.declared.RecordResult.{RecordResult}
 use Rattle.run_state.specs.Memory.{Memory}
@@ -24,7 +24,7 @@ use Rattle.run_state.specs.Changes.{halted}
 use Rattle.run_state.specs.State.{PlayerOf, MemoryOf}
 use Rattle.run_state.proofs.Told.{part-tells, allowed-as}
 use Rattle.run_record.specs.Next.{allowedTo, recordTaken, plantTaken, Next, NextQuiet, afterPlant}
-use Rattle.run_listing.proofs.Writing.{empty-text}
+use Rattle.texts.proofs.Writing.{empty-text}
 use Rattle.run_round.proofs.Converging.{held-converges}
 use Rattle.run_record.proofs.Records.{stopped-next, plant-place, taken-allowed, plant-taken}
 use Rattle.run_piece.specs.declared.FeedResult.{FeedResult}

@@ -5,7 +5,7 @@ use mathlib.Core.List.{List, []}
 use Prim.Native.Nat.{ℕ, _≤_, _<_}
 use lib.ListN.{length, take}
 use Rattle.run_spec.specs.declared.Pair.{Pair}
-use Rattle.run_listing.specs.Texts.{bytesOf}
+use Rattle.texts.specs.Texts.{bytesOf}
 use Rattle.run_state.specs.declared.Player.{Player}
 use Rattle.run_state.specs.Memory.{Memory, withSlots}
 use Rattle.run_piece.specs.declared.FeedResult.{FeedResult}

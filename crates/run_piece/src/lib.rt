@@ -12,7 +12,6 @@ ghost use Rattle.run_piece.specs.Steps.{Quiet, Used, Reads, Waits, withL
 ghost use Rattle.run_piece.specs.Inner.{Missing, BeginsWhole, Plants, headedTo, RecordTaken};
 use frame_slots::PlantedBytes;
 use frame_slots::PlantedLengths;
-use run_listing::Text;
 use run_record::RecordResult;
 use run_spec::Pair;
 use run_state::Carry;
@@ -21,6 +20,7 @@ use terms::Lists;
 use terms::Positions;
 use terms::Words;
 use terms::refusal;
+use texts::Text;
 
 // What comes of a piece: the player after it, how many of its bytes were taken, and the line that they show, if any.
 pub struct FeedResult {
@@ -96,7 +96,7 @@ pub fn quiet(player: Player, used: usize) -> FeedResult
     FeedResult {
         player,
         used,
-        text: run_listing::empty(),
+        text: texts::empty(),
     }
 }
 

@@ -21,8 +21,9 @@ use Rattle.run_spec.specs.Listing.{title, shown}
 use Rattle.run_spec.proofs.Bytes.{first-begun}
 use Rattle.run_spec.proofs.Streaming.{start-shows, plant-shows, listeners-shows, strikes-shows, stop-shows}
 use Rattle.frame_slots.specs.Slots.{plantedIn}
-use Rattle.run_listing.specs.declared.Text.{Text}
-use Rattle.run_listing.specs.Texts.{bytesOf, endLine}
+use Rattle.texts.specs.declared.Text.{Text}
+use Rattle.texts.specs.Texts.{bytesOf}
+use Rattle.run_listing.specs.Texts.{endLine}
 use Rattle.run_listing.proofs.Lines.{first-line-is}
 use Rattle.run_record.specs.declared.RecordResult.{RecordResult}
 use Rattle.run_state.specs.declared.Player.{Player}
@@ -34,7 +35,7 @@ use Rattle.run_round.specs.Played.{Played}
 use Rattle.run_record.specs.Next.{recordTaken, plantTaken, Next, afterPlant}
 use Rattle.run_record.specs.Inner.{dueTo, Turned}
 use Rattle.run_round.proofs.Keeping.{start-positions, start-keeps, start-keeps-any}
-use Rattle.run_listing.proofs.Writing.{empty-text}
+use Rattle.texts.proofs.Writing.{empty-text}
 use Rattle.run_state.proofs.Told.{start-tells, stop-tells, round-tells, plant-tells, listeners-tells, strikes-tells, allowed-as, plant-fault-as}
 
 shows-none : (l : List ℕ) (t : Text) → t .len ≡ 0 → l ≡ l ++ bytesOf t

@@ -8,8 +8,8 @@ use lib.ListN.{length}
 use Rattle.terms.specs.Refusals as refusal
 use Rattle.run_spec.specs.RunFile.{File, plant, lengthIn, kindIn, allowedWhen, isAllowed, senderIn, receiverIn, stopped, judged}
 use Rattle.run_spec.specs.Listing.{shown}
-use Rattle.run_listing.specs.declared.Text.{Text}
-use Rattle.run_listing.specs.Texts.{bytesOf}
+use Rattle.texts.specs.declared.Text.{Text}
+use Rattle.texts.specs.Texts.{bytesOf}
 use Rattle.run_state.specs.declared.Player.{Player}
 use Rattle.run_record.specs.declared.RecordResult.{RecordResult}
 use Rattle.run_state.specs.Memory.{Memory}

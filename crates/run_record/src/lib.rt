@@ -12,7 +12,6 @@ ghost use Rattle.run_record.specs.Next.{allowedTo, recordTaken, plantTak
 ghost use Rattle.run_record.specs.Inner.{dueTo, Turned};
 use frame_slots::PlantedBytes;
 use frame_slots::PlantedLengths;
-use run_listing::Text;
 use run_spec::Pair;
 use run_state::Player;
 use terms::Family;
@@ -21,6 +20,7 @@ use terms::Numbers;
 use terms::Positions;
 use terms::Words;
 use terms::refusal;
+use texts::Text;
 
 // What comes of a record: the player after it, and the line that it shows, if any.
 pub struct RecordResult {
@@ -35,7 +35,7 @@ fn refuse(p: Player, number: u8) -> RecordResult
 {
     RecordResult {
         player: run_state::stop(p, number),
-        text: run_listing::empty(),
+        text: texts::empty(),
     }
 }
 
@@ -81,7 +81,7 @@ fn take_listeners(p: Player, bytes: &[u8]) -> RecordResult
     }
     RecordResult {
         player: run_state::given_listeners(p, fields::byte_at(bytes, 4)),
-        text: run_listing::empty(),
+        text: texts::empty(),
     }
 }
 
@@ -97,7 +97,7 @@ fn take_strikes(p: Player, bytes: &[u8]) -> RecordResult
     }
     RecordResult {
         player: run_state::given_strikes(p, fields::half_at(bytes, 4)),
-        text: run_listing::empty(),
+        text: texts::empty(),
     }
 }
 
@@ -116,7 +116,7 @@ fn play_waiting(
     ensures { λ r. ⌜ r .len ≤ 64 ⌝ }
 {
     if !p.pending {
-        return run_listing::empty();
+        return texts::empty();
     }
     run_round::play_round(p, positions, marks, lists, planted, lengths)
 }
@@ -203,7 +203,7 @@ fn take_plant(
     let fault = plant_record(bytes, p.n, p.listeners, p.struck, p.last, planted, lengths);
     RecordResult {
         player: after_plant(p, fault, bytes),
-        text: run_listing::empty(),
+        text: texts::empty(),
     }
 }
 

@@ -25,8 +25,9 @@ use Rattle.run_spec.proofs.Streaming.{roundLine, lines-next}
 use Rattle.ring_play.specs.declared.Stage.{Stage}
 use Rattle.ring_play.specs.Memory.{heads, hears, settles, InRange, listEntry, rowIn, Sayable, newPosition, heardPosition}
 use Rattle.frame_slots.specs.Slots.{plantedIn}
-use Rattle.run_listing.specs.declared.Text.{Text}
-use Rattle.run_listing.specs.Texts.{bytesOf, endLine}
+use Rattle.texts.specs.declared.Text.{Text}
+use Rattle.texts.specs.Texts.{bytesOf}
+use Rattle.run_listing.specs.Texts.{endLine}
 use Rattle.run_listing.proofs.Lines.{line-is}
 use Rattle.run_state.specs.declared.Player.{Player}
 use Rattle.run_state.specs.Memory.{Memory}
@@ -38,7 +39,7 @@ use Rattle.run_round.proofs.Carried.{Plays}
 use Rattle.run_round.proofs.Keeping.{Ended, collect-keeps, confess-ends, conclude-ends}
 use Rattle.run_round.proofs.Waiting.{waiting-playable}
 use Rattle.run_round.proofs.Shown.{no-line, last-line}
-use Rattle.run_listing.proofs.Writing.{empty-text}
+use Rattle.texts.proofs.Writing.{empty-text}
 
 -- by the family, whatever it is called
 module _ {n m f : ℕ} {R : Ring} {w : Round} {s : Stage} {plant : ℕ → ℕ → List ℕ} {M : Memory} where

@@ -5,8 +5,8 @@ use Prim.Native.Nat.{_≤_}
 use Rattle.ring_spec.specs.Rounds.{afterRound}
 use Rattle.run_spec.specs.RunFile.{File, endsFrom}
 use Rattle.run_spec.specs.Listing.{lines}
-use Rattle.run_listing.specs.declared.Text.{Text}
-use Rattle.run_listing.specs.Texts.{bytesOf}
+use Rattle.texts.specs.declared.Text.{Text}
+use Rattle.texts.specs.Texts.{bytesOf}
 use Rattle.run_state.specs.Memory.{Memory}
 use Rattle.run_state.specs.Heads.{HeadsOf}
 use Rattle.run_state.specs.State.{ringBefore}

@@ -11,12 +11,12 @@ ghost use Rattle.run_round.specs.Inner.{stageOf};
 use frame_slots::PlantedBytes;
 use frame_slots::PlantedLengths;
 use ring_play::Stage;
-use run_listing::Text;
 use run_state::Player;
 use terms::Family;
 use terms::Lists;
 use terms::Positions;
 use terms::Words;
+use texts::Text;
 
 // The ring in the pending round.
 fn stage_of(p: Player) -> Stage
@@ -57,7 +57,7 @@ pub fn play_round(
         Family::TwoRounds => {
             if !run_state::ends_phase(family, p.given) {
                 ring_play::collect(s, positions, planted, lengths, marks, lists);
-                return run_listing::empty();
+                return texts::empty();
             }
             ring_play::confess(s, marks, lists, planted, lengths, positions);
             run_listing::end_line(s.phase, positions, n, m, p.before, struck, struck)

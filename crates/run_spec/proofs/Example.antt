@@ -22,7 +22,8 @@ use Rattle.head_spec.specs.Record.{noEntries, noLinks, noLists}
 use Rattle.head_spec.specs.Calls.{started, startedListener, restarted, hearRefusal, hear, hearAll, hearEach, spoken, closedCollection, closedPhase, close, adopt}
 use Rattle.ring_spec.specs.Rounds.{lost, openedAt, carried, closedAt, afterRound, firstHeads, ringAfter, endsAfter}
 use Rattle.run_spec.specs.RunFile.{unread, positionsFit, fewMarks, pairFits, judged, readOn, step, feed, ending, roundsPlayed, endsPlayed}
-use Rattle.run_spec.specs.Listing.{digits, size, decimal, hex, title, line, lines, listingOf, listing}
+use Rattle.texts.specs.Numbers.{digits, size, decimal, hex}
+use Rattle.run_spec.specs.Listing.{title, line, lines, listingOf, listing}
 
 -- a start, a round with head 4 struck, a round with none
 pub file : List ℕ

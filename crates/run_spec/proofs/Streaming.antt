@@ -19,7 +19,8 @@ use Rattle.ring_spec.specs.Rounds.{Round, Ring, afterRound, PhaseEnd, phaseEnd,
 use Rattle.ring_spec.proofs.Receivers.{first-out-as}
 use Rattle.ring_spec.proofs.Counts.{counted}
 use Rattle.run_spec.specs.RunFile.{File, roundsGiven, start, round, plant, listeners, strikes, isFirst, listenerCountIn, headCountIn, limitIn, positionIn, thenPlayed, withRecord, stopped, withPart, step, feed, ending, roundsPlayed, endsPlayed, ringFrom, endsFrom, allRounds}
-use Rattle.run_spec.specs.Listing.{hex, title, line, lines, verdict, shown, listingOf}
+use Rattle.texts.specs.Numbers.{hex}
+use Rattle.run_spec.specs.Listing.{title, line, lines, verdict, shown, listingOf}
 
 -- ---- bytes in pieces
 

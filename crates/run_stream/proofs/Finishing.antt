@@ -14,8 +14,8 @@ use Rattle.ring_spec.specs.Rounds.{Round, endsPhase, ringAfter}
 use Rattle.fields.specs.Bytes.{isEmpty}
 use Rattle.run_spec.specs.RunFile.{File, thenPlayed, readFile, endsSoFar, ending, roundsPlayed, endsPlayed, ringFrom, endsFrom}
 use Rattle.run_spec.specs.Listing.{title, lines, verdict, shown, listingOf}
-use Rattle.run_listing.specs.declared.Text.{Text}
-use Rattle.run_listing.specs.Texts.{bytesOf}
+use Rattle.texts.specs.declared.Text.{Text}
+use Rattle.texts.specs.Texts.{bytesOf}
 use Rattle.run_state.specs.declared.Player.{Player}
 use Rattle.run_state.specs.Memory.{Memory}
 use Rattle.run_state.specs.Heads.{HeadsOf}
@@ -24,7 +24,7 @@ use Rattle.run_state.proofs.Counts.{round-counted}
 use Rattle.run_round.specs.Played.{Played}
 use Rattle.run_piece.specs.Advances.{StateAt, Grown, none}
 use Rattle.run_piece.proofs.Growing.{next-grown}
-use Rattle.run_listing.proofs.Writing.{empty-text}
+use Rattle.texts.proofs.Writing.{empty-text}
 use Rattle.run_stream.specs.Ends.{EndsWith}
 use Rattle.run_stream.specs.Inner.{endingOf}
 use Rattle.run_round.proofs.Converging.{held-converges}

@@ -10,11 +10,11 @@ use Rattle.ring_spec.specs.Rounds.{Ring, PhaseEnd}
 use Rattle.run_spec.specs.RunFile.{File, readFile, accepted, endsSoFar}
 use Rattle.run_spec.specs.Listing.{shown}
 use Rattle.run_spec.proofs.Bytes.{more-accepted}
-use Rattle.run_listing.specs.Texts.{bytesOf}
+use Rattle.texts.specs.Texts.{bytesOf}
 use Rattle.run_state.specs.declared.Player.{Player}
 use Rattle.run_state.specs.Memory.{Memory}
 use Rattle.run_state.specs.Changes.{halted}
-use Rattle.run_listing.proofs.Writing.{empty-text}
+use Rattle.texts.proofs.Writing.{empty-text}
 use Rattle.run_piece.specs.declared.FeedResult.{FeedResult}
 use Rattle.run_piece.specs.Advances.{StateAt, Advances, endHere, Grown, none, one, AdvancesOnce}
 use Rattle.run_piece.specs.Inner.{Quiet}

@@ -7,7 +7,7 @@ use Prim.Native.Nat.{ℕ}
 use Rattle.ring_spec.specs.Rounds.{Ring}
 use Rattle.run_spec.specs.RunFile.{File, readFile, endsSoFar, ending, roundsPlayed, endsPlayed, ringFrom}
 use Rattle.run_spec.specs.Listing.{shown, listing}
-use Rattle.run_listing.specs.Texts.{bytesOf}
+use Rattle.texts.specs.Texts.{bytesOf}
 use Rattle.run_state.specs.Memory.{Memory}
 use Rattle.run_state.specs.Heads.{HeadsOf}
 use Rattle.run_state.specs.Counts.{CountsOf}

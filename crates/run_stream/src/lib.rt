@@ -4,7 +4,7 @@ ghost use mathlib.Core.List.{List, [], _++_};
 ghost use mathlib.Core.Path.{_≡_};
 ghost use Prim.Native.Nat.{ℕ, _+_, _≤_, _<_};
 ghost use lib.ListN.{length, take};
-ghost use Rattle.run_listing.specs.Texts.{bytesOf};
+ghost use Rattle.texts.specs.Texts.{bytesOf};
 ghost use Rattle.run_state.specs.Memory.{memoryBefore, memoryAfter, Memory};
 ghost use Rattle.run_piece.specs.Advances.{StateAt, AdvancesOnce, Advances};
 ghost use Rattle.run_piece.specs.Inner.{Used, Reads, Waits, withLast, Passes};
@@ -14,7 +14,6 @@ ghost use Rattle.run_spec.specs.Listing.{title};
 ghost use Rattle.run_stream.specs.Inner.{endingOf};
 use frame_slots::PlantedBytes;
 use frame_slots::PlantedLengths;
-use run_listing::Text;
 use run_piece::FeedResult;
 use run_piece::PassResult;
 use run_spec::Pair;
@@ -25,6 +24,7 @@ use terms::Lists;
 use terms::Positions;
 use terms::Words;
 use terms::refusal;
+use texts::Text;
 
 // A page of the listing, of 64 lines at least.
 pub const PAGE: usize = 4096;
@@ -206,7 +206,7 @@ pub fn finish(
     let since = p.since;
     FinishResult {
         number,
-        line: run_listing::empty(),
+        line: texts::empty(),
         verdict,
         since,
     }

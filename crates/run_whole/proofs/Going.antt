@@ -30,8 +30,8 @@ use Rattle.run_spec.proofs.Bytes.{length-then, first-begun, from}
 use Rattle.run_spec.proofs.Ends.{few-so-far, few-ends}
 use Rattle.run_record.proofs.Records.{start-place, listeners-place}
 use Rattle.run_round.proofs.Converging.{held-at-end}
-use Rattle.run_listing.specs.declared.Text.{Text}
-use Rattle.run_listing.specs.Texts.{bytesOf}
+use Rattle.texts.specs.declared.Text.{Text}
+use Rattle.texts.specs.Texts.{bytesOf}
 use Rattle.run_state.specs.declared.Player.{Player}
 use Rattle.run_state.specs.Memory.{Memory}
 use Rattle.run_state.specs.Heads.{HeadsOf}

@@ -13,8 +13,8 @@ use Rattle.terms.specs.declared.Entry.{Entry}
 use Rattle.convergence.specs.Counting.{Each}
 use Rattle.terms.proofs.Booleans.{and-both}
 use Rattle.ring_spec.specs.Rounds.{Ring, PhaseEnd, receivers, isOut}
-use Rattle.run_listing.specs.declared.Text.{Text}
-use Rattle.run_listing.specs.Texts.{bytesOf}
+use Rattle.texts.specs.declared.Text.{Text}
+use Rattle.texts.specs.Texts.{bytesOf}
 use Rattle.run_piece.specs.Advances.{struckHere, endHere, Grown, none, one}
 use Rattle.run_piece.proofs.Growing.{line-some}
 use Rattle.run_whole.specs.Buffers.{Buffers, mostEnds, hasRoom}

@@ -9,8 +9,8 @@ use lib.IntN.{ℤ, pos}
 use Rattle.ring_spec.specs.Rounds.{PhaseEnd, allListeners}
 use Rattle.run_spec.specs.RunFile.{readFile, endsSoFar}
 use Rattle.run_spec.specs.Listing.{shown}
-use Rattle.run_listing.specs.declared.Text.{Text}
-use Rattle.run_listing.specs.Texts.{bytesOf}
+use Rattle.texts.specs.declared.Text.{Text}
+use Rattle.texts.specs.Texts.{bytesOf}
 use Rattle.run_state.specs.Memory.{Memory}
 use Rattle.run_piece.specs.Advances.{StateAt}
 use Rattle.run_whole.specs.declared.Place.{Place}

@@ -12,7 +12,6 @@ ghost use Rattle.run_whole.specs.Whole.{Whole, Plays, PlaysInto};
 ghost use Rattle.run_whole.specs.Inner.{Put, soundNumber, soundRow, wordAt, EndKept, Going};
 use frame_slots::PlantedBytes;
 use frame_slots::PlantedLengths;
-use run_listing::Text;
 use run_state::Carry;
 use run_state::Counts;
 use run_state::Player;
@@ -20,6 +19,7 @@ use terms::Lists;
 use terms::Positions;
 use terms::Words;
 use terms::refusal;
+use texts::Text;
 
 // How the file ends, or 24 if a buffer is too short; how many bytes the listing has; how many phase ends were played, the start among them; and of each head and
 // listener the phases since its last strike.

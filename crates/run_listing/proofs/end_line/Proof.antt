@@ -3,7 +3,7 @@ use mathlib.Core.Path.{_∙_}
 use denote.Ref.{now}
 use borrow.Author.Needs.{needs}
 use Rattle.run_listing.proofs.Lines.{fields-are}
-use Rattle.run_listing.proofs.Writing.{from-empty, longer-then}
+use Rattle.texts.proofs.Writing.{from-empty, longer-then}
 use Rattle.run_listing.proofs.end_line.Statement.{statement}
 use Rattle.run_listing.proofs.end_line.Tie as tie
 

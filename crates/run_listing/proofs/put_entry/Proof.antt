@@ -7,8 +7,8 @@ use mir.Syntax.{w32}
 use mir.Val.{SFits}
 use mir.Facts.{toZ-ofZ}
 use borrow.Author.Needs.{needs}
-use Rattle.run_spec.specs.Listing.{whole}
-use Rattle.run_listing.proofs.Writing.{longer-as}
+use Rattle.texts.specs.Numbers.{whole}
+use Rattle.texts.proofs.Writing.{longer-as}
 use Rattle.run_listing.proofs.put_entry.Statement.{statement}
 use Rattle.run_listing.proofs.put_entry.Tie as tie
 

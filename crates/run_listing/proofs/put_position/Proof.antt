@@ -7,10 +7,10 @@ use lib.IntN.{ℤ, pos, negsuc}
 use mir.Syntax.{w32}
 use mir.Val.{SFits}
 use borrow.Author.Needs.{needs}
-use Rattle.run_spec.specs.Listing.{decimal, whole}
+use Rattle.texts.specs.Numbers.{decimal, whole}
 use Rattle.run_listing.specs.Heights.{heightOf}
 use Rattle.run_listing.proofs.Heights.{height-read}
-use Rattle.run_listing.proofs.Writing.{longer-then, longer-as}
+use Rattle.texts.proofs.Writing.{longer-then, longer-as}
 use Rattle.run_listing.proofs.put_position.Statement.{statement}
 use Rattle.run_listing.proofs.put_position.Tie as tie
 

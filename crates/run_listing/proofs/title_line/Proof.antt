@@ -1,7 +1,7 @@
 -- `run_listing::title_line` meets its contract: the text is the definition's, byte for byte.
 use borrow.Author.Needs.{needs}
 use Rattle.run_spec.specs.Listing.{title}
-use Rattle.run_listing.proofs.Writing.{from-empty}
+use Rattle.texts.proofs.Writing.{from-empty}
 use Rattle.run_listing.proofs.title_line.Statement.{statement}
 use Rattle.run_listing.proofs.title_line.Tie as tie
 

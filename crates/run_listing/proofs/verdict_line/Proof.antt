@@ -3,7 +3,7 @@ use mathlib.Core.Path.{_≡_}
 use Prim.Native.Nat.{suc, _-_}
 use native.Mathlib.Omega.{arith}
 use borrow.Author.Needs.{needs}
-use Rattle.run_listing.proofs.Writing.{from-empty, longer-then}
+use Rattle.texts.proofs.Writing.{from-empty, longer-then}
 use Rattle.run_listing.proofs.verdict_line.Statement.{statement}
 use Rattle.run_listing.proofs.verdict_line.Tie as tie
 

@@ -4,7 +4,7 @@ use Prim.Native.Nat.{_+_}
 use lib.ListN.{length, take}
 use denote.Ref.{now}
 use borrow.Author.Needs.{needs}
-use Rattle.run_listing.proofs.Writing.{copied-behind}
+use Rattle.texts.proofs.Writing.{copied-behind}
 use Rattle.run_piece.proofs.gather.Statement.{statement}
 use Rattle.run_piece.proofs.gather.Tie as tie
 

@@ -4,7 +4,7 @@ use native.Mathlib.Omega.{arith}
 use lib.ListN.{length}
 use denote.Ref.{now}
 use borrow.Author.Needs.{needs}
-use Rattle.run_listing.proofs.Writing.{empty-text}
+use Rattle.texts.proofs.Writing.{empty-text}
 use Rattle.run_stream.proofs.Pieces.{Still, moved, still-first, last-step, still-more, at-last}
 use Rattle.run_stream.proofs.feed.Statement.{statement}
 use Rattle.run_stream.proofs.feed.Tie as tie

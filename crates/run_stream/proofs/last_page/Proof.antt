@@ -4,7 +4,7 @@ use mathlib.Core.List.{List, _++_}
 use Prim.Native.Nat.{ℕ}
 use native.Mathlib.Omega.{arith}
 use borrow.Author.Needs.{needs}
-use Rattle.run_listing.specs.Texts.{bytesOf}
+use Rattle.texts.specs.Texts.{bytesOf}
 use Rattle.run_stream.proofs.last_page.Statement.{statement}
 use Rattle.run_stream.proofs.last_page.Tie as tie
 

@@ -5,8 +5,8 @@ use native.Mathlib.Omega.{arith}
 use lib.ListN.{length, take}
 use denote.Ref.{now}
 use borrow.Author.Needs.{needs}
-use Rattle.run_listing.specs.Texts.{bytesOf}
-use Rattle.run_listing.proofs.Writing.{full, text-long, copied-behind}
+use Rattle.texts.specs.Texts.{bytesOf}
+use Rattle.texts.proofs.Writing.{full, text-long, copied-behind}
 use Rattle.run_stream.proofs.put.Statement.{statement}
 use Rattle.run_stream.proofs.put.Tie as tie
 

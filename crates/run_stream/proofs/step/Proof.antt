@@ -2,7 +2,7 @@
 use native.Mathlib.Omega.{arith}
 use denote.Ref.{now}
 use borrow.Author.Needs.{needs}
-use Rattle.run_listing.proofs.Writing.{empty-text}
+use Rattle.texts.proofs.Writing.{empty-text}
 use Rattle.run_state.specs.Memory.{Memory}
 use Rattle.run_piece.proofs.Feeding.{used-as}
 use Rattle.run_stream.proofs.Pieces.{none-then}

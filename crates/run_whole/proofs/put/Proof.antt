@@ -7,8 +7,8 @@ use lib.Seq.{paste}
 use denote.Ref.{now}
 use borrow.Author.Needs.{needs}
 use Rattle.fields.proofs.Copying.{copied-fits}
-use Rattle.run_listing.specs.Texts.{bytesOf}
-use Rattle.run_listing.proofs.Writing.{full, text-long}
+use Rattle.texts.specs.Texts.{bytesOf}
+use Rattle.texts.proofs.Writing.{full, text-long}
 use Rattle.run_whole.proofs.put.Statement.{statement}
 use Rattle.run_whole.proofs.put.Tie as tie
 

@@ -1,15 +1,14 @@
--- Digits in a base. The decimal and the hexadecimal digits of the listing are those of `spelled` in base 10 and 16: a digit below 10 has the same byte
--- in both. A number is counted as it is divided: one digit for each division that leaves something. The last k digits are those of the remainder by the
--- power of the base, so of a mark word for heads and listeners the last 8 are the heads'.
-use mathlib.Core.Path.{_≡_, refl, _∙_}
+-- Digits in a base. Decimal and hexadecimal digits are those of `spelled` in base 10 and 16: a digit below 10 has the same byte in both. A number is
+-- counted as it is divided: one digit for each division that leaves something. The last k hexadecimal digits are those of the remainder by 16 to the
+-- power k.
+use mathlib.Core.Path.{_≡_, refl}
 use Prim.Native.Nat.{ℕ, zero, suc, _+_, _*_, _/_, _%_, _^_, _≤_, _<_}
 use native.Mathlib.Omega.{arith}
 use native.Mathlib.Nat.{pow-succ', mul-comm}
 use lib.Arith.{mod-mul}
 use lib.ListN.{length, length-append}
 use borrow.Author.Tests.{lt-ltb, le-ltb}
-use Rattle.run_spec.specs.Listing.{digits, size, decimal, hex}
-use Rattle.run_listing.specs.Inner.{spelled}
+use Rattle.texts.specs.Numbers.{digits, size, decimal, hex, spelled}
 
 pub size-small : (k x : ℕ) → x < 10 → size k x ≡ 1
 unfolding size
@@ -41,8 +40,6 @@ unfolding spelled hex
 spelled-hex zero x = refl
 spelled-hex (suc k) x = rw (spelled-hex k (x / 16))
 
--- ---- k digits are those of what is below 16 to the power k
-
 power-pos : (k : ℕ) → 0 < 16 ^ k
 power-pos zero = omega arith
 power-pos (suc k) = rw (pow-succ' 16 k) (omega (arith, power-pos k))
@@ -50,14 +47,10 @@ power-pos (suc k) = rw (pow-succ' 16 k) (omega (arith, power-pos k))
 last-digit : (y d : ℕ) → d < 16 → ((y * 16 + d) / 16 ≡ y) × ((y * 16 + d) % 16 ≡ d)
 last-digit y d l = (omega arith, omega arith)
 
-hex-low : (k x : ℕ) → hex k (x % 16 ^ k) ≡ hex k x
+pub hex-low : (k x : ℕ) → hex k (x % 16 ^ k) ≡ hex k x
 unfolding hex
 hex-low zero x = refl
 hex-low (suc k) x =
     let e : x % 16 ^ suc k ≡ (x / 16 % 16 ^ k) * 16 + x % 16 = rw (pow-succ' 16 k, mul-comm 16 (16 ^ k)) (mod-mul x (power-pos k) (omega arith)) in
     let d = last-digit (x / 16 % 16 ^ k) (x % 16) (omega arith) in
     rw (e, d .0, d .1, hex-low k (x / 16))
-
--- of a mark word for heads and listeners: the heads'
-pub spelled-heads : (x : ℕ) → spelled 16 8 (x % 4294967296) ≡ hex 8 x
-spelled-heads x = spelled-hex 8 (x % 4294967296) ∙ hex-low 8 x

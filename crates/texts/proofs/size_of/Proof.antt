@@ -1,12 +1,12 @@
--- `run_listing::size_of` meets its contract: k - 1 digits are counted, and what is left of x is counted as the definition counts.
+-- `texts::size_of` meets its contract: k - 1 digits are counted, and what is left of x is counted as the definition counts.
 use mathlib.Core.Path.{_≡_}
 use Prim.Native.Nat.{suc, _+_, _-_, _/_, _≤_}
 use native.Mathlib.Omega.{arith}
 use borrow.Author.Needs.{needs}
-use Rattle.run_spec.specs.Listing.{size}
-use Rattle.run_listing.proofs.Digits.{size-small, size-more}
-use Rattle.run_listing.proofs.size_of.Statement.{statement}
-use Rattle.run_listing.proofs.size_of.Tie as tie
+use Rattle.texts.specs.Numbers.{size}
+use Rattle.texts.proofs.Digits.{size-small, size-more}
+use Rattle.texts.proofs.size_of.Statement.{statement}
+use Rattle.texts.proofs.size_of.Tie as tie
 
 abbrev Inv-loop : tie.InvT-loop
 Inv-loop x rest₀ k₀ rest k = (1 ≤ k) × (k ≤ 10) × (size 9 x + 1 ≡ k + size (10 - k) rest)

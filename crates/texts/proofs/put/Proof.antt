@@ -1,13 +1,13 @@
--- `run_listing::put` meets its contract: the bytes of the slice are copied in behind the text, where the array has room for them.
+-- `texts::put` meets its contract: the bytes of the slice are copied in behind the text, where the array has room for them.
 use mathlib.Core.Path.{ap, _∙_}
 use Prim.Native.Nat.{_+_}
 use native.Mathlib.Omega.{arith}
 use lib.ListN.{length, take}
 use denote.Ref.{now}
 use borrow.Author.Needs.{needs}
-use Rattle.run_listing.proofs.Writing.{full, copied-behind}
-use Rattle.run_listing.proofs.put.Statement.{statement}
-use Rattle.run_listing.proofs.put.Tie as tie
+use Rattle.texts.proofs.Writing.{full, copied-behind}
+use Rattle.texts.proofs.put.Statement.{statement}
+use Rattle.texts.proofs.put.Tie as tie
 
 returns : tie.Need-returns
 returns c =

@@ -1,8 +1,8 @@
--- `run_listing::digit` meets its contract: its test is the definition's.
+-- `texts::digit` meets its contract: its test is the definition's.
 use borrow.Author.Needs.{needs}
 use borrow.Author.Tests.{lt-ltb, le-ltb}
-use Rattle.run_listing.proofs.digit.Statement.{statement}
-use Rattle.run_listing.proofs.digit.Tie as tie
+use Rattle.texts.proofs.digit.Statement.{statement}
+use Rattle.texts.proofs.digit.Tie as tie
 
 returns : tie.Need-returns
 returns c = simp (lt-ltb _ _ (c .if1 .taken))

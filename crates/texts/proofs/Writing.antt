@@ -11,12 +11,11 @@ use lib.ListN.{length, take, drop, set, length-set, length-append, length-map, t
 use lib.Seq.{set-split, take-set-le, append-snoc, take-at, drop-at, take-paste, take-length, length-take-le}
 use Rattle.fields.specs.Bytes.{copied}
 use Rattle.fields.proofs.Copying.{copied-fits}
-use Rattle.run_spec.specs.Listing.{hexDigit}
-use Rattle.run_listing.specs.declared.Text.{Text}
-use Rattle.run_listing.specs.Texts.{bytesOf}
-use Rattle.run_listing.specs.Inner.{Longer, spelled}
-use Rattle.run_listing.proofs.Text.{the-row}
-use Rattle.run_listing.proofs.Digits.{spelled-length}
+use Rattle.texts.specs.Numbers.{hexDigit, spelled}
+use Rattle.texts.specs.declared.Text.{Text}
+use Rattle.texts.specs.Texts.{bytesOf, Longer}
+use Rattle.texts.proofs.Text.{the-row}
+use Rattle.texts.proofs.Digits.{spelled-length}
 
 -- an array of 64 holds 64 bytes
 pub full : {vs : List Val} (t : Text) → Is the-row t vs → length (t .bytes) ≡ 64

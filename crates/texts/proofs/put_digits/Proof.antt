@@ -1,12 +1,12 @@
--- `run_listing::put_digits` meets its contract: at the loop's head the last k - i digits stand in place, and `rest` has the others.
+-- `texts::put_digits` meets its contract: at the loop's head the last k - i digits stand in place, and `rest` has the others.
 use mathlib.Core.Path.{_≡_}
 use native.Mathlib.Omega.{arith}
 use native.Mathlib.Nat.{mod-lt}
 use lib.ListN.{length-set}
 use borrow.Author.Needs.{needs}
-use Rattle.run_listing.proofs.Writing.{full, Spelt, spelt-none, spelt-more, spelt-all}
-use Rattle.run_listing.proofs.put_digits.Statement.{statement}
-use Rattle.run_listing.proofs.put_digits.Tie as tie
+use Rattle.texts.proofs.Writing.{full, Spelt, spelt-none, spelt-more, spelt-all}
+use Rattle.texts.proofs.put_digits.Statement.{statement}
+use Rattle.texts.proofs.put_digits.Tie as tie
 
 abbrev Inv-loop : tie.InvT-loop
 Inv-loop base k x after at bytes₀ rest₀ i₀ bytes rest i = Spelt base k x at bytes₀ bytes rest i

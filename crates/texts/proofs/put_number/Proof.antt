@@ -1,12 +1,12 @@
--- `run_listing::put_number` meets its contract: as many digits as the number has are its decimal digits.
+-- `texts::put_number` meets its contract: as many digits as the number has are its decimal digits.
 use mathlib.Core.Path.{ap}
 use mathlib.Core.List.{List, [], _∷_, _++_}
 use Prim.Native.Nat.{ℕ}
 use borrow.Author.Needs.{needs}
-use Rattle.run_listing.proofs.Digits.{spelled-decimal}
-use Rattle.run_listing.proofs.Writing.{longer-as}
-use Rattle.run_listing.proofs.put_number.Statement.{statement}
-use Rattle.run_listing.proofs.put_number.Tie as tie
+use Rattle.texts.proofs.Digits.{spelled-decimal}
+use Rattle.texts.proofs.Writing.{longer-as}
+use Rattle.texts.proofs.put_number.Statement.{statement}
+use Rattle.texts.proofs.put_number.Tie as tie
 
 returns : tie.Need-returns
 returns c =
