@@ -10,8 +10,8 @@ use lib.ListN.{getD}
 use lib.Seq.{append-snoc}
 use lib.IntN.{ℤ, pos}
 use borrow.Author.Tests.{ltb-true}
-use Rattle.texts.specs.Numbers.{decimal, hex, spelled}
-use Rattle.texts.proofs.Digits.{hex-low, spelled-hex}
+use Rattle.texts.specs.Numbers.{decimal, hex}
+use Rattle.texts.proofs.Digits.{hex-low}
 use Rattle.terms.specs.declared.Entry.{Entry}
 use Rattle.terms.specs.declared.Family.{Family}
 use Rattle.marks.specs.Marks.{bitOf}
@@ -27,8 +27,8 @@ use Rattle.run_listing.specs.Heights.{Found}
 use Rattle.run_listing.proofs.Lowest.{no-listener, found-same, found-held, found-held-as}
 
 -- the last eight digits of a mark word for heads and listeners are the heads'
-spelled-heads : (x : ℕ) → spelled 16 8 (x % 4294967296) ≡ hex 8 x
-spelled-heads x = spelled-hex 8 (x % 4294967296) ∙ hex-low 8 x
+hex-heads : (x : ℕ) → hex 8 (x % 4294967296) ≡ hex 8 x
+hex-heads x = hex-low 8 x
 
 pub fields-are : (n m p collect confess struck : ℕ) (ps : List ℤ) {low high : Entry} {wide x y : ℕ} → Found receivers (endIn n m struck ps) low high
     → wide ≡ apart low high → x ≡ collect % 4294967296 → y ≡ confess % 4294967296
@@ -36,12 +36,12 @@ pub fields-are : (n m p collect confess struck : ℕ) (ps : List ℤ) {low high 
     ++ ((textOf low ++ (32 ∷ []))
     ++ ((textOf high ++ (32 ∷ []))
     ++ ((decimal wide ++ (32 ∷ []))
-    ++ ((spelled 16 8 x ++ (32 ∷ []))
-    ++ (spelled 16 8 y ++ (10 ∷ []))))))
+    ++ ((hex 8 x ++ (32 ∷ []))
+    ++ (hex 8 y ++ (10 ∷ []))))))
     ≡ endLine n m p ps collect confess struck
 unfolding endLine fields spread
 fields-are n m p collect confess struck ps f w a b =
-    rw (w, ← f .is-low, ← f .is-high, a, b, spelled-heads collect, spelled-heads confess) (simp append-snoc)
+    rw (w, ← f .is-low, ← f .is-high, a, b, hex-heads collect, hex-heads confess) (simp append-snoc)
 
 pub line-is : (n m p : ℕ) (e : PhaseEnd) (positions : List ℤ)
     → Each receivers (λ i. isReceiver n m i ≡ true → bitOf (e .struck) i ≡ false → e .heads i .seat .position ≡ Entry.Position (getD positions i (pos 0)))

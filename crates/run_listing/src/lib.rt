@@ -189,6 +189,6 @@ pub fn end_line(
     let t = texts::put_number(texts::empty(), phase as u32, b' ');
     let t = put_entry(put_entry(t, low), high);
     let t = texts::put_number(t, spread_of(low, high), b' ');
-    let t = texts::put_digits(t, 16, 8, heads_of(collect), b' ');
-    texts::put_digits(t, 16, 8, heads_of(confess), b'\n')
+    let t = texts::put_hex(t, heads_of(collect), b' ');
+    texts::put_hex(t, heads_of(confess), b'\n')
 }

@@ -1,10 +1,15 @@
 -- Bytes written behind a text. Digits are written from the last to the first: before the turn at i the last k - i digits stand in place, and `rest` has
 -- the others (`Spelt`), so that at i = 0 all do.
 use mathlib.Core.Path.{_≡_, refl, ap, sym, _∙_}
+use mathlib.Core.Bool.{Bool, true, false}
+use mathlib.Core.Logic.{by-cases}
 use mathlib.Core.List.{List, [], _∷_, _++_, append-assoc}
 use Prim.Native.Nat.{ℕ, zero, suc, _+_, _-_, _/_, _%_, _≤_, _<_}
 use native.Mathlib.Omega.{arith}
 use native.Mathlib.Nat.{add-suc, add-zero}
+use native.Mathlib.Decide.{decLe}
+use lib.Dec.{leb}
+use borrow.Author.Tests.{leb-true, leb-false, le-leb, lt-leb}
 use mir.Val.{Val}
 use denote.Laws.{Is}
 use lib.ListN.{length, take, drop, set, length-set, length-append, length-map, take-append-drop}
@@ -13,7 +18,7 @@ use Rattle.fields.specs.Bytes.{copied}
 use Rattle.fields.proofs.Copying.{copied-fits}
 use Rattle.texts.specs.Numbers.{hexDigit, spelled}
 use Rattle.texts.specs.declared.Text.{Text}
-use Rattle.texts.specs.Texts.{bytesOf, Longer}
+use Rattle.texts.specs.Texts.{bytesOf, Longer, Puts}
 use Rattle.texts.proofs.Text.{the-row}
 use Rattle.texts.proofs.Digits.{spelled-length}
 
@@ -43,6 +48,34 @@ longer-then {t} {s} {z} l h =
 
 pub longer-as : {t r : Text} {s z : List ℕ} {k m : ℕ} → s ≡ z → k ≤ m → Longer t s k r → Longer t z m r
 longer-as e h l = record { text = rw (← e) (l .text); room = omega (arith, l .room) }
+
+-- ---- what is put
+
+-- where there is room
+pub put-fits : {t r : Text} {s : List ℕ} (k : ℕ) → length s ≤ k → t .len + k ≤ 64 → Puts t s r → Longer t s k r
+put-fits k l h p = longer-as refl l (p .fits (omega arith))
+
+-- the test for room
+pub room-past : (n k : ℕ) → 64 < n → false ≡ leb (n + k) 64
+room-past n k h = sym (lt-leb (n + k) 64 (omega arith))
+
+pub room-left : (n k : ℕ) → n ≤ 64 → leb k (64 - n) ≡ leb (n + k) 64
+room-left n k h = by-cases (decLe k (64 - n))
+    (λ l. le-leb k (64 - n) l ∙ sym (le-leb (n + k) 64 (omega arith)))
+    (λ l. lt-leb k (64 - n) (omega arith) ∙ sym (lt-leb (n + k) 64 (omega arith)))
+
+module _ (n k : ℕ) {b : Bool} (e : b ≡ leb (n + k) 64) where
+  pub some-room : b ≡ true → n + k ≤ 64
+  some-room f = leb-true (n + k) 64 (sym e ∙ f)
+
+  pub no-room : b ≡ false → 64 < n + k
+  no-room f = leb-false (n + k) 64 (sym e ∙ f)
+
+pub puts-all : {t r : Text} {s : List ℕ} → t .len + length s ≤ 64 → Longer t s (length s) r → Puts t s r
+puts-all h l = record { fits = λ _. l; full = λ m. absurd (omega arith) }
+
+pub puts-none : {t : Text} {s : List ℕ} → 64 < t .len + length s → Puts t s t
+puts-none h = record { fits = λ l. absurd (omega arith); full = λ _. refl }
 
 -- ---- bytes copied behind others
 
@@ -90,3 +123,17 @@ spelt-all {b} {k} {x} {at} {bytes} d after l s =
     rw (append-assoc, ← stored d (at + k) after l) (rw (add-zero at) at (s .behind)) in
     let is : bytes ≡ text ++ drop (suc (at + k)) d = sym (take-append-drop at bytes) ∙ rw (front, back) (simp append-assoc) in
     ap (take (at + k + 1)) is ∙ take-at text _ (at + k + 1) long
+
+-- ---- digits that are put
+
+module _ (b k x after : ℕ) {z : List ℕ} (e : spelled b k x ≡ z) where
+  with-after : length (z ++ (after ∷ [])) ≡ k + 1
+  with-after = rw (← e) (simp (length-append, spelled-length))
+
+  pub digits-put : {t r : Text} → t .len + (k + 1) ≤ 64 → Longer t (spelled b k x ++ (after ∷ [])) (k + 1) r → Puts t (z ++ (after ∷ [])) r
+  digits-put h l =
+      let n = with-after in
+      puts-all (omega arith) (longer-as (ap (λ (s : List ℕ). s ++ (after ∷ [])) e) (omega arith) l)
+
+  pub digits-none : {t : Text} → 64 < t .len + (k + 1) → Puts t (z ++ (after ∷ [])) t
+  digits-none h = let n = with-after in puts-none (omega arith)

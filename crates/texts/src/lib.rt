@@ -1,10 +1,11 @@
-// Texts of up to 64 bytes, made by putting bytes and numbers behind each other.
+// Texts of up to 64 bytes, made by putting bytes and numbers behind each other. What finds no room is not put.
 ghost use mathlib.Core.Path.{_≡_};
 ghost use mathlib.Core.List.{_∷_, [], _++_};
 ghost use Prim.Native.Nat.{_+_, _≤_, _<_};
+ghost use lib.Dec.{leb};
 ghost use lib.ListN.{length};
-ghost use Rattle.texts.specs.Numbers.{size, decimal, hexDigit, spelled};
-ghost use Rattle.texts.specs.Texts.{Longer};
+ghost use Rattle.texts.specs.Numbers.{size, decimal, hexDigit, hex, spelled};
+ghost use Rattle.texts.specs.Texts.{Longer, Puts};
 
 // A text of up to 64 bytes: the first len of bytes. The others are free.
 pub struct Text {
@@ -22,8 +23,18 @@ pub fn empty() -> Text
     }
 }
 
-// A text with the bytes of a slice after it.
-pub fn put(t: Text, s: &[u8]) -> Text
+// Whether k bytes more than len are at most 64.
+fn has_room(len: usize, k: usize) -> bool
+    ensures { λ r. ⌜ r ≡ leb (len + k) 64 ⌝ }
+{
+    if 64 < len {
+        return false;
+    }
+    k <= 64 - len
+}
+
+// A text with the bytes of a slice after it, for which it has room.
+fn put_within(t: Text, s: &[u8]) -> Text
     requires { ⌜ t .len + length (now s) ≤ 64 ⌝ }
     ensures { λ r. ⌜ Longer t (now (s .entry)) (length (now (s .entry))) r ⌝ }
 {
@@ -36,6 +47,16 @@ pub fn put(t: Text, s: &[u8]) -> Text
     }
 }
 
+// A text with the bytes of a slice after it.
+pub fn put(t: Text, s: &[u8]) -> Text
+    ensures { λ r. ⌜ Puts t (now (s .entry)) r ⌝ }
+{
+    if has_room(t.len, s.len()) {
+        return put_within(t, s);
+    }
+    t
+}
+
 // The byte of a digit.
 fn digit(d: u32) -> u8
     requires { ⌜ d < 16 ⌝ }
@@ -44,8 +65,8 @@ fn digit(d: u32) -> u8
     if d < 10 { 48 + d as u8 } else { 87 + d as u8 }
 }
 
-// A text with the last k digits of x in a base after it, and one byte more.
-pub fn put_digits(t: Text, base: u32, k: usize, x: u32, after: u8) -> Text
+// A text with the last k digits of x in a base after it, and one byte more, for which it has room.
+fn put_digits(t: Text, base: u32, k: usize, x: u32, after: u8) -> Text
     requires { ⌜ (0 < base) × (base ≤ 16) × (t .len + k + 1 ≤ 64) ⌝ }
     ensures { λ r. ⌜ Longer t (spelled base k x ++ (after ∷ [])) (k + 1) r ⌝ }
 {
@@ -81,10 +102,23 @@ fn size_of(x: u32) -> usize
     k
 }
 
-// A text with a number after it, and one byte more.
+// A text with a number after it, without padding, and one byte more.
 pub fn put_number(t: Text, x: u32, after: u8) -> Text
-    requires { ⌜ t .len + 11 ≤ 64 ⌝ }
-    ensures { λ r. ⌜ Longer t (decimal x ++ (after ∷ [])) 11 r ⌝ }
+    ensures { λ r. ⌜ Puts t (decimal x ++ (after ∷ [])) r ⌝ }
 {
-    put_digits(t, 10, size_of(x), x, after)
+    let k = size_of(x);
+    if has_room(t.len, k + 1) {
+        return put_digits(t, 10, k, x, after);
+    }
+    t
+}
+
+// A text with a word after it, as eight hexadecimal digits, and one byte more.
+pub fn put_hex(t: Text, x: u32, after: u8) -> Text
+    ensures { λ r. ⌜ Puts t (hex 8 x ++ (after ∷ [])) r ⌝ }
+{
+    if has_room(t.len, 9) {
+        return put_digits(t, 16, 8, x, after);
+    }
+    t
 }

@@ -8,12 +8,12 @@ use mir.Val.{SFits}
 use mir.Facts.{toZ-ofZ}
 use borrow.Author.Needs.{needs}
 use Rattle.texts.specs.Numbers.{whole}
-use Rattle.texts.proofs.Writing.{longer-as}
+use Rattle.texts.proofs.Writing.{longer-as, put-fits}
 use Rattle.run_listing.proofs.put_entry.Statement.{statement}
 use Rattle.run_listing.proofs.put_entry.Tie as tie
 
 returns : tie.Need-returns
-returns c = rw (c .before .before .enum-told .given .1) (longer-as refl (omega arith) (c .put .ensures))
+returns c = rw (c .before .before .enum-told .given .1) (put-fits 12 (omega arith) (omega arith) (c .put .ensures))
 
 returns-2 : tie.Need-returns-2
 returns-2 c =

@@ -10,7 +10,8 @@ use borrow.Author.Needs.{needs}
 use Rattle.texts.specs.Numbers.{decimal, whole}
 use Rattle.run_listing.specs.Heights.{heightOf}
 use Rattle.run_listing.proofs.Heights.{height-read}
-use Rattle.texts.proofs.Writing.{longer-then, longer-as}
+use Rattle.texts.proofs.Writing.{longer-then, longer-as, put-fits}
+use Rattle.texts.proofs.Digits.{decimal-short}
 use Rattle.run_listing.proofs.put_position.Statement.{statement}
 use Rattle.run_listing.proofs.put_position.Tie as tie
 
@@ -34,12 +35,17 @@ returns : tie.Need-returns
 returns c =
     let h = c .before .before .before .before in
     let e = whole-below _ (h .before .fits .v) (is h) (c .before .before .before .if1 .taken) in
-    longer-as (ap (λ (l : List ℕ). l ++ (32 ∷ [])) e) (omega arith) (longer-then (c .before .put .ensures) (c .put-number .ensures))
+    let x = 2147483648 - h .height .result in
+    let sign = put-fits 1 (omega arith) (omega arith) (c .before .put .ensures) in
+    let number = put-fits 11 (decimal-short x 32) (omega (arith, sign .room)) (c .put-number .ensures) in
+    longer-as (ap (λ (l : List ℕ). l ++ (32 ∷ [])) e) (omega arith) (longer-then sign number)
 
 returns-2 : tie.Need-returns-2
 returns-2 c =
-    let e = whole-above _ (is (c .before .before)) (c .before .if1 .left) in
-    longer-as (ap (λ (l : List ℕ). l ++ (32 ∷ [])) e) (omega arith) (c .put-number2 .ensures)
+    let h = c .before .before in
+    let e = whole-above _ (is h) (c .before .if1 .left) in
+    let number = put-fits 11 (decimal-short (h .height .result - 2147483648) 32) (omega arith) (c .put-number2 .ensures) in
+    longer-as (ap (λ (l : List ℕ). l ++ (32 ∷ [])) e) (omega arith) number
 
 pub put-position-spec : {M : Type 1} → statement M
 put-position-spec =

@@ -1,23 +1,26 @@
--- `texts::put` meets its contract: the bytes of the slice are copied in behind the text, where the array has room for them.
-use mathlib.Core.Path.{ap, _∙_}
-use Prim.Native.Nat.{_+_}
-use native.Mathlib.Omega.{arith}
-use lib.ListN.{length, take}
+-- `texts::put` meets its contract: the bytes are put where there is room for them.
+use lib.ListN.{length}
 use denote.Ref.{now}
 use borrow.Author.Needs.{needs}
-use Rattle.texts.proofs.Writing.{full, copied-behind}
+use Rattle.texts.proofs.Writing.{some-room, no-room, puts-all, puts-none}
 use Rattle.texts.proofs.put.Statement.{statement}
 use Rattle.texts.proofs.put.Tie as tie
 
+put-within-requires : tie.Need-put-within-requires
+put-within-requires c κs =
+    let a = c .before .before .before .args in
+    some-room (a .t .len) (length (now (a .s))) (c .before .has-room .ensures) (c .if1 .taken)
+
 returns : tie.Need-returns
 returns c =
-    let s = c .before .before .before .before .before in
-    let a = s .args in
-    let long = full (a .t) (s .good .0) in
-    record {
-      text = ap (take (a .t .len + length (now (a .s)))) (c .before .put-bytes .ensures) ∙ copied-behind (a .t .bytes) (now (a .s)) (a .t .len) (omega arith);
-      room = search needs;
-    }
+    let r = c .before .before in
+    let a = r .before .before .args in
+    puts-all (some-room (a .t .len) (length (now (a .s))) (r .has-room .ensures) (c .before .if1 .taken)) (c .put-within .ensures)
+
+returns-2 : tie.Need-returns-2
+returns-2 c =
+    let a = c .before .before .before .args in
+    puts-none (no-room (a .t .len) (length (now (a .s))) (c .before .has-room .ensures) (c .if1 .left))
 
 pub put-spec : {M : Type 1} → statement M
-put-spec = tie.close (tie.spec (λ c. search needs) (λ c κs. search needs) (λ c. search needs) returns)
+put-spec = tie.close (tie.spec (λ c κs. search needs) put-within-requires returns returns-2)
