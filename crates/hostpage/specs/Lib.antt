@@ -1,0 +1,3 @@
+-- Page: the page. FromNumbers: its lines from whole numbers alone.
+pub mod Page
+pub mod FromNumbers
