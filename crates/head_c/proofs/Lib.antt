@@ -14,3 +14,4 @@ pub mod Events
 pub mod Refused
 pub mod Closing
 pub mod Made
+pub mod Pages

@@ -4,3 +4,4 @@ pub mod Blocks
 pub mod Steps
 pub mod Events
 pub mod Made
+pub mod Pages

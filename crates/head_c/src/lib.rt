@@ -42,6 +42,7 @@ use terms::Lists;
 use terms::Table;
 use terms::refusal;
 
+pub mod page;
 pub mod place;
 pub mod window;
 
