@@ -380,6 +380,7 @@ fn first() -> Head
         ended: false,
         position: Entry::Position(0),
         last: LastKept::Nothing,
+        since: 0,
     };
     let entries = [0i32; 32];
     head_calls::opened(seat, Table { marks: 0, entries })
