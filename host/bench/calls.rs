@@ -1,12 +1,13 @@
 //! The proved exports against the functions of the second implementation, on the same inputs.
 
 use crate::clock::{black_box, now};
-use crate::exported::{self, Aim, Block, SIZE};
+use crate::exported::{self, Aim, Block, SIZE, WORDS};
 use crate::random::Random;
 use crate::rules::family::Family::{self, OneRound, TwoRounds};
 use crate::rules::frames::{self, Said};
 use crate::rules::head::Head;
 use crate::rules::midpoint::{self, Entry, Kept, LIMIT};
+use crate::rules::reading;
 use crate::rules::scale;
 use crate::rules::window::Device;
 
@@ -197,6 +198,44 @@ fn window(wanted: Wanted) -> Option<Row> {
     row(wanted, "reading the sixteen bytes of a window".to_owned(), MANY * MANY, (&blocks, &export), (&devices, &plain))
 }
 
+/// The host page of 32 heads that read in all three ways: the last phase end of head i kept 15,000 i and i % 2 steps more, but every fifth has passed none.
+fn host_page(wanted: Wanted) -> Option<Row> {
+    let frame = |link: usize, i: usize| frames::write(&Said::Position(15_000 * i as i32 + (link * i % 2) as i32), link, 1);
+    let block = |i: usize| {
+        let mut block = Block([0; SIZE]);
+        block.start(OneRound, 2, 0, 0, 0);
+        if i % 5 != 0 {
+            (0..2).for_each(|link| assert_eq!(block.hear(link as u32, &mut frame(link, i)), 0));
+            assert_eq!((block.close(), block.adopt()), (0, 0));
+        }
+        block
+    };
+    let head = |i: usize| {
+        let mut head = Head::start(OneRound, 2, 0, 0, 0).expect("a start that is taken");
+        if i % 5 != 0 {
+            (0..2).for_each(|link| head.hear(link, &frame(link, i)).expect("a frame that is heard"));
+            head.end_round().expect("a round that ends");
+        }
+        head
+    };
+    let export = |blocks: &mut Vec<Block>| {
+        let (mut buffer, mut length) = ([0; 64 * 32], 0);
+        let mut page = || exported::host_page(blocks, 32 * WORDS, 32, &mut buffer, &mut length) as u64 + length as u64 + buffer[length - 2] as u64;
+        (0..MANY).map(|_| page()).sum()
+    };
+    let plain = |heads: &mut Vec<Head>| {
+        let mut buffer = [0; 64 * 32];
+        let mut page = || {
+            let readings: Vec<_> = heads.iter().map(|head| reading::reading(head.kept)).collect();
+            let length = reading::page(32, &readings, &mut buffer).expect("a page that fits");
+            length as u64 + buffer[length - 2] as u64
+        };
+        (0..MANY).map(|_| page()).sum()
+    };
+    let (blocks, heads) = (|| (0..32).map(block).collect(), || (0..32).map(head).collect());
+    row(wanted, "the host page of 32 heads".to_owned(), MANY, (&blocks, &export), (&heads, &plain))
+}
+
 /// A round as a head hears it: its frames by link.
 struct Heard {
     family: Family,
@@ -331,7 +370,7 @@ pub fn rows(wanted: Wanted) -> Vec<Row> {
     let mut rows = vec![frame_check(wanted, 5), frame_check(wanted, 32)];
     rows.extend([midpoint(wanted, 5, 1, 0), midpoint(wanted, 32, 8, 0), midpoint(wanted, 32, 8, 16)]);
     rows.extend([scaled(wanted, "scale, from steps to nanometres", false), scaled(wanted, "scale, from nanometres to steps", true)]);
-    rows.push(window(wanted));
+    rows.extend([window(wanted), host_page(wanted)]);
     for (n, f) in [(5, 1), (32, 8)] {
         let (collection, confession, lies) = (Heard::new(n, f, 0, 0, 0), Heard::new(n, f, 1, 0, 0), Heard::new(n, f, 1, f, f));
         rows.extend([collection.hearing(wanted, "a position"), confession.hearing(wanted, "a list")]);

@@ -1,11 +1,12 @@
 //! A call with all its arguments, made on both sides: the proved export, and the second implementation.
 
-use crate::exported::{self, Aim, Block, EVENTS};
+use crate::exported::{self, Aim, Block, EVENTS, WORDS};
 use crate::rules::family::Family::{self, OneRound, TwoRounds};
 use crate::rules::frames;
 use crate::rules::limits;
 use crate::rules::midpoint::{self, Kept};
 use crate::rules::reach;
+use crate::rules::reading::{page, reading, Reading};
 use crate::rules::scale;
 use crate::rules::window::Device;
 use std::fmt;
@@ -46,6 +47,9 @@ pub enum Call {
     Offer { out: [i32; 4] },
     Position { out: i32 },
     Kept { out: [i32; 4] },
+    Reading { out: [f32; 3] },
+    /// Of so many heads like this one, of which so many words are lent.
+    HostPage { heads: usize, words: usize, n: u32, buffer: Bytes, room: usize, out: usize },
     Register { at: u32, out: u8 },
     Window { out: [u8; 16] },
     SetRegister { at: u32, byte: u8 },
@@ -59,6 +63,8 @@ pub struct Answer {
     pub number: u8,
     out: i64,
     kept: [i32; 4],
+    /// The bits of three floats.
+    floats: [u32; 3],
     lent: Bytes,
     disturbed: bool,
 }
@@ -96,6 +102,8 @@ impl Call {
             Call::Offer { .. } => 20,
             Call::Limits { .. } => 25,
             Call::Reach { .. } => 26,
+            Call::Reading { .. } => 29,
+            Call::HostPage { .. } => 30,
         }
     }
 
@@ -105,7 +113,7 @@ impl Call {
             Call::Midpoint { entries, .. } | Call::MidpointKept { entries, .. } | Call::Reach { entries, .. } => entries.0.clone(),
             Call::Limits { limits, .. } => limits.0.clone(),
             Call::HearBatch { answers, .. } => answers.0.clone(),
-            Call::Write { buffer, .. } => buffer.0.clone(),
+            Call::Write { buffer, .. } | Call::HostPage { buffer, .. } => buffer.0.clone(),
             Call::Window { out } => out.to_vec(),
             _ => Vec::new(),
         }
@@ -115,7 +123,7 @@ impl Call {
     pub fn exported(&self, block: &mut Block) -> Answer {
         let (before, mut lent) = (*block, self.lent());
         let mut batch = if let Call::HearBatch { batch, .. } = self { batch.0.clone() } else { Vec::new() };
-        let mut kept = self.kept();
+        let (mut kept, mut floats) = (self.kept(), self.floats());
         let (number, out) = match *self {
             Call::FrameCheck { .. } => (exported::frame_check(&mut lent), 0),
             Call::Midpoint { family, n, f, phase, marks, mut out, .. } => {
@@ -146,6 +154,13 @@ impl Call {
             Call::Offer { .. } => (block.offer(&mut kept), 0),
             Call::Position { mut out } => (block.position(&mut out), out as i64),
             Call::Kept { .. } => (block.kept(&mut kept), 0),
+            Call::Reading { .. } => (block.reading(&mut floats), 0),
+            Call::HostPage { heads, words, n, room, mut out, .. } => {
+                let mut blocks = vec![*block; heads];
+                let number = exported::host_page(&mut blocks, words, n, &mut lent[..room], &mut out);
+                *block = *blocks.iter().find(|&one| one != block).unwrap_or(block); // as a change would be seen
+                (number, out as i64)
+            }
             Call::Register { at, mut out } => (block.register(at, &mut out), out as i64),
             Call::Window { mut out } => {
                 block.window(&mut out);
@@ -162,12 +177,13 @@ impl Call {
             before.0[EVENTS].copy_from_slice(&block.0[EVENTS]); // its event is compared in the window
         }
         let disturbed = read || (number != 0 || reads) && *block != before;
-        Answer { number, out, kept, lent: Bytes(lent), disturbed }
+        Answer { number, out, kept, floats: floats.map(f32::to_bits), lent: Bytes(lent), disturbed }
     }
 
     /// Whether the call may not change the block, whatever it answers.
     fn reads(&self) -> bool {
         matches!(self, Call::Write { .. } | Call::Position { .. } | Call::Kept { .. } | Call::Offer { .. })
+            || matches!(self, Call::Reading { .. } | Call::HostPage { .. })
             || matches!(self, Call::Register { .. } | Call::Window { .. } | Call::Interrupt)
     }
 
@@ -175,7 +191,7 @@ impl Call {
     pub fn plain(&self, device: &mut Device) -> Answer {
         let mut lent = self.lent();
         let head = &mut device.head;
-        let mut kept = self.kept();
+        let (mut kept, mut floats) = (self.kept(), self.floats());
         let (done, out) = match *self {
             Call::FrameCheck { .. } => (frames::check(&lent).map(drop), 0),
             Call::Midpoint { family, n, f, phase, marks, out, .. } => {
@@ -219,6 +235,19 @@ impl Call {
                 kept = head.kept.map_or(kept, four);
                 (head.kept.map_or(Ok(()), |_| Err(1)), 0)
             }
+            Call::Reading { .. } => {
+                let shown = reading(head.kept);
+                match shown {
+                    Reading::Unknown => {}
+                    Reading::Point(x) => floats[0] = x,
+                    Reading::Range(lowest, highest, midpoint) => floats = [lowest, highest, midpoint],
+                }
+                (kind(shown), 0)
+            }
+            Call::HostPage { words, n, room, out, .. } => {
+                let given = vec![reading(head.kept); words / WORDS];
+                valued(page(n as usize, &given, &mut lent[..room]).map(|length| length as i64), out as i64)
+            }
             Call::Register { at, out } => valued(device.read(at as usize), out),
             Call::Window { .. } => {
                 lent = device.bytes().to_vec();
@@ -227,7 +256,12 @@ impl Call {
             Call::SetRegister { at, byte } => (device.write(at as usize, byte), 0),
             Call::Interrupt => (if device.is_up() { Err(1) } else { Ok(()) }, 0),
         };
-        Answer { number: done.err().unwrap_or(0), out, kept, lent: Bytes(lent), disturbed: false }
+        Answer { number: done.err().unwrap_or(0), out, kept, floats: floats.map(f32::to_bits), lent: Bytes(lent), disturbed: false }
+    }
+
+    /// The three floats of a reading that are lent.
+    fn floats(&self) -> [f32; 3] {
+        if let Call::Reading { out } = self { *out } else { [0.0; 3] }
     }
 
     /// The four numbers of a kept range that are lent, or the two of limits.
@@ -237,6 +271,15 @@ impl Call {
             Call::Limits { out: [low, high], .. } => [*low, *high, 0, 0],
             _ => [0; 4],
         }
+    }
+}
+
+/// A reading's kind, as a number that is answered.
+fn kind(reading: Reading) -> Result<(), u8> {
+    match reading {
+        Reading::Unknown => Ok(()),
+        Reading::Point(_) => Err(1),
+        Reading::Range(..) => Err(2),
     }
 }
 

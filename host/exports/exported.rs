@@ -34,6 +34,8 @@ mod c {
         pub fn focus_head_position(head: *const Block, position: *mut i32) -> u8;
         pub fn focus_head_kept(head: *const Block, kept: *mut [i32; 4]) -> u8;
         pub fn focus_head_since(head: *const Block) -> u8;
+        pub fn focus_head_reading(head: *const Block, floats: *mut [f32; 3]) -> u8;
+        pub fn focus_host_page(blocks: *const Block, words: usize, n: u32, buffer: *mut u8, room: usize, length: *mut usize) -> u8;
         pub fn focus_head_register(head: *const Block, at: u32, byte: *mut u8) -> u8;
         pub fn focus_head_window(head: *const Block, bytes: *mut [u8; 16]);
         pub fn focus_head_set_register(head: *mut Block, at: u32, byte: u8) -> u8;
@@ -42,7 +44,7 @@ mod c {
 }
 
 /// The 32-bit numbers of a block, and its bytes.
-const WORDS: usize = 1116;
+pub const WORDS: usize = 1116;
 pub const SIZE: usize = 4 * WORDS;
 
 /// Whether the header has blocks of this size.
@@ -103,6 +105,12 @@ pub fn scale(steps: i32, numerator: u32, denominator: u32, nanometres: &mut i64)
 
 pub fn unscale(nanometres: i64, numerator: u32, denominator: u32, steps: &mut i32) -> u8 {
     unsafe { c::focus_unscale(nanometres, numerator, denominator, steps) }
+}
+
+/// The page of n heads, of which so many words are lent.
+pub fn host_page(blocks: &mut [Block], words: usize, n: u32, buffer: &mut [u8], length: &mut usize) -> u8 {
+    assert!(words <= WORDS * blocks.len());
+    unsafe { c::focus_host_page(blocks.as_mut_ptr(), words, n, buffer.as_mut_ptr(), buffer.len(), length) }
 }
 
 impl Block {
@@ -168,6 +176,10 @@ impl Block {
 
     pub fn since(&mut self) -> u8 {
         unsafe { c::focus_head_since(self) }
+    }
+
+    pub fn reading(&mut self, floats: &mut [f32; 3]) -> u8 {
+        unsafe { c::focus_head_reading(self, floats) }
     }
 
     pub fn register(&mut self, at: u32, byte: &mut u8) -> u8 {

@@ -2,6 +2,7 @@
 
 use crate::calls::{Bytes, Call};
 use crate::damage::damaged;
+use crate::exported::WORDS;
 use crate::inputs::{four, near, position, size};
 use crate::random::Random;
 use crate::rules::family::Family::{self, OneRound, TwoRounds};
@@ -250,11 +251,25 @@ impl Writer<'_> {
         (self.ask)(Call::Write { buffer, room, out })?;
         (self.ask)(Call::Position { out: self.random.next() as i32 })?;
         (self.ask)(Call::Kept { out: four(self.random) })?;
+        self.host()?;
         let at = self.random.below(17) as u32;
         let at = near(self.random, at, 12);
         (self.ask)(Call::Register { at, out: self.random.next() as u8 })?;
         (self.ask)(Call::Window { out: [self.random.next() as u8; 16] })?;
         if self.n == 0 { self.hear(0, frames::write(&Said::Silence, 0, 0)) } else { Ok(()) }
+    }
+
+    /// What a camera host reads: the reading, and the page of some heads like this one, the last of them perhaps cut short, into a buffer of any length.
+    fn host(&mut self) -> Result<(), String> {
+        (self.ask)(Call::Reading { out: four(self.random).map(|x| x as f32)[..3].try_into().unwrap() })?;
+        let heads = 1 + self.random.below(4);
+        let words = heads * WORDS - if self.random.chance(1, 2) { 0 } else { self.random.below(WORDS + 1) };
+        let n = if self.random.chance(1, 2) { heads } else { 1 + self.random.below(32) } as u32;
+        let n = near(self.random, n, 8);
+        let room = if self.random.chance(1, 2) { self.random.below(100) } else { 64 * 32 };
+        let (after, out) = (self.random.below(9), self.random.next() as usize >> 1);
+        let buffer = Bytes(self.random.bytes(room + after));
+        (self.ask)(Call::HostPage { heads, words, n, buffer, room, out }).map(drop)
     }
 
     /// Events cleared and masked, with any bits, and writes to bytes that take none; whatever the head is.

@@ -1,8 +1,8 @@
 //! How often each call gave each number.
 
 /// Each call with the numbers it can give, in the order of its checks. A position, a kept range or an offer is answered 1 if there is one, else 0; the interrupt
-/// line 1 if it is up.
-pub const CALLS: [(&str, &[u8]); 29] = [
+/// line 1 if it is up; a reading 0, 1 or 2 for unknown, a point or a range.
+pub const CALLS: [(&str, &[u8]); 31] = [
     ("frame_check", &[0, 6, 7, 8]),
     ("midpoint", &[0, 1, 2, 5, 8, 10, 11, 25]),
     ("midpoint_kept", &[0, 1, 2, 5, 8, 10, 11, 25]),
@@ -32,6 +32,8 @@ pub const CALLS: [(&str, &[u8]); 29] = [
     ("reach", &[0, 1, 2, 5, 3, 8, 10, 11, 25]),
     ("one_round_midpoint", &[0, 1, 18, 5, 8, 10, 11, 25]),
     ("one_round_reach", &[0, 1, 18, 5, 3, 8, 10, 11, 25]),
+    ("head_reading", &[0, 1, 2]),
+    ("host_page", &[0, 1, 24]),
 ];
 
 #[derive(Default)]

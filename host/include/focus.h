@@ -287,6 +287,31 @@ uint8_t focus_head_kept(const focus_head *head, focus_kept *kept);
  * (crates/ring_spec/specs/Converges.antt). */
 uint8_t focus_head_since(const focus_head *head);
 
+/* ---- what camera hosts read (document 02, A14): crates/head_c/src/page.rt has what the calls promise */
+
+/* A head's reading: a range has its lowest, its highest and their midpoint, which is not rounded to a step; a point has
+ * one float, in lowest. All are exact: a float is the position, or half the sum of the two, and zero is +0. */
+enum focus_reading_kind { FOCUS_UNKNOWN = 0, FOCUS_POINT = 1, FOCUS_RANGE = 2 };
+typedef struct focus_reading {
+    float lowest, highest, midpoint;
+} focus_reading;
+
+/* No refusal: the kind of the head's reading. It is unknown before the first phase end since the start or restart, a
+ * point where the two kept entries are equal, and otherwise a range. An offer does not show until it is adopted. Floats
+ * that the kind does not have stay as they were.
+ * Promised: `kindOf` and `floatsOr` (crates/head_c/specs/Pages.antt) of `headReading` (crates/reading/specs/Readings.antt). A
+ * host that changed the rounding mode must set it back to nearest before it calls: downward, -v and v would give -0. */
+uint8_t focus_head_reading(const focus_head *head, focus_reading *reading);
+
+/* The host page of n heads whose blocks stand side by side, from head 0 up, at the front of the buffer, and its length in
+ * *length; the bytes after it stay as they were. A line for each head, with a newline: its number, then `unknown`, `point`
+ * or `range`, then none, one or three floats, each as its bits in eight lower-case hexadecimal digits, parted by single
+ * spaces. words is how many words the blocks have, 1,116 for each; a head whose block is not there in full is unknown. No
+ * page is longer than 64 * n bytes.
+ * Refusals 1, 24.
+ * Promised: `pageAnswer` and `pageIn` (crates/hostpage/specs/Page.antt) of `readingsOf` (crates/head_c/specs/Pages.antt). */
+uint8_t focus_host_page(const uint32_t *blocks, size_t words, uint32_t n, uint8_t *buffer, size_t room, size_t *length);
+
 /* ---- the head as a register window of sixteen bytes (document 02, A5): crates/head_c/src/window.rt has what its calls
  * promise, crates/head_window/specs/Window.antt says what each byte is
  *

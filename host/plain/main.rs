@@ -1,6 +1,7 @@
 //! The second implementation: it reads a run file from standard input and prints its listing, by document 01's rules written once more, plainly. It
 //! shares nothing with the proved crates and serves to compare with them. `plain --counts` prints the phases since the last strike of each head
-//! and listener instead, as host/c/counts.c does; `plain --shift` reads a script of calls on one head, and prints their lines.
+//! and listener instead, as host/c/counts.c does; `plain --shift` reads a script of calls on one head, and prints their lines; `plain --page` reads a
+//! run file and prints the host page of its last phase end.
 
 mod player;
 #[allow(dead_code)]
@@ -18,10 +19,19 @@ fn shift() -> io::Result<()> {
     output.flush()
 }
 
+/// The host page of a run file's last phase end.
+fn page() -> io::Result<()> {
+    let mut file = Vec::new();
+    io::stdin().lock().read_to_end(&mut file)?;
+    io::stdout().lock().write_all(player::page(&file)?.as_bytes())
+}
+
 fn main() -> io::Result<()> {
     let mode = std::env::args().nth(1);
-    if mode.as_deref() == Some("--shift") {
-        return shift();
+    match mode.as_deref() {
+        Some("--shift") => return shift(),
+        Some("--page") => return page(),
+        _ => {}
     }
     let input = BufReader::with_capacity(1 << 16, io::stdin().lock());
     let mut output = BufWriter::new(io::stdout().lock());

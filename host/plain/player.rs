@@ -4,6 +4,7 @@ use crate::rules::family::Family;
 use crate::rules::frames::{half, word};
 use crate::rules::head::{Head, FIRST_LISTENER, LAST_PHASE, MOST_LISTENERS};
 use crate::rules::midpoint::marked;
+use crate::rules::reading::{reading, text};
 use crate::rules::records::{LISTENERS, LONGEST, PLANTED, ROUND, START, START_ONE, STRIKE};
 use std::io::{self, Read, Write};
 
@@ -211,6 +212,26 @@ fn take(ring: &mut Option<Ring>, bytes: &[u8], output: &mut impl Write) -> io::R
         }
         _ => Ok(Err(13)),
     }
+}
+
+/// Document 02, A14: the host page as it stands at the last phase end that is played; nothing if no start is accepted. A struck head has no record, and its
+/// reading is unknown.
+pub fn page(file: &[u8]) -> io::Result<String> {
+    let mut listing = Vec::new();
+    play(file, &mut listing)?;
+    let lines = |text: &[u8]| text.iter().filter(|&&byte| byte == b'\n').count();
+    let (ends, mut shown) = (lines(&listing) - 2, 0); // without the first line and the last
+    let (mut input, mut ring) = (file, None);
+    while shown < ends {
+        let mut output = Vec::new();
+        let _ = match record(&mut input)? {
+            Some(bytes) => take(&mut ring, &bytes.unwrap(), &mut output)?,
+            None => ending(&mut ring, &mut output)?,
+        };
+        shown += lines(&output);
+    }
+    let readings = |ring: Ring| ring.heads[..ring.n].iter().map(|head| reading(head.as_ref().and_then(|head| head.kept))).collect::<Vec<_>>();
+    Ok(ring.map_or_else(String::new, |ring| text(&readings(ring))))
 }
 
 /// Plays a file and prints the lines of its phases: the ring after the last round played, and how the file ended.
