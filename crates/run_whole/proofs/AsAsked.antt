@@ -1,5 +1,5 @@
 -- The request's sentence about a quiet phase (document 02, A11): in a ring of two rounds the word of a phase end is that of its confession round.
-use mathlib.Core.Path.{_≡_, refl, ap, sym, _∙_}
+use mathlib.Core.Path.{_≡_, refl, ap, sym, subst, _∙_}
 use mathlib.Core.Bool.{Bool, true, false, not, cond, _||_}
 use mathlib.Core.List.{List, [], _∷_}
 use Prim.Native.Nat.{ℕ, zero, suc, _+_, _-_, _<_}
@@ -17,6 +17,7 @@ use Rattle.ring_spec.specs.Rounds.{Round, PhaseEnd, phaseEnd, isReceiver, isOut
 use Rattle.ring_spec.specs.Converges.{noEnd}
 use Rattle.run_spec.specs.RunFile.{File, readFile, roundsPlayed, endsPlayed, endsFrom}
 use Rattle.run_listing.specs.Held.{endIn}
+use Rattle.run_whole.specs.Whole.{endNumber}
 use Rattle.run_whole.specs.Quiet.{InNeither, QuietPhase}
 
 -- each end but the start
@@ -25,7 +26,7 @@ ByConfession es = (i : ℕ) → i + 1 < length es → getD es i noEnd .struck �
 
 by-confession : (n f : ℕ) (v : ℕ → ℤ) (ws : List Round) → ByConfession (endsAfter TwoRounds n f v ws)
 unfolding endsAfter
-by-confession n f v [] i l = absurd (omega arith)
+by-confession n f v [] = λ i l. absurd (omega arith)
 by-confession n f v (w ∷ ws) = go (by-confession n f v ws) (endsWith TwoRounds (ringAfter TwoRounds n f v ws .round))
   where
     x : PhaseEnd
@@ -47,8 +48,8 @@ file-by-confession F two = go (F .setup .begun)
     S K = endsAfter K (F .setup .n) (F .setup .f) (F .setup .first) (roundsPlayed F)
 
     go : (b : Bool) → ByConfession (cond b (S (F .setup .family)) [])
-    go true = rw two (by-confession (F .setup .n) (F .setup .f) (F .setup .first) (roundsPlayed F))
-    go false i l = absurd (omega arith)
+    go true = subst (λ (K : Family). ByConfession (S K)) (sym two) (by-confession (F .setup .n) (F .setup .f) (F .setup .first) (roundsPlayed F))
+    go false = λ i l. absurd (omega arith)
 
 -- there, and left by the marks
 left-by : (there marked : Bool) → there ≡ true → marked ≡ false → (not there || marked) ≡ false
@@ -59,17 +60,19 @@ left-by false marked t m = sym t
 head-there : (n m i : ℕ) → i < n → isReceiver n m i ≡ true
 head-there n m i l = rw (lt-ltb i n l)
 
-numberIn : Entry → ℤ
+abbrev numberIn : Entry → ℤ
 numberIn Null = pos 0
 numberIn (Position v) = v
 
 pub quiet-phase : QuietPhase
 unfolding endIn
-quiet-phase s r B B′ W two e l none i j I J =
+quiet-phase s r B B′ W two e l none i j a b =
     let F = readFile s in
     let n = F .setup .n in
     let m = F .setup .listeners in
-    let word = W .rows (e + 1) l .marks ∙ file-by-confession F two _ (omega (arith, W .count)) in
-    let left = λ (k : ℕ) (there : isReceiver n m k ≡ true) (q : bitOf _ k ≡ false). left-by (isReceiver n m k) _ there (ap (λ (x : ℕ). bitOf x k) word ∙ q) in
+    let x = endNumber (endsPlayed F) (e + 1) in
+    let word : getD (B′ .words) (e + 1) 0 ≡ x .confess = W .rows (e + 1) l .marks ∙ file-by-confession F two _ (omega (arith, W .count)) in
+    let left : (k : ℕ) → isReceiver n m k ≡ true → bitOf (x .confess) k ≡ false → (not (isReceiver n m k) || bitOf (getD (B′ .words) (e + 1) 0) k) ≡ false =
+    λ k there q. left-by (isReceiver n m k) _ there (ap (λ (w : ℕ). bitOf w k) word ∙ q) in
     ap numberIn
-    (W .quiet e l (λ k b. left k (head-there n m k b) (none k b .1)) i j (I .below) (J .below) (left i (I .there) (I .confess)) (left j (J .there) (J .confess)))
+    (W .quiet e l (λ k h. left k (head-there n m k h) (none k h .1)) i j (a .below) (b .below) (left i (a .there) (a .confess)) (left j (b .there) (b .confess)))
