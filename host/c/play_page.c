@@ -32,12 +32,13 @@ static int is_member(const struct ring *r, uint32_t i) {
     return i < r->n || (32 <= i && i < 32 + r->listeners);
 }
 
-static const uint8_t *start(struct ring *r, size_t bytes) {
+/* The start, and the listeners of a record just after it; if no phase was played, that record may be a faulty one, and nobody hears anything. */
+static const uint8_t *start(struct ring *r, size_t bytes, size_t phases) {
     const uint8_t *at = file + size_of(file);
     *r = (struct ring){.n = file[4], .f = file[5], .phase = 1, .once = file[2] == 0x14};
     for (uint32_t i = 0; i < r->n; i++)
         same("start", (r->once ? focus_one_round_start : focus_head_start)(&heads[i], r->n, r->f, i, (int32_t)get4(file + 6 + 4 * i)), 0);
-    if (!is_kind(at, bytes, 0x15))
+    if (phases == 0 || !is_kind(at, bytes, 0x15))
         return at;
     r->listeners = at[4];
     for (uint32_t i = 32; i < 32 + r->listeners; i++)
@@ -140,7 +141,7 @@ int main(void) {
     focus_play(file, bytes, out, FOCUS_PLAY_OUT(bytes, phase), rows, FOCUS_PLAY_ROWS(bytes, phase), words, FOCUS_PLAY_ENDS(bytes, phase), &length, &ends);
     if (ends > 0) {
         struct ring r;
-        const uint8_t *at = start(&r, bytes);
+        const uint8_t *at = start(&r, bytes, ends - 1);
         for (size_t rounds = (ends - 1) * (r.once ? 1 : 2); rounds > 0; rounds--)
             at = play_round(&r, at, bytes);
         as_row(&r, rows + 48 * (ends - 1), words[ends - 1]);
