@@ -198,7 +198,8 @@ fn window(wanted: Wanted) -> Option<Row> {
     row(wanted, "reading the sixteen bytes of a window".to_owned(), MANY * MANY, (&blocks, &export), (&devices, &plain))
 }
 
-/// The host page of 32 heads that read in all three ways: the last phase end of head i kept 15,000 i and i % 2 steps more, but every fifth has passed none.
+/// The host page of 32 heads that read in all three ways: the last phase end of head i kept 15,000 i and i % 2 steps more, but every fifth head
+/// has passed none.
 fn host_page(wanted: Wanted) -> Option<Row> {
     let frame = |link: usize, i: usize| frames::write(&Said::Position(15_000 * i as i32 + (link * i % 2) as i32), link, 1);
     let block = |i: usize| {

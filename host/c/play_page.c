@@ -1,6 +1,6 @@
-/* The host page of a run file's last phase end (document 02, A14). The file, on standard input, is played by focus_play; then a ring of blocks that C keeps is driven by
- * the same records up to the last phase end that was played, and must hold the same positions. A head struck in that phase's last round has lost its memory, and its
- * reading is unknown. A file without an accepted start has no page. */
+/* The host page of a run file's last phase end (document 02, A14). The file, on standard input, is played by focus_play; then a ring of
+ * blocks that C keeps is driven by the same records up to the last phase end that was played, and must hold the same positions. A head struck
+ * in that phase's last round has lost its memory, and its reading is unknown. A file without an accepted start has no page. */
 #include "check.h"
 
 #define MOST (1 << 22) /* bytes of a file here */
@@ -32,7 +32,7 @@ static int is_member(const struct ring *r, uint32_t i) {
     return i < r->n || (32 <= i && i < 32 + r->listeners);
 }
 
-/* The start, and the listeners of a record just after it; if no phase was played, that record may be a faulty one, and nobody hears anything. */
+/* The start, and the listeners of a record just after it; if no phase was played, that record may be a faulty one. */
 static const uint8_t *start(struct ring *r, size_t bytes, size_t phases) {
     const uint8_t *at = file + size_of(file);
     *r = (struct ring){.n = file[4], .f = file[5], .phase = 1, .once = file[2] == 0x14};
@@ -50,7 +50,8 @@ static void restart(const struct ring *r, uint32_t i) {
     if (i < 32)
         same("restart", (r->once ? focus_one_round_restart : focus_head_restart)(&heads[i], r->n, r->f, i, r->phase, r->round), 0);
     else
-        same("restart a listener", (r->once ? focus_one_round_listener_restart : focus_listener_restart)(&heads[i], r->n, r->f, i, r->phase, r->round), 0);
+        same("restart a listener",
+             (r->once ? focus_one_round_listener_restart : focus_listener_restart)(&heads[i], r->n, r->f, i, r->phase, r->round), 0);
 }
 
 /* What the round's records say. */
@@ -138,7 +139,8 @@ int main(void) {
     int32_t *rows = malloc(sizeof *rows * FOCUS_PLAY_ROWS(bytes, phase));
     uint64_t *words = malloc(sizeof *words * FOCUS_PLAY_ENDS(bytes, phase));
     same("room", bytes < sizeof file && out != NULL && rows != NULL && words != NULL, 1);
-    focus_play(file, bytes, out, FOCUS_PLAY_OUT(bytes, phase), rows, FOCUS_PLAY_ROWS(bytes, phase), words, FOCUS_PLAY_ENDS(bytes, phase), &length, &ends);
+    focus_play(file, bytes, out, FOCUS_PLAY_OUT(bytes, phase), rows, FOCUS_PLAY_ROWS(bytes, phase), words, FOCUS_PLAY_ENDS(bytes, phase),
+               &length, &ends);
     if (ends > 0) {
         struct ring r;
         const uint8_t *at = start(&r, bytes, ends - 1);

@@ -1,7 +1,8 @@
-/* Readings and the host page (document 02, A14), beside C's own floats. Heads of one-round rings of two settle on pairs of positions, so that they keep exactly these:
- * every position as a point and with its neighbour, its opposite and the two ends of the range, and pairs from a seed. The bits of each float must be those of C's
- * arithmetic in double precision, which holds them all. Then the page of a ring whose heads read in all three ways, byte for byte, with its refusals.
- * Usage: readings [STEP], by which positions are taken; 1 if none is given. The number of checks is printed; the first that fails stops the program. */
+/* Readings and the host page (document 02, A14), beside C's own floats. A head of a one-round ring of two settles on pairs of positions, so
+ * that it keeps exactly these: every position as a point and with its neighbour, its opposite and the two ends of the range, and pairs from a
+ * seed. The bits of each float must be those of C's arithmetic in double precision, which holds them all. Then the page of heads that read in
+ * all three ways, byte for byte, with its refusals. The number of checks is printed; the first that fails stops the program.
+ * Usage: readings [STEP], by which positions are taken; 1 if none is given. */
 #include "check.h"
 
 #define BACK 0x5a /* what buffers hold before a call */

@@ -259,7 +259,8 @@ impl Writer<'_> {
         if self.n == 0 { self.hear(0, frames::write(&Said::Silence, 0, 0)) } else { Ok(()) }
     }
 
-    /// What a camera host reads: the reading, and the page of some heads like this one, the last of them perhaps cut short, into a buffer of any length.
+    /// What a camera host reads: the reading, and the page of some heads like this one, the last of them perhaps cut short, into a buffer of
+    /// any length.
     fn host(&mut self) -> Result<(), String> {
         (self.ask)(Call::Reading { out: four(self.random).map(|x| x as f32)[..3].try_into().unwrap() })?;
         let heads = 1 + self.random.below(4);

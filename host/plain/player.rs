@@ -214,8 +214,8 @@ fn take(ring: &mut Option<Ring>, bytes: &[u8], output: &mut impl Write) -> io::R
     }
 }
 
-/// Document 02, A14: the host page as it stands at the last phase end that is played; nothing if no start is accepted. A struck head has no record, and its
-/// reading is unknown.
+/// Document 02, A14: the host page as it stands at the last phase end that is played; nothing if no start is accepted. A struck head has no
+/// record, and its reading is unknown.
 pub fn page(file: &[u8]) -> io::Result<String> {
     let mut listing = Vec::new();
     play(file, &mut listing)?;
@@ -230,8 +230,8 @@ pub fn page(file: &[u8]) -> io::Result<String> {
         };
         shown += lines(&output);
     }
-    let readings = |ring: Ring| ring.heads[..ring.n].iter().map(|head| reading(head.as_ref().and_then(|head| head.kept))).collect::<Vec<_>>();
-    Ok(ring.map_or_else(String::new, |ring| text(&readings(ring))))
+    let shown = |head: &Option<Head>| reading(head.as_ref().and_then(|head| head.kept));
+    Ok(ring.map_or_else(String::new, |ring| text(&ring.heads[..ring.n].iter().map(shown).collect::<Vec<_>>())))
 }
 
 /// Plays a file and prints the lines of its phases: the ring after the last round played, and how the file ended.

@@ -10,7 +10,7 @@ pub enum Reading {
     Range(f32, f32, f32),
 }
 
-/// Of what the last phase end since the start or restart kept. Double precision holds every half of a sum, and a 32-bit float holds what comes out.
+/// Of what the last phase end since the start or restart kept. Double precision holds half of every sum, and a 32-bit float what comes out.
 pub fn reading(kept: Option<Kept>) -> Reading {
     match kept {
         None => Reading::Unknown,
