@@ -13,8 +13,10 @@ use Rattle.reading.specs.declared.Reading.{Reading}
 use Rattle.reading.specs.Readings.{readingOf, headReading}
 use Rattle.hostpage.specs.Page.{pageAnswer, pageIn}
 use Rattle.hostpage.proofs.Pages.{many-heads}
-use Rattle.head_c.specs.Blocks.{seatOf, headOf}
-use Rattle.head_c.specs.Pages.{kindOf, floatsOr, blockAt, readingAt, readingsOf}
+use Rattle.reading.proofs.Heads.{reading-holds}
+use Rattle.head_c.specs.Blocks.{seatOf, headOf, offerOf}
+use Rattle.head_c.specs.Pages.{kindOf, floatsOr, blockAt, readingAt, readingsOf, MadeReads}
+use Rattle.head_c.proofs.Made.{made-offers}
 
 -- ---- a head's reading
 
@@ -28,6 +30,9 @@ pub shown : {r x y : Reading} {n : ℕ} {v : List Float} (old : List Float) → 
 shown old p q a b =
     let same = sym q ∙ p in
     (a ∙ ap kindOf same, b ∙ ap (λ (z : Reading). floatsOr z old) same)
+
+pub made-reads : MadeReads
+made-reads w m = let (x, O) = made-offers w m in (x, (O, reading-holds (headOf w) (offerOf w) x O))
 
 -- ---- blocks side by side
 

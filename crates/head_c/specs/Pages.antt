@@ -5,9 +5,13 @@ use Prim.Native.Nat.{ℕ, _*_, _/_}
 use lib.Dec.{ltb}
 use lib.ListN.{length, take, drop, set}
 use lib.Ieee.{Float}
+use Rattle.head_spec.specs.declared.LastKept.{LastKept}
+use Rattle.head_spec.specs.Offers.{Offering}
 use Rattle.reading.specs.declared.Reading.{Reading}
 use Rattle.reading.specs.Readings.{headReading}
-use Rattle.head_c.specs.Blocks.{upTo, headOf}
+use Rattle.reading.specs.Heads.{ReadsAdopted}
+use Rattle.head_c.specs.Blocks.{upTo, headOf, offerOf}
+use Rattle.head_c.specs.Made.{Made}
 
 -- 0 unknown, 1 a point, 2 a range
 abbrev pub kindOf : Reading → ℕ
@@ -32,3 +36,8 @@ readingAt w k = cond (ltb k (length w / 1116)) (headReading (headOf (blockAt w k
 -- those of 32 heads
 unfoldable pub readingsOf : List ℕ → List Reading
 readingsOf w = upTo 32 (readingAt w)
+
+-- of a block that C's calls made: unknown while nothing was adopted since its start or restart, else a point or a range of what was adopted last, x; what
+-- is offered beside it does not show
+abbrev pub MadeReads : Type 0
+MadeReads = (w : List ℕ) → Made w → (x : LastKept) × (Offering (headOf w) (offerOf w) x × ReadsAdopted x (headReading (headOf w)))
