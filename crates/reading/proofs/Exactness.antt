@@ -1,6 +1,5 @@
--- What is claimed of the floats of positions. `exact k z` is z / 2 ^ k by its definition (`exact-is`), and for the numbers met here an f32 holds it (`exact-holds`) and
--- no other f32 is that number with that sign (`exact-only`). A position as a float is `exact 0`, and the f32 sum of two positions times one half is `exact 1` of their
--- sum (`cast-exact`, `midpoint-exact`): the code's operations round nothing.
+-- Nothing is rounded (`NothingRounded`). `exact k z` is z / 2 ^ k (`exact-is`), an f32 holds it (`exact-holds`), and no other f32 is that number with that sign
+-- (`exact-only`). A sum of positions stays below 2 ^ 24, so `round` leaves it and its half as they are.
 use mathlib.Core.Path.{_≡_, refl, sym, ap, _∙_, subst}
 use mathlib.Core.Bool.{Bool, true, false, cond, not, _&&_}
 use Prim.Native.Nat.{ℕ, zero, suc, _+_, _-_, _*_, _^_, _≤_, _<_}
@@ -15,6 +14,7 @@ use lib.Ieee.{Float, fin, Format, binary32, odd, round, sum, add, mul, fits, ofI
 use lib.Ieee.Exact.{HasValue, odd-sign}
 use Rattle.terms.specs.Positions.{isPosition}
 use Rattle.reading.specs.Exact.{exact, Is}
+use Rattle.reading.specs.Exactness.{NothingRounded}
 use Rattle.reading.proofs.OneFloat.{one-float}
 use Rattle.reading.proofs.Unrounded.{odd-holds, odd-is, round-odd, add-whole, mul-half, one-half}
 
@@ -137,3 +137,6 @@ midpoint-exact a b s t =
     ap (λ (x : Float). mul binary32 x (ofBits binary32 0x3f00_0000)) (sum-exact a b h l)
     ∙ ap (mul binary32 (exact 0 (a +ℤ b))) half-is
     ∙ half-exact (a +ℤ b) (omega (arith, sum-size a b))
+
+pub nothing-rounded : NothingRounded
+nothing-rounded = record { cast = cast-exact; midpoint = midpoint-exact }

@@ -12,7 +12,8 @@ use lib.Ieee.Exact.{HasValue}
 use Rattle.reading.specs.Exact.{exact}
 use Rattle.reading.specs.Bits.{fieldsOf, bitsOf}
 use Rattle.reading.proofs.OneFloat.{bitsAt, bits-of-value}
-use Rattle.reading.proofs.Exactness.{exact-is}
+use Rattle.reading.specs.Exactness.{RightFloat}
+use Rattle.reading.proofs.Exactness.{exact-is, exact-holds, exact-only}
 
 -- ---- how many binary digits
 
@@ -90,3 +91,6 @@ bits-of-exact k (pos (suc n)) l h =
     ∙ zero-add (fieldsOf k (suc n))
 bits-of-exact k (negsuc n) l h =
     bits-of-value binary32 (exact k (negsuc n)) true (suc n) (2 ^ k) (pow-pos k) (exact-is k (negsuc n)) ∙ two-fields (suc n) k (zero-lt-suc n) h l true
+
+pub right-float : RightFloat
+right-float = record { is = exact-is; holds = exact-holds; only = exact-only; bits = bits-of-exact }

@@ -1,5 +1,7 @@
--- Exact: a number as a float. Readings: what a host reads of a head. Heads: how calls change it. Bits: a float's bits from whole numbers.
+-- Exact: a number as a float. Bits: its bits from whole numbers. Exactness: what is claimed of floats. Readings: what a host reads of a head. Heads: how calls
+-- change it.
 pub mod Exact
+pub mod Bits
+pub mod Exactness
 pub mod Readings
 pub mod Heads
-pub mod Bits
