@@ -197,11 +197,17 @@ static void line_as_row(const char *line, size_t e, unsigned n, unsigned m) {
     same("spread", spread, most - least);
 }
 
-/* The lines of a listing that ends with a zero byte are what the rows and words say, and its last line says how the file ended. */
+/* The lines of a listing that ends with a zero byte are what the rows and words say, and its last line says how the file ended. Each line is copied, since sscanf looks
+ * for the end of all that it is given. */
 static void lines_as_rows(const char *listing, size_t ends, uint8_t number) {
-    const char *line = strchr(listing, '\n') + 1;
-    for (size_t e = 0; e < ends; e++, line = strchr(line, '\n') + 1)
-        line_as_row(line, e, file[4], listeners());
+    const char *line = strchr(listing, '\n') + 1, *next;
+    for (size_t e = 0; e < ends; e++, line = next) {
+        char copy[64] = {0};
+        next = strchr(line, '\n') + 1;
+        same("a line's length", next - line < 64, 1);
+        memcpy(copy, line, (size_t)(next - line));
+        line_as_row(copy, e, file[4], listeners());
+    }
     unsigned told = 0;
     same("last line", number, strcmp(line, "end\n") == 0 ? 0 : sscanf(line, "refused %u\n", &told) == 1 ? (long long)told : -1);
 }
