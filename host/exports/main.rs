@@ -37,7 +37,7 @@ use tally::{Tally, CALLS};
 /// So many calls are known to meet every answer.
 const ENOUGH: u64 = 100_000;
 /// How often each of the camera's calls is made for a seed.
-const EACH: usize = 36;
+const EACH: usize = 24;
 
 /// A block between two others that no call may touch, and the second implementation's head.
 struct Pair {

@@ -1,5 +1,5 @@
-// What the camera's C firmware calls: the frame check, the midpoint, limits, reach and the scale both ways, on plain numbers and byte slices. host/include/focus.h
-// declares them.
+// What the camera's C firmware calls: the frame check, the midpoint, limits, reach and the scale both ways, on plain numbers and byte
+// slices. host/include/focus.h declares them.
 // Each returns 0 or the refusal's number; a result goes to memory that the caller lends, which a refusal leaves as it was.
 ghost use mathlib.Core.Path.{_≡_};
 ghost use Rattle.terms.specs.declared.Family.{Family};
@@ -138,7 +138,8 @@ fn put_reached(reached: Reached, position: &mut i32) -> u8
     }
 }
 
-// The lowest position for the open entry which brings the wanted one: 0 and the position, or -2147483648 if none does; or 1, 2, 5, 3, 8, 10, 11, 25.
+// The lowest position for the open entry which brings the wanted one: 0 and the position, or -2147483648 if none does; or 1, 2, 5, 3, 8,
+// 10, 11, 25.
 #[no_mangle]
 pub extern "C" fn focus_reach(
     n: u32,

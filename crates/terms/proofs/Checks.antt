@@ -1,5 +1,5 @@
 -- Checks in a row, each with a number that is not 0. A row gives 0 exactly if each test holds and what stands at its end is 0; if a test fails it
--- gives that test's number, whatever stands at its end. Both laws speak of one check and the row after it, so that a row is taken check by check.
+-- gives that test's number, whatever stands at its end. Each law speaks of one check and the row after it, so that a row is taken check by check.
 use mathlib.Core.Path.{_≡_, refl}
 use mathlib.Core.Bool.{Bool, true, false, cond}
 use Prim.Native.Nat.{ℕ, suc}
