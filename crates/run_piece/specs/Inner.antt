@@ -11,7 +11,6 @@ use Rattle.run_record.specs.declared.RecordResult.{RecordResult}
 use Rattle.run_state.specs.Changes.{halted}
 use Rattle.run_record.specs.Next.{allowedTo}
 use Rattle.run_piece.specs.declared.FeedResult.{FeedResult}
-pub use Rattle.run_piece.specs.Steps.{Quiet, Used, Reads, Waits, withLast, Passes}
 
 -- r bytes are missing: to the end of the header, or to the end of the record
 pub record Missing (have : ℕ) (carry : List ℕ) (r : ℕ) : Type 0 where

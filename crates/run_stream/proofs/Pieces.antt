@@ -17,7 +17,7 @@ use Rattle.run_state.specs.Changes.{halted}
 use Rattle.texts.proofs.Writing.{empty-text}
 use Rattle.run_piece.specs.declared.FeedResult.{FeedResult}
 use Rattle.run_piece.specs.Advances.{StateAt, Advances, endHere, Grown, none, one, AdvancesOnce}
-use Rattle.run_piece.specs.Inner.{Quiet}
+use Rattle.run_piece.specs.Steps.{Quiet}
 use Rattle.run_piece.proofs.Growing.{line-some}
 use Rattle.run_piece.proofs.Feeding.{Idle, shows-there, used-as}
 

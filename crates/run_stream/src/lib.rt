@@ -7,7 +7,7 @@ ghost use lib.ListN.{length, take};
 ghost use Rattle.texts.specs.Texts.{bytesOf};
 ghost use Rattle.run_state.specs.Memory.{memoryBefore, memoryAfter, Memory};
 ghost use Rattle.run_piece.specs.Advances.{StateAt, AdvancesOnce, Advances};
-ghost use Rattle.run_piece.specs.Inner.{Used, Reads, Waits, withLast, Passes};
+ghost use Rattle.run_piece.specs.Steps.{Used, Reads, Waits, withLast, Passes};
 ghost use Rattle.run_stream.specs.Ends.{Ends, EndsWith};
 ghost use Rattle.run_stream.specs.Pages.{Fills};
 ghost use Rattle.run_spec.specs.Listing.{title};

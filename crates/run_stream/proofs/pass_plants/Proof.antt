@@ -10,7 +10,7 @@ use borrow.Author.Tests.{not-false}
 use Rattle.run_spec.specs.declared.Pair.{Pair}
 use Rattle.run_state.specs.declared.Player.{Player}
 use Rattle.run_state.specs.Memory.{Memory, withSlots}
-use Rattle.run_piece.specs.Inner.{Waits, withLast}
+use Rattle.run_piece.specs.Steps.{Waits, withLast}
 use Rattle.run_piece.proofs.Feeding.{none-there, used-as}
 use Rattle.run_stream.proofs.Pieces.{Still, moved-within, still-first, last-step, still-more, steps-here}
 use Rattle.run_stream.proofs.pass_plants.Statement.{statement}
