@@ -1,13 +1,15 @@
 -- Demand 3 of the positions in memory. Before the first round of a phase the ring stands at the latest phase end, and the memory holds the position of each receiver that
--- is not out there, so it keeps demand 3 with each end as the latest end does.
+-- is not out there, so it keeps demand 3 with each end as the latest end does. What it holds of all listeners it holds of the first ones.
 use mathlib.Core.Path.{_≡_, refl, ap, sym, _∙_}
-use mathlib.Core.Bool.{Bool, true, false, not, _||_, true≢false}
+use mathlib.Core.Bool.{Bool, true, false, not, _&&_, _||_, true≢false}
 use mathlib.Core.List.{List, [], _∷_}
-use Prim.Native.Nat.{ℕ, _<_}
+use Prim.Native.Nat.{ℕ, _+_, _≤_, _<_}
 use native.Mathlib.Omega.{arith}
 use native.Mathlib.Nat.{zero-add}
+use lib.Dec.{ltb, leb}
 use lib.ListN.{length, getD}
 use lib.IntN.{ℤ, pos}
+use borrow.Author.Tests.{ltb-true, lt-ltb}
 use Rattle.terms.specs.declared.Entry.{Entry}
 use Rattle.terms.specs.declared.Entry.the-variants.{Null, Position}
 use Rattle.terms.specs.declared.Family.{Family}
@@ -19,11 +21,11 @@ use Rattle.convergence.specs.Phases.{lowest, highest, spread}
 use Rattle.convergence.specs.Counting.{Each}
 use Rattle.convergence.specs.Demand3.{HeldBetween, Demand3, Halves}
 use Rattle.head_spec.specs.declared.Head.{Head}
-use Rattle.ring_spec.specs.Rounds.{Round, roundThen, afterRound, PhaseEnd, phaseEnd, receivers, isReceiver, isOut, asEnd, withEnd, ringAfter, endsAfter}
+use Rattle.ring_spec.specs.Rounds.{Round, Ring, roundThen, afterRound, PhaseEnd, phaseEnd, receivers, isReceiver, isOut, asEnd, withEnd, ringAfter, endsAfter}
 use Rattle.ring_spec.specs.Converges.{noEnd, AnyTwo}
 use Rattle.run_spec.specs.RunFile.{File, readFile, ringFrom, endsFrom}
 use Rattle.run_spec.proofs.Reached.{taken}
-use Rattle.run_spec.proofs.Demand3.{playedWith, played-converges}
+use Rattle.run_spec.proofs.Demand3.{playedWith, some-converge, played-converges}
 use Rattle.run_listing.specs.Held.{endIn}
 use Rattle.run_listing.proofs.Lowest.{found-held}
 use Rattle.run_state.specs.Memory.{Memory}
@@ -46,6 +48,21 @@ not-out : (r c : Bool) → (not r || c) ≡ false → (r ≡ true) × (c ≡ fal
 not-out true true e = absurd (true≢false e)
 not-out true false e = (refl, refl)
 not-out false c e = absurd (true≢false e)
+
+-- whoever is there with m listeners is there with more
+pub more-receive : (n m M i : ℕ) → m ≤ M → isReceiver n m i ≡ true → isReceiver n M i ≡ true
+more-receive n m M i l = go (ltb i n) (leb 32 i) (ltb i (32 + m)) refl
+  where
+    go : (a b c : Bool) → ltb i (32 + m) ≡ c → (a || (b && c)) ≡ true → (a || (b && ltb i (32 + M))) ≡ true
+    go true b c q e = refl
+    go false true true q e = lt-ltb i (32 + M) (omega (arith, ltb-true i (32 + m) q))
+    go false true false q e = absurd (true≢false (sym e))
+    go false false c q e = absurd (true≢false (sym e))
+
+-- what the memory holds of all listeners it holds of the first k
+fewer-listeners : {n m k : ℕ} {R : Ring} {M : Memory} → k ≤ m → HeadsOf n m R M → HeadsOf n k R M
+fewer-listeners {n} {m} {k} l H =
+    record { collection = H .collection; confession = H .confession; always = λ i h r. H .always i h (more-receive n k m i l r) }
 
 -- what a phase end shows is the round's own
 phase-end-as : (K : Family) (before struck : ℕ) (heads : ℕ → Head)
@@ -111,8 +128,8 @@ module _ (b : Bool) (a : List ℕ) where
 
   pub held-converges : {M : Memory} → (F .setup .begun ≡ true → HeadsOf (F .setup .n) (F .setup .listeners) (ringFrom (F .setup) (playedWith b F)) M)
       → ConvergedIn F (playedWith b F) (M .positions)
-  held-converges K begun c =
-      converged (F .setup .family) (F .setup .n) (F .setup .listeners) (F .setup .f) (F .setup .first) (playedWith b F) (played-converges F (taken a begun) b) (K begun) c
+  held-converges K begun m l c =
+      converged (F .setup .family) (F .setup .n) m (F .setup .f) (F .setup .first) (playedWith b F) (some-converge F (taken a begun) b m l) (fewer-listeners l (K begun)) c
 
   -- x: the latest end
   pub held-at-end : {M : Memory} → F .setup .begun ≡ true → HeadsOf (F .setup .n) (F .setup .listeners) (ringFrom (F .setup) (playedWith b F)) M

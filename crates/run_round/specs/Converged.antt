@@ -1,10 +1,10 @@
 -- Demand 3 of what the player holds. When the rounds ws were played and the last of them ended a phase, or there was none, the positions in memory are a
 -- phase end, and it keeps demand 3 with each phase end played, k phases before it, the start among them. Whoever is out at the latest end is out in memory: at the
--- start that is every listener.
+-- start that is every listener. It speaks of the heads and the first m listeners: of the heads alone (m = 0), as the order has it, up to all listeners.
 use mathlib.Core.Bool.{true}
 use mathlib.Core.List.{List}
 use mathlib.Core.Path.{_≡_}
-use Prim.Native.Nat.{ℕ, _<_}
+use Prim.Native.Nat.{ℕ, _≤_, _<_}
 use lib.ListN.{length, getD}
 use lib.IntN.{ℤ}
 use Rattle.terms.specs.declared.Family.{Family}
@@ -22,4 +22,5 @@ Converged K n m f v ws positions =
 
 -- of a file that has begun, when its rounds ws were played
 abbrev pub ConvergedIn : File → List Round → List ℤ → Type 0
-ConvergedIn F ws positions = F .setup .begun ≡ true → Converged (F .setup .family) (F .setup .n) (F .setup .listeners) (F .setup .f) (F .setup .first) ws positions
+ConvergedIn F ws positions =
+    F .setup .begun ≡ true → (m : ℕ) → m ≤ F .setup .listeners → Converged (F .setup .family) (F .setup .n) m (F .setup .f) (F .setup .first) ws positions

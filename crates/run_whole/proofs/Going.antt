@@ -8,11 +8,10 @@ use Prim.Native.Nat.{ℕ, suc, _+_, _-_, _≤_, _<_}
 use native.Mathlib.Omega.{arith}
 use native.Mathlib.Decide.{decLt}
 use native.Mathlib.Nat.{le-refl}
-use lib.Dec.{eqb, ltb, leb}
+use lib.Dec.{eqb}
 use lib.ListN.{length, getD, take}
 use lib.Seq.{length-take-le, take-all}
 use lib.IntN.{ℤ, pos}
-use borrow.Author.Tests.{ltb-true, lt-ltb}
 use Rattle.terms.specs.declared.Entry.{Entry}
 use Rattle.convergence.specs.Counting.{Each}
 use Rattle.convergence.specs.Phases.{spread}
@@ -29,7 +28,7 @@ use Rattle.run_spec.proofs.Whole.{kept}
 use Rattle.run_spec.proofs.Bytes.{length-then, first-begun, from}
 use Rattle.run_spec.proofs.Ends.{few-so-far, few-ends}
 use Rattle.run_record.proofs.Records.{start-place, listeners-place}
-use Rattle.run_round.proofs.Converging.{held-at-end}
+use Rattle.run_round.proofs.Converging.{more-receive, held-at-end}
 use Rattle.texts.specs.declared.Text.{Text}
 use Rattle.texts.specs.Texts.{bytesOf}
 use Rattle.run_state.specs.declared.Player.{Player}
@@ -239,16 +238,6 @@ last-struck F x = go (eqb (ending F) 0) (F .rounds .pending)
     go true true e = refl
     go true false e = absurd (more (endsSoFar F) e)
     go false w e = absurd (more (endsSoFar F) e)
-
--- whoever is there with m listeners is there with more
-more-receive : (n m M i : ℕ) → m ≤ M → isReceiver n m i ≡ true → isReceiver n M i ≡ true
-more-receive n m M i l = go (ltb i n) (leb 32 i) (ltb i (32 + m)) refl
-  where
-    go : (a b c : Bool) → ltb i (32 + m) ≡ c → (a || (b && c)) ≡ true → (a || (b && ltb i (32 + M))) ≡ true
-    go true b c q e = refl
-    go false true true q e = lt-ltb i (32 + M) (omega (arith, ltb-true i (32 + m) q))
-    go false true false q e = absurd (true≢false (sym e))
-    go false false c q e = absurd (true≢false (sym e))
 
 -- neither missing nor struck
 sound-in : (n m M i : ℕ) (c : Bool) → m ≤ M → (not (isReceiver n m i) || c) ≡ false → (isReceiver n M i && not c) ≡ true
