@@ -1,5 +1,5 @@
 -- What a step makes of the file read so far: after a fault nothing, of bytes that end inside a record the bytes kept, of a whole record what it is judged.
-use mathlib.Core.Path.{_≡_, refl, ap, sym, _∙_}
+use mathlib.Core.Path.{_≡_, refl, ap, ap₂, sym, _∙_}
 use mathlib.Core.Bool.{Bool, true, false}
 use mathlib.Core.List.{List, [], _++_, append-nil}
 use Prim.Native.Nat.{ℕ, zero, suc, _+_, _≤_, _<_}
@@ -20,7 +20,7 @@ use Rattle.texts.specs.Texts.{bytesOf}
 use Rattle.run_state.specs.declared.Player.{Player}
 use Rattle.run_record.specs.declared.RecordResult.{RecordResult}
 use Rattle.run_state.specs.Memory.{Memory}
-use Rattle.run_state.specs.Changes.{halted}
+use Rattle.run_state.specs.Changes.{halted, pairIn, withPairPlanted}
 use Rattle.run_state.specs.State.{PlayerOf, MemoryOf}
 use Rattle.run_state.proofs.Told.{part-tells, allowed-as}
 use Rattle.run_record.specs.Next.{allowedTo, recordTaken, plantTaken, Next, NextQuiet, afterPlant}
@@ -29,7 +29,7 @@ use Rattle.run_round.proofs.Converging.{held-converges}
 use Rattle.run_record.proofs.Records.{stopped-next, plant-place, taken-allowed, plant-taken}
 use Rattle.run_piece.specs.declared.FeedResult.{FeedResult}
 use Rattle.run_piece.specs.Advances.{StateAt, Advances, GrownTo, AdvancesOnce}
-use Rattle.run_piece.specs.Steps.{Quiet, Used, Waits, withLast}
+use Rattle.run_piece.specs.Steps.{Quiet, Used, Waits}
 use Rattle.run_piece.specs.Inner.{Missing, BeginsWhole, Plants, headedTo, RecordTaken}
 use Rattle.run_piece.proofs.Growing.{grown-none, judged-grown}
 
@@ -130,6 +130,10 @@ module _ {rest : List ℕ} {used : ℕ} (P : Plants rest used) where
         allowed = rw (P .kind, W .pending, ← P .long) (P .allowed);
       }
 
+-- a player that waits is whole: with its own last pair it is the same
+pub waits-as : {p : Player} {count number marks : ℕ} {pair : Pair} → Waits p count number marks pair → withPairPlanted p pair ≡ p
+waits-as {p} W = ap (withPairPlanted p) (sym (W .last)) ∙ sym (ap₂ (halted p) (W .fresh) (W .sound))
+
 -- a player that is halted at once is the same but for part and fault
 halts : (p : Player) {q : Player} {h c : ℕ} → q ≡ halted p h c → q ≡ halted p (q .have) (q .fault)
 halts p e = rw e refl
@@ -182,28 +186,28 @@ module _ {a : List ℕ} {p : Player} {before : List ℕ} {M : Memory} (L : State
 
   module _ {count number marks : ℕ} {pair : Pair} (W : Waits p count number marks pair) where
     -- nothing is taken
-    pub none-passed : AdvancesOnce a [] p M (withLast p pair) [] before M
-    none-passed = rw (← W .last) (none-there L)
+    pub none-passed : AdvancesOnce a [] p M (withPairPlanted p pair) [] before M
+    none-passed = rw (waits-as W) (none-there L)
 
     module _ {used : ℕ} {b : List ℕ} {M′ : Memory} (rest : List ℕ) (P : Plants rest used) (e : b ≡ take used rest) where
       -- a planted record with a fault is left
-      pub plant-left : (c : ℕ) → (c ≡ 0 → ⊥) → JudgesPlant p b (afterPlant p c b) M M′ → AdvancesOnce a [] p M (withLast p pair) [] before M′
+      pub plant-left : (c : ℕ) → (c ≡ 0 → ⊥) → JudgesPlant p b (afterPlant p c b) M M′ → AdvancesOnce a [] p M (withPairPlanted p pair) [] before M′
       plant-left zero h N = absurd (h refl)
       plant-left (suc c) h N =
           let n = N F (L .player) (L .memory) (record { len = 0; bytes = [] }) refl in
           rw (n .refused (λ z. omega (arith, n .player .fault)) .0) none-passed
 
       -- any other is taken
-      pub plant-there : {from to c : ℕ} → c ≡ 0 → JudgesPlant p b (afterPlant p c b) M M′ → from ≡ getD rest 4 0 → to ≡ getD rest 5 0
-          → AdvancesOnce a (take used rest) p M (withLast p (record { some = true; from = from; to = to })) [] before M′
-      plant-there {from} {to} {c} z N f g =
+      pub plant-there : {last : Pair} {c : ℕ} → c ≡ 0 → JudgesPlant p b (afterPlant p c b) M M′ → last ≡ pairIn rest
+          → AdvancesOnce a (take used rest) p M (withPairPlanted p last) [] before M′
+      plant-there {last} {c} z N l =
           let t : Text = record { len = 0; bytes = [] } in
-          let q : Player = withLast p (record { some = true; from = from; to = to }) in
+          let q : Player = withPairPlanted p last in
           let long = plant-long P in
           let same : Heads b rest = rw (← e) at (heads-take used rest (omega arith)) in
           let kind : kindIn b ≡ plant = same .kind ∙ P .kind in
           let is : afterPlant p c b ≡ q =
-          rw (z, e, getD-take used rest 4 0 (omega arith), getD-take used rest 5 0 (omega arith), ← f, ← g, W .fresh, W .sound) in
+          rw (z, e, l, getD-take used rest 4 0 (omega arith), getD-take used rest 5 0 (omega arith)) in
           let s =
           stands-there {r = record { player = q; used = used; text = t }} {t = record { player = q; text = t }} {carry = before} {M′ = M′} rest (W .sound)
           (record { player = refl; used = refl; text = refl })

@@ -44,23 +44,3 @@ pub record Waits (p : Player) (count number marks : ℕ) (pair : Pair) : Type 0 
   pub listeners : p .listeners ≡ number
   pub struck : p .struck ≡ marks
   pub last : p .last ≡ pair
-
--- the player with another last pair
-abbrev pub withLast : Player → Pair → Player
-withLast p last =
-    record {
-      begun = p .begun;
-      family = p .family;
-      n = p .n;
-      f = p .f;
-      listeners = p .listeners;
-      given = p .given;
-      pending = p .pending;
-      before = p .before;
-      struck = p .struck;
-      told = p .told;
-      last = last;
-      have = p .have;
-      fault = p .fault;
-      since = p .since;
-    }

@@ -6,9 +6,9 @@ ghost use mathlib.Core.Path.{_≡_};
 ghost use Prim.Native.Nat.{_+_, _≤_, _<_, min};
 ghost use lib.ListN.{length, take};
 ghost use Rattle.run_state.specs.Memory.{memoryBefore, memoryAfter};
-ghost use Rattle.run_state.specs.Changes.{halted};
+ghost use Rattle.run_state.specs.Changes.{halted, withPairPlanted};
 ghost use Rattle.run_record.specs.Next.{allowedTo};
-ghost use Rattle.run_piece.specs.Steps.{Quiet, Used, Reads, Waits, withLast, Passes};
+ghost use Rattle.run_piece.specs.Steps.{Quiet, Used, Reads, Waits, Passes};
 ghost use Rattle.run_piece.specs.Inner.{Missing, BeginsWhole, Plants, headedTo, RecordTaken};
 use frame_slots::PlantedBytes;
 use frame_slots::PlantedLengths;
@@ -198,7 +198,7 @@ pub fn pass_plant(
     lengths: &mut PlantedLengths,
 ) -> PlantResult
     ensures { λ r. ⌜ r .used ≤ length (now (rest .entry)) ⌝ }
-    ensures { λ r. ⌜ ((p : Player) → Waits p n m struck last → Passes p (now (rest .entry)) (record { player = withLast p (r .last); used = r .used })
+    ensures { λ r. ⌜ ((p : Player) → Waits p n m struck last → Passes p (now (rest .entry)) (record { player = withPairPlanted p (r .last); used = r .used })
         (now (planted .entry)) (now (lengths .entry)) (now (planted .exit)) (now (lengths .exit))) ⌝ }
 {
     let used = plant_size(rest);
@@ -209,14 +209,8 @@ pub fn pass_plant(
     if run_record::plant_record(whole, n, m, struck, last, planted, lengths) != 0 {
         return PlantResult { used: 0, last };
     }
-    let from = fields::byte_at(rest, 4);
-    let to = fields::byte_at(rest, 5);
-    let last = Pair {
-        some: true,
-        from,
-        to,
-    };
-    PlantResult { used, last }
+    let pair = run_record::pair_in(rest);
+    PlantResult { used, last: pair }
 }
 
 // One step: a whole record, or bytes of one that is cut. After a fault nothing is read. How many bytes it takes is free: one at least, if there are any, and no

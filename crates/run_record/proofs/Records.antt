@@ -29,7 +29,7 @@ use Rattle.run_record.specs.declared.RecordResult.{RecordResult}
 use Rattle.run_state.specs.declared.Player.{Player}
 use Rattle.run_state.specs.Memory.{Memory, withSlots}
 use Rattle.run_state.specs.Heads.{HeadsOf}
-use Rattle.run_state.specs.Changes.{freshPlayer, halted, withRoundGiven, withPairPlanted, withListenersGiven, withStrikesGiven}
+use Rattle.run_state.specs.Changes.{freshPlayer, halted, withRoundGiven, pairIn, withPairPlanted, withListenersGiven, withStrikesGiven}
 use Rattle.run_state.specs.State.{ringBefore, PlayerOf, MemoryOf}
 use Rattle.run_round.specs.Played.{Played}
 use Rattle.run_record.specs.Next.{recordTaken, plantTaken, Next, afterPlant}
@@ -174,7 +174,7 @@ module _ {F : File} {p : Player} {M : Memory} {r : RecordResult} where
     pub plant-next : {bytes lengths : List ℕ} → MemoryOf F M → length (drop 6 s) ≤ 140
         → ((k i : ℕ) → k < 32 → i < 48 → length (plantedIn (M .planted) (M .lengths) k i) ≤ 140
         → plantedIn bytes lengths k i ≡ cond (eqb (senderIn s) k && eqb (receiverIn s) i) (drop 6 s) (plantedIn (M .planted) (M .lengths) k i))
-        → PlayerOf p F → r .player ≡ withPairPlanted p (senderIn s) (receiverIn s) → r .text .len ≡ 0
+        → PlayerOf p F → r .player ≡ withPairPlanted p (pairIn s) → r .text .len ≡ 0
         → Next F (withRecord plant F s) p M r (withSlots M bytes lengths)
     plant-next H few new T is none =
         record {

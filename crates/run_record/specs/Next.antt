@@ -6,14 +6,14 @@ use Prim.Native.Nat.{ℕ, zero, suc, _≤_}
 use lib.Dec.{eqb, leb}
 use lib.ListN.{length}
 use Rattle.terms.specs.Refusals as refusal
-use Rattle.run_spec.specs.RunFile.{File, plant, lengthIn, kindIn, allowedWhen, isAllowed, senderIn, receiverIn, stopped, judged}
+use Rattle.run_spec.specs.RunFile.{File, plant, lengthIn, kindIn, allowedWhen, isAllowed, stopped, judged}
 use Rattle.run_spec.specs.Listing.{shown}
 use Rattle.texts.specs.declared.Text.{Text}
 use Rattle.texts.specs.Texts.{bytesOf}
 use Rattle.run_state.specs.declared.Player.{Player}
 use Rattle.run_record.specs.declared.RecordResult.{RecordResult}
 use Rattle.run_state.specs.Memory.{Memory}
-use Rattle.run_state.specs.Changes.{halted, withPairPlanted}
+use Rattle.run_state.specs.Changes.{halted, pairIn, withPairPlanted}
 use Rattle.run_state.specs.Places.{firstOf, bareOf}
 use Rattle.run_state.specs.State.{PlayerOf, MemoryOf}
 
@@ -46,5 +46,5 @@ NextQuiet F G p M q M′ = (t : Text) → t .len ≡ 0 → Next F G p M (record 
 
 -- the player after a planted record s, by the number of its fault: stopped, or with one pair more
 abbrev pub afterPlant : Player → ℕ → List ℕ → Player
-afterPlant p zero s = withPairPlanted p (senderIn s) (receiverIn s)
+afterPlant p zero s = withPairPlanted p (pairIn s)
 afterPlant p (suc c) s = halted p 0 (suc c)

@@ -7,6 +7,7 @@ ghost use lib.ListN.{length, getD};
 ghost use lib.IntN.{pos};
 ghost use Rattle.run_spec.specs.RunFile.{File, roundsGiven, readFile, start, round, plant, listeners, strikes, isFirst, isBare, kindIn, lengthIn, isAllowed, judged, stopped};
 ghost use Rattle.run_state.specs.Memory.{Memory, memoryBefore, memoryAfter, withPositions, withSlots};
+ghost use Rattle.run_state.specs.Changes.{pairIn};
 ghost use Rattle.run_state.specs.State.{PlayerOf, MemoryOf};
 ghost use Rattle.run_record.specs.Next.{allowedTo, recordTaken, plantTaken, Next, NextQuiet, afterPlant};
 ghost use Rattle.run_record.specs.Inner.{dueTo, Turned};
@@ -149,6 +150,17 @@ fn take_round(
     }
 }
 
+// The sender and receiver of a planted record.
+pub fn pair_in(bytes: &[u8]) -> Pair
+    ensures { λ r. ⌜ r ≡ pairIn (now (bytes .entry)) ⌝ }
+{
+    Pair {
+        some: true,
+        from: fields::byte_at(bytes, 4),
+        to: fields::byte_at(bytes, 5),
+    }
+}
+
 // A planted record, judged by the numbers of the player, and planted if it has no fault. Answers the number of its fault, 0 for none; 13 if it is longer than any.
 pub fn plant_record(
     bytes: &[u8],
@@ -171,9 +183,9 @@ pub fn plant_record(
     if fault != 0 {
         return fault;
     }
-    let from = fields::byte_at(bytes, 4);
-    let to = fields::byte_at(bytes, 5);
-    frame_slots::plant(planted, lengths, from, to, fields::bytes_from(bytes, 6));
+    let pair = pair_in(bytes);
+    let frame = fields::bytes_from(bytes, 6);
+    frame_slots::plant(planted, lengths, pair.from, pair.to, frame);
     0
 }
 
@@ -184,9 +196,7 @@ fn after_plant(p: Player, fault: u8, bytes: &[u8]) -> Player
     if fault != 0 {
         return run_state::stop(p, fault);
     }
-    let from = fields::byte_at(bytes, 4);
-    let to = fields::byte_at(bytes, 5);
-    run_state::planted_pair(p, from, to)
+    run_state::planted_pair(p, pair_in(bytes))
 }
 
 // A planted record.

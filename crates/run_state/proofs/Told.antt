@@ -12,10 +12,10 @@ use Rattle.terms.specs.declared.Family.{Family}
 use Rattle.terms.specs.declared.Family.the-variants.{TwoRounds, OneRound}
 use Rattle.convergence.specs.Counting.{bit}
 use Rattle.ring_spec.specs.Rounds.{Plant, mostRounds, endsPhase, afterRound, ringAfter}
-use Rattle.run_spec.specs.RunFile.{File, unread, roundsGiven, RecordKind, start, round, plant, listeners, strikes, allowedWhen, isFirst, isBare, isAllowed, headCountIn, limitIn, struckIn, roundFault, listenerCountIn, listenersIn, strikesFault, senderIn, receiverIn, lastPair, plantFault, recordFault, thenPlayed, withRecord, stopped, withPart, feed, readFile, ringFrom}
+use Rattle.run_spec.specs.RunFile.{File, unread, roundsGiven, RecordKind, start, round, plant, listeners, strikes, allowedWhen, isFirst, isBare, isAllowed, headCountIn, limitIn, struckIn, roundFault, listenerCountIn, listenersIn, strikesFault, lastPair, plantFault, recordFault, thenPlayed, withRecord, stopped, withPart, feed, readFile, ringFrom}
 use Rattle.run_spec.proofs.Reached.{length-then}
 use Rattle.run_state.specs.declared.Player.{Player}
-use Rattle.run_state.specs.Changes.{freshPlayer, halted, withRoundGiven, withPairPlanted, withListenersGiven, withStrikesGiven}
+use Rattle.run_state.specs.Changes.{freshPlayer, halted, withRoundGiven, pairIn, withPairPlanted, withListenersGiven, withStrikesGiven}
 use Rattle.run_state.specs.Places.{firstOf, bareOf}
 use Rattle.run_state.specs.State.{ringBefore, PlayerOf}
 use Rattle.run_state.specs.Counts.{CountsOf, countsThen, countsPlayed}
@@ -81,7 +81,7 @@ module _ {F : File} {p : Player} (T : PlayerOf p F) where
         since = round-since s;
       }
 
-  pub plant-tells : (s : List ℕ) → PlayerOf (withPairPlanted p (senderIn s) (receiverIn s)) (withRecord plant F s)
+  pub plant-tells : (s : List ℕ) → PlayerOf (withPairPlanted p (pairIn s)) (withRecord plant F s)
   plant-tells s = search needs
 
   pub listeners-tells : (s : List ℕ) → PlayerOf (withListenersGiven p (listenerCountIn s)) (withRecord listeners F s)

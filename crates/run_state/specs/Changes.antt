@@ -1,13 +1,14 @@
 -- The player before the first round, and what changes of it: by a record that is not whole or has a fault, by a round, by a planted record, by the number of listeners,
 -- by a round's struck listeners.
 use mathlib.Core.Bool.{Bool, true, false, cond}
-use mathlib.Core.List.{[]}
+use mathlib.Core.List.{List, [], _∷_}
 use Prim.Native.Nat.{ℕ, _+_, _*_, _%_, min}
 use lib.ListN.{replicate}
 use Rattle.terms.specs.declared.Family.{Family}
 use Rattle.terms.specs.declared.Family.the-variants.{TwoRounds}
 use Rattle.ring_spec.specs.Rounds.{mostRounds, receivers}
-use Rattle.run_spec.specs.RunFile.{lastPair}
+use Rattle.run_spec.specs.declared.Pair.{Pair}
+use Rattle.run_spec.specs.RunFile.{lastPair, plantIn}
 use Rattle.run_state.specs.declared.Player.{Player}
 use Rattle.run_state.specs.Counts.{countsPlayed}
 
@@ -71,9 +72,13 @@ withRoundGiven p struck =
       since = countsPlayed p;
     }
 
--- a pair more in the last round
-abbrev pub withPairPlanted : Player → ℕ → ℕ → Player
-withPairPlanted p from to =
+-- the pair of a planted record
+abbrev pub pairIn : List ℕ → Pair
+pairIn s = lastPair (plantIn s ∷ [])
+
+-- pairs more in the last round: the last of them
+abbrev pub withPairPlanted : Player → Pair → Player
+withPairPlanted p last =
     record {
       begun = p .begun;
       family = p .family;
@@ -85,7 +90,7 @@ withPairPlanted p from to =
       before = p .before;
       struck = p .struck;
       told = p .told;
-      last = record { some = true; from = from; to = to };
+      last = last;
       have = 0;
       fault = 0;
       since = p .since;

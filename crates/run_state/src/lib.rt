@@ -207,15 +207,10 @@ pub fn given_round(p: Player, struck: u32) -> Player
     }
 }
 
-// The player after an accepted planted record.
-pub fn planted_pair(p: Player, from: u8, to: u8) -> Player
-    ensures { λ r. ⌜ r ≡ withPairPlanted p from to ⌝ }
+// The player after accepted planted records, the last with this pair.
+pub fn planted_pair(p: Player, last: Pair) -> Player
+    ensures { λ r. ⌜ r ≡ withPairPlanted p last ⌝ }
 {
-    let last = Pair {
-        some: true,
-        from,
-        to,
-    };
     let mut out = p;
     out.last = last;
     out.have = 0;

@@ -6,8 +6,9 @@ ghost use Prim.Native.Nat.{ℕ, _+_, _≤_, _<_};
 ghost use lib.ListN.{length, take};
 ghost use Rattle.texts.specs.Texts.{bytesOf};
 ghost use Rattle.run_state.specs.Memory.{memoryBefore, memoryAfter, Memory};
+ghost use Rattle.run_state.specs.Changes.{withPairPlanted};
 ghost use Rattle.run_piece.specs.Advances.{StateAt, AdvancesOnce, Advances};
-ghost use Rattle.run_piece.specs.Steps.{Used, Reads, Waits, withLast, Passes};
+ghost use Rattle.run_piece.specs.Steps.{Used, Reads, Waits, Passes};
 ghost use Rattle.run_stream.specs.Ends.{Ends, EndsWith};
 ghost use Rattle.run_stream.specs.Pages.{Fills};
 ghost use Rattle.run_spec.specs.Listing.{title};
@@ -39,13 +40,14 @@ pub struct FinishResult {
     pub since: Counts,
 }
 
-// The player with another last planted pair, after so many bytes.
+// Planted records passed, the last with this pair, in so many bytes.
 fn passed(p: Player, last: Pair, used: usize) -> PassResult
-    ensures { λ r. ⌜ r ≡ record { player = withLast p last; used = used } ⌝ }
+    ensures { λ r. ⌜ r ≡ record { player = withPairPlanted p last; used = used } ⌝ }
 {
-    let mut player = p;
-    player.last = last;
-    PassResult { player, used }
+    PassResult {
+        player: run_state::planted_pair(p, last),
+        used,
+    }
 }
 
 // Whether a planted record may come next.
@@ -71,11 +73,11 @@ fn pass_plants(
     ensures { λ r. ⌜ r .used ≤ length (now (bytes .entry)) ⌝ }
     ensures { λ r. ⌜ Passes p (now (bytes .entry)) r (now (planted .entry)) (now (lengths .entry)) (now (planted .exit)) (now (lengths .exit)) ⌝ }
 {
+    if !awaits_plants(p) {
+        return PassResult { player: p, used: 0 };
+    }
     let mut last = p.last;
     let mut used: usize = 0;
-    if !awaits_plants(p) {
-        return passed(p, last, used);
-    }
     let n = p.n;
     let m = p.listeners;
     let struck = p.struck;

@@ -23,13 +23,13 @@ returns-2 c =
 
 returns-3 : tie.Need-returns-3
 returns-3 c =
-    let k = c .before in
-    let v = k .before .before in
+    let i = c .before in
+    let v = i .before in
     let f = v .before .before .before in
     let P = f .before .before .plant-size .ensures (omega (arith, f .before .if1 .left)) in (
       P .within,
-      λ p W a carry M L. plant-there L W _ P (f .front .ensures) (k .before .if2 .left)
-          (λ F. v .plant-record .ensures F M p (W .n) (W .listeners) (W .struck) (W .last)) (k .byte-at .ensures) (c .byte-at2 .ensures),
+      λ p W a carry M L. plant-there L W _ P (f .front .ensures) (i .if2 .left)
+          (λ F. v .plant-record .ensures F M p (W .n) (W .listeners) (W .struck) (W .last)) (c .pair-in .ensures),
     )
 
 pub pass-plant-spec : {M : Type 1} → statement M
@@ -41,6 +41,5 @@ pass-plant-spec =
     front-requires
     (λ c κs. search needs)
     returns-2
-    (λ c κs. search needs)
     (λ c κs. search needs)
     returns-3)

@@ -1,5 +1,5 @@
 -- `run_record::after_plant` meets its contract, by whether there is a fault.
-use mathlib.Core.Path.{ap₂, sym, _∙_}
+use mathlib.Core.Path.{ap, sym, _∙_}
 use borrow.Author.Needs.{needs}
 use Rattle.run_state.specs.Changes.{withPairPlanted}
 use Rattle.run_record.proofs.Records.{after-stopped}
@@ -11,12 +11,8 @@ returns c = c .stop .ensures ∙ sym (after-stopped _ _ _ (c .before .if1 .taken
 
 returns-2 : tie.Need-returns-2
 returns-2 c =
-    let i = c .before in
-    let k = i .before in
-    rw (k .before .if1 .left)
-    (c .planted-pair .ensures ∙ ap₂ (withPairPlanted (k .before .before .before .args .p)) (k .byte-at .ensures) (i .byte-at2 .ensures))
+    let k = c .before in
+    rw (k .before .if1 .left) (c .planted-pair .ensures ∙ ap (withPairPlanted (k .before .before .before .args .p)) (k .pair-in .ensures))
 
 pub after-plant-spec : {M : Type 1} → statement M
-after-plant-spec =
-    tie.close
-    (tie.spec (λ c κs. search needs) returns (λ c κs. search needs) (λ c κs. search needs) (λ c κs. search needs) returns-2)
+after-plant-spec = tie.close (tie.spec (λ c κs. search needs) returns (λ c κs. search needs) (λ c κs. search needs) returns-2)

@@ -10,8 +10,9 @@ use borrow.Author.Tests.{not-false}
 use Rattle.run_spec.specs.declared.Pair.{Pair}
 use Rattle.run_state.specs.declared.Player.{Player}
 use Rattle.run_state.specs.Memory.{Memory, withSlots}
-use Rattle.run_piece.specs.Steps.{Waits, withLast}
-use Rattle.run_piece.proofs.Feeding.{none-there, used-as}
+use Rattle.run_state.specs.Changes.{withPairPlanted}
+use Rattle.run_piece.specs.Steps.{Waits}
+use Rattle.run_piece.proofs.Feeding.{none-there, used-as, waits-as}
 use Rattle.run_stream.proofs.Pieces.{Still, moved-within, still-first, last-step, still-more, steps-here}
 use Rattle.run_stream.proofs.pass_plants.Statement.{statement}
 use Rattle.run_stream.proofs.pass_plants.Tie as tie
@@ -19,21 +20,23 @@ use Rattle.run_stream.proofs.pass_plants.Tie as tie
 abbrev Inv-loop : tie.InvT-loop
 Inv-loop p bytes planted₀ lengths₀ last₀ used₀ n m struck planted lengths last used =
     (used ≤ length bytes)
-    × ((carry : List ℕ) (M : Memory) → Still bytes p carry (withSlots M planted₀ lengths₀) (withLast p last) carry (withSlots M planted lengths) used)
+    × ((carry : List ℕ) (M : Memory) → Still bytes p carry (withSlots M planted₀ lengths₀) (withPairPlanted p last) carry (withSlots M planted lengths) used)
 
 abbrev μ-loop : tie.MeasureT-loop
 μ-loop p bytes planted₀ lengths₀ last₀ used₀ n m struck planted lengths last used = length bytes - used
 
 returns : tie.Need-returns Inv-loop μ-loop
-returns c = rw (c .passed .ensures) (omega arith, λ a carry M L. none-there L)
+returns c = (omega arith, λ a carry M L. none-there L)
 
 loop-holds : tie.Need-loop-holds Inv-loop μ-loop
-loop-holds c = (search needs, λ carry M. still-first)
+loop-holds c =
+    let W = c .before .before .awaits-plants .ensures (not-false _ (c .before .if1 .left)) in
+    (search needs, λ carry M. rw (waits-as W) still-first)
 
 -- with another last pair it waits too
-waits : {p : Player} {n m struck : ℕ} {last : Pair} → Waits p n m struck last → (last′ : Pair) → Waits (withLast p last′) n m struck last′
+waits : {p : Player} {n m struck : ℕ} {last : Pair} → Waits p n m struck last → (last′ : Pair) → Waits (withPairPlanted p last′) n m struck last′
 waits W last′ =
-    record { sound = W .sound; fresh = W .fresh; pending = W .pending; n = W .n; listeners = W .listeners; struck = W .struck; last = refl }
+    record { sound = refl; fresh = refl; pending = W .pending; n = W .n; listeners = W .listeners; struck = W .struck; last = refl }
 
 module _ (v : tie.After-pass-plant Inv-loop μ-loop) where
   abbrev here : tie.At-loop Inv-loop μ-loop
@@ -49,8 +52,8 @@ module _ (v : tie.After-pass-plant Inv-loop μ-loop) where
   moves : here .loop .used + used ≤ length (now (start .args .bytes))
   moves = moved-within (here .loop .used) used (now (start .args .bytes)) (here .loop .inv .0) (v .pass-plant .ensures .0)
 
-  waiting : Waits (withLast (start .args .p) (here .loop .last)) (start .args .p .n) (start .args .p .listeners) (start .args .p .struck) (here .loop .last)
-  waiting = waits (here .before .before .awaits-plants .ensures (not-false _ (here .before .if1 .left))) (here .loop .last)
+  waiting : Waits (withPairPlanted (start .args .p) (here .loop .last)) (start .args .p .n) (start .args .p .listeners) (start .args .p .struck) (here .loop .last)
+  waiting = waits (here .before .before .before .awaits-plants .ensures (not-false _ (here .before .before .if1 .left))) (here .loop .last)
 
 returns-2 : tie.Need-returns-2 Inv-loop μ-loop
 returns-2 c =
@@ -58,7 +61,7 @@ returns-2 c =
     let v = i .before .before .before in
     let l = here v in
     let z : l .loop .used ≡ l .loop .used + used v = omega (arith, i .if2 .taken) in
-    rw (c .passed2 .ensures) (
+    rw (c .passed .ensures) (
       l .loop .inv .0,
       λ a carry M L.
           used-as (now (start v .args .bytes)) z
@@ -79,7 +82,7 @@ loop-again c =
     (moves v, λ carry M. still-more (here v .loop .inv .1 carry M) (used v) (moves v) refl (λ b K. v .pass-plant .ensures .1 _ (waiting v) b carry M K))
 
 returns-3 : tie.Need-returns-3 Inv-loop μ-loop
-returns-3 c = let l = c .before .before .loop in rw (c .passed3 .ensures) (l .inv .0, λ a carry M L. steps-here (l .inv .1 carry M) a L)
+returns-3 c = let l = c .before .before .loop in rw (c .passed2 .ensures) (l .inv .0, λ a carry M L. steps-here (l .inv .1 carry M) a L)
 
 pub pass-plants-spec : {M : Type 1} → statement M
 pass-plants-spec =
@@ -87,7 +90,6 @@ pass-plants-spec =
     (tie.spec
     Inv-loop
     μ-loop
-    (λ c κs. search needs)
     (λ c κs. search needs)
     returns
     loop-holds
