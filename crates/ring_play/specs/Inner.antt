@@ -1,6 +1,7 @@
 -- What the private functions promise each other. Readers of the public promises do not need these files.
 pub mod Before
 pub mod Collection
+pub mod Ends
 pub mod Codes
 pub mod Votes
 pub mod Shares

@@ -9,13 +9,17 @@ ghost use Rattle.entries.specs.Tables.{tableAt, tableOf, mark, number};
 ghost use Rattle.frame_spec.specs.Said.{said};
 ghost use Rattle.head_spec.specs.Record.{heardEntry};
 ghost use Rattle.ring_play.specs.Memory.{heads, hears, settles, InRange, listEntry, rowIn, heardPosition};
+ghost use Rattle.convergence.specs.Settling.{ordered};
+ghost use Rattle.settle_midpoint.specs.Orders.{orderOf};
 ghost use Rattle.frame_slots.specs.Slots.{plantedIn};
 ghost use Rattle.ring_play.specs.Inner.Before.{SettlesBefore, HeldBefore};
 ghost use Rattle.ring_play.specs.Inner.Collection.{ownEntry, sentBy, heardOf, heardWith, Shared, settledFrom};
 use crate::Stage;
+use crate::ends;
 use crate::round;
 use crate::round::Before;
 use frame_spec::Said;
+use settle_midpoint::Order;
 use settle_midpoint::Settled;
 use terms::Entry;
 use terms::Family;
@@ -88,7 +92,7 @@ fn entries_sent(s: Stage, positions: &Positions) -> Table
 }
 
 // What receiver i hears of head k, which is struck: what is planted.
-fn entry_planted(s: Stage, planted: &[u8], lengths: &[u8], k: usize, i: usize) -> Entry
+pub(crate) fn entry_planted(s: Stage, planted: &[u8], lengths: &[u8], k: usize, i: usize) -> Entry
     requires { ⌜ (k < 32) × (i < 48) ⌝ }
     ensures { λ r. ⌜ r ≡ heardOf s (plantedIn (now (planted .entry)) (now (lengths .entry)) k i) k ⌝ }
 {
@@ -208,30 +212,58 @@ fn position_of(s: Stage, list: Table) -> i32
     }
 }
 
-// The new position of receiver i, after those before it have theirs: receivers that are told alike settle the same.
+// The new position of receiver i: from what all hear alike, given as a table and in order, and what is planted to it.
+fn position_for(
+    s: Stage,
+    sent: Table,
+    order: Order,
+    planted: &[u8],
+    lengths: &[u8],
+    i: usize,
+) -> i32
+    requires { ⌜ (i < 48) × Shared s sent × (order ≡ orderOf (ordered (heads s) (tableAt sent))) ⌝ }
+    ensures { λ r. ⌜ ((S : Shared s sent)
+        → r ≡ settledFrom s (tableAt (tableOf (heads s) (heardWith s (S .entry) (plantedIn (now (planted .entry)) (now (lengths .entry))) i)))) ⌝ }
+{
+    let c = ends::count_ends(s, order, planted, lengths, i);
+    if ends::decides(s, order.len, c) {
+        return ends::position_inside(s, order, c);
+    }
+    position_of(s, list_for(s, sent, planted, lengths, i))
+}
+
+// The same, after those before it have theirs: receivers that are told alike settle the same.
 fn position_after(
     s: Stage,
     sent: Table,
+    order: Order,
     planted: &[u8],
     lengths: &[u8],
     i: usize,
     last: Before,
     positions: &[i32],
 ) -> i32
-    requires { ⌜ (i < 48) × SettlesBefore s i last × (length (now positions) ≡ 48) × Shared s sent ⌝ }
+    requires { ⌜ (i < 48) × SettlesBefore s i last × (length (now positions) ≡ 48) × Shared s sent × (order ≡ orderOf (ordered (heads s) (tableAt sent))) ⌝ }
     ensures { λ r. ⌜ ((S : Shared s sent)
         → HeldBefore s i (λ m. settledFrom s (tableAt (tableOf (heads s) (heardWith s (S .entry) (plantedIn (now (planted .entry)) (now (lengths .entry))) m)))) (λ m. getD (now (positions .entry)) m (pos 0))
         → r ≡ settledFrom s (tableAt (tableOf (heads s) (heardWith s (S .entry) (plantedIn (now (planted .entry)) (now (lengths .entry))) i)))) ⌝ }
 {
     match round::told_before(s, planted, lengths, i, last) {
         Before::As(m) => positions[m],
-        Before::None => position_of(s, list_for(s, sent, planted, lengths, i)),
+        Before::None => position_for(s, sent, order, planted, lengths, i),
     }
 }
 
 // Stores the new position of each receiver that is not struck.
-fn fill_positions(s: Stage, sent: Table, planted: &[u8], lengths: &[u8], positions: &mut [i32])
-    requires { ⌜ (length (now positions) ≡ 48) × Shared s sent ⌝ }
+fn fill_positions(
+    s: Stage,
+    sent: Table,
+    order: Order,
+    planted: &[u8],
+    lengths: &[u8],
+    positions: &mut [i32],
+)
+    requires { ⌜ (length (now positions) ≡ 48) × Shared s sent × (order ≡ orderOf (ordered (heads s) (tableAt sent))) ⌝ }
     ensures { λ _. ⌜ ((S : Shared s sent) (i : ℕ) → getD (now (positions .exit)) i (pos 0)
         ≡ cond (settles s i)
         (settledFrom s (tableAt (tableOf (heads s) (heardWith s (S .entry) (plantedIn (now (planted .entry)) (now (lengths .entry))) i))))
@@ -242,7 +274,7 @@ fn fill_positions(s: Stage, sent: Table, planted: &[u8], lengths: &[u8], positio
     let mut i: usize = 0;
     while i < end {
         if round::settles(s, i) {
-            let told = position_after(s, sent, planted, lengths, i, last, positions);
+            let told = position_after(s, sent, order, planted, lengths, i, last, positions);
             last = Before::As(i);
             positions[i] = told;
         }
@@ -259,5 +291,6 @@ pub fn conclude(s: Stage, positions: &mut Positions, planted: &[u8], lengths: &[
         (getD (now (positions .entry)) i (pos 0))) ⌝ }
 {
     let sent = entries_sent(s, positions);
-    fill_positions(s, sent, planted, lengths, positions);
+    let order = settle_midpoint::order_of(sent, round::head_count(s));
+    fill_positions(s, sent, order, planted, lengths, positions);
 }

@@ -3,6 +3,7 @@
 mod codes;
 mod collection;
 mod confession;
+mod ends;
 mod round;
 mod shared;
 

@@ -1,10 +1,9 @@
 -- `ring_play::collection::fill_positions` meets its contract: before receiver i, the unstruck ones below i have their new position, and all others the one they had.
-use mathlib.Core.Path.{_≡_, ap, sym, _∙_}
+use mathlib.Core.Path.{_≡_, sym, _∙_}
 use mathlib.Core.Logic.{⊎-elim}
-use Prim.Native.Nat.{_-_, _≤_, _<_}
+use Prim.Native.Nat.{_-_, _≤_}
 use native.Mathlib.Omega.{arith}
 use mir.Facts.{toZ-ofZ}
-use denote.Ref.{now}
 use borrow.Author.Needs.{needs}
 use lib.ListN.{length, getD, length-set}
 use lib.IntN.{pos}
@@ -19,7 +18,7 @@ use Rattle.ring_play.proofs.collection.fill_positions.Statement.{statem
 use Rattle.ring_play.proofs.collection.fill_positions.Tie as tie
 
 abbrev Inv-loop : tie.InvT-loop
-Inv-loop s sent planted lengths positions₀ end last₀ i₀ positions last i =
+Inv-loop s sent order planted lengths positions₀ end last₀ i₀ positions last i =
     (i ≤ end) × (end ≤ 48) × (length positions ≡ 48)
     × ((S : Shared s sent)
     → Filled (settles s) (λ j. settledFrom s (tableAt (tableOf (heads s) (heardWith s (S .entry) (plantedIn planted lengths) j))))
@@ -27,7 +26,7 @@ Inv-loop s sent planted lengths positions₀ end last₀ i₀ positions last i =
     × SettlesBefore s i last
 
 abbrev μ-loop : tie.MeasureT-loop
-μ-loop s sent planted lengths positions₀ end last₀ i₀ positions last i = end - i
+μ-loop s sent order planted lengths positions₀ end last₀ i₀ positions last i = end - i
 
 loop-holds : tie.Need-loop-holds Inv-loop μ-loop
 loop-holds c =
@@ -38,7 +37,7 @@ position-after-requires : tie.Need-position-after-requires Inv-loop μ-loop
 position-after-requires c κs =
     let h = c .before .before .before .before in
     let l = h .loop in
-    (search needs, l .inv .4, l .inv .2, h .before .before .before .before .pre .1)
+    (search needs, l .inv .4, l .inv .2, h .before .before .before .before .pre .1, h .before .before .before .before .pre .2)
 
 loop-again : tie.Need-loop-again Inv-loop μ-loop
 loop-again c =

@@ -37,15 +37,11 @@ returns c S held =
     ∙ held _ (f .0) (f .1)
     ∙ ap (λ (t : Table). settledFrom (a .s) (tableAt t)) (told-list (a .s) (S .entry) (plantedIn (now (a .planted)) (now (a .lengths))) (a .i) _ (f .2))
 
-list-for-requires : tie.Need-list-for-requires
-list-for-requires c κs = let p = c .before .before .before .before .before .pre in (p .0, p .3)
+position-for-requires : tie.Need-position-for-requires
+position-for-requires c κs = let p = c .before .before .before .before .before .pre in (p .0, p .3, p .4)
 
 returns-2 : tie.Need-returns-2
-returns-2 c S held =
-    let a = c .before .before .before .before .before .before .before .args in
-    toZ-ofZ (record { sfits = c .position-of .ok })
-    ∙ c .position-of .ensures
-    ∙ ap (λ (t : Table). settledFrom (a .s) (tableAt t)) (c .before .list-for .ensures S)
+returns-2 c S held = toZ-ofZ (record { sfits = c .position-for .ok }) ∙ c .position-for .ensures S
 
 pub position-after-spec : {M : Type 1} → statement M
 position-after-spec =
@@ -56,7 +52,6 @@ position-after-spec =
     mul-result
     copy-out-result
     (λ c. search needs)
-    list-for-requires
-    (λ c κs. search needs)
+    position-for-requires
     returns
     returns-2)
