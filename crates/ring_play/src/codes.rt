@@ -11,11 +11,13 @@ ghost use Rattle.convergence.specs.Counting.{Each, sum, bit};
 ghost use Rattle.convergence.specs.Settling.{twoRounds};
 ghost use Rattle.settle_trust.specs.Received.{givenBy};
 ghost use Rattle.settle_midpoint.specs.Answers.{settling};
-ghost use Rattle.ring_play.specs.Inner.Codes.{noCode, entryOf, codeAt, codeTaken, MarksOf, holds, Tallied};
+ghost use Rattle.ring_play.specs.Inner.Codes.{noCode, entryOf, codeAt, codeTaken, holds, Tallied};
 ghost use Rattle.ring_play.specs.Inner.Shares.{Shares};
 ghost use Rattle.ring_play.specs.Inner.Votes.{Voted, Leads, givesList};
-use settle_position::Deciding;
+use settle_midpoint::Order;
 use settle_trust::Links;
+use terms::Entry;
+use terms::Family;
 use terms::Lists;
 use terms::Numbers;
 use terms::Words;
@@ -298,29 +300,31 @@ pub(crate) fn trust_codes(
     }
 }
 
-// The marks of the first n codes: set for a position, and not for a null entry.
-pub(crate) fn marks_of(codes: &Numbers, n: usize) -> u32
-    requires { ⌜ n ≤ 32 ⌝ }
-    ensures { λ r. ⌜ MarksOf n (now (codes .entry)) r ⌝ }
+// The code that a receiver takes for entry j.
+fn code_taken(codes: &Numbers, same: &Words, need: usize, confessed: u32, j: usize) -> i32
+    requires { ⌜ j < 32 ⌝ }
+    ensures { λ r. ⌜ r ≡ codeTaken (now (codes .entry)) (now (same .entry)) need confessed j ⌝ }
 {
-    let mut word: u32 = 0;
-    let mut j: usize = 0;
-    while j < n {
-        if codes[j] != NONE {
-            word = marks::with_mark(word, j);
-        }
-        j += 1;
+    if marks::marked(confessed, j) {
+        return NONE;
     }
-    word
+    picked(codes[j], need, same[j])
 }
 
-// The new position of a receiver, its entries decided and put in order one by one, as a head does that closes a round: by the shared codes, their
-// marks, and how many lists it counted for each. There is no list more to search, so none of `lists` is looked at: they are lent since an empty table
-// would be filled at each call. `up`: whether an odd sum is rounded up.
+// The entry of a code.
+fn entry_of(c: i32) -> Entry
+    ensures { λ r. ⌜ r ≡ entryOf c ⌝ }
+{
+    if c == NONE {
+        return Entry::Null;
+    }
+    Entry::Position(c)
+}
+
+// The new position of a receiver, its entries decided and put in order one by one, as a head does that closes a round: by the shared codes, and how many lists
+// it counted for each. `up`: whether an odd sum is rounded up.
 pub(crate) fn settle_counted(
-    lists: &Lists,
     codes: &Numbers,
-    word: u32,
     same: &Words,
     need: usize,
     confessed: u32,
@@ -328,16 +332,17 @@ pub(crate) fn settle_counted(
     f: u8,
     up: bool,
 ) -> settle_midpoint::Settled
-    requires { ⌜ (n ≤ 32) × (need ≤ 32) × (0 < n → 0 < need) × MarksOf n (now codes) word ⌝ }
+    requires { ⌜ n ≤ 32 ⌝ }
     ensures { λ r. ⌜ r ≡ settling (bit up) n (twoRounds f) (λ j. entryOf (codeTaken (now (codes .entry)) (now (same .entry)) need confessed j)) ⌝ }
 {
-    let d = Deciding {
-        count: 0,
-        need: need as u8,
-        confessed,
-        word,
-        alike: 0,
-        apart: 0,
-    };
-    settle_position::settle_entries(lists, same, codes, same, d, n, f, up)
+    let count = n as usize;
+    let mut positions = [0i32; 32];
+    let mut len: usize = 0;
+    let mut j: usize = 0;
+    while j < count {
+        let e = entry_of(code_taken(codes, same, need, confessed, j));
+        len = settle_midpoint::place(e, &mut positions, len);
+        j += 1;
+    }
+    settle_midpoint::middle_of(Order { len, positions }, Family::TwoRounds, n, f, up)
 }

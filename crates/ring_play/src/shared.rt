@@ -13,8 +13,8 @@ ghost use Rattle.settle_trust.specs.Received.{givenBy};
 ghost use Rattle.head_spec.specs.Record.{givenOf};
 ghost use Rattle.ring_play.specs.Memory.{heads};
 ghost use Rattle.ring_play.specs.Inner.Planted.{Alike, AllSettled, SettlesAll};
-ghost use Rattle.ring_play.specs.Inner.Codes.{entryOf, codeTaken, MarksOf};
-ghost use Rattle.ring_play.specs.Inner.Told.{Counted, Told, SharedBy, settledBy, settledAt, neededHere, takenHere, LastOf};
+ghost use Rattle.ring_play.specs.Inner.Codes.{entryOf, codeTaken};
+ghost use Rattle.ring_play.specs.Inner.Told.{Counted, Told, SharedBy, settledBy, settledAt, takenHere, LastOf};
 use crate::Stage;
 use crate::codes;
 use crate::round;
@@ -26,12 +26,6 @@ use terms::Lists;
 use terms::Numbers;
 use terms::Positions;
 use terms::Words;
-
-// Beside the codes that all receivers share: how many lists have to have one, and the marks of the codes.
-struct Common {
-    need: usize,
-    word: u32,
-}
 
 // What was settled last; none before the first.
 enum Last {
@@ -99,23 +93,13 @@ fn need_after(need: usize, confessed: u32, n: usize) -> usize
     if need <= c { 0 } else { need - c }
 }
 
-// The position that a receiver settles, by the shared codes with their marks, how many lists it counted for each, how many are needed, and who confessed to it; 0 if it
-// is refused.
-fn position_from(
-    s: Stage,
-    rows: &Lists,
-    codes: &Numbers,
-    word: u32,
-    same: &Words,
-    need: usize,
-    confessed: u32,
-) -> i32
-    requires { ⌜ (need ≤ 32) × (0 < heads s → 0 < need) × MarksOf (heads s) (now codes) word ⌝ }
+// The position that a receiver settles, by the shared codes, how many lists it counted for each, how many are needed, and who confessed to it; 0 if it is refused.
+fn position_from(s: Stage, codes: &Numbers, same: &Words, need: usize, confessed: u32) -> i32
     ensures { λ r. ⌜ r ≡ settledBy s (λ j. entryOf (codeTaken (now (codes .entry)) (now (same .entry)) need confessed j)) ⌝ }
 {
     let n = round::head_count(s);
     let up = steps::rounds_up(s.phase);
-    match codes::settle_counted(rows, codes, word, same, need, confessed, n, s.f, up) {
+    match codes::settle_counted(codes, same, need, confessed, n, s.f, up) {
         Settled::Refused(_) => 0,
         Settled::New(kept) => kept.position,
     }
@@ -137,24 +121,23 @@ fn is_same_front(a: &Numbers, b: &Numbers, n: usize) -> bool
     same
 }
 
-// The position that a receiver settles, by what it counted and who confessed to it. `last` is what was settled last, from the codes `settled`: a receiver with the
+// The position that a receiver settles, by what it counted, how many lists are needed of what all hear, and who confessed to it. `last` is what was settled last, from the codes `settled`: a receiver with the
 // same trusted entries settles the same.
 fn position_told(
     s: Stage,
-    rows: &Lists,
     codes: &Numbers,
     same: &Words,
-    c: Common,
+    need: usize,
     confessed: u32,
     settled: &mut Numbers,
     last: Last,
 ) -> i32
-    requires { ⌜ (0 < neededHere s c confessed) × (neededHere s c confessed ≤ 32) × MarksOf (heads s) (now codes) (c .word) × LastOf s last (now settled) ⌝ }
-    ensures position { λ r. ⌜ r ≡ settledBy s (takenHere s c (now (codes .entry)) (now (same .entry)) confessed) ⌝ }
+    requires { ⌜ LastOf s last (now settled) ⌝ }
+    ensures position { λ r. ⌜ r ≡ settledBy s (takenHere s need (now (codes .entry)) (now (same .entry)) confessed) ⌝ }
     ensures last { λ r. ⌜ r ≡ settledAt s (now (settled .exit)) ⌝ }
 {
     let n = round::head_count(s);
-    let left = need_after(c.need, confessed, n as usize);
+    let left = need_after(need, confessed, n as usize);
     let mut own = [0i32; 32];
     codes::trust_codes(codes, same, left, confessed, n as usize, &mut own);
     if let Last::At(told) = last {
@@ -163,22 +146,21 @@ fn position_told(
         }
     }
     *settled = own;
-    position_from(s, rows, codes, c.word, same, left, confessed)
+    position_from(s, codes, same, left, confessed)
 }
 
 // Stores the new position of each unstruck receiver.
 fn fill_positions(
     s: Stage,
-    rows: &Lists,
     planted: &[u8],
     lengths: &[u8],
     codes: &Numbers,
     counts: &Words,
-    c: Common,
+    need: usize,
     positions: &mut [i32],
 )
-    requires { ⌜ (length (now positions) ≡ 48) × SharedBy s c (now codes) (now counts) ⌝ }
-    ensures { λ _. ⌜ ((S : SharedBy s c (now (codes .entry)) (now (counts .entry))) → Alike s (S .given)
+    requires { ⌜ (length (now positions) ≡ 48) × SharedBy s need (now codes) (now counts) ⌝ }
+    ensures { λ _. ⌜ ((S : SharedBy s need (now (codes .entry)) (now (counts .entry))) → Alike s (S .given)
         → AllSettled s (S .given) (plantedIn (now (planted .entry)) (now (lengths .entry))) (now (positions .entry)) (now (positions .exit))) ⌝ }
 {
     let end = round::receiver_end(s);
@@ -196,16 +178,7 @@ fn fill_positions(
                 Before::None => {
                     let mut same = *counts;
                     let confessed = count_planted(s, planted, lengths, i, codes, &mut same);
-                    let told = position_told(
-                        s,
-                        rows,
-                        codes,
-                        &same,
-                        c,
-                        confessed,
-                        &mut settled,
-                        last,
-                    );
+                    let told = position_told(s, codes, &same, need, confessed, &mut settled, last);
                     last = Last::At(told);
                     positions[i] = told;
                     before = Before::As(i);
@@ -239,16 +212,6 @@ pub(crate) fn settle_all(
         return false;
     }
     let need = settle_trust::lists_needed(links.confessed, n, s.f);
-    let word = codes::marks_of(&codes, n as usize);
-    fill_positions(
-        s,
-        rows,
-        planted,
-        lengths,
-        &codes,
-        &counts,
-        Common { need, word },
-        positions,
-    );
+    fill_positions(s, planted, lengths, &codes, &counts, need, positions);
     true
 }

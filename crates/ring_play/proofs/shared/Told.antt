@@ -3,7 +3,7 @@
 use mathlib.Core.Path.{_≡_, refl, ap, sym, _∙_}
 use mathlib.Core.Bool.{Bool, true, false, cond, _&&_}
 use mathlib.Core.List.{List, [], _∷_}
-use Prim.Native.Nat.{ℕ, _+_, _-_, _≤_, _<_, min}
+use Prim.Native.Nat.{ℕ, _+_, _-_, _≤_, min}
 use native.Mathlib.Omega.{arith}
 use lib.ListN.{getD}
 use lib.IntN.{ℤ, pos}
@@ -19,7 +19,7 @@ use Rattle.frame_spec.specs.Said.{Meaning, refused, collected, listed, confesse
 use Rattle.frame_spec.proofs.OneMeaning.{said-proper}
 use Rattle.settle_trust.specs.declared.Links.{Links}
 use Rattle.settle_trust.specs.Received.{givenBy}
-use Rattle.ring_play.specs.Inner.Codes.{noCode, MarksOf, holds}
+use Rattle.ring_play.specs.Inner.Codes.{noCode, holds}
 use Rattle.ring_play.specs.Inner.Shares.{Shares}
 use Rattle.ring_play.proofs.codes.Codes.{position-code}
 use Rattle.ring_play.proofs.codes.Sharing.{confessions-marked}
@@ -27,7 +27,6 @@ use Rattle.ring_play.proofs.codes.Trusting.{shared-trusted}
 use Rattle.head_spec.specs.Record.{givenOf}
 use Rattle.head_spec.proofs.Range.{listed-position}
 use Rattle.ring_play.specs.declared.Stage.{Stage}
-use Rattle.ring_play.specs.declared.shared.Common.{Common}
 use Rattle.ring_play.specs.Memory.{heads}
 use Rattle.ring_play.specs.Inner.Planted.{isStruck, givenOrPlanted, positionSettled, Alike}
 use Rattle.ring_play.specs.Inner.Told.{plantedGiven, Told, SharedBy, settledBy, neededHere, takenHere}
@@ -44,19 +43,18 @@ given-positions n p r k bytes size j l u q = go (said n p r k bytes) refl q
     go confessed e h = absurd (not-null refl h)
 
 -- g and rows hold what is given all alike; n: the heads played; struck: how many of them are struck
-abbrev pub shared-by : (s : Stage) (g : Links) (rows : List (List ℤ)) {n struck need word : ℕ} {codes : List ℤ} {counts : List ℕ} → n ≡ heads s
+abbrev pub shared-by : (s : Stage) (g : Links) (rows : List (List ℤ)) {n struck need : ℕ} {codes : List ℤ} {counts : List ℕ} → n ≡ heads s
     → struck ≡ markedTo (s .struck) n → Shares n (s .f) struck (givenBy g rows) codes counts → need ≡ n - s .f - markedTo (g .confessed) (min n 32)
-    → MarksOf n codes word → SharedBy s (record { need = need; word = word }) codes counts
-shared-by s g rows {n} p q S e M =
+    → SharedBy s need codes counts
+shared-by s g rows {n} p q S e =
     let small : min n 32 ≡ heads s = omega arith in
     record {
       given = givenBy g rows;
       shares = rw (q, p) at S;
       needed = e ∙ rw (small, p) (ap (λ (x : ℕ). heads s - s .f - x) (sym (confessions-marked (heads s) g rows)));
-      marked = rw p at M;
     }
 
-module _ (s : Stage) (plant : ℕ → ℕ → List ℕ) (i : ℕ) {c : Common} {codes : List ℤ} {counts : List ℕ} (S : SharedBy s c codes counts) where
+module _ (s : Stage) (plant : ℕ → ℕ → List ℕ) (i : ℕ) {need : ℕ} {codes : List ℤ} {counts : List ℕ} (S : SharedBy s need codes counts) where
   abbrev G : ℕ → Given
   G = S .given
 
@@ -76,22 +74,6 @@ module _ (s : Stage) (plant : ℕ → ℕ → List ℕ) (i : ℕ) {c : Common} {
 
   abbrev n : ℕ
   n = heads s
-
-  -- some lists are needed, since more are needed of what is given all alike than heads are struck
-  pub need-told : {same : List ℕ} {confesses : ℕ} → Told s plant i codes counts same confesses → (0 < neededHere s c confesses) × (neededHere s c confesses ≤ 32)
-  need-told {confesses = w} T =
-      let a : ℕ → ℕ = λ k. bit (bitOf w k) in
-      let b : ℕ → ℕ = λ k. bit (bitOf (s .struck) k) in
-      let few : markedTo w n ≤ markedTo (s .struck) n = omega (arith, sums-le n (a ∷ []) (b ∷ []) (λ k l. omega (arith, go k l))) in
-      (omega (arith, few, S .needed, S .shares .enough), omega (arith, S .needed, S .shares .small))
-    where
-      pick : (b h : Bool) → bit (cond b h false) ≤ bit b
-      pick true true = omega arith
-      pick true false = omega arith
-      pick false h = omega arith
-
-      go : Each n (λ k. bit (bitOf w k) ≤ bit (bitOf (s .struck) k))
-      go k l = rw (T .confesses k, lt-ltb k (heads s) l) (pick (bitOf (s .struck) k) (hasConfessed (plantedGiven s plant i k)))
 
   module _ (A : Alike s G) where
     tidy : Each (heads s) (λ k. Each (heads s) (λ j. saysOf j (G′ k) ≡ Position noCode → ⊥))
@@ -140,12 +122,12 @@ module _ (s : Stage) (plant : ℕ → ℕ → List ℕ) (i : ℕ) {c : Common} {
               let q : isStruck s k ≡ bitOf (s .struck) k = rw (lt-ltb k (heads s) l) in
               pick k (bitOf (s .struck) k) q ∙ ap (λ (b : Bool). cond b (holds j c (G′ k)) 0) (sym q)
 
-      trusted-here : Each n (λ j. takenHere s c codes same confessed j ≡ trusted n (s .f) G′ j)
+      trusted-here : Each n (λ j. takenHere s need codes same confessed j ≡ trusted n (s .f) G′ j)
       trusted-here j l =
-          let needs : neededHere s c confessed ≡ n - s .f - confessions n G′ = omega (arith, S .needed, confessions-here) in
+          let needs : neededHere s need confessed ≡ n - s .f - confessions n G′ = omega (arith, S .needed, confessions-here) in
           shared-trusted n (s .f) (markedTo (s .struck) n) G G′ (isStruck s) codes counts (S .shares) struck-count (λ k m. A .untold k) (λ k m. kept k) tidy j l
           needs (T .counts j l ∙ ap (λ (x : ℕ). getD counts j 0 + x) (added-here j (getD codes j (pos 0)))) (marked-here j) refl
 
       -- what the receiver settles
-      pub settled-here : settledBy s (takenHere s c codes same confessed) ≡ positionSettled s G′
+      pub settled-here : settledBy s (takenHere s need codes same confessed) ≡ positionSettled s G′
       settled-here = settled-trusted s G′ _ trusted-here

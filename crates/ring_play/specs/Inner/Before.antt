@@ -1,6 +1,6 @@
 -- A receiver that settles before another and is told the same. What both make of what they hear is the same, so it need not be made twice.
 use mathlib.Core.Path.{_≡_}
-use mathlib.Core.Bool.{Bool, true}
+use mathlib.Core.Bool.{true}
 use mathlib.Core.List.{List}
 use Prim.Native.Nat.{ℕ, _<_}
 use Rattle.ring_play.specs.declared.Stage.{Stage}

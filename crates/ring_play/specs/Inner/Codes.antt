@@ -1,9 +1,9 @@
 -- Entries as codes: one number for each, so that two entries are the same if their codes are.
 use mathlib.Core.Path.{_≡_}
-use mathlib.Core.Bool.{cond, not, _&&_}
+use mathlib.Core.Bool.{cond}
 use mathlib.Core.List.{List}
 use Prim.Native.Nat.{ℕ, _+_, _%_}
-use lib.Dec.{ltb, leb}
+use lib.Dec.{leb}
 use lib.IntN.{ℤ, pos}
 use lib.ListN.{length, getD}
 use Rattle.terms.specs.Positions.{eqZ}
@@ -28,10 +28,6 @@ entryOf c = cond (eqZ c noCode) Null (Position c)
 -- the code of entry j of a list with the mark word m and the numbers E
 abbrev pub codeAt : ℕ → List ℤ → ℕ → ℤ
 codeAt m E j = cond (bitOf m j) (getD E j (pos 0)) noCode
-
--- the marks of the first n codes: set for a position, and not for a null entry
-abbrev pub MarksOf : ℕ → List ℤ → ℕ → Type 0
-MarksOf n codes word = (j : ℕ) → bitOf word j ≡ (ltb j n && not (eqZ (getD codes j (pos 0)) noCode))
 
 -- the code that a receiver takes for entry j: the shared one if as many lists have it as are needed, and none if the entry's link confessed
 abbrev pub codeTaken : List ℤ → List ℕ → ℕ → ℕ → ℕ → ℤ

@@ -13,11 +13,10 @@ use Rattle.convergence.specs.Trust.{Given, hasConfessed, confessions}
 use Rattle.convergence.specs.Phases.{rounding}
 use Rattle.frame_spec.specs.Said.{said}
 use Rattle.settle_midpoint.specs.Answers.{settling}
-use Rattle.ring_play.specs.Inner.Codes.{entryOf, codeTaken, MarksOf, holds}
+use Rattle.ring_play.specs.Inner.Codes.{entryOf, codeTaken, holds}
 use Rattle.ring_play.specs.Inner.Shares.{Shares}
 use Rattle.head_spec.specs.Record.{givenOf}
 use Rattle.ring_play.specs.declared.Stage.{Stage}
-use Rattle.ring_play.specs.declared.shared.Common.{Common}
 use Rattle.ring_play.specs.declared.shared.Last.{Last}
 use Rattle.ring_play.specs.declared.shared.Last.the-variants.{None, At}
 use Rattle.ring_play.specs.Memory.{heads, positionOf}
@@ -38,12 +37,11 @@ pub record Told (s : Stage) (plant : ℕ → ℕ → List ℕ) (i : ℕ) (codes 
       ≡ getD same j 0 + sum (heads s) (λ k. cond (bitOf (s .struck) k) (holds j (getD codes j (pos 0)) (plantedGiven s plant i k)) 0))
   pub confesses : (k : ℕ) → bitOf confessed k ≡ cond (isStruck s k) (hasConfessed (plantedGiven s plant i k)) false
 
--- what is given all alike shows these codes, with their marks, and counts, and so many lists are needed
-pub record SharedBy (s : Stage) (c : Common) (codes : List ℤ) (counts : List ℕ) : Type 0 where
+-- what is given all alike shows these codes and counts, and so many lists are needed
+pub record SharedBy (s : Stage) (need : ℕ) (codes : List ℤ) (counts : List ℕ) : Type 0 where
   pub given : ℕ → Given
   pub shares : Shares (heads s) (s .f) (markedTo (s .struck) (heads s)) given codes counts
-  pub needed : c .need ≡ heads s - s .f - confessions (heads s) given
-  pub marked : MarksOf (heads s) codes (c .word)
+  pub needed : need ≡ heads s - s .f - confessions (heads s) given
 
 -- the position that a receiver settles, from its trusted entries
 unfoldable pub settledBy : Stage → (ℕ → Entry) → ℤ
@@ -54,12 +52,12 @@ abbrev pub settledAt : Stage → List ℤ → ℤ
 settledAt s codes = settledBy s (λ j. entryOf (getD codes j (pos 0)))
 
 -- how many lists a receiver needs to which so many more confessed
-abbrev pub neededHere : Stage → Common → ℕ → ℕ
-neededHere s c confesses = c .need - markedTo confesses (heads s)
+abbrev pub neededHere : Stage → ℕ → ℕ → ℕ
+neededHere s need confesses = need - markedTo confesses (heads s)
 
 -- the entries that it takes, from the shared codes and from how many lists it counted for each
-abbrev pub takenHere : Stage → Common → List ℤ → List ℕ → ℕ → ℕ → Entry
-takenHere s c codes same confesses j = entryOf (codeTaken codes same (neededHere s c confesses) confesses j)
+abbrev pub takenHere : Stage → ℕ → List ℤ → List ℕ → ℕ → ℕ → Entry
+takenHere s need codes same confesses j = entryOf (codeTaken codes same (neededHere s need confesses) confesses j)
 
 -- what was settled last, if anything, was settled from these codes
 abbrev pub LastOf : Stage → Last → List ℤ → Type 0

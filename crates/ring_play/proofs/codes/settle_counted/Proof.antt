@@ -1,22 +1,53 @@
--- `ring_play::codes::settle_counted` meets its contract: the codes are the reference by which the entries are decided, and only the first n entries count.
-use mathlib.Core.Path.{refl, _∙_}
-use denote.Ref.{now}
+-- `ring_play::codes::settle_counted` meets its contract: before entry j the order holds the positions taken among the entries below j. After the last entry these
+-- are all that settling asks of the entries.
+use mathlib.Core.Path.{_≡_, ap, sym, _∙_}
+use Prim.Native.Nat.{_-_, _≤_}
+use native.Mathlib.Omega.{arith}
+use mir.Facts.{toZ-ofZ}
 use borrow.Author.Needs.{needs}
-use Rattle.convergence.specs.Counting.{bit}
-use Rattle.convergence.specs.Settling.{twoRounds}
-use Rattle.settle_midpoint.proofs.Middle.{settling-same}
-use Rattle.ring_play.proofs.codes.Marked.{prepared-taken, first-taken}
+use Rattle.settle_midpoint.specs.Orders.{OrderAfter}
+use Rattle.settle_midpoint.proofs.Ordering.{order-none, order-next}
+use Rattle.settle_midpoint.proofs.Middle.{settling-after}
+use Rattle.ring_play.specs.Inner.Codes.{entryOf, codeTaken}
 use Rattle.ring_play.proofs.codes.settle_counted.Statement.{statement}
 use Rattle.ring_play.proofs.codes.settle_counted.Tie as tie
 
-returns : tie.Need-returns
+abbrev Inv-loop : tie.InvT-loop
+Inv-loop codes same need confessed n f up count positions₀ len₀ j₀ positions len j =
+    (j ≤ count) × OrderAfter j (λ i. entryOf (codeTaken codes same need confessed i)) len positions
+
+abbrev μ-loop : tie.MeasureT-loop
+μ-loop codes same need confessed n f up count positions₀ len₀ j₀ positions len j = count - j
+
+loop-holds : tie.Need-loop-holds Inv-loop μ-loop
+loop-holds c = (search needs, order-none _)
+
+loop-again : tie.Need-loop-again Inv-loop μ-loop
+loop-again c =
+    let t = c .before .before .before in
+    let h = t .before .before in
+    let l = h .loop in
+    let e = c .before .before .entry-of .ensures ∙ ap entryOf (toZ-ofZ (record { sfits = t .code-taken .ok }) ∙ t .code-taken .ensures) in
+    (search needs, rw (c .place .ensures .0, c .place .ensures .1) (order-next _ (l .j) (omega (arith, h .before .pre)) (sym e) (l .inv .1)))
+
+returns : tie.Need-returns Inv-loop μ-loop
 returns c =
-    let s = c .before in
-    let a = s .args in
-    let codes = now (a .codes) in
-    let same = now (a .same) in
-    c .settle-entries .ensures _ (prepared-taken (a .n) codes same _ _ _ (s .pre .0) refl refl refl (s .pre .2) (s .pre .3))
-    ∙ settling-same (bit (a .up)) (a .n) (twoRounds (a .f)) _ _ (first-taken (a .n) codes same (a .need) (a .confessed))
+    let l = c .before .before in
+    let e : l .loop .j ≡ l .before .args .n = omega arith in
+    c .middle-of .ensures ∙ settling-after _ _ _ _ (rw e at (l .loop .inv .1))
 
 pub settle-counted-spec : {M : Type 1} → statement M
-settle-counted-spec = tie.close (tie.spec (λ c. search needs) (λ c κs. search needs) returns)
+settle-counted-spec =
+    tie.close
+    (tie.spec
+    Inv-loop
+    μ-loop
+    loop-holds
+    (λ c κs. search needs)
+    (λ c κs. search needs)
+    (λ c κs. search needs)
+    (λ c. search needs)
+    (λ c. search needs)
+    loop-again
+    (λ c κs. search needs)
+    returns)

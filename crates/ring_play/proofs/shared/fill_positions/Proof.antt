@@ -2,7 +2,7 @@
 use mathlib.Core.Path.{_≡_, sym, _∙_}
 use mathlib.Core.Logic.{⊎-elim}
 use mathlib.Core.List.{List}
-use Prim.Native.Nat.{ℕ, _-_, _≤_, _<_}
+use Prim.Native.Nat.{ℕ, _-_, _≤_}
 use native.Mathlib.Omega.{arith}
 use mir.Facts.{toZ-ofZ}
 use denote.Ref.{now}
@@ -18,18 +18,18 @@ use Rattle.ring_play.proofs.round.Receivers.{end-small, settles-below, 
 use Rattle.ring_play.specs.Inner.Planted.{givenOrPlanted, positionSettled, Alike}
 use Rattle.ring_play.specs.Inner.Told.{SharedBy, LastOf}
 use Rattle.ring_play.proofs.shared.Settling.{told-settled}
-use Rattle.ring_play.proofs.shared.Told.{need-told, settled-here}
+use Rattle.ring_play.proofs.shared.Told.{settled-here}
 use Rattle.ring_play.proofs.shared.fill_positions.Statement.{statement}
 use Rattle.ring_play.proofs.shared.fill_positions.Tie as tie
 
 abbrev Inv-loop : tie.InvT-loop
-Inv-loop s rows planted lengths codes counts c positions₀ end settled₀ last₀ before₀ i₀ positions settled last before i =
+Inv-loop s planted lengths codes counts need positions₀ end settled₀ last₀ before₀ i₀ positions settled last before i =
     (i ≤ end) × (end ≤ 48) × (length positions ≡ 48) × LastOf s last settled × SettlesBefore s i before
-    × ((S : SharedBy s c codes counts) → Alike s (S .given)
+    × ((S : SharedBy s need codes counts) → Alike s (S .given)
     → Filled (settles s) (λ j. positionSettled s (givenOrPlanted s (S .given) (plantedIn planted lengths) j)) (λ j. getD positions₀ j (pos 0)) i (λ j. getD positions j (pos 0)))
 
 abbrev μ-loop : tie.MeasureT-loop
-μ-loop s rows planted lengths codes counts c positions₀ end settled₀ last₀ before₀ i₀ positions settled last before i = end - i
+μ-loop s planted lengths codes counts need positions₀ end settled₀ last₀ before₀ i₀ positions settled last before i = end - i
 
 loop-holds : tie.Need-loop-holds Inv-loop μ-loop
 loop-holds c =
@@ -59,10 +59,7 @@ count-planted-requires c κs = (search needs, start (c .before .before .before .
 
 position-told-requires : tie.Need-position-told-requires Inv-loop μ-loop
 position-told-requires c κs =
-    let h = c .before .before .before .before .before .before .before .before .before .before .before in
-    let S = start h .pre .1 in
-    let some = need-told (start h .args .s) (plant h) (h .loop .i) S (c .before .before .count-planted .ensures) in
-    (some .0, some .1, S .marked, h .loop .inv .3)
+    c .before .before .before .before .before .before .before .before .before .before .before .loop .inv .3
 
 loop-again : tie.Need-loop-again Inv-loop μ-loop
 loop-again c =

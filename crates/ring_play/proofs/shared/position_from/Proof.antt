@@ -27,8 +27,7 @@ module _ (c : tie.After-settle-counted) where
 settle-counted-requires : tie.Need-settle-counted-requires
 settle-counted-requires c κs =
     let n = c .before .head-count .ensures in
-    let p = c .before .before .pre in
-    (omega (arith, n), p .0, rw n (p .1), rw n (p .2))
+    omega (arith, n)
 
 returns : tie.Need-returns
 returns c = position-is (c .before .before) (c .enum-told .given .1)

@@ -6,12 +6,9 @@ use Prim.Native.Nat.{ℕ, _-_}
 use native.Mathlib.Omega.{arith}
 use mir.Facts.{toZ-ofZ}
 use denote.Ref.{now}
-use lib.IntN.{ℤ, pos}
-use lib.ListN.{getD}
+use lib.IntN.{ℤ}
 use borrow.Author.Needs.{needs}
 use Rattle.marks.specs.Marks.{markedTo}
-use Rattle.convergence.specs.Counting.{Each}
-use Rattle.ring_play.specs.Memory.{heads}
 use Rattle.ring_play.specs.Inner.Codes.{entryOf, codeTaken}
 use Rattle.ring_play.specs.Inner.Told.{settledBy, settledAt, neededHere, takenHere}
 use Rattle.ring_play.proofs.shared.Settling.{settled-entries, codes-alike, last-at}
@@ -32,12 +29,12 @@ module _ (t : tie.After-trust-codes) where
   abbrev own : List ℤ
   own = t .trust-codes .last .1 .1 .1 .1 .1 .0
 
-  needed : left .need-after .result ≡ neededHere (start .args .s) (start .args .c) (start .args .confessed)
+  needed : left .need-after .result ≡ neededHere (start .args .s) (start .args .need) (start .args .confessed)
   needed =
       let a = start .args in
-      left .need-after .ensures ∙ ap (λ (x : ℕ). a .c .need - markedTo (a .confessed) x) (played .head-count .ensures)
+      left .need-after .ensures ∙ ap (λ (x : ℕ). a .need - markedTo (a .confessed) x) (played .head-count .ensures)
 
-  own-taken : let a = start .args in settledAt (a .s) own ≡ settledBy (a .s) (takenHere (a .s) (a .c) (now (a .codes)) (now (a .same)) (a .confessed))
+  own-taken : let a = start .args in settledAt (a .s) own ≡ settledBy (a .s) (takenHere (a .s) (a .need) (now (a .codes)) (now (a .same)) (a .confessed))
   own-taken =
       let a = start .args in
       settled-entries (a .s) _ _
@@ -50,16 +47,10 @@ returns c =
     let l = f .before .before .before .before in
     let t = l .before .before in
     let a = start t .args in
-    let told = last-at (a .s) (now (a .settled)) (l .last .given .1) (start t .pre .3) in
+    let told = last-at (a .s) (now (a .settled)) (l .last .given .1) (start t .pre) in
     let e = toZ-ofZ (record { sfits = f .before .before .before .known-told .given .0 .1 }) ∙ told in
     let alike = codes-alike (a .s) (own t) (now (a .settled)) (λ j q. f .is-same-front .ensures (c .if1 .taken) j (omega (arith, played t .head-count .ensures))) in
     (e ∙ sym alike ∙ own-taken t, e)
-
-position-from-requires : tie.Need-position-from-requires
-position-from-requires c κs =
-    let t = c .before in
-    let p = start t .pre in
-    (rw (needed t) (p .1), λ l. rw (needed t) (p .0), p .2)
 
 returns-2 : tie.Need-returns-2
 returns-2 c =
@@ -83,5 +74,5 @@ position-told-spec =
     (λ c κs. search needs)
     returns
     (λ c. search needs)
-    position-from-requires
+    (λ c κs. search needs)
     returns-2)

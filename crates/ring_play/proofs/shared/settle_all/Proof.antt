@@ -15,24 +15,21 @@ returns c = record { settles = λ e. absurd (true≢false (sym e)); stays = λ e
 returns-2 : tie.Need-returns-2
 returns-2 c = record { settles = λ e. absurd (true≢false (sym e)); stays = λ e. refl }
 
--- the lists show codes and counts, with their marks
-module _ (w : tie.After-marks-of) where
-  abbrev needed : tie.After-lists-needed
-  needed = w .before .before
-
+-- the lists show codes and counts
+module _ (needed : tie.After-lists-needed) where
   abbrev start : tie.Start
   start = needed .before .before .before .before .before .before .before .before .before .before .before
 
   abbrev shared :
       let o = needed .before .before .share .last .1 .1 .1 .1 .1 in
-      SharedBy (start .args .s) (record { need = needed .lists-needed .result; word = w .marks-of .result }) (o .0) (o .1 .0)
+      SharedBy (start .args .s) (needed .lists-needed .result) (o .0) (o .1 .0)
   shared =
       let i = needed .before in
       let f = i .before in
       let m = f .before .before .before in
       let a = start .args in
       shared-by (a .s) (a .links) (now (a .rows)) (m .before .head-count .ensures) (m .marked-to .ensures) (f .share .ensures (not-false _ (i .if2 .left)))
-      (needed .lists-needed .ensures) (w .marks-of .ensures)
+      (needed .lists-needed .ensures)
 
 fill-positions-requires : tie.Need-fill-positions-requires
 fill-positions-requires c κs = (c .fill-positions-arg .given .0 .1, shared (c .before .before .before))
@@ -54,8 +51,6 @@ settle-all-spec =
     (λ c κs. search needs)
     (λ c κs. search needs)
     returns-2
-    (λ c κs. search needs)
-    (λ c. search needs)
     (λ c κs. search needs)
     fill-positions-requires
     returns-3)
