@@ -20,7 +20,8 @@ use Rattle.head_spec.specs.declared.LastKept.{LastKept}
 use Rattle.head_spec.specs.declared.Seat.{Seat}
 use Rattle.head_spec.specs.declared.Head.{Head}
 use Rattle.head_lent.specs.Answers.{heldNumber, heldOr, rangeNumber}
-use Rattle.head_c.specs.Blocks.{IsBlock, flag, familyIn, familyNumber, entryIn, rangeIn, upTo, numbersAt, listAt, seatOf, headOf, wordsOf, listWords, keptOf, withHead}
+use Rattle.head_spec.specs.Seats.{familyIn}
+use Rattle.head_c.specs.Blocks.{IsBlock, flag, familyNumber, entryIn, rangeIn, upTo, numbersAt, listAt, seatOf, headOf, wordsOf, listWords, keptOf, withHead}
 use Rattle.head_c.proofs.Copying.{upTo-list}
 use Rattle.head_c.proofs.Putting.{words-long, word-at, lists-long, first, second, third, first-long, second-long, third-long}
 

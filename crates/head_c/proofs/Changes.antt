@@ -14,7 +14,8 @@ use Rattle.fields.specs.Bytes.{signedOf, wordOf}
 use Rattle.marks.specs.Marks.{withMark}
 use Rattle.frame_spec.specs.Said.{collected, listed, confessed}
 use Rattle.head_spec.specs.Calls.{taken}
-use Rattle.head_c.specs.Blocks.{IsBlock, flag, familyIn, entryIn, rangeIn, upTo, numbersAt, listAt, seatOf, headOf, wordsOf, marked}
+use Rattle.head_spec.specs.Seats.{familyIn}
+use Rattle.head_c.specs.Blocks.{IsBlock, flag, entryIn, rangeIn, upTo, numbersAt, listAt, seatOf, headOf, wordsOf, marked}
 use Rattle.head_c.proofs.Copying.{upTo-same, upTo-set, copied-before, copied-there, copied-behind}
 use Rattle.head_c.proofs.Putting.{words-long, word-at}
 use Rattle.head_c.proofs.Blocks.{Fits32, signed-back, FitNumbers, numbers-back}

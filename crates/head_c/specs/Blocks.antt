@@ -25,6 +25,7 @@ use Rattle.head_spec.specs.declared.Head.{Head}
 use Rattle.head_spec.specs.declared.Answer.{Answer}
 use Rattle.head_spec.specs.declared.Closed.{Closed}
 use Rattle.head_spec.specs.declared.Offer.{Offer}
+use Rattle.head_spec.specs.Seats.{familyIn}
 use Rattle.head_spec.specs.Calls.{saidTo, hear, Delivery}
 use Rattle.head_spec.specs.Batch.{entriesOf, batchRefusal, hearBatch, batchAnswers, batchCount}
 use Rattle.head_window.specs.declared.Beside.{Beside}
@@ -45,11 +46,6 @@ upTo (suc k) g = upTo k g ++ (g k ∷ [])
 -- 0 is no
 abbrev pub flag : ℕ → Bool
 flag b = not (eqb b 0)
-
--- the family: a block of zeros is of a ring of two rounds
-abbrev pub familyIn : ℕ → Family
-familyIn zero = TwoRounds
-familyIn (suc b) = OneRound
 
 -- a position, if one is held
 abbrev pub entryIn : ℕ → ℤ → Entry

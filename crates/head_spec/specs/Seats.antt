@@ -1,13 +1,19 @@
 -- The seats that calls make: where a head stands after a start, a restart and the closing of each round. Calls make a seat here and nowhere else.
 use mathlib.Core.Bool.{Bool, true, false, cond}
-use Prim.Native.Nat.{ℕ, _+_, min}
+use Prim.Native.Nat.{ℕ, zero, suc, _+_, min}
 use lib.Dec.{leb}
 use lib.IntN.{ℤ}
 use Rattle.terms.specs.declared.Entry.{Entry}
 use Rattle.terms.specs.declared.Family.{Family}
+use Rattle.terms.specs.declared.Family.the-variants.{TwoRounds, OneRound}
 use Rattle.settle_midpoint.specs.declared.Kept.{Kept}
 use Rattle.head_spec.specs.declared.LastKept.{LastKept}
 use Rattle.head_spec.specs.declared.Seat.{Seat}
+
+-- the family that a plain number says: 0 is a ring of two rounds
+abbrev pub familyIn : ℕ → Family
+familyIn zero = TwoRounds
+familyIn (suc b) = OneRound
 
 -- a start, at position v: phase 1 opens
 abbrev pub firstSeat : Family → ℕ → ℕ → ℕ → ℤ → Seat

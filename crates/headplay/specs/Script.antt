@@ -7,11 +7,12 @@ use lib.IntN.{pos}
 use lib.ListN.{length, getD, take, drop, replicate}
 use Rattle.terms.specs.Refusals.{leaves}
 use Rattle.terms.specs.declared.Family.{Family}
-use Rattle.terms.specs.declared.Family.the-variants.{TwoRounds, OneRound}
+use Rattle.terms.specs.declared.Family.the-variants.{TwoRounds}
 use Rattle.fields.specs.Bytes.{at2, at4, signedAt}
 use Rattle.head_spec.specs.declared.Head.{Head}
 use Rattle.head_spec.specs.declared.Answer.{Answer}
 use Rattle.head_spec.specs.declared.Offer.{Offer}
+use Rattle.head_spec.specs.Seats.{familyIn}
 use Rattle.head_spec.specs.Batch.{hearBatch, batchRefusal, entriesOf}
 use Rattle.head_spec.specs.Calls.{started, start, restart, startListener, restartListener, hear, answersTo, writeAnswer, close, adopt}
 use Rattle.head_spec.specs.Offers.{lapsed, lapsedBy, offered}
@@ -22,11 +23,7 @@ use Rattle.headplay.specs.declared.Outcome.{Outcome}
 abbrev pub answered : Answer → Offer → Outcome
 answered a o = record { number = a .refusal; head = a .head; offer = lapsed (a .refusal) o }
 
--- the family of the ring that calls 0 to 3 are for: byte 23, 0 for phases of two rounds
-abbrev pub familyIn : ℕ → Family
-familyIn zero = TwoRounds
-familyIn (suc b) = OneRound
-
+-- the family of the ring that calls 0 to 3 are for: byte 23
 abbrev pub familyAt : List ℕ → Family
 familyAt s = familyIn (getD s 23 0)
 

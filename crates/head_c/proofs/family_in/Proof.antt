@@ -2,7 +2,7 @@
 use mathlib.Core.Path.{_≡_, refl}
 use Prim.Native.Nat.{ℕ, zero, suc}
 use Rattle.terms.specs.declared.Family.the-variants.{OneRound}
-use Rattle.head_c.specs.Blocks.{familyIn}
+use Rattle.head_spec.specs.Seats.{familyIn}
 use borrow.Author.Needs.{needs}
 use Rattle.head_c.proofs.family_in.Statement.{statement}
 use Rattle.head_c.proofs.family_in.Tie as tie

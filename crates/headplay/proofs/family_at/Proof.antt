@@ -5,7 +5,7 @@ use Prim.Native.Nat.{ℕ, zero, suc}
 use borrow.Author.Needs.{needs}
 use Rattle.terms.specs.declared.Family.{Family}
 use Rattle.terms.specs.declared.Family.the-variants.{OneRound}
-use Rattle.headplay.specs.Script.{familyIn}
+use Rattle.head_spec.specs.Seats.{familyIn}
 use Rattle.headplay.proofs.family_at.Statement.{statement}
 use Rattle.headplay.proofs.family_at.Tie as tie
 
