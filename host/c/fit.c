@@ -136,9 +136,9 @@ static void print_limits(void) {
 static int32_t brings(uint8_t *bytes, uint32_t open, int32_t u) {
     int32_t position = FOCUS_NO_STEP;
     put4(bytes + 4 * open, u);
-    (table.one_round ? focus_one_round_midpoint : focus_midpoint)(table.n, table.f, table.phase, marks() | UINT32_C(1) << open, bytes, 4 * table.count,
-                                                                  &position);
-    return position;
+    uint8_t number = (table.one_round ? focus_one_round_midpoint : focus_midpoint)(table.n, table.f, table.phase, marks() | UINT32_C(1) << open, bytes,
+                                                                                   4 * table.count, &position);
+    return number == FOCUS_OK ? position : FOCUS_NO_STEP;
 }
 
 static void print_reach(uint32_t open, int32_t wanted) {

@@ -93,8 +93,10 @@ static void deliver(const struct ring *r, const uint8_t *end) {
             if (is_member(r, i) && !(r->struck >> i & 1))
                 same("hear", focus_head_hear(&heads[i], k, frame, length), 0);
     }
-    for (const uint8_t *at = r->planted; at < end; at += size_of(at))
-        focus_head_hear(&heads[at[5]], at[4], at + 6, size_of(at) - 6);
+    for (const uint8_t *at = r->planted; at < end; at += size_of(at)) {
+        uint8_t number = focus_head_hear(&heads[at[5]], at[4], at + 6, size_of(at) - 6);
+        (void)number; /* a planted frame that is refused gives nothing */
+    }
 }
 
 static const uint8_t *play_round(struct ring *r, const uint8_t *at, size_t bytes) {

@@ -1,13 +1,45 @@
 /* The shared-focus firmware, as C calls it: calls on plain numbers and bytes, a head that C keeps, and a whole
  * run file played in memory.
  *
- * Each function returns 0, or the number of the refusal, and puts a result where the caller lends room for it. If a
- * call has several faults, the first check that fails decides, in the order given at each call. A refusal writes
- * nothing, but for the event that a closing refused 25 leaves in the head's window. No function keeps a pointer,
- * allocates, or changes the bytes it reads. Pointers are not NULL, and what is lent to one call does not overlap;
- * nothing else is asked of an argument: every value of every argument has its answer.
+ * What to call
  *
- * Link with the archives, in one line:
+ *   a head, all shift       start      focus_head_start, focus_listener_start; in a one-round ring focus_one_round_start,
+ *                                      focus_one_round_listener_start
+ *                           a round    focus_head_write to send; focus_head_hear for each link, or focus_head_hear_batch for all;
+ *                                      focus_head_close
+ *                           phase end  focus_head_close offers, focus_head_offer shows it, focus_head_adopt takes it
+ *                           strikes    focus_head_restart, focus_listener_restart, focus_one_round_restart,
+ *                                      focus_one_round_listener_restart
+ *   what a head holds       numbers    focus_head_position, focus_head_kept, focus_head_since
+ *                           floats     focus_head_reading; focus_host_page for n heads, as text
+ *                           registers  focus_head_register, focus_head_window, focus_head_set_register, focus_head_interrupt
+ *   without a head          frames     focus_frame_check
+ *                           settling   focus_midpoint, focus_midpoint_kept, focus_one_round_midpoint
+ *                           fitting    focus_limits, focus_reach, focus_one_round_reach
+ *                           the scale  focus_scale, focus_unscale
+ *   a run file              playing    focus_play
+ *   an answer               in words   focus_refusal_text
+ *
+ * Each function returns 0 (FOCUS_OK), or the number of the refusal, and puts a result where the caller lends room for it. Six answer
+ * otherwise, and refuse nothing: focus_head_offer, focus_head_position and focus_head_kept 1 if there is one and 0 if there is none,
+ * focus_head_interrupt 1 if the line is up, focus_head_since a count, focus_head_reading a kind. focus_head_window returns nothing.
+ *
+ * If a call has several faults, the first check that fails decides, in the order given at each call. A refusal writes nothing, but
+ * for the event that a closing refused 25 leaves in the head's window. No function keeps a pointer, allocates, or changes the bytes
+ * it reads.
+ *
+ * Pointers are not NULL, with a length of 0 neither. Each is aligned for its type and valid for as many elements as the call takes.
+ * What is lent to one call does not overlap. Nothing else is asked of an argument: every value of every argument has its answer.
+ *
+ * Threads and interrupts: no function has memory of its own. Calls on different blocks may run at once. Calls on one block are made
+ * one at a time, those that only read it too while another changes it: an interrupt that reads a window in the middle of a call
+ * reads a mixture.
+ *
+ * The functions call memcpy and memset, and nothing else. Stack: focus_play takes less than FOCUS_STACK_PLAY bytes, each other call
+ * less than FOCUS_STACK (measured by host/c/stack.c, not proved).
+ *
+ * docs/TRUST.md says what must be believed of all this, and what whoever builds a ring of it owes. Link with the archives, in one
+ * line:
  *
  *     rt staticlib camera && rt staticlib head_c && rt staticlib run_whole
  *     gcc -Ihost/include your.c target/staticlib/libcamera.a target/staticlib/libhead_c.a target/staticlib/librun_whole.a
@@ -15,15 +47,74 @@
 #ifndef FOCUS_H
 #define FOCUS_H
 
+#include <float.h>
 #include <stddef.h>
 #include <stdint.h>
+
+/* The archives are for one target. A program that wants the names alone, for another one, defines FOCUS_ANY_TARGET. */
+#ifndef FOCUS_ANY_TARGET
+#if !defined(__x86_64__) || !defined(__linux__) || SIZE_MAX != UINT64_MAX
+#error "focus.h: the archives are for x86-64 Linux alone (define FOCUS_ANY_TARGET to read the header for another target)"
+#endif
+#if defined(__BYTE_ORDER__) && __BYTE_ORDER__ != __ORDER_LITTLE_ENDIAN__
+#error "focus.h: the archives are for little-endian numbers (define FOCUS_ANY_TARGET to read the header for another target)"
+#endif
+#if FLT_RADIX != 2 || FLT_MANT_DIG != 24 || FLT_MAX_EXP != 128
+#error "focus.h: readings are 32-bit floats of IEEE 754 (define FOCUS_ANY_TARGET to read the header for another target)"
+#endif
+#endif
+
+/* A compiler that can warns if the answer of a call is not looked at. A program that has its own way defines it, or leaves it empty. */
+#ifndef FOCUS_MUST_USE
+#if defined(__GNUC__)
+#define FOCUS_MUST_USE __attribute__((warn_unused_result))
+#elif (defined(__cplusplus) && __cplusplus >= 201703L) || (defined(__STDC_VERSION__) && __STDC_VERSION__ >= 202311L)
+#define FOCUS_MUST_USE [[nodiscard]]
+#else
+#define FOCUS_MUST_USE
+#endif
+#endif
 
 #ifdef __cplusplus
 extern "C" {
 #endif
 
+/* Which interface this is. 1.14 has document 01, and of document 02 A1 to A14. A later one with the same first number has all of it. */
+#define FOCUS_VERSION_MAJOR 1
+#define FOCUS_VERSION_MINOR 14
+#define FOCUS_VERSION_PATCH 0
+#define FOCUS_VERSION_TEXT "1.14.0"
+
+/* Limits: heads are numbered from 0, listeners from 32; positions are whole steps; phases are numbered from 1. */
+#define FOCUS_HEADS_MAX 32
+#define FOCUS_LISTENERS_MAX 16
+#define FOCUS_LISTENER_FIRST 32
+#define FOCUS_LISTENER_LAST 47
+#define FOCUS_PHASES_MAX 65535
+#define FOCUS_POSITION_MIN (-1000000)
+#define FOCUS_POSITION_MAX 1000000
+#define FOCUS_SCALE_MAX 1000000 /* of numerator and denominator */
+#define FOCUS_SINCE_MAX 255     /* where the count of phase ends rests */
+
+/* Bytes of stack that a call may take. */
+#define FOCUS_STACK 16384
+#define FOCUS_STACK_PLAY 262144
+
+/* The rounds of a phase; a one-round ring has the first alone. */
+enum focus_round { FOCUS_ROUND_COLLECTION = 0, FOCUS_ROUND_CONFESSION = 1 };
+
+/* What bytes 2 and 3 of a frame hold, and where its parts are; all fields have their lowest byte first. */
+enum focus_frame_kind {
+    FOCUS_FRAME_POSITION = 1,
+    FOCUS_FRAME_SILENCE = 2,
+    FOCUS_FRAME_LIST = 3,
+    FOCUS_FRAME_CONFESSION = 4
+};
+enum focus_frame_byte { FOCUS_FRAME_LENGTH = 0, FOCUS_FRAME_KIND = 2, FOCUS_FRAME_SENDER = 4, FOCUS_FRAME_PHASE = 5, FOCUS_FRAME_REST = 7 };
+
 /* The refusals (document 01, "Stops"), by the names that crates/terms/src/refusal.rt has. */
 enum focus_refusal {
+    FOCUS_OK = 0,           /* no refusal */
     FOCUS_HEAD_COUNT = 1,   /* head count */
     FOCUS_STRUCK_LIMIT = 2, /* struck limit too high */
     FOCUS_HEAD_NUMBER = 3,  /* head or link number n or more, or a listener's outside 32 to 47 */
@@ -52,24 +143,58 @@ enum focus_refusal {
     FOCUS_NO_OFFER = 27     /* adopting with no offer standing */
 };
 
+/* A refusal in words. */
+static inline const char *focus_refusal_text(unsigned number) {
+    switch (number) {
+    case FOCUS_OK: return "no refusal";
+    case FOCUS_HEAD_COUNT: return "head count is not 1 to 32";
+    case FOCUS_STRUCK_LIMIT: return "struck limit too high: 2n is below 7f + 2";
+    case FOCUS_HEAD_NUMBER: return "head or link number n or more, or a listener number outside 32 to 47";
+    case FOCUS_POSITION: return "position out of range";
+    case FOCUS_PHASE: return "phase or round out of range";
+    case FOCUS_STATED_LENGTH: return "fewer than 4 bytes, or the length field differs from the bytes given";
+    case FOCUS_KIND: return "unknown kind of frame";
+    case FOCUS_KIND_LENGTH: return "length wrong for the kind and count";
+    case FOCUS_SENDER: return "sender is not the link";
+    case FOCUS_MARKS: return "list count is not n, or a mark at n or above";
+    case FOCUS_ENTRY: return "entry out of range, or not 0 where null";
+    case FOCUS_SCALE: return "scale out of range, or its numerator below its denominator";
+    case FOCUS_RUN_RECORD: return "run record of wrong form or out of order, or the file ended too early";
+    case FOCUS_STRUCK: return "more than f heads struck, or a mark at n or above";
+    case FOCUS_BATCH_ENTRY: return "length field of a batch missing, below 4 or past the end";
+    case FOCUS_REGISTER: return "no such byte of the window, or not to be written";
+    case FOCUS_LISTENER: return "a listener sends nothing";
+    case FOCUS_ONE_ROUND_LIMIT: return "n is below 4f + 1 in a one-round ring";
+    case FOCUS_LIMITS: return "lowest above highest, out of range, or not 0 where null";
+    case FOCUS_HEARD: return "link already heard in this round";
+    case FOCUS_OTHER_ROUND: return "frame of the other round";
+    case FOCUS_OTHER_PHASE: return "frame of another phase";
+    case FOCUS_BUFFER: return "buffer too short";
+    case FOCUS_TRUSTED: return "too few trusted entries";
+    case FOCUS_ENDED: return "the last phase, 65,535, has ended";
+    case FOCUS_NO_OFFER: return "no offer stands";
+    default: return "no such refusal";
+    }
+}
+
 /* ---- the camera's calls: crates/camera/src/lib.rt has what they promise */
 
 /* The frame check: 0, or 6, 7, 8, for any bytes. It looks at the length field, the kind and a list's own count;
  * sender, phase, marks and entries are not looked at. The rest of an accepted frame is frame[7] to frame[length - 1].
  * Promised: the result is `frameRefusal` of the bytes (crates/frame_check/specs/Check.antt). */
-uint8_t focus_frame_check(const uint8_t *frame, size_t length);
+FOCUS_MUST_USE uint8_t focus_frame_check(const uint8_t *frame, size_t length);
 
 /* The midpoint of a trusted table: n heads, struck limit f, the phase that it ends (1 to 65,535), bit j of marks set if
  * entry j is a position, entries of 4 bytes each, signed, lowest byte first, 0 where null. An odd sum is rounded down,
  * towards minus infinity, in odd phases, and up, towards plus infinity, in even ones.
  * Returns 0 and puts the new position in *position, or 1, 2, 5, 8 (length is not 4n), 10, 11, 25.
  * Promised: number and *position are those of `midpointCall` (crates/settle_midpoint/specs/Call.antt). */
-uint8_t focus_midpoint(uint32_t n, uint32_t f, uint32_t phase, uint32_t marks, const uint8_t *entries, size_t length,
-                       int32_t *position);
+FOCUS_MUST_USE uint8_t focus_midpoint(uint32_t n, uint32_t f, uint32_t phase, uint32_t marks, const uint8_t *entries, size_t length,
+                                      int32_t *position);
 
 /* The same in a one-round ring: returns 0 or 1, 18, 5, 8, 10, 11, 25. */
-uint8_t focus_one_round_midpoint(uint32_t n, uint32_t f, uint32_t phase, uint32_t marks, const uint8_t *entries, size_t length,
-                                 int32_t *position);
+FOCUS_MUST_USE uint8_t focus_one_round_midpoint(uint32_t n, uint32_t f, uint32_t phase, uint32_t marks, const uint8_t *entries,
+                                                size_t length, int32_t *position);
 
 /* What a settling keeps: the lowest and highest entry kept, how many were dropped from each end, and the new
  * position, half the sum of the two, rounded by the phase. */
@@ -81,8 +206,8 @@ typedef struct focus_kept {
  * is refused.
  * Promised: number and *kept are those of `midpointCall` (crates/settle_midpoint/specs/Call.antt), by `keptOr`
  * (crates/camera/specs/Out.antt). */
-uint8_t focus_midpoint_kept(uint32_t n, uint32_t f, uint32_t phase, uint32_t marks, const uint8_t *entries, size_t length,
-                            focus_kept *kept);
+FOCUS_MUST_USE uint8_t focus_midpoint_kept(uint32_t n, uint32_t f, uint32_t phase, uint32_t marks, const uint8_t *entries,
+                                           size_t length, focus_kept *kept);
 
 /* The lowest and the highest of the new positions that can come of positions known within limits. */
 typedef struct focus_range {
@@ -96,8 +221,8 @@ typedef struct focus_range {
  * the limits is refused 25.
  * Promised: `RangeLent` (crates/camera/specs/Out.antt), for an answer of `Answers` (crates/settle_limits/specs/Call.antt),
  * of which there is one at most. */
-uint8_t focus_limits(uint32_t n, uint32_t f, uint32_t phase, uint32_t marks, const uint8_t *limits, size_t length,
-                     focus_range *range);
+FOCUS_MUST_USE uint8_t focus_limits(uint32_t n, uint32_t f, uint32_t phase, uint32_t marks, const uint8_t *limits, size_t length,
+                                    focus_range *range);
 
 /* What stands for no position, and for no step: no position is so low. */
 #define FOCUS_NO_STEP INT32_MIN
@@ -109,25 +234,25 @@ uint8_t focus_limits(uint32_t n, uint32_t f, uint32_t phase, uint32_t marks, con
  * Returns 0 and writes *position, or 1, 2, 5, 3 (number is n or more), 8, 10, 11, 25.
  * Promised: `PositionLent` (crates/camera/specs/Out.antt), for an answer of `Answers` (crates/settle_reach/specs/Call.antt),
  * of which there is one at most; with *position for the open entry the midpoint call gives the wanted position. */
-uint8_t focus_reach(uint32_t n, uint32_t f, uint32_t phase, uint32_t number, uint32_t marks, const uint8_t *entries, size_t length,
-                    int32_t wanted, int32_t *position);
+FOCUS_MUST_USE uint8_t focus_reach(uint32_t n, uint32_t f, uint32_t phase, uint32_t number, uint32_t marks, const uint8_t *entries,
+                                   size_t length, int32_t wanted, int32_t *position);
 
 /* The same in a one-round ring: returns 0 or 1, 18, 5, 3, 8, 10, 11, 25. */
-uint8_t focus_one_round_reach(uint32_t n, uint32_t f, uint32_t phase, uint32_t number, uint32_t marks, const uint8_t *entries,
-                              size_t length, int32_t wanted, int32_t *position);
+FOCUS_MUST_USE uint8_t focus_one_round_reach(uint32_t n, uint32_t f, uint32_t phase, uint32_t number, uint32_t marks,
+                                             const uint8_t *entries, size_t length, int32_t wanted, int32_t *position);
 
 /* The step scale: nanometres are steps times numerator, divided by denominator, rounded down (towards minus
  * infinity). Numerator and denominator are from 1 to 1,000,000, the numerator at least the denominator.
  * Returns 0 and puts the nanometres, from -10^12 to 10^12, in *nanometres, or 12, 4.
  * Promised: number and *nanometres are those of `scaled` (crates/steps/specs/Scale.antt). */
-uint8_t focus_scale(int32_t steps, uint32_t numerator, uint32_t denominator, int64_t *nanometres);
+FOCUS_MUST_USE uint8_t focus_scale(int32_t steps, uint32_t numerator, uint32_t denominator, int64_t *nanometres);
 
 /* From nanometres back to steps: the step in range, from -1,000,000 to 1,000,000, whose reading by the step scale it
  * is. Any reading is taken. No two steps read alike, since the numerator is at least the denominator.
  * Returns 0 and puts the step in *steps, or FOCUS_NO_STEP if no step in range reads so; or 12.
  * Promised: `StepLent` (crates/camera/specs/Out.antt), for an answer of `Answers` (crates/steps/specs/Unscale.antt),
  * of which there is one at most; what focus_scale puts in *nanometres comes back as the steps it was given. */
-uint8_t focus_unscale(int64_t nanometres, uint32_t numerator, uint32_t denominator, int32_t *steps);
+FOCUS_MUST_USE uint8_t focus_unscale(int64_t nanometres, uint32_t numerator, uint32_t denominator, int32_t *steps);
 
 /* ---- a whole run file: crates/run_whole/src/lib.rt */
 
@@ -169,8 +294,8 @@ enum focus_phase_bytes { FOCUS_PLAY_ONE_ROUND = 8, FOCUS_PLAY_TWO_ROUNDS = 16 };
  * rows and words are in numbers, not bytes. Takes about 230 KB of stack.
  * Promised: `PlaysInto` (crates/run_whole/specs/Whole.antt), with demand 3 for any two of the rows; of since, `counts`
  * and `records` there. */
-uint8_t focus_play(const uint8_t *file, size_t bytes, uint8_t *out, size_t out_size, int32_t *rows, size_t rows_size,
-                   uint64_t *words, size_t words_size, uint8_t since[FOCUS_RECEIVERS], size_t *length, size_t *ends);
+FOCUS_MUST_USE uint8_t focus_play(const uint8_t *file, size_t bytes, uint8_t *out, size_t out_size, int32_t *rows, size_t rows_size,
+                                  uint64_t *words, size_t words_size, uint8_t since[FOCUS_RECEIVERS], size_t *length, size_t *ends);
 
 /* ---- a head that C keeps: crates/head_c/src/lib.rt has what its calls promise; crates/head_spec/specs/Calls.antt
  * defines the calls */
@@ -197,21 +322,24 @@ typedef struct focus_head {
 
 /* Starts the head in phase 1 with its position: n heads, struck limit f, its number. Clears events and mask.
  * Refusals 1, 2, 3, 4. */
-uint8_t focus_head_start(focus_head *head, uint32_t n, uint32_t f, uint32_t number, int32_t position);
+FOCUS_MUST_USE uint8_t focus_head_start(focus_head *head, uint32_t n, uint32_t f, uint32_t number, int32_t position);
 
 /* Restarts a head whose strike is over, in the phase and round (0 collection, 1 confession) that are told it, with no
- * position. Sets the event of a strike that is over.
+ * position. Sets the event of a strike that is over. Events and mask stay as they are in the block: after a strike that took
+ * its memory, write 3 to byte 10 of the window, which clears the other two events, and the mask to byte 11.
  * Refusals 1, 2, 3, 5. */
-uint8_t focus_head_restart(focus_head *head, uint32_t n, uint32_t f, uint32_t number, uint32_t phase, uint32_t round);
+FOCUS_MUST_USE uint8_t focus_head_restart(focus_head *head, uint32_t n, uint32_t f, uint32_t number, uint32_t phase,
+                                          uint32_t round);
 
 /* A listener (document 02, A6) is kept in a block as a head is, under a number from 32 to 47. All calls on a head's
  * block are for its block too: it hears the n heads' links, closes rounds and settles positions as a head does. It
  * has no link of its own and sends nothing: focus_head_write is refused 17.
  * Starts it in phase 1 with no position: it holds none before its first phase end. Refusals 1, 2, 3. */
-uint8_t focus_listener_start(focus_head *head, uint32_t n, uint32_t f, uint32_t number);
+FOCUS_MUST_USE uint8_t focus_listener_start(focus_head *head, uint32_t n, uint32_t f, uint32_t number);
 
 /* Restarts a listener whose strike is over, as focus_head_restart does a head. Refusals 1, 2, 3, 5. */
-uint8_t focus_listener_restart(focus_head *head, uint32_t n, uint32_t f, uint32_t number, uint32_t phase, uint32_t round);
+FOCUS_MUST_USE uint8_t focus_listener_restart(focus_head *head, uint32_t n, uint32_t f, uint32_t number, uint32_t phase,
+                                              uint32_t round);
 
 /* A one-round ring (document 02, A9) takes n at least 4f + 1. Each of its rounds is a phase: heads send positions, healed
  * ones silence, each drops nulls and then f entries from each end, and every closing offers and waits to be adopted. Its
@@ -219,22 +347,23 @@ uint8_t focus_listener_restart(focus_head *head, uint32_t n, uint32_t f, uint32_
  * the family in which it was started or restarted last. In a one-round ring the round is 0 for ever: lists and
  * confessions are refused 22, and bit 2 of the window's byte 3 stays 0.
  * These four are the starts and restarts above for such a ring. Refusals 1, 18, 3, 4. */
-uint8_t focus_one_round_start(focus_head *head, uint32_t n, uint32_t f, uint32_t number, int32_t position);
+FOCUS_MUST_USE uint8_t focus_one_round_start(focus_head *head, uint32_t n, uint32_t f, uint32_t number, int32_t position);
 
 /* Refusals 1, 18, 3, 5: any round but 0 is 5. */
-uint8_t focus_one_round_restart(focus_head *head, uint32_t n, uint32_t f, uint32_t number, uint32_t phase, uint32_t round);
+FOCUS_MUST_USE uint8_t focus_one_round_restart(focus_head *head, uint32_t n, uint32_t f, uint32_t number, uint32_t phase,
+                                               uint32_t round);
 
 /* Refusals 1, 18, 3. */
-uint8_t focus_one_round_listener_start(focus_head *head, uint32_t n, uint32_t f, uint32_t number);
+FOCUS_MUST_USE uint8_t focus_one_round_listener_start(focus_head *head, uint32_t n, uint32_t f, uint32_t number);
 
 /* Refusals 1, 18, 3, 5: any round but 0 is 5. */
-uint8_t focus_one_round_listener_restart(focus_head *head, uint32_t n, uint32_t f, uint32_t number, uint32_t phase,
-                                         uint32_t round);
+FOCUS_MUST_USE uint8_t focus_one_round_listener_restart(focus_head *head, uint32_t n, uint32_t f, uint32_t number, uint32_t phase,
+                                                        uint32_t round);
 
 /* Hears the bytes of one frame on a link. An accepted frame ends an offer. Refusals 26, 3, 21, 6, 7, 8, 22, 9, 23, 10,
  * 11. (A block that no start made may say n above 32: a frame on a link from 32 on is accepted then and changes
  * nothing, since a block has no words for it.) */
-uint8_t focus_head_hear(focus_head *head, uint32_t link, const uint8_t *frame, size_t length);
+FOCUS_MUST_USE uint8_t focus_head_hear(focus_head *head, uint32_t link, const uint8_t *frame, size_t length);
 
 /* Hears a round's frames in one call, each as a link byte and then the frame, in order, going on past a refused one:
  * as focus_head_hear would, one by one. The front of answers gets a byte for each frame, 0 or the number of its
@@ -243,19 +372,20 @@ uint8_t focus_head_hear(focus_head *head, uint32_t link, const uint8_t *frame, s
  * fewer bytes than there are frames; nothing is heard then, and nothing written.
  * Promised: `HearsBatch` (crates/head_c/specs/Blocks.antt); crates/head_spec/specs/Batch.antt says how a batch is
  * cut. */
-uint8_t focus_head_hear_batch(focus_head *head, const uint8_t *batch, size_t length, uint8_t *answers, size_t room, size_t *count);
+FOCUS_MUST_USE uint8_t focus_head_hear_batch(focus_head *head, const uint8_t *batch, size_t length, uint8_t *answers, size_t room,
+                                             size_t *count);
 
 /* Writes the frame that says what the head has to say to the front of the buffer, and its length to *length; the
  * bytes after it stay as they were.
  * Refusals 26, 17 for a listener, 24. */
-uint8_t focus_head_write(const focus_head *head, uint8_t *buffer, size_t room, size_t *length);
+FOCUS_MUST_USE uint8_t focus_head_write(const focus_head *head, uint8_t *buffer, size_t room, size_t *length);
 
 /* Closes the round. A collection round ends: its list stands, and the confession round is open. A confession round, and
  * every round of a one-round ring, only offers a new position (document 02, A8): the head stays as it is in every way,
  * phase, round, position, kept range and window, until the offer is adopted. Closing again offers the same again.
  * Refusals 26, 25 (more than 3f nulls; in a one-round ring more than 2f), of which 25 is an event and changes nothing
  * else. */
-uint8_t focus_head_close(focus_head *head);
+FOCUS_MUST_USE uint8_t focus_head_close(focus_head *head);
 
 /* Adopts what is offered: the head holds the new position and its kept range, the next phase is open, and the event of
  * a phase end is set. Closing and then adopting is what closing a confession round was before A8. An offer ends when it
@@ -265,18 +395,18 @@ uint8_t focus_head_close(focus_head *head);
  * so it answers 27 there; 26 is for blocks that no start made.
  * Who has not adopted when the first frame of the next round is sent counts as struck in the round that it did not end:
  * its host restarts it before it sends or hears (host/c/look_first.c). */
-uint8_t focus_head_adopt(focus_head *head);
+FOCUS_MUST_USE uint8_t focus_head_adopt(focus_head *head);
 
 /* For the person who looks: 1 and what is offered in *kept, the new position with its kept range and trim; or 0 if no
  * offer stands, with *kept as it was. No refusal. */
-uint8_t focus_head_offer(const focus_head *head, focus_kept *kept);
+FOCUS_MUST_USE uint8_t focus_head_offer(const focus_head *head, focus_kept *kept);
 
 /* No refusal: 1 and the head's position in *position, or 0 if it holds none, with *position as it was. */
-uint8_t focus_head_position(const focus_head *head, int32_t *position);
+FOCUS_MUST_USE uint8_t focus_head_position(const focus_head *head, int32_t *position);
 
 /* No refusal: 1 and what the head's last phase end kept in *kept, or 0 if it passed none since it was started or
  * restarted, with *kept as it was. An offer does not show here until it is adopted. */
-uint8_t focus_head_kept(const focus_head *head, focus_kept *kept);
+FOCUS_MUST_USE uint8_t focus_head_kept(const focus_head *head, focus_kept *kept);
 
 /* No refusal: how many phase ends the head has passed since it was started or restarted, up to 255, where the count rests
  * (document 02, A10). A start and a restart set it to 0, and an adoption, which ends a phase, adds one. Nothing else
@@ -285,7 +415,7 @@ uint8_t focus_head_kept(const focus_head *head, focus_kept *kept);
  * It is for service staff who look for the head that is struck most; host/c/counts.c shows the counts of a run file.
  * Promised: the field `since` of the head's record (crates/head_spec/specs/Seats.antt); for heads in rounds `RingCounts`
  * (crates/ring_spec/specs/Converges.antt). */
-uint8_t focus_head_since(const focus_head *head);
+FOCUS_MUST_USE uint8_t focus_head_since(const focus_head *head);
 
 /* ---- what camera hosts read (document 02, A14): crates/head_c/src/page.rt has what the calls promise */
 
@@ -301,7 +431,7 @@ typedef struct focus_reading {
  * that the kind does not have stay as they were.
  * Promised: `kindOf` and `floatsOr` (crates/head_c/specs/Pages.antt) of `headReading` (crates/reading/specs/Readings.antt). A
  * host that changed the rounding mode must set it back to nearest before it calls: downward, -v and v would give -0. */
-uint8_t focus_head_reading(const focus_head *head, focus_reading *reading);
+FOCUS_MUST_USE uint8_t focus_head_reading(const focus_head *head, focus_reading *reading);
 
 /* The host page of n heads whose blocks stand side by side, from head 0 up, at the front of the buffer, and its length in
  * *length; the bytes after it stay as they were. A line for each head, with a newline: its number, then `unknown`, `point`
@@ -310,7 +440,8 @@ uint8_t focus_head_reading(const focus_head *head, focus_reading *reading);
  * page is longer than 64 * n bytes.
  * Refusals 1, 24.
  * Promised: `pageAnswer` and `pageIn` (crates/hostpage/specs/Page.antt) of `readingsOf` (crates/head_c/specs/Pages.antt). */
-uint8_t focus_host_page(const uint32_t *blocks, size_t words, uint32_t n, uint8_t *buffer, size_t room, size_t *length);
+FOCUS_MUST_USE uint8_t focus_host_page(const uint32_t *blocks, size_t words, uint32_t n, uint8_t *buffer, size_t room,
+                                       size_t *length);
 
 /* ---- the head as a register window of sixteen bytes (document 02, A5): crates/head_c/src/window.rt has what its calls
  * promise, crates/head_window/specs/Window.antt says what each byte is
@@ -330,20 +461,33 @@ enum focus_event {
     FOCUS_EVENT_STRIKE_OVER = 4
 };
 
-enum focus_window { FOCUS_WINDOW_EVENTS = 10, FOCUS_WINDOW_MASK = 11, FOCUS_WINDOW_BYTES = 16 };
+enum focus_window {
+    FOCUS_WINDOW_N = 0,
+    FOCUS_WINDOW_F = 1,
+    FOCUS_WINDOW_NUMBER = 2,
+    FOCUS_WINDOW_STATUS = 3,
+    FOCUS_WINDOW_PHASE = 4,    /* and 5 */
+    FOCUS_WINDOW_POSITION = 6, /* to 9 */
+    FOCUS_WINDOW_EVENTS = 10,
+    FOCUS_WINDOW_MASK = 11,
+    FOCUS_WINDOW_BYTES = 16
+};
+
+/* the bits of FOCUS_WINDOW_STATUS */
+enum focus_status { FOCUS_STATUS_HELD = 1, FOCUS_STATUS_HEALED = 2, FOCUS_STATUS_CONFESSION = 4 };
 
 /* Reads a byte of the window into *byte. Refusal 16 from address 16 on, with *byte as it was. */
-uint8_t focus_head_register(const focus_head *head, uint32_t address, uint8_t *byte);
+FOCUS_MUST_USE uint8_t focus_head_register(const focus_head *head, uint32_t address, uint8_t *byte);
 
 /* No refusal: all sixteen bytes. */
 void focus_head_window(const focus_head *head, uint8_t bytes[FOCUS_WINDOW_BYTES]);
 
 /* Writes a byte of the window: byte 10 clears the events written as one, byte 11 sets the mask to its low three bits.
  * Refusal 16 at every other address. */
-uint8_t focus_head_set_register(focus_head *head, uint32_t address, uint8_t byte);
+FOCUS_MUST_USE uint8_t focus_head_set_register(focus_head *head, uint32_t address, uint8_t byte);
 
 /* No refusal: 1 if the interrupt line is up, that is, if a pending event is also in the mask, else 0. */
-uint8_t focus_head_interrupt(const focus_head *head);
+FOCUS_MUST_USE uint8_t focus_head_interrupt(const focus_head *head);
 
 /* ---- a quiet phase (document 02, A11): when all heads stand at one position
  *
