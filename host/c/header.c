@@ -10,7 +10,8 @@ typedef char kept_is_four_numbers[sizeof(focus_kept) == 4 * sizeof(int32_t) ? 1 
 typedef char range_is_two_numbers[sizeof(focus_range) == 2 * sizeof(int32_t) ? 1 : -1];
 typedef char reading_is_three_floats[sizeof(focus_reading) == 3 * sizeof(float) && sizeof(float) == 4 ? 1 : -1];
 typedef char longest_list[FOCUS_FRAME_REST + 5 + 4 * FOCUS_HEADS_MAX == FOCUS_FRAME_MAX ? 1 : -1];
-typedef char receivers_are_all[FOCUS_LISTENER_FIRST + FOCUS_LISTENERS_MAX == FOCUS_RECEIVERS && FOCUS_LISTENER_LAST + 1 == FOCUS_RECEIVERS ? 1 : -1];
+typedef char receivers_are_all[FOCUS_LISTENER_FIRST + FOCUS_LISTENERS_MAX == FOCUS_RECEIVERS ? 1 : -1];
+typedef char last_is_the_last[FOCUS_LISTENER_LAST + 1 == FOCUS_RECEIVERS ? 1 : -1];
 typedef char ends_are_phases_and_start[FOCUS_PLAY_ALL_ENDS == FOCUS_PHASES_MAX + 1 ? 1 : -1];
 
 int main(void) {

@@ -141,8 +141,10 @@ int main(void) {
     int32_t *rows = malloc(sizeof *rows * FOCUS_PLAY_ROWS(bytes, phase));
     uint64_t *words = malloc(sizeof *words * FOCUS_PLAY_ENDS(bytes, phase));
     same("room", bytes < sizeof file && out != NULL && rows != NULL && words != NULL, 1);
-    focus_play(file, bytes, out, FOCUS_PLAY_OUT(bytes, phase), rows, FOCUS_PLAY_ROWS(bytes, phase), words, FOCUS_PLAY_ENDS(bytes, phase),
-               &length, &ends);
+    uint8_t since[FOCUS_RECEIVERS];
+    uint8_t number = focus_play(file, bytes, out, FOCUS_PLAY_OUT(bytes, phase), rows, FOCUS_PLAY_ROWS(bytes, phase), words,
+                                FOCUS_PLAY_ENDS(bytes, phase), since, &length, &ends);
+    same("room of the calls", number != FOCUS_BUFFER, 1);
     if (ends > 0) {
         struct ring r;
         const uint8_t *at = start(&r, bytes, ends - 1);

@@ -1,5 +1,6 @@
-/* The stack that each call takes: it is run on a stack of its own that was painted before, and the lowest byte that changed tells. Every call is made with the
- * largest ring, a run file with each of the files that are named. The header's two numbers, FOCUS_STACK and FOCUS_STACK_PLAY, must be above what is found.
+/* The stack that each call takes: it is run on a stack of its own that was painted before, and the lowest byte that changed tells.
+ * Every call is made with the largest ring, and focus_play with each of the files that are named. The header's two numbers,
+ * FOCUS_STACK and FOCUS_STACK_PLAY, must be above what is found.
  *
  *     stack FILE.run..
  */
@@ -37,7 +38,8 @@ static size_t depth_of(void (*call)(void)) {
 /* ---- the calls, each with what it is given */
 
 static focus_head heads[N];
-static uint8_t frame[FOCUS_FRAME_MAX], entries[4 * N], limits[8 * N], batch[N * (FOCUS_FRAME_MAX + 1)], answers[N], page[64 * N], window[FOCUS_WINDOW_BYTES];
+static uint8_t frame[FOCUS_FRAME_MAX], entries[4 * N], limits[8 * N], batch[N * (FOCUS_FRAME_MAX + 1)], answers[N];
+static uint8_t page[64 * N], window[FOCUS_WINDOW_BYTES];
 static uint8_t since[FOCUS_RECEIVERS], number, byte;
 static size_t frame_length, batch_length, length, count;
 static int32_t position;
@@ -86,8 +88,8 @@ static uint64_t *words;
 static size_t bytes, phase, ends;
 
 static void play(void) {
-    number = focus_play(file, bytes, out, FOCUS_PLAY_OUT(bytes, phase), rows, FOCUS_PLAY_ROWS(bytes, phase), words, FOCUS_PLAY_ENDS(bytes, phase), since, &length,
-                        &ends);
+    number = focus_play(file, bytes, out, FOCUS_PLAY_OUT(bytes, phase), rows, FOCUS_PLAY_ROWS(bytes, phase), words,
+                        FOCUS_PLAY_ENDS(bytes, phase), since, &length, &ends);
 }
 
 /* ---- what they take */
