@@ -38,11 +38,10 @@
  * The functions call memcpy and memset, and nothing else. Stack: focus_play takes less than FOCUS_STACK_PLAY bytes, each other call
  * less than FOCUS_STACK (measured by host/c/stack.c, not proved).
  *
- * docs/TRUST.md says what must be believed of all this, and what whoever builds a ring of it owes. Link with the archives, in one
- * line:
+ * docs/TRUST.md says what must be believed of all this, and what whoever builds a ring of it owes. Link with the one library that
+ * `host/install PREFIX` makes:
  *
- *     rt staticlib camera && rt staticlib head_c && rt staticlib run_whole
- *     gcc -Ihost/include your.c target/staticlib/libcamera.a target/staticlib/libhead_c.a target/staticlib/librun_whole.a
+ *     gcc -IPREFIX/include your.c PREFIX/lib/libfocus.a
  */
 #ifndef FOCUS_H
 #define FOCUS_H
