@@ -1,10 +1,11 @@
-"""A listing as it is printed: a line for each phase end, and how the file ended."""
+"""A listing as it is printed: a line for each phase end, and how the file ended. One that was cut has the lines that are whole."""
 import re
 from collections import namedtuple
 
 TITLE = 'phase low high spread collect confess'
 LINE = re.compile('([0-9]{1,6}) (-?[0-9]{1,9}) (-?[0-9]{1,9}) ([0-9]{1,9}) ([0-9a-f]{8}) ([0-9a-f]{8})')
 ENDING = re.compile('end|refused [0-9]{1,3}')
+CUT = 'cut short'                                        # stands for the last line of a listing that has none
 
 PhaseEnd = namedtuple('PhaseEnd', 'phase low high spread collect confess')
 Listing = namedtuple('Listing', 'ends ending last')      # some phase ends or all, the last line, and the last phase of all
@@ -15,16 +16,27 @@ class ListingError(Exception):
 
 
 def read(text):
-    lines = text.split('\n')
-    if lines[0] != TITLE:
+    lines, rest = whole_lines(text)
+    if not text:
+        raise ListingError('1: nothing is there; the first line of a listing is "%s"' % TITLE)
+    if not lines or lines[0] != TITLE:
         raise ListingError('1: the first line of a listing is "%s"' % TITLE)
     ends = []
     for at, line in enumerate(lines[1:], 2):
         if ENDING.fullmatch(line):
-            no_more(lines, at)
+            if lines[at:] or rest:
+                raise ListingError('%d: the listing goes on after its last line' % (at + 1))
             return Listing(ends, line, len(ends) - 1)
         ends.append(read_end(line, at, len(ends)))
-    raise AssertionError('the last line is empty, and no end of a phase')
+    return Listing(ends, CUT, len(ends) - 1)
+
+
+def whole_lines(text):
+    """The lines, and what is there of one that was cut. Without a newline a line is whole if no more could stand in it."""
+    *lines, rest = text.split('\n')
+    if rest in (TITLE, 'end') or LINE.fullmatch(rest):
+        return [*lines, rest], ''
+    return lines, rest
 
 
 def read_end(line, at, phase):
@@ -39,11 +51,6 @@ def read_end(line, at, phase):
     if phase == 0 and (end.collect or end.confess):
         raise ListingError('%d: no head is struck before the start' % at)
     return end
-
-
-def no_more(lines, at):
-    if lines[at:] != ['']:
-        raise ListingError('%d: the listing goes on after its last line' % (at + 1))
 
 
 def no_confession(listing):
