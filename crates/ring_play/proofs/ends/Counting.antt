@@ -21,7 +21,7 @@ use Rattle.convergence.proofs.Sums.{bit-le}
 use Rattle.ring_play.specs.declared.Stage.{Stage}
 use Rattle.ring_play.specs.declared.ends.Counts.{Counts}
 use Rattle.ring_play.specs.Inner.Collection.{heardOf}
-use Rattle.ring_play.specs.Inner.Ends.{toldBy, tested, withEntry, CountsOf}
+use Rattle.ring_play.specs.Inner.Ends.{toldBy, tested, withEntry, EndsCounted}
 
 pub tested-le : (q : ℤ → Bool) (e : Entry) → tested q e ≤ 1
 tested-le q Null = omega arith
@@ -65,16 +65,16 @@ unfolding toldBy
 told-some s plant i k b = rw b
 
 module _ (E : ℕ → Entry) (lowest highest : ℤ) where
-  pub counts-none : CountsOf 0 E lowest highest (record { all = 0; low = 0; high = 0 })
+  pub counts-none : EndsCounted 0 E lowest highest (record { all = 0; low = 0; high = 0 })
   unfolding sum
   counts-none = record { all = refl; low = refl; high = refl }
 
-  module _ (k : ℕ) {c : Counts} (h : CountsOf k E lowest highest c) where
+  module _ (k : ℕ) {c : Counts} (h : EndsCounted k E lowest highest c) where
     pub counts-small : (c .all ≤ k) × (c .low ≤ k) × (c .high ≤ k)
     counts-small =
         (rw (h .all) (sum-tested-le k _ E), rw (h .low) (sum-tested-le k _ E), rw (h .high) (sum-tested-le k _ E))
 
-    pub counts-more : {e : Entry} → E k ≡ e → CountsOf (k + 1) E lowest highest (withEntry lowest highest e c)
+    pub counts-more : {e : Entry} → E k ≡ e → EndsCounted (k + 1) E lowest highest (withEntry lowest highest e c)
     counts-more q =
         record {
           all = sum-next _ k (h .all) (ap (tested (λ u. true)) (sym q));
@@ -82,7 +82,7 @@ module _ (E : ℕ → Entry) (lowest highest : ℤ) where
           high = sum-next _ k (h .high) (ap (tested (λ u. leZ highest u)) (sym q));
         }
 
-    pub counts-passed : E k ≡ Null → CountsOf (k + 1) E lowest highest c
+    pub counts-passed : E k ≡ Null → EndsCounted (k + 1) E lowest highest c
     unfolding sum
     counts-passed e = record { all = h .all ∙ next (λ u. true); low = h .low ∙ next (λ u. leZ u lowest); high = h .high ∙ next (λ u. leZ highest u) }
       where
@@ -90,5 +90,5 @@ module _ (E : ℕ → Entry) (lowest highest : ℤ) where
         next q = rw (add-one k) (omega (arith, ap (tested q) e))
 
 pub counts-as : {E : ℕ → Entry} {k n : ℕ} {lowest lowest′ highest highest′ : ℤ} {c : Counts} → k ≡ n → lowest ≡ lowest′ → highest ≡ highest′
-    → CountsOf k E lowest highest c → CountsOf n E lowest′ highest′ c
+    → EndsCounted k E lowest highest c → EndsCounted n E lowest′ highest′ c
 counts-as p q r h = rw (p, q, r) at h

@@ -32,7 +32,7 @@ withEntry lowest highest e c =
     }
 
 -- of n entries
-pub record CountsOf (n : ℕ) (E : ℕ → Entry) (lowest highest : ℤ) (c : Counts) : Type 0 where
+pub record EndsCounted (n : ℕ) (E : ℕ → Entry) (lowest highest : ℤ) (c : Counts) : Type 0 where
   pub all : c .all ≡ sum n (λ k. tested (λ u. true) (E k))
   pub low : c .low ≡ sum n (λ k. tested (λ u. leZ u lowest) (E k))
   pub high : c .high ≡ sum n (λ k. tested (λ u. leZ highest u) (E k))
