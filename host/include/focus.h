@@ -28,7 +28,7 @@
  * for the event that a closing refused 25 leaves in the head's window. No function keeps a pointer, allocates, or changes the bytes
  * it reads.
  *
- * Pointers are not NULL, with a length of 0 neither. Each is aligned for its type and valid for as many elements as the call takes.
+ * Pointers are never NULL, not even with a length of 0. Each is aligned for its type and valid for as many elements as the call takes.
  * What is lent to one call does not overlap. Nothing else is asked of an argument: every value of every argument has its answer.
  *
  * Threads and interrupts: no function has memory of its own. Calls on different blocks may run at once. Calls on one block are made
