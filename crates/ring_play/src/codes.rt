@@ -10,8 +10,9 @@ ghost use Rattle.marks.specs.Marks.{bitOf};
 ghost use Rattle.convergence.specs.Counting.{Each, sum, bit};
 ghost use Rattle.convergence.specs.Settling.{twoRounds};
 ghost use Rattle.settle_trust.specs.Received.{givenBy};
+ghost use Rattle.settle_midpoint.specs.Orders.{OrderAfter};
 ghost use Rattle.settle_midpoint.specs.Answers.{settling};
-ghost use Rattle.ring_play.specs.Inner.Codes.{noCode, entryOf, codeAt, codeTaken, holds, Tallied};
+ghost use Rattle.ring_play.specs.Inner.Codes.{noCode, entryOf, codeAt, codeTaken, entryTaken, holds, Tallied};
 ghost use Rattle.ring_play.specs.Inner.Shares.{Shares};
 ghost use Rattle.ring_play.specs.Inner.Votes.{Voted, Leads, givesList};
 use settle_midpoint::Order;
@@ -321,8 +322,27 @@ fn entry_of(c: i32) -> Entry
     Entry::Position(c)
 }
 
-// The new position of a receiver, its entries decided and put in order one by one, as a head does that closes a round: by the shared codes, and how many lists
-// it counted for each. `up`: whether an odd sum is rounded up.
+// Decides entry j of a receiver, and puts it in its place in the order at once, as a head does that closes a round (document 02, A3); answers how many positions
+// there are then.
+fn take_entry(
+    codes: &Numbers,
+    same: &Words,
+    need: usize,
+    confessed: u32,
+    j: usize,
+    positions: &mut Numbers,
+    len: usize,
+) -> usize
+    requires { ⌜ j < 32 ⌝ }
+    ensures { λ r. ⌜ (OrderAfter j (entryTaken (now (codes .entry)) (now (same .entry)) need confessed) len (now (positions .entry))
+        → OrderAfter (j + 1) (entryTaken (now (codes .entry)) (now (same .entry)) need confessed) r (now (positions .exit))) ⌝ }
+{
+    let e = entry_of(code_taken(codes, same, need, confessed, j));
+    settle_midpoint::place(e, positions, len)
+}
+
+// The new position of a receiver, its entries decided and put in order one by one: by the shared codes, and how many lists it counted for each. `up`: whether an
+// odd sum is rounded up.
 pub(crate) fn settle_counted(
     codes: &Numbers,
     same: &Words,
@@ -333,15 +353,14 @@ pub(crate) fn settle_counted(
     up: bool,
 ) -> settle_midpoint::Settled
     requires { ⌜ n ≤ 32 ⌝ }
-    ensures { λ r. ⌜ r ≡ settling (bit up) n (twoRounds f) (λ j. entryOf (codeTaken (now (codes .entry)) (now (same .entry)) need confessed j)) ⌝ }
+    ensures { λ r. ⌜ r ≡ settling (bit up) n (twoRounds f) (entryTaken (now (codes .entry)) (now (same .entry)) need confessed) ⌝ }
 {
     let count = n as usize;
     let mut positions = [0i32; 32];
     let mut len: usize = 0;
     let mut j: usize = 0;
     while j < count {
-        let e = entry_of(code_taken(codes, same, need, confessed, j));
-        len = settle_midpoint::place(e, &mut positions, len);
+        len = take_entry(codes, same, need, confessed, j, &mut positions, len);
         j += 1;
     }
     settle_midpoint::middle_of(Order { len, positions }, Family::TwoRounds, n, f, up)

@@ -13,7 +13,7 @@ ghost use Rattle.settle_trust.specs.Received.{givenBy};
 ghost use Rattle.head_spec.specs.Record.{givenOf};
 ghost use Rattle.ring_play.specs.Memory.{heads};
 ghost use Rattle.ring_play.specs.Inner.Planted.{Alike, AllSettled, SettlesAll};
-ghost use Rattle.ring_play.specs.Inner.Codes.{entryOf, codeTaken};
+ghost use Rattle.ring_play.specs.Inner.Codes.{entryTaken};
 ghost use Rattle.ring_play.specs.Inner.Told.{Counted, Told, SharedBy, settledBy, settledAt, takenHere, LastOf};
 use crate::Stage;
 use crate::codes;
@@ -95,7 +95,7 @@ fn need_after(need: usize, confessed: u32, n: usize) -> usize
 
 // The position that a receiver settles, by the shared codes, how many lists it counted for each, how many are needed, and who confessed to it; 0 if it is refused.
 fn position_from(s: Stage, codes: &Numbers, same: &Words, need: usize, confessed: u32) -> i32
-    ensures { λ r. ⌜ r ≡ settledBy s (λ j. entryOf (codeTaken (now (codes .entry)) (now (same .entry)) need confessed j)) ⌝ }
+    ensures { λ r. ⌜ r ≡ settledBy s (entryTaken (now (codes .entry)) (now (same .entry)) need confessed) ⌝ }
 {
     let n = round::head_count(s);
     let up = steps::rounds_up(s.phase);

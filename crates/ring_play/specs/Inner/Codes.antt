@@ -33,6 +33,10 @@ codeAt m E j = cond (bitOf m j) (getD E j (pos 0)) noCode
 abbrev pub codeTaken : List ℤ → List ℕ → ℕ → ℕ → ℕ → ℤ
 codeTaken codes same need confesses j = cond (bitOf confesses j) noCode (cond (leb need (getD same j 0)) (getD codes j (pos 0)) noCode)
 
+-- and the entry
+abbrev pub entryTaken : List ℤ → List ℕ → ℕ → ℕ → ℕ → Entry
+entryTaken codes same need confesses j = entryOf (codeTaken codes same need confesses j)
+
 -- 1 if a link gave a list with the code c at entry j
 abbrev pub holds : ℕ → ℤ → Given → ℕ
 holds j c nothing = 0

@@ -1,20 +1,19 @@
 -- `ring_play::codes::settle_counted` meets its contract: before entry j the order holds the positions taken among the entries below j. After the last entry these
 -- are all that settling asks of the entries.
-use mathlib.Core.Path.{_≡_, ap, sym, _∙_}
+use mathlib.Core.Path.{_≡_, _∙_}
 use Prim.Native.Nat.{_-_, _≤_}
 use native.Mathlib.Omega.{arith}
-use mir.Facts.{toZ-ofZ}
 use borrow.Author.Needs.{needs}
 use Rattle.settle_midpoint.specs.Orders.{OrderAfter}
-use Rattle.settle_midpoint.proofs.Ordering.{order-none, order-next}
+use Rattle.settle_midpoint.proofs.Ordering.{order-none}
 use Rattle.settle_midpoint.proofs.Middle.{settling-after}
-use Rattle.ring_play.specs.Inner.Codes.{entryOf, codeTaken}
+use Rattle.ring_play.specs.Inner.Codes.{entryTaken}
 use Rattle.ring_play.proofs.codes.settle_counted.Statement.{statement}
 use Rattle.ring_play.proofs.codes.settle_counted.Tie as tie
 
 abbrev Inv-loop : tie.InvT-loop
 Inv-loop codes same need confessed n f up count positions₀ len₀ j₀ positions len j =
-    (j ≤ count) × OrderAfter j (λ i. entryOf (codeTaken codes same need confessed i)) len positions
+    (j ≤ count) × OrderAfter j (entryTaken codes same need confessed) len positions
 
 abbrev μ-loop : tie.MeasureT-loop
 μ-loop codes same need confessed n f up count positions₀ len₀ j₀ positions len j = count - j
@@ -23,12 +22,7 @@ loop-holds : tie.Need-loop-holds Inv-loop μ-loop
 loop-holds c = (search needs, order-none _)
 
 loop-again : tie.Need-loop-again Inv-loop μ-loop
-loop-again c =
-    let t = c .before .before .before in
-    let h = t .before .before in
-    let l = h .loop in
-    let e = c .before .before .entry-of .ensures ∙ ap entryOf (toZ-ofZ (record { sfits = t .code-taken .ok }) ∙ t .code-taken .ensures) in
-    (search needs, rw (c .place .ensures .0, c .place .ensures .1) (order-next _ (l .j) (omega (arith, h .before .pre)) (sym e) (l .inv .1)))
+loop-again c = (search needs, c .take-entry .ensures (c .before .before .before .loop .inv .1))
 
 returns : tie.Need-returns Inv-loop μ-loop
 returns c =
@@ -43,8 +37,6 @@ settle-counted-spec =
     Inv-loop
     μ-loop
     loop-holds
-    (λ c κs. search needs)
-    (λ c κs. search needs)
     (λ c κs. search needs)
     (λ c. search needs)
     (λ c. search needs)

@@ -5,7 +5,7 @@ use denote.Ref.{now}
 use mir.Facts.{toZ-ofZ}
 use borrow.Author.Needs.{needs}
 use Rattle.settle_midpoint.specs.declared.Settled.{Settled}
-use Rattle.ring_play.specs.Inner.Codes.{entryOf, codeTaken}
+use Rattle.ring_play.specs.Inner.Codes.{entryTaken}
 use Rattle.ring_play.specs.Memory.{positionOf}
 use Rattle.ring_play.specs.Inner.Told.{settledBy}
 use Rattle.ring_play.proofs.shared.Settling.{at-entries}
@@ -19,7 +19,7 @@ module _ (c : tie.After-settle-counted) where
   -- what was settled, case by case
   position-is : {x : Settled} → c .settle-counted .result ≡ x →
       let a = start .args in
-      positionOf x ≡ settledBy (a .s) (λ j. entryOf (codeTaken (now (a .codes)) (now (a .same)) (a .need) (a .confessed) j))
+      positionOf x ≡ settledBy (a .s) (entryTaken (now (a .codes)) (now (a .same)) (a .need) (a .confessed))
   position-is e =
       let a = start .args in
       at-entries (a .s) _ (c .before .before .head-count .ensures) (c .before .rounds-up .ensures) (sym e ∙ c .settle-counted .ensures)

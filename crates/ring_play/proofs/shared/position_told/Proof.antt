@@ -9,7 +9,7 @@ use denote.Ref.{now}
 use lib.IntN.{ℤ}
 use borrow.Author.Needs.{needs}
 use Rattle.marks.specs.Marks.{markedTo}
-use Rattle.ring_play.specs.Inner.Codes.{entryOf, codeTaken}
+use Rattle.ring_play.specs.Inner.Codes.{entryOf, codeTaken, entryTaken}
 use Rattle.ring_play.specs.Inner.Told.{settledBy, settledAt, neededHere, takenHere}
 use Rattle.ring_play.proofs.shared.Settling.{settled-entries, codes-alike, last-at}
 use Rattle.ring_play.proofs.shared.position_told.Statement.{statement}
@@ -57,7 +57,7 @@ returns-2 c =
     let t = c .before .before in
     let a = start t .args in
     let e = toZ-ofZ (record { sfits = c .position-from .ok }) ∙ c .position-from .ensures
-    ∙ ap (λ (x : ℕ). settledBy (a .s) (λ j. entryOf (codeTaken (now (a .codes)) (now (a .same)) x (a .confessed) j))) (needed t) in
+    ∙ ap (λ (x : ℕ). settledBy (a .s) (entryTaken (now (a .codes)) (now (a .same)) x (a .confessed))) (needed t) in
     (e, e ∙ sym (own-taken t))
 
 pub position-told-spec : {M : Type 1} → statement M
