@@ -322,8 +322,8 @@ fn entry_of(c: i32) -> Entry
     Entry::Position(c)
 }
 
-// Decides entry j of a receiver, and puts it in its place in the order at once, as a head does that closes a round (document 02, A3); answers how many positions
-// there are then.
+// Decides entry j of a receiver, and puts it in its place in the order at once, as a head does that closes a round (document 02, A3);
+// answers how many positions there are then.
 fn take_entry(
     codes: &Numbers,
     same: &Words,
@@ -341,8 +341,8 @@ fn take_entry(
     settle_midpoint::place(e, positions, len)
 }
 
-// The new position of a receiver, its entries decided and put in order one by one: by the shared codes, and how many lists it counted for each. `up`: whether an
-// odd sum is rounded up.
+// The new position of a receiver, its entries decided and put in order one by one: by the shared codes, and how many lists it counted for
+// each. `up`: whether an odd sum is rounded up.
 pub(crate) fn settle_counted(
     codes: &Numbers,
     same: &Words,

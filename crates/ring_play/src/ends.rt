@@ -1,5 +1,5 @@
-// A phase of one round, for a receiver to which nothing is planted between the lowest and the highest position that all hear. A planted position then moves the
-// kept range by one place, whatever it is, so the planted ones are only counted.
+// A phase of one round, for a receiver to which nothing is planted between the lowest and the highest position that all hear. A planted
+// position then moves the kept range by one place, whatever it is, so the planted ones are only counted.
 ghost use mathlib.Core.Bool.{true};
 ghost use mathlib.Core.Path.{_≡_};
 ghost use Prim.Native.Nat.{_-_, _≤_, _<_};

@@ -93,7 +93,8 @@ fn need_after(need: usize, confessed: u32, n: usize) -> usize
     if need <= c { 0 } else { need - c }
 }
 
-// The position that a receiver settles, by the shared codes, how many lists it counted for each, how many are needed, and who confessed to it; 0 if it is refused.
+// The position that a receiver settles, by the shared codes, how many lists it counted for each, how many are needed, and who confessed to
+// it; 0 if it is refused.
 fn position_from(s: Stage, codes: &Numbers, same: &Words, need: usize, confessed: u32) -> i32
     ensures { λ r. ⌜ r ≡ settledBy s (entryTaken (now (codes .entry)) (now (same .entry)) need confessed) ⌝ }
 {
@@ -121,8 +122,8 @@ fn is_same_front(a: &Numbers, b: &Numbers, n: usize) -> bool
     same
 }
 
-// The position that a receiver settles, by what it counted, how many lists are needed of what all hear, and who confessed to it. `last` is what was settled last, from the codes `settled`: a receiver with the
-// same trusted entries settles the same.
+// The position that a receiver settles, by what it counted, how many lists are needed of what all hear, and who confessed to it. `last` is
+// what was settled last, from the codes `settled`: a receiver with the same trusted entries settles the same.
 fn position_told(
     s: Stage,
     codes: &Numbers,
