@@ -7,8 +7,8 @@ use mathlib.Core.Logic.{_⊎_, inl, inr, by-cases}
 use Prim.Native.Nat.{ℕ, zero, suc, _≤_, _<_}
 use native.Mathlib.Omega.{arith}
 use native.Mathlib.Decide.{ℕ-discrete}
-use borrow.Author.Tests.{eqb-true, eqb-false, eq-eqb, le-leb, lt-leb}
-use lib.Dec.{eqb, leb}
+use borrow.Author.Tests.{eqb-true, eqb-false, le-leb, lt-leb}
+use lib.Dec.{eqb}
 use lib.ListN.{length, take, drop}
 use lib.Seq.{take-append-seam}
 use lib.IntN.{ℤ}
@@ -30,8 +30,8 @@ use Rattle.head_spec.proofs.Proper.{rounds-few}
 use Rattle.head_spec.proofs.Taking.{hear-cases, hear-keeps}
 use Rattle.head_spec.proofs.Hearing.{each-keep}
 use Rattle.head_spec.proofs.Speaking.{spoken-reads-back}
-use Rattle.ring_spec.specs.Rounds.{Ring, mostRounds, isReceiver}
-use Rattle.ring_devices.specs.Devices.{HearCall, hearsOne, heardBy, broughtBy, isAccepted, firstFrame, DeviceRound, openedBy, Carries, devicesAfter, DevicesWithin}
+use Rattle.ring_spec.specs.Rounds.{Ring, mostRounds}
+use Rattle.ring_devices.specs.Devices.{HearCall, heardBy, broughtBy, isAccepted, firstFrame, DeviceRound, openedBy, Carries, devicesAfter, DevicesWithin}
 use Rattle.ring_devices.specs.Cables.{Comes, Alone, Brings, eachOnce, plainly, OnePlace, AnyRun, CablesCarry, CableThere}
 use Rattle.ring_devices.proofs.Heard.{heard-by}
 use Rattle.ring_devices.proofs.Planting.{head-receives}

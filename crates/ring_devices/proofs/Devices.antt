@@ -23,7 +23,7 @@ use Rattle.head_spec.specs.declared.Answer.{Answer}
 use Rattle.head_spec.specs.Calls.{started, start, startedListener, startListener, saidTo, frameFor}
 use Rattle.head_spec.specs.Seats.{mostCounted}
 use Rattle.head_spec.proofs.Proper.{Sized, start-accepted, start-listener-accepted}
-use Rattle.head_spec.proofs.Stops.{starts-anew, listener-starts-anew}
+use Rattle.head_spec.proofs.Stops.{takes, starts-anew, listener-starts-anew}
 use Rattle.head_spec.proofs.Hearing.{Fresh}
 use Rattle.ring_spec.specs.Rounds.{Round, Ring, afterRound, firstHeads, ringAfter, mostRounds, endsPhase, endsSince}
 use Rattle.ring_spec.specs.Rounds.{PhaseEnd, phaseEnd, receivers, isReceiver, isOut, asEnd, allListeners, withEnd, firstEnd, endsAfter}
@@ -33,7 +33,7 @@ use Rattle.ring_spec.proofs.Counts.{Counted, counted}
 use Rattle.ring_spec.proofs.Demand3.{Playable, playable, within-sized, ring-converges, ring-keeps-between, ring-quiet}
 use Rattle.ring_spec.proofs.Since.{ring-counts}
 use Rattle.ring_devices.specs.Promised.{marking, Promised}
-use Rattle.ring_devices.specs.Devices.{isAccepted, DeviceRound, marksOf, openedBy, afterDevices, startedBy, devicesAfter, endsOfDevices, RoundsWithin, DevicesWithin, DevicesConverge, NoneRefused, DevicesUnrefused}
+use Rattle.ring_devices.specs.Devices.{isAccepted, DeviceRound, marksOf, again, openedBy, startedBy, devicesAfter, endsOfDevices, RoundsWithin, DevicesWithin, DevicesConverge, DevicesUnrefused}
 use Rattle.ring_devices.proofs.Planting.{receives, sound-receives}
 use Rattle.ring_devices.proofs.OneRound.{asRound, SameSound, restart-taken, opened-same, H, frame-taken, closes-in, next-same}
 
@@ -118,19 +118,23 @@ module _ (K : Family) (n f : ℕ) (v : ℕ → ℤ) (memory : ℕ → Head) wher
   few-within m (w ∷ ws) W = (W .0, few-within m ws (W .2))
 
   module _ (m : ℕ) (few-m : m ≤ 16) (Z : Sized K n f) (range : Each n (λ i. isPosition (v i) ≡ true)) where
-    started-same : (i : ℕ) → isReceiver n m i ≡ true → startedBy K n f v memory i ≡ firstHeads K n f v i
-    unfolding startedBy firstHeads
-    started-same i t = go (receives n m (Z .most) few-m i t .0)
+    -- the start of each is accepted, whatever it holds
+    started-anew : (i : ℕ) → isReceiver n m i ≡ true
+        → cond (ltb i 32) (start (memory i) K n f i (v i)) (startListener (memory i) K n f i)
+        ≡ takes (cond (ltb i 32) (started K n f i (v i)) (startedListener K n f i))
+    started-anew i t = go (receives n m (Z .most) few-m i t .0)
       where
         go : Hears n i
-            → cond (ltb i 32) (start (memory i) K n f i (v i)) (startListener (memory i) K n f i) .head
-            ≡ cond (ltb i 32) (started K n f i (v i)) (startedListener K n f i)
+            → cond (ltb i 32) (start (memory i) K n f i (v i)) (startListener (memory i) K n f i)
+            ≡ takes (cond (ltb i 32) (started K n f i (v i)) (startedListener K n f i))
         go (inl l) =
-            rw (lt-ltb i 32 (omega (arith, Z .most)))
-            (ap (λ (a : Answer). a .head) (starts-anew (memory i) K n f i (v i) (start-accepted K n f i Z l (v i) (range i l))))
+            rw (lt-ltb i 32 (omega (arith, Z .most))) (starts-anew (memory i) K n f i (v i) (start-accepted K n f i Z l (v i) (range i l)))
         go (inr e) =
-            rw (le-ltb i 32 (listener-large i e))
-            (ap (λ (a : Answer). a .head) (listener-starts-anew (memory i) K n f i (start-listener-accepted K n f i Z e)))
+            rw (le-ltb i 32 (listener-large i e)) (listener-starts-anew (memory i) K n f i (start-listener-accepted K n f i Z e))
+
+    started-same : (i : ℕ) → isReceiver n m i ≡ true → startedBy K n f v memory i ≡ firstHeads K n f v i
+    unfolding startedBy firstHeads
+    started-same i t = ap (λ (a : Answer). a .head) (started-anew i t)
 
     devices-same : (ws : List DeviceRound) → RoundsWithin K n f v memory m ws → length ws ≤ mostRounds K
         → SameSound n m (devicesAfter K n f v memory ws) (ringAfter K n f v (asRounds ws))
@@ -212,7 +216,7 @@ module _ (K : Family) (n m f : ℕ) (v : ℕ → ℤ) (memory : ℕ → Head) (w
         rounds = omega (arith, X .rounds);
       }
 
-  pub sized : Sized K n f
+  sized : Sized K n f
   sized = within-sized Y
 
   plain-promised : Promised K n m f (marksOf ws) (endsAfter K n f v plain) (ringAfter K n f v plain .heads)
@@ -236,6 +240,9 @@ module _ (K : Family) (n m f : ℕ) (v : ℕ → ℤ) (memory : ℕ → Head) (w
       (λ i t q. sound-same .heads i t (ap (λ (x : ℕ). bitOf x i) (before-marked K n f v memory ws) ∙ q))
       plain-promised
 
+  pub starts-taken : (i : ℕ) → isReceiver n m i ≡ true → cond (ltb i 32) (start (memory i) K n f i (v i)) (startListener (memory i) K n f i) .refusal ≡ 0
+  starts-taken i t = ap (λ (a : Answer). a .refusal) (started-anew K n f v memory m (X .listeners) sized (X .range) i t)
+
   -- ---- what a next round is promised
 
   module _ (w : DeviceRound) (l : length ws < mostRounds K) where
@@ -247,6 +254,9 @@ module _ (K : Family) (n m f : ℕ) (v : ℕ → ℤ) (memory : ℕ → Head) (w
 
     plays : Playable K n f R′
     plays = let y = as-many K n f v memory ws in playable K n f v sized (X .range) plain (Y .few) (omega arith)
+
+    pub restarts-taken : (i : ℕ) → isReceiver n m i ≡ true → again K n f (R .heads i) i (R .phase) (R .round) .refusal ≡ 0
+    restarts-taken = restart-taken K n m f (X .most) (X .listeners) R R′ w sound-same plays
 
     pub frames-taken : (i k : ℕ) → isReceiver n m i ≡ true → bitOf (w .marks) i ≡ false → k < n → bitOf (w .marks) k ≡ false
         → isAccepted (saidTo (openedBy K n f R i .seat) k (frameFor (openedBy K n f R k))) ≡ true
@@ -282,7 +292,7 @@ devices-unrefused K n m f v memory w ws X =
     let S = sound-same K n m f v memory ws Y in
     let P = plays K n m f v memory ws Y w l in
     record {
-      restarts = restart-taken K n m f (X .most) (X .listeners) R R′ w S P;
+      restarts = restarts-taken K n m f v memory ws Y w l;
       frames = frames-taken K n m f v memory ws Y w l;
       closes = closes-in K n m f (X .most) (X .listeners) R R′ w S P (X .each .0) (X .each .1);
     }

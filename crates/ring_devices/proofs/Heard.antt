@@ -8,7 +8,6 @@ use lib.Dec.{eqb}
 use Rattle.terms.specs.Refusals as refusal
 use Rattle.terms.specs.Refusals.{leaves}
 use Rattle.terms.specs.Sizes.{roundsOf}
-use Rattle.terms.specs.declared.Table.{Table}
 use Rattle.terms.specs.declared.Family.{Family}
 use Rattle.terms.specs.declared.Family.the-variants.{TwoRounds, OneRound}
 use Rattle.entries.specs.Tables.{tableAt}
@@ -29,7 +28,7 @@ use Rattle.head_spec.specs.declared.Seat.{Seat}
 use Rattle.head_spec.specs.declared.Head.{Head}
 use Rattle.head_spec.specs.declared.Closing.{Closing}
 use Rattle.head_spec.specs.Record.{given, heardEntry, givenOf, entriesBy}
-use Rattle.head_spec.specs.Calls.{answer, saidTo, hear, Delivery, hearEach, hearAll, closedCollection, closedPhase, settlingOf, endSettled, isLastRound, endRound}
+use Rattle.head_spec.specs.Calls.{answer, saidTo, Delivery, hearEach, hearAll, closedCollection, closedPhase, settlingOf, endSettled, isLastRound, endRound}
 use Rattle.head_spec.specs.Batch.{entriesOf, batchRefusal, hearBatch}
 use Rattle.head_spec.specs.Demand2.{orElse, firstSaid}
 use Rattle.head_spec.proofs.Proper.{ProperSeat, ProperHead}

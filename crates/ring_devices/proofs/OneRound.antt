@@ -23,14 +23,14 @@ use Rattle.head_spec.specs.Record.{entriesBy}
 use Rattle.head_spec.specs.Calls.{restarted, Delivery, hearEach, hearAll, saidTo, spokenIn, spoken, frameFor, offerSettled, isLastRound, close}
 use Rattle.head_spec.proofs.Proper.{restart-accepted, restart-listener-accepted}
 use Rattle.head_spec.proofs.Stops.{takes, restarts-anew, listener-restarts-anew}
-use Rattle.head_spec.proofs.Hearing.{Fresh, each-keep}
+use Rattle.head_spec.proofs.Hearing.{each-keep}
 use Rattle.head_spec.proofs.RoundEnd.{enoughTrusted}
 use Rattle.head_spec.proofs.RoundClose.{closes-collection, closes-last}
 use Rattle.ring_spec.specs.Rounds.{Round, planted, Ring, roundEnded, openedAt, carried, closedAt, afterRound, isReceiver}
 use Rattle.ring_spec.proofs.Receivers.{Hears, listener-large}
 use Rattle.ring_spec.proofs.OneRound.{Ready, RingReady, heardAt, opened-ready, said-spoken, heard-at}
 use Rattle.ring_spec.proofs.Demand3.{Playable}
-use Rattle.ring_devices.specs.Devices.{HearCall, heardBy, broughtBy, isAccepted, firstFrame, DeviceRound, again, openedBy, closedBy, Carries, afterDevices, ClosesIn}
+use Rattle.ring_devices.specs.Devices.{heardBy, broughtBy, isAccepted, firstFrame, DeviceRound, again, openedBy, closedBy, Carries, afterDevices, ClosesIn}
 use Rattle.ring_devices.proofs.Heard.{heard-by, collection-alike, settles-alike, confession-alike}
 use Rattle.ring_devices.proofs.Planting.{plantsOf, plants-reach, head-receives, receives}
 

@@ -1,6 +1,6 @@
 -- Of any two sound devices: demand 3 puts both between the lowest and the highest of their end, and halves what lies between those.
 use mathlib.Core.Path.{_≡_, refl}
-use Prim.Native.Nat.{ℕ, _+_, _≤_, _<_}
+use Prim.Native.Nat.{ℕ, _+_, _≤_}
 use native.Mathlib.Omega.{arith}
 use lib.IntN.{ℤ, pos, _+ℤ_}
 use lib.Signed.{_≤ℤ_}
@@ -8,8 +8,7 @@ use Rattle.terms.specs.declared.Entry.{Entry}
 use Rattle.terms.proofs.Whole.{arithZ, gap-lin, sum-lin, pos-lin}
 use Rattle.convergence.specs.Phases.{apart, spread}
 use Rattle.convergence.specs.Demand3.{HeldBetween}
-use Rattle.ring_spec.specs.Rounds.{asEnd}
-use Rattle.ring_devices.specs.Promised.{Promised, PairsClose}
+use Rattle.ring_devices.specs.Promised.{PairsClose}
 use Rattle.ring_devices.proofs.Planting.{receives, receives-sound}
 
 close-by : (s : ℕ) (low high p q : Entry) → HeldBetween low high p → HeldBetween low high q → apart low high ≤ s

@@ -1,0 +1,5 @@
+-- Blocks that C drives by calls are devices.
+pub mod Kept
+pub mod Calls
+pub mod Converges
+pub mod Cables
