@@ -36,8 +36,18 @@ use Rattle.ring_devices.specs.Devices as device
 use Rattle.ring_devices.specs.Devices.{HearCall, heardBy, broughtBy}
 use Rattle.ring_devices.proofs.Heard.{heard-by}
 use Rattle.ring_blocks.specs.Blocks as block
-use Rattle.ring_blocks.specs.Blocks.{BlockCall, callOf, blockBy, hearings, NoneCloses, endCall, EndsBy}
+use Rattle.ring_blocks.specs.Blocks.{BlockCall, callOf, blockBy, hearings, NoneCloses, endCall, EndsBy, HearingsStep}
 use Rattle.ring_blocks.proofs.Kept.{block-after}
+
+-- ---- what C's functions that hear leave
+
+pub hearings-step : HearingsStep
+unfolding blockAfter
+hearings-step =
+    record {
+      one = λ w k s r w′ H. H .block ∙ ap (λ (c : ℕ). leaves c (heardIn w k (saidTo (headOf w .seat) k s)) w) (H .refusal);
+      batch = λ w s a c r w′ a′ c′ H. H .block ∙ ap (λ (x : ℕ). leaves x (heardEach w (entriesOf s)) w) (H .refusal);
+    }
 
 -- ---- the record hears
 

@@ -15,7 +15,7 @@ use Rattle.convergence.specs.Counting.{Each, AtMost}
 use Rattle.convergence.specs.Demand3.{AcceptedSize}
 use Rattle.head_spec.specs.declared.Head.{Head}
 use Rattle.head_spec.specs.Calls.{frameFor}
-use Rattle.head_c.specs.Blocks.{IsBlock, headOf}
+use Rattle.head_c.specs.Blocks.{IsBlock, headOf, Hears, HearsBatch}
 use Rattle.head_c.specs.Events.{Call, starts, restarts, startsListener, restartsListener, hears, hearsBatch, closes, adopts, sets, numberAfter, blockAfter}
 use Rattle.ring_spec.specs.Rounds.{phaseThen, roundThen, mostRounds, PhaseEnd, phaseEnd, isReceiver, allListeners, withEnd}
 use Rattle.ring_devices.specs.Promised.{Promised}
@@ -36,6 +36,11 @@ callOf (heard (device.hearsOne k s)) = hears k s
 callOf (heard (device.hearsBatch s room)) = hearsBatch s room
 callOf (wrote at x) = sets at x
 callOf offered = closes
+
+-- The contracts of C's functions have `blockAfter` of these calls; those of the two that hear say what it is of them.
+pub record HearingsStep : Type 0 where
+  pub one : (w : List ℕ) (k : ℕ) (s : List ℕ) (r : ℕ) (w′ : List ℕ) → Hears w k s r w′ → w′ ≡ blockAfter w (hears k s)
+  pub batch : (w s a : List ℕ) (c r : ℕ) (w′ a′ : List ℕ) (c′ : ℕ) → HearsBatch w s a c r w′ a′ c′ → w′ ≡ blockAfter w (hearsBatch s (length a))
 
 unfoldable pub blockBy : List ℕ → List BlockCall → List ℕ
 blockBy b [] = b
