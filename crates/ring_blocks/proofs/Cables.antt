@@ -32,7 +32,8 @@ use Rattle.ring_blocks.proofs.Converges.{asDevice, asDevices, as-many, 
 
 -- ---- after rounds within the limits, a next one
 
-module _ (K : Family) (n m f : ℕ) (v : ℕ → ℤ) (memory : ℕ → List ℕ) (ws : List BlockRound) (X : BlocksWithin K n m f v memory ws) (l : length ws < mostRounds K) where
+module _ (K : Family) (n m f : ℕ) (v : ℕ → ℤ) (memory : ℕ → List ℕ) (ws : List BlockRound) (X : BlocksWithin K n m f v memory ws)
+    (l : length ws < mostRounds K) where
   abbrev B : BlockRing
   B = blocksAfter K n f v memory ws
 
@@ -99,7 +100,8 @@ module _ (K : Family) (n m f : ℕ) (v : ℕ → ℤ) (memory : ℕ → List ℕ
       → numberAfter (B .blocks i) (againCall K n f i (B .phase) (B .round)) ≡ 0
   restart-number i t = rw (S .phase, S .round) (go (ltb i 32))
     where
-      go : (c : Bool) → cond c (restart (R .heads i) K n f i (R .phase) (R .round)) (restartListener (R .heads i) K n f i (R .phase) (R .round)) .refusal ≡ 0
+      go : (c : Bool) → cond c (restart (R .heads i) K n f i (R .phase) (R .round))
+          (restartListener (R .heads i) K n f i (R .phase) (R .round)) .refusal ≡ 0
           → numberAfter (B .blocks i) (cond c (restarts K n f i (R .phase) (R .round)) (restartsListener K n f i (R .phase) (R .round))) ≡ 0
       go true e = ap (λ (h : Head). restart h K n f i (R .phase) (R .round) .refusal) (S .heads i t) ∙ e
       go false e = ap (λ (h : Head). restartListener h K n f i (R .phase) (R .round) .refusal) (S .heads i t) ∙ e
@@ -155,7 +157,8 @@ module _ (K : Family) (n m f : ℕ) (v : ℕ → ℤ) (memory : ℕ → List ℕ
     none-closes (c ∷ C) = none-closes C
 
     -- the closing comes last
-    closes-last : (C : List HearCall) (b : List ℕ) → blockBy b (thenOffered K n f B true C) ≡ blockAfter (blockBy b (thenOffered K n f B false C)) closes
+    closes-last : (C : List HearCall) (b : List ℕ)
+        → blockBy b (thenOffered K n f B true C) ≡ blockAfter (blockBy b (thenOffered K n f B false C)) closes
     unfolding blockBy
     closes-last [] b = refl
     closes-last (c ∷ C) b = closes-last C _
@@ -163,26 +166,30 @@ module _ (K : Family) (n m f : ℕ) (v : ℕ → ℤ) (memory : ℕ → List ℕ
     plain-brings : (r : Bool) (w : BlockRound) → ((i : ℕ) → w .calls i ≡ thenOffered K n f B r once) → CarriesTo K n f B w m
     plain-brings r w calls =
         brings-carries w
-        (λ i k t q b e. rw (calls i, heard-all r once) (once-comes frames k n b, once-alone frames k (headOf (openedBlock K n f B i) .seat) n))
+        (λ i k t q b e. rw (calls i, heard-all r once)
+        (once-comes frames k n b, once-alone frames k (headOf (openedBlock K n f B i) .seat) n))
 
     plain-ends : (i : ℕ) → isReceiver n m i ≡ true → bitOf marks i ≡ false → EndsBy last (openedBlock K n f B i) (full .calls i)
     plain-ends i t q = go last refl
       where
         N : ClosesIn (endsWith K (R .round)) (close (heardBy (openedBy K n f R i) (hearings (bare .calls i))) .closed)
         N =
-            devices-unrefused K n m f v records (asDevice bare) us (next-within bare few (plain-brings false bare (λ j. refl))) .closes i t q
+            devices-unrefused K n m f v records (asDevice bare) us
+            (next-within bare few (plain-brings false bare (λ j. refl))) .closes i t q
 
         go : (r : Bool) → last ≡ r → EndsBy r (openedBlock K n f B i) (thenOffered K n f B r once)
         go false o = none-closes once
         go true o =
-            rw (closes-last once (openedBlock K n f B i)) (adopt-number bare i t q (thenOffered K n f B false once) (λ e. none-closes once) N o)
+            rw (closes-last once (openedBlock K n f B i))
+            (adopt-number bare i t q (thenOffered K n f B false once) (λ e. none-closes once) N o)
 
     plain-within : RoundWithin K n f B full m
     plain-within = record { few = few; carries = plain-brings last full (λ i. refl); ends = plain-ends; left = blocks }
 
   -- ---- an unmarked head writes its frame
 
-  writes-frame : (w : BlockRound) (k : ℕ) → k < n → bitOf (w .marks) k ≡ false → (C : List BlockCall) → (last ≡ false → NoneCloses C) → (buffer : List ℕ)
+  writes-frame : (w : BlockRound) (k : ℕ) → k < n → bitOf (w .marks) k ≡ false → (C : List BlockCall) → (last ≡ false → NoneCloses C)
+      → (buffer : List ℕ)
       → let s = frames k in length s ≤ length buffer → let h = headOf (blockBy (openedBlock K n f B k) C) in
       (writeAnswer h buffer ≡ Written.Length (length s)) × (take (length s) (writeBuffer h buffer) ≡ s)
   writes-frame w k b q C ok buffer room =

@@ -1,5 +1,5 @@
--- What calls in a round make of a block: its record hears what they bring, an offer that stands beside it is what the round settles (`Held`), and the call that ends the
--- round makes of the record what ring_spec's rounds do.
+-- What calls in a round make of a block: its record hears what they bring, an offer that stands beside it is what the round settles
+-- (`Held`), and the call that ends the round makes of the record what ring_spec's rounds do.
 use mathlib.Core.Path.{_≡_, refl, ap, sym, _∙_}
 use mathlib.Core.Bool.{Bool, true, false, cond, true≢false}
 use mathlib.Core.Logic.{_⊎_, inl, inr}
@@ -55,7 +55,8 @@ head-each : (D : List Delivery) (b : List ℕ) → IsBlock b → headOf (heardEa
 unfolding heardEach hearEach
 head-each [] b whole = refl
 head-each (d ∷ D) b whole =
-    head-each D _ (go (hear (headOf b) (d .link) (d .bytes) .refusal)) ∙ ap (λ (y : Head). hearEach y D) (head-heard b whole (d .link) (d .bytes))
+    head-each D _ (go (hear (headOf b) (d .link) (d .bytes) .refusal))
+    ∙ ap (λ (y : Head). hearEach y D) (head-heard b whole (d .link) (d .bytes))
   where
     go : (c : ℕ) → IsBlock (leaves c (heardIn b (d .link) (saidTo (headOf b .seat) (d .link) (d .bytes))) b)
     go zero = heard-block b whole (d .link) _
@@ -127,7 +128,12 @@ pub stays-in : {last : Bool} {h : Head} (C : List HearCall) → InRound last h �
 stays-in {last} {h} C I =
     let x = each-keep (broughtBy C) h in
     rw (heard-by C h)
-    (record { proper = proper-each (broughtBy C) h (I .proper); now = ap isLastRound x ∙ I .now; runs = ap (λ (y : Seat). y .ended) x ∙ I .runs })
+    (record {
+      proper = proper-each (broughtBy C) h (I .proper);
+      now = ap isLastRound x ∙ I .now;
+      runs = ap (λ (y : Seat). y .ended) x
+          ∙ I .runs;
+    })
 
 -- what a call leaves: the record has heard what it brings, and an offer is held
 record Left (b b′ : List ℕ) (C : List HearCall) : Type 0 where
@@ -147,7 +153,11 @@ module _ (b : List ℕ) (whole : IsBlock b) {last : Bool} (I : InRound last (hea
   step : (c : BlockCall) → (last ≡ false → NoneCloses (c ∷ [])) → Left b (blockAfter b (callOf c)) (hearings (c ∷ []))
   unfolding heardBy hearings blockAfter hearBatch
   step (block.heard (device.hearsOne k s)) ok =
-      record { head = head-heard b whole k s; offer = moved (head-heard b whole k s) (change (call.hears k s)) (held-hear h (offerOf b) k s H) }
+      record {
+        head = head-heard b whole k s;
+        offer = moved (head-heard b whole k s) (change (call.hears k s))
+            (held-hear h (offerOf b) k s H);
+      }
   step (block.heard (device.hearsBatch s room)) ok =
       let (p, q) = go (batchRefusal s room) (change (call.hearsBatch s room)) in
       record { head = p; offer = q }
@@ -169,13 +179,15 @@ module _ (b : List ℕ) (whole : IsBlock b) {last : Bool} (I : InRound last (hea
 
 -- and many
 pub calls-left : (C : List BlockCall) (b : List ℕ) → IsBlock b → {last : Bool} → InRound last (headOf b) → Held (headOf b) (offerOf b)
-    → (last ≡ false → NoneCloses C) → IsBlock (blockBy b C) × (headOf (blockBy b C) ≡ heardBy (headOf b) (hearings C)) × Held (headOf (blockBy b C)) (offerOf (blockBy b C))
+    → (last ≡ false → NoneCloses C)
+    → IsBlock (blockBy b C) × (headOf (blockBy b C) ≡ heardBy (headOf b) (hearings C)) × Held (headOf (blockBy b C)) (offerOf (blockBy b C))
 unfolding blockBy heardBy hearings
 calls-left [] b whole I H ok = (whole, refl, H)
 calls-left (c ∷ C) b whole {last} I H ok =
     let L = step b whole I H c (λ e. first c C (ok e)) in
     let J = stays-in (hearings (c ∷ [])) I in
-    let (x, y, z) = calls-left C (blockAfter b (callOf c)) (block-after b whole (callOf c)) (rw (L .head) J) (L .offer) (λ e. others c C (ok e)) in
+    let (x, y, z) = calls-left C (blockAfter b (callOf c)) (block-after b whole (callOf c)) (rw (L .head) J) (L .offer)
+    (λ e. others c C (ok e)) in
     (x, y ∙ ap (λ (g : Head). heardBy g (hearings C)) (L .head) ∙ heard-first c C (headOf b), z)
   where
     first : (c : BlockCall) (C : List BlockCall) → NoneCloses (c ∷ C) → NoneCloses (c ∷ [])
@@ -188,7 +200,8 @@ calls-left (c ∷ C) b whole {last} I H ok =
     others (block.wrote at x) C z = z
     others block.offered C z = absurd z
 
-    heard-first : (c : BlockCall) (C : List BlockCall) (g : Head) → heardBy (heardBy g (hearings (c ∷ []))) (hearings C) ≡ heardBy g (hearings (c ∷ C))
+    heard-first : (c : BlockCall) (C : List BlockCall) (g : Head)
+        → heardBy (heardBy g (hearings (c ∷ []))) (hearings C) ≡ heardBy g (hearings (c ∷ C))
     heard-first (block.heard (device.hearsOne k s)) C g = refl
     heard-first (block.heard (device.hearsBatch s room)) C g = refl
     heard-first (block.wrote at x) C g = refl
@@ -204,15 +217,18 @@ module _ (b : List ℕ) (whole : IsBlock b) (H : Held (headOf b) (offerOf b)) wh
   ended-as = ap (λ (c : Closing). c .head) (offer-then-adopt T)
 
   -- a collection round is closed, and no offer stands
-  pub ends-collecting : InRound false T → (headOf (blockAfter b call.closes) ≡ roundEnded T) × (offerOf (blockAfter b call.closes) ≡ Offer.Nothing)
+  pub ends-collecting : InRound false T
+      → (headOf (blockAfter b call.closes) ≡ roundEnded T) × (offerOf (blockAfter b call.closes) ≡ Offer.Nothing)
   ends-collecting I =
       let e : close T .closed ≡ Closed.Listed = ap (λ (c : Closing). c .closed) (closes-collection T (I .runs) (I .now)) in (
         head-closed b whole (I .proper) ∙ sym (ap (λ (c : Closed). thenAdopt c (close T .head) .head) e),
-        only-these-change b call.closes whole .1 (I .proper) ∙ ap (λ (c : Closed). offered c (offerOf b)) e ∙ none-held T (offerOf b) (I .now) H,
+        only-these-change b call.closes whole .1 (I .proper) ∙ ap (λ (c : Closed). offered c (offerOf b)) e
+            ∙ none-held T (offerOf b) (I .now) H,
       )
 
   -- an adoption that is not refused ends the phase
-  pub ends-adopting : InRound true T → numberAfter b call.adopts ≡ 0 → (headOf (blockAfter b call.adopts) ≡ roundEnded T) × (offerOf (blockAfter b call.adopts) ≡ Offer.Nothing)
+  pub ends-adopting : InRound true T → numberAfter b call.adopts ≡ 0
+      → (headOf (blockAfter b call.adopts) ≡ roundEnded T) × (offerOf (blockAfter b call.adopts) ≡ Offer.Nothing)
   ends-adopting I e = go H
     where
       ended : offerOf (blockAfter b call.adopts) ≡ Offer.Nothing
@@ -220,7 +236,8 @@ module _ (b : List ℕ) (whole : IsBlock b) (H : Held (headOf b) (offerOf b)) wh
 
       go : Held T (offerOf b) → (headOf (blockAfter b call.adopts) ≡ roundEnded T) × (offerOf (blockAfter b call.adopts) ≡ Offer.Nothing)
       go (inl q) =
-          let x : refusal.no-offer ≡ 0 = sym (ap (λ (a : Answer). a .refusal) (adopts-nothing T)) ∙ ap (λ (o : Offer). adopt T o .refusal) (sym q) ∙ e in
+          let x : refusal.no-offer ≡ 0 = sym (ap (λ (a : Answer). a .refusal) (adopts-nothing T))
+          ∙ ap (λ (o : Offer). adopt T o .refusal) (sym q) ∙ e in
           absurd (omega arith)
       go (inr (k, q, S)) = (
         head-adopted b whole (I .proper)
@@ -232,7 +249,8 @@ module _ (b : List ℕ) (whole : IsBlock b) (H : Held (headOf b) (offerOf b)) wh
       )
 
   -- after a closing that offers, adopting is not refused
-  pub adopts-then : InRound true T → {k : Kept} → close T .closed ≡ Closed.Settled k → numberAfter (blockAfter b call.closes) call.adopts ≡ 0
+  pub adopts-then : InRound true T → {k : Kept} → close T .closed ≡ Closed.Settled k
+      → numberAfter (blockAfter b call.closes) call.adopts ≡ 0
   adopts-then I {k} e =
       let head₁ : headOf (blockAfter b call.closes) ≡ T = head-closed b whole (I .proper) ∙ close-stays T (I .now) in
       let offer₁ : offerOf (blockAfter b call.closes) ≡ Offer.Standing k =

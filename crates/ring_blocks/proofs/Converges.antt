@@ -1,5 +1,5 @@
--- A ring of blocks is a ring of devices: every call on a block does to its record what the call by value does, and so the blocks of all receivers are the records of the
--- devices (`blocks-same`).
+-- A ring of blocks is a ring of devices: every call on a block does to its record what the call by value does, and so the blocks of all
+-- receivers are the records of the devices (`blocks-same`).
 use mathlib.Core.Path.{_≡_, refl, ap, ap₂, sym, _∙_}
 use mathlib.Core.Bool.{Bool, true, false, cond}
 use mathlib.Core.List.{List, [], _∷_}
@@ -55,18 +55,23 @@ module _ (K : Family) (n m f : ℕ) (B : BlockRing) (R : Ring) (S : SameRing n m
     restart-head : headOf (blockAfter x (againCall K n f i (R .phase) (R .round))) ≡ again K n f (R .heads i) i (R .phase) (R .round) .head
     restart-head = go (ltb i 32)
       where
-        go : (c : Bool) → headOf (blockAfter x (cond c (restarts K n f i (R .phase) (R .round)) (restartsListener K n f i (R .phase) (R .round))))
+        go : (c : Bool) → headOf
+            (blockAfter x (cond c (restarts K n f i (R .phase) (R .round)) (restartsListener K n f i (R .phase) (R .round))))
             ≡ cond c (restart (R .heads i) K n f i (R .phase) (R .round)) (restartListener (R .heads i) K n f i (R .phase) (R .round)) .head
-        go true = head-restarted x (S .blocks i) K n f i _ _ ∙ ap (λ (h : Head). restart h K n f i (R .phase) (R .round) .head) (S .heads i t)
-        go false = listener-restarted x (S .blocks i) K n f i _ _ ∙ ap (λ (h : Head). restartListener h K n f i (R .phase) (R .round) .head) (S .heads i t)
+        go true = head-restarted x (S .blocks i) K n f i _ _
+            ∙ ap (λ (h : Head). restart h K n f i (R .phase) (R .round) .head) (S .heads i t)
+        go false = listener-restarted x (S .blocks i) K n f i _ _
+            ∙ ap (λ (h : Head). restartListener h K n f i (R .phase) (R .round) .head) (S .heads i t)
 
     restart-ends-offer : again K n f (R .heads i) i (R .phase) (R .round) .refusal ≡ 0
         → offerOf (blockAfter x (againCall K n f i (R .phase) (R .round))) ≡ Offer.Nothing
     unfolding blockAfter
     restart-ends-offer = go (ltb i 32)
       where
-        go : (c : Bool) → cond c (restart (R .heads i) K n f i (R .phase) (R .round)) (restartListener (R .heads i) K n f i (R .phase) (R .round)) .refusal ≡ 0
-            → offerOf (blockAfter x (cond c (restarts K n f i (R .phase) (R .round)) (restartsListener K n f i (R .phase) (R .round)))) ≡ Offer.Nothing
+        go : (c : Bool) → cond c (restart (R .heads i) K n f i (R .phase) (R .round))
+            (restartListener (R .heads i) K n f i (R .phase) (R .round)) .refusal ≡ 0
+            → offerOf (blockAfter x (cond c (restarts K n f i (R .phase) (R .round)) (restartsListener K n f i (R .phase) (R .round))))
+            ≡ Offer.Nothing
         go true e =
             offer-after x (S .blocks i) _ (restart (headOf x) K n f i (R .phase) (R .round))
             ∙ ap (λ (h : Head). lapsed (restart h K n f i (R .phase) (R .round) .refusal) (offerOf x)) (S .heads i t)
@@ -89,7 +94,8 @@ module _ (K : Family) (n m f : ℕ) (B : BlockRing) (R : Ring) (S : SameRing n m
     unfolding openedBlock
     opened-offer taken = rw (S .before, S .phase, S .round) (go (bitOf (R .before) i) refl)
       where
-        go : (b : Bool) → bitOf (R .before) i ≡ b → offerOf (cond b (blockAfter x (againCall K n f i (R .phase) (R .round))) x) ≡ Offer.Nothing
+        go : (b : Bool) → bitOf (R .before) i ≡ b
+            → offerOf (cond b (blockAfter x (againCall K n f i (R .phase) (R .round))) x) ≡ Offer.Nothing
         go true e = restart-ends-offer taken
         go false e = S .offers i t e
 
@@ -118,7 +124,8 @@ module _ (K : Family) (n m f : ℕ) (B : BlockRing) (R : Ring) (S : SameRing n m
     unfolding closedBlock closedBy
     ends-round O E q =
         let e = opened-head i t in
-        let (x, y) = round-ends opened (opened-is-block i) (opened-offer i t (O .taken)) (w .calls i) (endsWith K (B .round)) (rw e (O .inside)) E in
+        let (x, y) = round-ends opened (opened-is-block i) (opened-offer i t (O .taken)) (w .calls i) (endsWith K (B .round))
+        (rw e (O .inside)) E in
         rw q (x ∙ ap (λ (h : Head). roundEnded (heardBy h (hearings (w .calls i)))) e, y)
 
     -- and a marked one is left with any block
@@ -142,11 +149,13 @@ module _ (K : Family) (n m f : ℕ) (B : BlockRing) (R : Ring) (S : SameRing n m
       by-block [] b e = e
       by-block (c ∷ C) b e = by-block C _ (block-after b e (callOf c))
 
-      go : (c : Bool) → IsBlock (cond c (w .left i) (blockAfter (blockBy (openedBlock K n f B i) (w .calls i)) (endCall (endsWith K (B .round)))))
+      go : (c : Bool) → IsBlock
+          (cond c (w .left i) (blockAfter (blockBy (openedBlock K n f B i) (w .calls i)) (endCall (endsWith K (B .round)))))
       go true = left i
       go false = block-after _ (by-block (w .calls i) _ (opened-is-block i)) _
 
-  next-same : (w : BlockRound) → RoundWithin K n f B w m → ((i : ℕ) → isReceiver n m i ≡ true → bitOf (w .marks) i ≡ false → Opens K n f (B .round) R i)
+  next-same : (w : BlockRound) → RoundWithin K n f B w m
+      → ((i : ℕ) → isReceiver n m i ≡ true → bitOf (w .marks) i ≡ false → Opens K n f (B .round) R i)
       → SameRing n m (afterBlocks K n f B w) (afterDevices K n f R (asDevice w))
   unfolding afterBlocks afterDevices
   next-same w W O =
@@ -205,7 +214,8 @@ module _ (K : Family) (n f : ℕ) (v : ℕ → ℤ) (memory : ℕ → List ℕ) 
     started-is-block = block-after (memory i) whole _
 
 -- the rounds before
-pub earlier : {K : Family} {n m f : ℕ} {v : ℕ → ℤ} {memory : ℕ → List ℕ} {w : BlockRound} {ws : List BlockRound} → BlocksWithin K n m f v memory (w ∷ ws)
+pub earlier : {K : Family} {n m f : ℕ} {v : ℕ → ℤ} {memory : ℕ → List ℕ} {w : BlockRound} {ws : List BlockRound}
+    → BlocksWithin K n m f v memory (w ∷ ws)
     → BlocksWithin K n m f v memory ws
 earlier X =
     record {
@@ -231,13 +241,15 @@ module _ (K : Family) (n m f : ℕ) (v : ℕ → ℤ) (memory : ℕ → List ℕ
   abbrev R : List BlockRound → Ring
   R ws = devicesAfter K n f v records (D ws)
 
-  within-as : {ws : List BlockRound} → BlocksWithin K n m f v memory ws → RoundsWithin K n f v records m (D ws) → DevicesWithin K n m f v records (D ws)
+  within-as : {ws : List BlockRound} → BlocksWithin K n m f v memory ws → RoundsWithin K n f v records m (D ws)
+      → DevicesWithin K n m f v records (D ws)
   within-as {ws} X W =
       let y = as-many K n f v memory ws in
       record { most = X .most; listeners = X .listeners; size = X .size; range = X .range; each = W; rounds = omega (arith, X .rounds) }
 
   -- an unmarked device as the next round opens
-  pub opens : (ws : List BlockRound) → SameRing n m (B ws) (R ws) → DevicesWithin K n m f v records (D ws) → length ws < mostRounds K → (w : BlockRound) (i : ℕ)
+  pub opens : (ws : List BlockRound) → SameRing n m (B ws) (R ws) → DevicesWithin K n m f v records (D ws) → length ws < mostRounds K
+      → (w : BlockRound) (i : ℕ)
       → isReceiver n m i ≡ true → bitOf (w .marks) i ≡ false → Opens K n f (B ws .round) (R ws) i
   opens ws S Y l w i t q =
       let y = as-many K n f v memory ws in
@@ -247,7 +259,8 @@ module _ (K : Family) (n m f : ℕ) (v : ℕ → ℤ) (memory : ℕ → List ℕ
         inside = record { proper = F .proper; now = ap₂ endsWith family (now ∙ sym (S .round)); runs = F .runs };
       }
 
-  pub blocks-same : (ws : List BlockRound) → BlocksWithin K n m f v memory ws → SameRing n m (B ws) (R ws) × DevicesWithin K n m f v records (D ws)
+  pub blocks-same : (ws : List BlockRound) → BlocksWithin K n m f v memory ws
+      → SameRing n m (B ws) (R ws) × DevicesWithin K n m f v records (D ws)
   unfolding blocksAfter devicesAfter
   blocks-same [] X =
       let Y = within-as X tt in (
@@ -264,7 +277,8 @@ module _ (K : Family) (n m f : ℕ) (v : ℕ → ℤ) (memory : ℕ → List ℕ
   blocks-same (w ∷ ws) X = next (blocks-same ws (earlier X))
     where
       next : SameRing n m (B ws) (R ws) × DevicesWithin K n m f v records (D ws)
-          → SameRing n m (afterBlocks K n f (B ws) w) (afterDevices K n f (R ws) (asDevice w)) × DevicesWithin K n m f v records (asDevice w ∷ D ws)
+          → SameRing n m (afterBlocks K n f (B ws) w) (afterDevices K n f (R ws) (asDevice w))
+          × DevicesWithin K n m f v records (asDevice w ∷ D ws)
       next (S, Y) =
           let W = X .each .0 in (
             next-same K n m f (B ws) (R ws) S w W (opens ws S Y (omega (arith, X .rounds)) w),
@@ -272,7 +286,8 @@ module _ (K : Family) (n m f : ℕ) (v : ℕ → ℤ) (memory : ℕ → List ℕ
           )
 
   end-same : (w : BlockRound) (ws : List BlockRound) → BlocksWithin K n m f v memory (w ∷ ws)
-      → SameRecords n m (phaseEnd K (B ws .before) (w .marks) (shown K n f v memory (w ∷ ws))) (phaseEnd K (R ws .before) (w .marks) (R (w ∷ ws) .heads))
+      → SameRecords n m (phaseEnd K (B ws .before) (w .marks) (shown K n f v memory (w ∷ ws)))
+      (phaseEnd K (R ws .before) (w .marks) (R (w ∷ ws) .heads))
   end-same w ws X =
       phase-same K n m _ _ (w .marks) (λ i q. blocks-same (w ∷ ws) X .0 .heads i (sound-receives n m (w .marks) i q .0))
 
@@ -280,14 +295,16 @@ module _ (K : Family) (n m f : ℕ) (v : ℕ → ℤ) (memory : ℕ → List ℕ
   unfolding blocksAfter
   start-same whole j = started-head K n f v memory j (whole j)
 
-  ends-same : (ws : List BlockRound) → BlocksWithin K n m f v memory ws → SameEnds n m (endsOfBlocks K n f v memory ws) (endsOfDevices K n f v records (D ws))
+  ends-same : (ws : List BlockRound) → BlocksWithin K n m f v memory ws
+      → SameEnds n m (endsOfBlocks K n f v memory ws) (endsOfDevices K n f v records (D ws))
   unfolding endsOfBlocks endsOfDevices
   ends-same [] X = record { many = refl; each = first }
     where
       start-end : (ℕ → Head) → PhaseEnd
       start-end h = record { collect = 0; confess = 0; struck = allListeners; heads = h }
 
-      first : (i : ℕ) → SameRecords n m (getD (start-end (shown K n f v memory []) ∷ []) i noEnd) (getD (start-end (startedBy K n f v records) ∷ []) i noEnd)
+      first : (i : ℕ) → SameRecords n m (getD (start-end (shown K n f v memory []) ∷ []) i noEnd)
+          (getD (start-end (startedBy K n f v records) ∷ []) i noEnd)
       first zero = record { struck = refl; heads = λ j q. start-same (X .blocks) j }
       first (suc i) = record { struck = refl; heads = λ j q. refl }
   ends-same (w ∷ ws) X =

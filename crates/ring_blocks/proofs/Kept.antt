@@ -40,7 +40,8 @@ module _ (w : List ℕ) (block : IsBlock w) where
 
   called-block : (b : Beside) (a : Answer) → Opens a → IsBlock (withoutOffer (a .refusal) (withBeside b (withAnswer w a)))
   unfolding withAnswer
-  called-block b a opens = ended (a .refusal) (withBeside b (leaves (a .refusal) (withHead (a .head) w) w)) (simp length-set (go (a .refusal) refl))
+  called-block b a opens = ended (a .refusal) (withBeside b (leaves (a .refusal) (withHead (a .head) w) w))
+      (simp length-set (go (a .refusal) refl))
     where
       ended : (c : ℕ) (x : List ℕ) → IsBlock x → IsBlock (withoutOffer c x)
       ended zero x e = simp length-set e
@@ -68,7 +69,8 @@ pub block-after : (w : List ℕ) → IsBlock w → (c : Call) → IsBlock (block
 unfolding blockAfter
 block-after w block (starts K n f i v) = called-block w block _ (start (headOf w) K n f i v) (start-opens (headOf w) K n f i v)
 block-after w block (restarts K n f i p r) = called-block w block _ (restart (headOf w) K n f i p r) (restart-opens (headOf w) K n f i p r)
-block-after w block (startsListener K n f i) = called-block w block _ (startListener (headOf w) K n f i) (start-listener-opens (headOf w) K n f i)
+block-after w block (startsListener K n f i) = called-block w block _ (startListener (headOf w) K n f i)
+    (start-listener-opens (headOf w) K n f i)
 block-after w block (restartsListener K n f i p r) =
     called-block w block _ (restartListener (headOf w) K n f i p r) (restart-listener-opens (headOf w) K n f i p r)
 block-after w block (hears k s) = go (hear (headOf w) k s .refusal)

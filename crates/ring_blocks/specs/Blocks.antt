@@ -1,5 +1,5 @@
--- Demand 3 of the blocks that C keeps: `DevicesConverge` (ring_devices), with a block for each device and C's calls on it. What an integrator owes is
--- `BlocksWithin`; docs/TRUST.md has it in words. proofs/Converges.antt proves it.
+-- Demand 3 of the blocks that C keeps: `DevicesConverge` (ring_devices), with a block for each device and C's calls on it. What an
+-- integrator owes is `BlocksWithin`; docs/TRUST.md has it in words. proofs/Converges.antt proves it.
 use mathlib.Core.Path.{_≡_}
 use mathlib.Core.Bool.{Bool, true, false, cond}
 use mathlib.Core.List.{List, [], _∷_}
@@ -24,8 +24,8 @@ use Rattle.ring_devices.specs.Devices.{HearCall, broughtBy, firstFrame}
 
 -- ---- what is done with a block in a round, after it opened
 
--- A call before the one that ends the round: one that hears; a write to the window (document 02, A5); or a closing in the last round of a phase, which offers a position
--- that later frames end (A8). Calls that read a block or write a frame change no block.
+-- A call before the one that ends the round: one that hears; a write to the window (document 02, A5); or a closing in the last round of a
+-- phase, which offers a position that later frames end (A8). Calls that read a block or write a frame change no block.
 pub data BlockCall : Type 0 where
   heard : HearCall → BlockCall
   wrote : (at byte : ℕ) → BlockCall
@@ -40,7 +40,8 @@ callOf offered = closes
 -- The contracts of C's functions have `blockAfter` of these calls; those of the two that hear say what it is of them.
 pub record HearingsStep : Type 0 where
   pub one : (w : List ℕ) (k : ℕ) (s : List ℕ) (r : ℕ) (w′ : List ℕ) → Hears w k s r w′ → w′ ≡ blockAfter w (hears k s)
-  pub batch : (w s a : List ℕ) (c r : ℕ) (w′ a′ : List ℕ) (c′ : ℕ) → HearsBatch w s a c r w′ a′ c′ → w′ ≡ blockAfter w (hearsBatch s (length a))
+  pub batch : (w s a : List ℕ) (c r : ℕ) (w′ a′ : List ℕ) (c′ : ℕ) → HearsBatch w s a c r w′ a′ c′
+      → w′ ≡ blockAfter w (hearsBatch s (length a))
 
 unfoldable pub blockBy : List ℕ → List BlockCall → List ℕ
 blockBy b [] = b
@@ -59,13 +60,14 @@ NoneCloses (heard c ∷ C) = NoneCloses C
 NoneCloses (wrote at x ∷ C) = NoneCloses C
 NoneCloses (offered ∷ C) = ⊥
 
--- The call that ends a round: a collection round is closed; the last round of a phase is ended by adopting what a closing before it offered.
+-- The call that ends a round: a collection round is closed; the last round of a phase is ended by adopting what a closing before it
+-- offered.
 abbrev pub endCall : Bool → Call
 endCall false = closes
 endCall true = adopts
 
--- Who ends a round by these calls on the block b: a collection round is closed once; in the last round of a phase adopting is not refused, so that an offer stands then.
--- Who does not is late.
+-- Who ends a round by these calls on the block b: a collection round is closed once; in the last round of a phase adopting is not refused,
+-- so that an offer stands then. Who does not is late.
 abbrev pub EndsBy : Bool → List ℕ → List BlockCall → Type 0
 EndsBy false b C = NoneCloses C
 EndsBy true b C = numberAfter (blockBy b C) adopts ≡ 0
@@ -110,8 +112,8 @@ module _ (K : Family) (n f : ℕ) where
       unfoldable pub closedBlock : ℕ → List ℕ
       closedBlock i = cond (bitOf (w .marks) i) (w .left i) (blockAfter (heardBlock i) (endCall (endsWith K (R .round))))
 
-      -- What the cable owes, as in `Carries`: of all that comes to an unmarked device on the link of an unmarked head, the first acceptable is the frame that the
-      -- head's block writes.
+      -- What the cable owes, as in `Carries`: of all that comes to an unmarked device on the link of an unmarked head, the first acceptable
+      -- is the frame that the head's block writes.
       abbrev pub CarriesTo : ℕ → Type 0
       CarriesTo m =
           (i k : ℕ) → isReceiver n m i ≡ true → bitOf (w .marks) i ≡ false → k < n → bitOf (w .marks) k ≡ false
@@ -123,7 +125,8 @@ module _ (K : Family) (n f : ℕ) where
         pub few : AtMost f n (bitOf (w .marks))
         pub carries : CarriesTo m
         -- every unmarked device ends the round
-        pub ends : (i : ℕ) → isReceiver n m i ≡ true → bitOf (w .marks) i ≡ false → EndsBy (endsWith K (R .round)) (openedBlock i) (w .calls i)
+        pub ends : (i : ℕ) → isReceiver n m i ≡ true → bitOf (w .marks) i ≡ false
+            → EndsBy (endsWith K (R .round)) (openedBlock i) (w .calls i)
         -- what marked ones are left with is as long as a block
         pub left : (i : ℕ) → IsBlock (w .left i)
 

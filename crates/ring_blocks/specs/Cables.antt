@@ -1,5 +1,6 @@
--- No call that a round asks for is refused, and what `RoundWithin` asks of a cable can be met, whoever is marked: by one that brings each unmarked head's frame, with
--- whatever else is refused on that link. As ring_devices' Devices.antt and Cables.antt have it, of blocks. proofs/Cables.antt proves it.
+-- No call that a round asks for is refused, and what `RoundWithin` asks of a cable can be met, whoever is marked: by one that brings each
+-- unmarked head's frame, with whatever else is refused on that link. As ring_devices' Devices.antt and Cables.antt have it, of blocks.
+-- proofs/Cables.antt proves it.
 use mathlib.Core.Path.{_≡_}
 use mathlib.Core.Bool.{Bool, true, false}
 use mathlib.Core.List.{List, [], _∷_}
@@ -32,7 +33,8 @@ pub record NoBlockRefused (K : Family) (n m f : ℕ) (R : BlockRing) (w : BlockR
 
 abbrev pub BlocksUnrefused : Type 0
 BlocksUnrefused =
-    (K : Family) (n m f : ℕ) (v : ℕ → ℤ) (memory : ℕ → List ℕ) (w : BlockRound) (ws : List BlockRound) → BlocksWithin K n m f v memory (w ∷ ws)
+    (K : Family) (n m f : ℕ) (v : ℕ → ℤ) (memory : ℕ → List ℕ) (w : BlockRound) (ws : List BlockRound)
+    → BlocksWithin K n m f v memory (w ∷ ws)
     → NoBlockRefused K n m f (blocksAfter K n f v memory ws) w
 
 -- ---- which cables carry
@@ -61,15 +63,20 @@ pub record CablesCarryTo (K : Family) (n m f : ℕ) (R : BlockRing) : Type 0 whe
   -- such a cable carries
   pub brings : (w : BlockRound) → BringsTo K n f R w m → CarriesTo K n f R w m
   -- the plainest round is within the limits, whoever is marked, up to f heads, and whatever these are left with
-  pub plain : (marks : ℕ) (left : ℕ → List ℕ) → AtMost f n (bitOf marks) → ((i : ℕ) → IsBlock (left i)) → RoundWithin K n f R (plainlyTo K n f R marks left) m
-  -- an unmarked head writes its frame, whenever in the round it is asked to and whatever was done with its block till then, but that a collection round is not closed
-  pub writes : (w : BlockRound) (k : ℕ) → k < n → bitOf (w .marks) k ≡ false → (C : List BlockCall) → (endsWith K (R .round) ≡ false → NoneCloses C)
-      → (buffer : List ℕ) → let s = frameOfBlock K n f R k in length s ≤ length buffer → let h = headOf (blockBy (openedBlock K n f R k) C) in
+  pub plain : (marks : ℕ) (left : ℕ → List ℕ) → AtMost f n (bitOf marks) → ((i : ℕ) → IsBlock (left i))
+      → RoundWithin K n f R (plainlyTo K n f R marks left) m
+  -- an unmarked head writes its frame, whenever in the round it is asked to and whatever was done with its block till then, but that a
+  -- collection round is not closed
+  pub writes : (w : BlockRound) (k : ℕ) → k < n → bitOf (w .marks) k ≡ false → (C : List BlockCall)
+      → (endsWith K (R .round) ≡ false → NoneCloses C)
+      → (buffer : List ℕ) → let s = frameOfBlock K n f R k in length s ≤ length buffer
+      → let h = headOf (blockBy (openedBlock K n f R k) C) in
       (writeAnswer h buffer ≡ Written.Length (length s)) × (take (length s) (writeBuffer h buffer) ≡ s)
 
 abbrev pub BlockCableThere : Type 0
 BlockCableThere =
-    (K : Family) (n m f : ℕ) (v : ℕ → ℤ) (memory : ℕ → List ℕ) (ws : List BlockRound) → BlocksWithin K n m f v memory ws → length ws < mostRounds K
+    (K : Family) (n m f : ℕ) (v : ℕ → ℤ) (memory : ℕ → List ℕ) (ws : List BlockRound) → BlocksWithin K n m f v memory ws
+    → length ws < mostRounds K
     → CablesCarryTo K n m f (blocksAfter K n f v memory ws)
 
 -- ---- so there is a run within the limits for whatever is done to a ring
@@ -90,5 +97,7 @@ module _ (K : Family) (n f : ℕ) (v : ℕ → ℤ) (memory : ℕ → List ℕ) 
 
 abbrev pub RunThere : Type 0
 RunThere =
-    (K : Family) (n m f : ℕ) (v : ℕ → ℤ) (memory : ℕ → List ℕ) (xs : List Strike) → n ≤ 32 → m ≤ 16 → AcceptedSize K n f → Each n (λ i. isPosition (v i) ≡ true)
-    → ((i : ℕ) → IsBlock (memory i)) → FewMarked n f xs → length xs ≤ mostRounds K → BlocksWithin K n m f v memory (plainRun K n f v memory xs)
+    (K : Family) (n m f : ℕ) (v : ℕ → ℤ) (memory : ℕ → List ℕ) (xs : List Strike) → n ≤ 32 → m ≤ 16 → AcceptedSize K n f
+    → Each n (λ i. isPosition (v i) ≡ true)
+    → ((i : ℕ) → IsBlock (memory i)) → FewMarked n f xs → length xs ≤ mostRounds K
+    → BlocksWithin K n m f v memory (plainRun K n f v memory xs)

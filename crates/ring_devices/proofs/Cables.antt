@@ -1,5 +1,5 @@
--- Cables that carry. A frame that an unmarked head writes is acceptable to every unmarked device (`frames-taken`); so the first acceptable one on its link is that
--- frame, if no other is acceptable there. Hearing changes nothing of what a head has to say.
+-- Cables that carry. A frame that an unmarked head writes is acceptable to every unmarked device (`frames-taken`); so the first acceptable
+-- one on its link is that frame, if no other is acceptable there. Hearing changes nothing of what a head has to say.
 use mathlib.Core.Path.{_≡_, refl, ap, sym, _∙_}
 use mathlib.Core.Bool.{Bool, true, false, cond, _&&_, true≢false}
 use mathlib.Core.List.{List, [], _∷_, _++_}
@@ -66,7 +66,8 @@ pub one-place : OnePlace
 one-place h P n p r k e =
     let s = frameFor h in
     let A = accepted n p r k s refl (accepted-meaning (said n p r k s) e) .0 in
-    let B = accepted (h .seat .n) (h .seat .phase) (h .seat .round) (h .seat .number) s (spoken-reads-back h P) (accepted-meaning (spoken h) (speaks h)) .0 in
+    let B = accepted (h .seat .n) (h .seat .phase) (h .seat .round) (h .seat .number) s (spoken-reads-back h P)
+    (accepted-meaning (spoken h) (speaks h)) .0 in
     (sym (A .ofPhase) ∙ B .ofPhase, sym (A .ofRound) ∙ B .ofRound, sym (A .sender) ∙ B .sender)
 
 pub any-run : AnyRun
@@ -93,7 +94,8 @@ list-kept h k s r = hear-cases h k s (λ x. x .list ≡ h .list) refl (λ l u m 
   where
     go : (m : Meaning) → saidTo (h .seat) k s ≡ m → taken h k m .list ≡ h .list
     go (refused c) e = refl
-    go (collected y) e = let z : 0 ≡ h .seat .round = said-round (h .seat .n) (h .seat .phase) (h .seat .round) k s e tt in absurd (omega arith)
+    go (collected y) e = let z : 0
+        ≡ h .seat .round = said-round (h .seat .n) (h .seat .phase) (h .seat .round) k s e tt in absurd (omega arith)
     go (listed t) e = refl
     go confessed e = refl
 
@@ -122,7 +124,8 @@ module _ (D : List Delivery) (h : Head) (l : h .seat .round < 2) where
   frame-same = λ t. frameOf (kept t .n) (kept t .number) (kept t .phase) (speaks-same t)
 
 -- with room for it, a head that runs writes its frame
-writes-frame : (T : Head) (s buffer : List ℕ) → frameFor T ≡ s → T .seat .ended ≡ false → isListener (T .seat .number) ≡ false → length s ≤ length buffer
+writes-frame : (T : Head) (s buffer : List ℕ) → frameFor T ≡ s → T .seat .ended ≡ false → isListener (T .seat .number) ≡ false
+    → length s ≤ length buffer
     → (writeAnswer T buffer ≡ Written.Length (length s)) × (take (length s) (writeBuffer T buffer) ≡ s)
 unfolding writeAnswer writeBuffer written buffered
 writes-frame T s buffer e runs head room =
@@ -130,7 +133,8 @@ writes-frame T s buffer e runs head room =
     (le-leb (length (frameFor T)) (length buffer) (omega (arith, ap length e))) e
   where
     go : (a b c : Bool) (u : List ℕ) → a ≡ false → b ≡ false → c ≡ true → u ≡ s
-        → (cond a (Written.Refused refusal.ended) (cond b (Written.Refused refusal.listener) (cond c (Written.Length (length u)) (Written.Refused refusal.buffer)))
+        → (cond a (Written.Refused refusal.ended)
+        (cond b (Written.Refused refusal.listener) (cond c (Written.Length (length u)) (Written.Refused refusal.buffer)))
         ≡ Written.Length (length s)) × (take (length s) (cond a buffer (cond b buffer (cond c (u ++ drop (length u) buffer) buffer))) ≡ s)
     go a b c u p q r z = rw (p, q, r, z) (refl, take-append-seam s (drop (length s) buffer))
 
@@ -140,7 +144,8 @@ no-listener k b = rw (lt-leb 32 k b)
 
 -- ---- after any rounds within the limits
 
-module _ (K : Family) (n m f : ℕ) (v : ℕ → ℤ) (memory : ℕ → Head) (ws : List DeviceRound) (X : DevicesWithin K n m f v memory ws) (l : length ws < mostRounds K) where
+module _ (K : Family) (n m f : ℕ) (v : ℕ → ℤ) (memory : ℕ → Head) (ws : List DeviceRound) (X : DevicesWithin K n m f v memory ws)
+    (l : length ws < mostRounds K) where
   abbrev R : Ring
   R = devicesAfter K n f v memory ws
 
@@ -148,13 +153,15 @@ module _ (K : Family) (n m f : ℕ) (v : ℕ → ℤ) (memory : ℕ → Head) (w
   unfolding Carries
   brings-carries w B i k t q b e =
       let (c, a) = B i k t q b e in
-      first-alone (openedBy K n f R i .seat) k (frameFor (openedBy K n f R k)) (frames-taken K n m f v memory ws X w l i k t q b e) (broughtBy (w .calls i)) c a
+      first-alone (openedBy K n f R i .seat) k (frameFor (openedBy K n f R k)) (frames-taken K n m f v memory ws X w l i k t q b e)
+      (broughtBy (w .calls i)) c a
 
   abbrev frames : ℕ → List ℕ
   frames k = frameFor (openedBy K n f R k)
 
   -- an unmarked head writes its frame
-  written-by : (w : DeviceRound) (k : ℕ) → k < n → bitOf (w .marks) k ≡ false → (C : List HearCall) (buffer : List ℕ) → length (frames k) ≤ length buffer
+  written-by : (w : DeviceRound) (k : ℕ) → k < n → bitOf (w .marks) k ≡ false → (C : List HearCall) (buffer : List ℕ)
+      → length (frames k) ≤ length buffer
       → let T = heardBy (openedBy K n f R k) C in
       (writeAnswer T buffer ≡ Written.Length (length (frames k))) × (take (length (frames k)) (writeBuffer T buffer) ≡ frames k)
   written-by w k b q C buffer room =
@@ -165,7 +172,8 @@ module _ (K : Family) (n m f : ℕ) (v : ℕ → ℤ) (memory : ℕ → Head) (w
       ap (λ (x : Seat). isListener (x .number)) (each-keep D h) ∙ ap isListener number ∙ no-listener k (omega (arith, X .most)) in
       let runs : hearEach h D .seat .ended ≡ false = ap (λ (x : Seat). x .ended) (each-keep D h) ∙ F .runs in
       let two = rounds-few (h .seat .family) in
-      rw (heard-by C h) (writes-frame (hearEach h D) (frameFor h) buffer (frame-same D h (omega (arith, F .proper .seat .round))) runs o room)
+      rw (heard-by C h) (writes-frame (hearEach h D) (frameFor h) buffer
+      (frame-same D h (omega (arith, F .proper .seat .round))) runs o room)
 
   cables-carry : CablesCarry K n m f R
   cables-carry =

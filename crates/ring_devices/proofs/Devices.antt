@@ -1,5 +1,6 @@
--- Demand 3 of devices. A ring of devices agrees with the plain ring of `asRounds` on all receivers that the round before did not mark (`devices-same`), and so at
--- phase ends on all that it is compared by (`ends-same`): a marked device counts as struck there. What ring_spec proves of plain rings does the rest.
+-- Demand 3 of devices. A ring of devices agrees with the plain ring of `asRounds` on all receivers that the round before did not mark
+-- (`devices-same`), and so at phase ends on all that it is compared by (`ends-same`): a marked device counts as struck there. What
+-- ring_spec proves of plain rings does the rest.
 use mathlib.Core.Path.{_≡_, refl, ap, sym, _∙_}
 use mathlib.Core.Bool.{Bool, true, false, cond}
 use mathlib.Core.List.{List, [], _∷_}
@@ -84,19 +85,22 @@ promised-same {K} {n} {m} {f} {marks} {es} {es′} {now} {now′} S same X =
     converge i k h = demand3-same (alike (i + k)) (alike i) (X .converges i k (omega (arith, S .many)))
 
     keep : (i : ℕ) → i + 1 < length es → let e = asEnd n m (getD es (i + 1) noEnd) in let e′ = getD es i noEnd in
-        Each receivers (λ j. asEnd n m e′ .struck j ≡ false → HoldsBetween (lowest receivers e) (highest receivers e) (e′ .heads j .seat .last))
+        Each receivers (λ j. asEnd n m e′ .struck j ≡ false
+        → HoldsBetween (lowest receivers e) (highest receivers e) (e′ .heads j .seat .last))
     keep i h j b q =
         let (low, high) = same-bounds (alike (i + 1)) in
         rw (low, high, S .each i .heads j q) (X .between i (omega (arith, S .many)) j b (sym (alike i .struck j b) ∙ q))
 
-    count : Each receivers (λ i. isReceiver n m i ≡ true → bitOf (getD marks 0 0) i ≡ false → now i .seat .since ≡ countAfter K (marking marks) i)
+    count : Each receivers
+        (λ i. isReceiver n m i ≡ true → bitOf (getD marks 0 0) i ≡ false → now i .seat .since ≡ countAfter K (marking marks) i)
     count i l t q = ap (λ (h : Head). h .seat .since) (same i t q) ∙ X .counts i l t q
 
     agree : (i : ℕ) → i + 1 < length es → OneFocus n (asEnd n m (getD es i noEnd))
     agree i h quiet a b la lb qa qb =
         let s = alike i in
         s .at a la qa
-        ∙ X .quiet i (omega (arith, S .many)) (λ k l. sym (ap (λ (x : ℕ). isOut n m x k) (S .each i .struck)) ∙ quiet k l) a b la lb (sym (s .struck a la) ∙ qa)
+        ∙ X .quiet i (omega (arith, S .many)) (λ k l. sym (ap (λ (x : ℕ). isOut n m x k) (S .each i .struck)) ∙ quiet k l) a b la lb
+        (sym (s .struck a la) ∙ qa)
         (sym (s .struck b lb) ∙ qb)
         ∙ sym (s .at b lb qb)
 
@@ -142,13 +146,15 @@ module _ (K : Family) (n f : ℕ) (v : ℕ → ℤ) (memory : ℕ → Head) wher
     devices-same [] W l = record { phase = refl; round = refl; before = refl; heads = λ i t q. started-same i t }
     devices-same (w ∷ ws) W l =
         let y = as-many ws in
-        next-same K n m f (Z .most) few-m (devicesAfter K n f v memory ws) (ringAfter K n f v (asRounds ws)) w (devices-same ws (W .2) (omega arith))
+        next-same K n m f (Z .most) few-m (devicesAfter K n f v memory ws) (ringAfter K n f v (asRounds ws)) w
+        (devices-same ws (W .2) (omega arith))
         (playable K n f v Z range (asRounds ws) (few-within m ws (W .2)) (omega arith)) (W .0) (W .1)
 
     end-same : (w : DeviceRound) (ws : List DeviceRound) → let us = w ∷ ws in
         RoundsWithin K n f v memory m us → length us ≤ mostRounds K
         → SameRecords n m (phaseEnd K (devicesAfter K n f v memory ws .before) (w .marks) (devicesAfter K n f v memory us .heads))
-        (phaseEnd K (ringAfter K n f v (asRounds ws) .before) (asRound K n f (devicesAfter K n f v memory ws) w .struck) (ringAfter K n f v (asRounds us) .heads))
+        (phaseEnd K (ringAfter K n f v (asRounds ws) .before) (asRound K n f (devicesAfter K n f v memory ws) w .struck)
+        (ringAfter K n f v (asRounds us) .heads))
     unfolding asRound ringAfter afterRound
     end-same w ws W l =
         phase-same K n m _ _ (w .marks) (λ i q. let (t, e) = sound-receives n m (w .marks) i q in devices-same (w ∷ ws) W l .heads i t e)
@@ -158,7 +164,8 @@ module _ (K : Family) (n f : ℕ) (v : ℕ → ℤ) (memory : ℕ → Head) wher
     unfolding endsOfDevices endsAfter
     ends-same [] W l = record { many = refl; each = first }
       where
-        first : (i : ℕ) → SameRecords n m (getD (record { collect = 0; confess = 0; struck = allListeners; heads = startedBy K n f v memory } ∷ []) i noEnd)
+        first : (i : ℕ) → SameRecords n m
+            (getD (record { collect = 0; confess = 0; struck = allListeners; heads = startedBy K n f v memory } ∷ []) i noEnd)
             (getD (firstEnd K n f v ∷ []) i noEnd)
         first zero = record { struck = refl; heads = λ j q. started-same j (sound-receives n m allListeners j q .0) }
         first (suc i) = record { struck = refl; heads = λ j q. refl }
@@ -222,7 +229,8 @@ module _ (K : Family) (n m f : ℕ) (v : ℕ → ℤ) (memory : ℕ → Head) (w
   plain-promised : Promised K n m f (marksOf ws) (endsAfter K n f v plain) (ringAfter K n f v plain .heads)
   plain-promised =
       record {
-        many = ends-many K (counted K n f v plain) ∙ ap (λ (x : ℕ). x / roundsOf K + 1) (as-many K n f v memory ws ∙ sym (marks-many K n f v memory ws));
+        many = ends-many K (counted K n f v plain)
+            ∙ ap (λ (x : ℕ). x / roundsOf K + 1) (as-many K n f v memory ws ∙ sym (marks-many K n f v memory ws));
         converges = ring-converges K n m f v plain Y;
         between = ring-keeps-between K n m f v plain Y;
         counts =
@@ -240,7 +248,8 @@ module _ (K : Family) (n m f : ℕ) (v : ℕ → ℤ) (memory : ℕ → Head) (w
       (λ i t q. sound-same .heads i t (ap (λ (x : ℕ). bitOf x i) (before-marked K n f v memory ws) ∙ q))
       plain-promised
 
-  pub starts-taken : (i : ℕ) → isReceiver n m i ≡ true → cond (ltb i 32) (start (memory i) K n f i (v i)) (startListener (memory i) K n f i) .refusal ≡ 0
+  pub starts-taken : (i : ℕ) → isReceiver n m i ≡ true
+      → cond (ltb i 32) (start (memory i) K n f i (v i)) (startListener (memory i) K n f i) .refusal ≡ 0
   starts-taken i t = ap (λ (a : Answer). a .refusal) (started-anew K n f v memory m (X .listeners) sized (X .range) i t)
 
   -- ---- what a next round is promised
@@ -278,10 +287,19 @@ pub devices-converge : DevicesConverge
 devices-converge = promised
 
 -- the rounds before
-pub earlier : {K : Family} {n m f : ℕ} {v : ℕ → ℤ} {memory : ℕ → Head} {w : DeviceRound} {ws : List DeviceRound} → DevicesWithin K n m f v memory (w ∷ ws)
+pub earlier : {K : Family} {n m f : ℕ} {v : ℕ → ℤ} {memory : ℕ → Head} {w : DeviceRound} {ws : List DeviceRound}
+    → DevicesWithin K n m f v memory (w ∷ ws)
     → DevicesWithin K n m f v memory ws
 earlier X =
-    record { most = X .most; listeners = X .listeners; size = X .size; range = X .range; each = X .each .2; rounds = omega (arith, X .rounds) }
+    record {
+      most = X .most;
+      listeners = X .listeners;
+      size = X .size;
+      range = X .range;
+      each = X .each .2;
+      rounds = omega
+          (arith, X .rounds);
+    }
 
 pub devices-unrefused : DevicesUnrefused
 devices-unrefused K n m f v memory w ws X =

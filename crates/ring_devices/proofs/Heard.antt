@@ -1,4 +1,5 @@
--- What a round makes of a record depends on the first acceptable frame of each link alone: not on the order of the links, nor on what else is delivered.
+-- What a round makes of a record depends on the first acceptable frame of each link alone: not on the order of the links, nor on what else
+-- is delivered.
 use mathlib.Core.Path.{_≡_, refl, ap, sym, _∙_}
 use mathlib.Core.Bool.{Bool, true, false, cond, _&&_}
 use mathlib.Core.List.{List, [], _∷_, _++_}
@@ -51,7 +52,8 @@ heard-by [] h = refl
 heard-by (hearsOne k s ∷ C) h = heard-by C _
 heard-by (hearsBatch s room ∷ C) h = heard-by C _ ∙ go (batchRefusal s room)
   where
-    go : (c : ℕ) → hearEach (answer c (hearEach h (entriesOf s)) h .head) (broughtBy C) ≡ hearEach h (leaves c (entriesOf s) [] ++ broughtBy C)
+    go : (c : ℕ) → hearEach (answer c (hearEach h (entriesOf s)) h .head) (broughtBy C)
+        ≡ hearEach h (leaves c (entriesOf s) [] ++ broughtBy C)
     go zero = sym (each-more (entriesOf s) (broughtBy C) h)
     go (suc c) = refl
 
@@ -64,7 +66,8 @@ first-says W none x k [] = none refusal.stated-length ∙ ap W (sym (nothing-sai
 first-says W none x k (d ∷ D) = go (eqb (d .link) k) (saidTo x k (d .bytes)) refl (first-says W none x k D)
   where
     go : (b : Bool) (m : Meaning) → saidTo x k (d .bytes) ≡ m → W (firstSaid x k D) ≡ W (saidTo x k (firstFrame x k D))
-        → W (cond b (orElse m (firstSaid x k D)) (firstSaid x k D)) ≡ W (saidTo x k (cond (b && isAccepted m) (d .bytes) (firstFrame x k D)))
+        → W (cond b (orElse m (firstSaid x k D)) (firstSaid x k D))
+        ≡ W (saidTo x k (cond (b && isAccepted m) (d .bytes) (firstFrame x k D)))
     go false m e ih = ih
     go true (refused c) e ih = ih
     go true (collected y) e ih = ap W (sym e)
@@ -89,7 +92,8 @@ module _ (T T′ : Head) (seat : T .seat ≡ T′ .seat) (P : ProperHead T) (P�
   last : {b : Bool} → isLastRound (T′ .seat) ≡ b → isLastRound (T .seat) ≡ b
   last e = ap isLastRound seat ∙ e
 
-  pub same-collection : isLastRound (T′ .seat) ≡ false → Each n (λ k. tableAt (T .list) k ≡ tableAt (T′ .list) k) → roundEnded T ≡ roundEnded T′
+  pub same-collection : isLastRound (T′ .seat) ≡ false → Each n (λ k. tableAt (T .list) k ≡ tableAt (T′ .list) k)
+      → roundEnded T ≡ roundEnded T′
   unfolding closedCollection
   same-collection r same =
       let most = P′ .seat .size .most in
@@ -135,7 +139,8 @@ single-round {s} P q = go (s .family) q (P .round)
 
 -- ---- hearing any deliveries ends the round as hearing each link's first acceptable frame, link by link, does
 
-module _ (h : Head) (F : Fresh h) (D : List Delivery) (g : ℕ → List ℕ) (first : Each (h .seat .n) (λ k. g k ≡ firstFrame (h .seat) k D)) where
+module _ (h : Head) (F : Fresh h) (D : List Delivery) (g : ℕ → List ℕ)
+    (first : Each (h .seat .n) (λ k. g k ≡ firstFrame (h .seat) k D)) where
   abbrev T : Head
   T = hearEach h D
 

@@ -1,6 +1,7 @@
--- One round of devices. What the cable brings to a receiver amounts to one frame for each link: the first acceptable one, or none. So a round of devices is a plain
--- round, in which that is planted from every marked head (`asRound`). A marked device's record may be any, and nobody reads it: the next round restarts it. So both
--- rings agree on all receivers that the round before did not mark (`next-same`), and no call is refused.
+-- One round of devices. What the cable brings to a receiver amounts to one frame for each link: the first acceptable one, or none. So a
+-- round of devices is a plain round, in which that is planted from every marked head (`asRound`). A marked device's record may be any, and
+-- nobody reads it: the next round restarts it. So both rings agree on all receivers that the round before did not mark (`next-same`), and
+-- no call is refused.
 use mathlib.Core.Path.{_≡_, refl, ap, ap₂, sym, subst, _∙_}
 use mathlib.Core.Bool.{Bool, true, false, cond}
 use mathlib.Core.List.{List}
@@ -77,13 +78,15 @@ again-anew K n f R A h i (inr e) =
     (listener-restarts-anew h K n f i (R .phase) (R .round)
     (restart-listener-accepted K n f i (A .size) e (R .phase) (R .round) (A .from-first) (A .to-last) (A .round)))
 
-module _ (K : Family) (n m f : ℕ) (most : n ≤ 32) (few-m : m ≤ 16) (R R′ : Ring) (w : DeviceRound) (S : SameSound n m R R′) (P : Playable K n f R′) where
+module _ (K : Family) (n m f : ℕ) (most : n ≤ 32) (few-m : m ≤ 16) (R R′ : Ring) (w : DeviceRound) (S : SameSound n m R R′)
+    (P : Playable K n f R′) where
   abbrev w′ : Round
   w′ = asRound K n f R w
 
   pub restart-taken : (i : ℕ) → isReceiver n m i ≡ true → again K n f (R .heads i) i (R .phase) (R .round) .refusal ≡ 0
   restart-taken i t =
-      rw (S .phase, S .round) (ap (λ (a : Answer). a .refusal) (again-anew K n f R′ (P .ready) (R .heads i) i (receives n m most few-m i t .0)))
+      rw (S .phase, S .round)
+      (ap (λ (a : Answer). a .refusal) (again-anew K n f R′ (P .ready) (R .heads i) i (receives n m most few-m i t .0)))
 
   module _ (i : ℕ) (t : isReceiver n m i ≡ true) (q : bitOf (w .marks) i ≡ false) where
     pub opened-same : openedBy K n f R i ≡ openedAt K n f R′ w′ i
@@ -189,8 +192,11 @@ module _ (K : Family) (n m f : ℕ) (most : n ≤ 32) (few-m : m ≤ 16) (R R′
           go false c = ap (λ (y : Closing). y .closed) (closes-collection (hearEach h′ D) runs (ap isLastRound x ∙ last-in i t q c))
           go true c =
               let z = settles-alike h′ (H′ .fresh) D (carried K n f R′ w′ i) first (calm c) in
-              let r : isLastRound (hearEach h′ D .seat) ≡ true = ap isLastRound x ∙ last-in i t q c in
-              (_, ap (λ (y : Closing). y .closed) (closes-last (hearEach h′ D) runs r ∙ ap (λ (y : Settled). offerSettled y (hearEach h′ D)) z))
+              let r : isLastRound (hearEach h′ D .seat) ≡ true = ap isLastRound x ∙ last-in i t q c in (
+                _,
+                ap (λ (y : Closing). y .closed)
+                    (closes-last (hearEach h′ D) runs r ∙ ap (λ (y : Settled). offerSettled y (hearEach h′ D)) z),
+              )
 
     pub next-same : SameSound n m (afterDevices K n f R w) (afterRound K n f R′ w′)
     unfolding afterDevices afterRound asRound

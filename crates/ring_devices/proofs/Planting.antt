@@ -24,7 +24,8 @@ module _ (g : ℕ → ℕ → List ℕ) where
   to-reaches k zero ps i l = absurd (omega arith)
   to-reaches k (suc m) ps i l = rw (eq-eqb k k refl) (go (eqb m i) refl (to-reaches k m ps i))
     where
-      go : (b : Bool) → eqb m i ≡ b → (i < m → planted (plantsTo k m ps) k i ≡ g k i) → cond b (g k m) (planted (plantsTo k m ps) k i) ≡ g k i
+      go : (b : Bool) → eqb m i ≡ b → (i < m → planted (plantsTo k m ps) k i ≡ g k i)
+          → cond b (g k m) (planted (plantsTo k m ps) k i) ≡ g k i
       go true e ih = ap (g k) (eqb-true m i e)
       go false e ih = let d : m ≡ i → ⊥ = eqb-false m i e in ih (omega arith)
 
@@ -42,7 +43,8 @@ module _ (g : ℕ → ℕ → List ℕ) where
   plants-reach zero k i l t = absurd (omega arith)
   plants-reach (suc m) k i l t = go (eqb m k) refl (plants-reach m k i)
     where
-      go : (b : Bool) → eqb m k ≡ b → (k < m → i < receivers → planted (plantsOf m) k i ≡ g k i) → planted (plantsTo m receivers (plantsOf m)) k i ≡ g k i
+      go : (b : Bool) → eqb m k ≡ b → (k < m → i < receivers → planted (plantsOf m) k i ≡ g k i)
+          → planted (plantsTo m receivers (plantsOf m)) k i ≡ g k i
       go true e ih = let z = eqb-true m k e in rw z (to-reaches k receivers (plantsOf k) i t)
       go false e ih = let d : m ≡ k → ⊥ = eqb-false m k e in to-other m receivers (plantsOf m) k i e ∙ ih (omega arith) t
 

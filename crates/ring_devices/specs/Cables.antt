@@ -1,5 +1,5 @@
--- Which cables bring what they owe (`Carries`, in Devices.antt). proofs/Cables.antt proves that these do, so that the hypothesis of `DevicesConverge` can be met
--- in every round, whoever is marked.
+-- Which cables bring what they owe (`Carries`, in Devices.antt). proofs/Cables.antt proves that these do, so that the hypothesis of
+-- `DevicesConverge` can be met in every round, whoever is marked.
 use mathlib.Core.Path.{_≡_}
 use mathlib.Core.Logic.{_⊎_}
 use mathlib.Core.Bool.{true, false}
@@ -28,13 +28,15 @@ abbrev pub Alone : Seat → ℕ → List ℕ → List Delivery → Type 0
 Alone x k s [] = Unit {0}
 Alone x k s (d ∷ D) = (d .link ≡ k → isAccepted (saidTo x k (d .bytes)) ≡ true → d .bytes ≡ s) × Alone x k s D
 
--- a cable that brings each unmarked head's frame to every unmarked device, at any time in the round and any number of times; what else it brings on that link is refused
+-- a cable that brings each unmarked head's frame to every unmarked device, at any time in the round and any number of times; what else it
+-- brings on that link is refused
 abbrev pub Brings : Family → ℕ → ℕ → Ring → DeviceRound → ℕ → Type 0
 Brings K n f R w m =
     (i k : ℕ) → isReceiver n m i ≡ true → bitOf (w .marks) i ≡ false → k < n → bitOf (w .marks) k ≡ false
     → let s = frameFor (openedBy K n f R k) in let D = broughtBy (w .calls i) in Comes k s D × Alone (openedBy K n f R i .seat) k s D
 
--- what a head writes is acceptable in its own phase and round and on its own link alone: a frame that is late, or on another link, is refused
+-- what a head writes is acceptable in its own phase and round and on its own link alone: a frame that is late, or on another link, is
+-- refused
 abbrev pub OnePlace : Type 0
 OnePlace =
     (h : Head) → ProperHead h → (n p r k : ℕ) → isAccepted (said n p r k (frameFor h)) ≡ true
@@ -65,5 +67,6 @@ pub record CablesCarry (K : Family) (n m f : ℕ) (R : Ring) : Type 0 where
 
 abbrev pub CableThere : Type 0
 CableThere =
-    (K : Family) (n m f : ℕ) (v : ℕ → ℤ) (memory : ℕ → Head) (ws : List DeviceRound) → DevicesWithin K n m f v memory ws → length ws < mostRounds K
+    (K : Family) (n m f : ℕ) (v : ℕ → ℤ) (memory : ℕ → Head) (ws : List DeviceRound) → DevicesWithin K n m f v memory ws
+    → length ws < mostRounds K
     → CablesCarry K n m f (devicesAfter K n f v memory ws)

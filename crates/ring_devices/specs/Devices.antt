@@ -1,5 +1,5 @@
--- Demand 3 of what ships: devices, each a record that calls drive, on a cable that brings each of them what it will: frames in any order, twice, damaged or
--- forged. Document 01, "Strikes" and the rounds, by calls. proofs/Devices.antt proves it.
+-- Demand 3 of what ships: devices, each a record that calls drive, on a cable that brings each of them what it will: frames in any order,
+-- twice, damaged or forged. Document 01, "Strikes" and the rounds, by calls. proofs/Devices.antt proves it.
 use mathlib.Core.Path.{_≡_}
 use mathlib.Core.Bool.{Bool, true, false, cond, _&&_}
 use mathlib.Core.List.{List, [], _∷_, _++_}
@@ -49,15 +49,16 @@ isAccepted (collected e) = true
 isAccepted (listed t) = true
 isAccepted confessed = true
 
--- "Each link gives its first acceptable frame of a round, or nothing": its bytes, to a head in this seat; nothing is the empty frame, which is never acceptable
+-- "Each link gives its first acceptable frame of a round, or nothing": its bytes, to a head in this seat; nothing is the empty frame, which
+-- is never acceptable
 unfoldable pub firstFrame : Seat → ℕ → List Delivery → List ℕ
 firstFrame x k [] = []
 firstFrame x k (d ∷ D) = cond (eqb (d .link) k && isAccepted (saidTo x k (d .bytes))) (d .bytes) (firstFrame x k D)
 
 -- ---- a round of devices
 
--- marks: who is struck in it or, being late, does not end it (document 02, A8), heads and listeners by their bits as in `Round`; left: what these are left with,
--- any records at all; calls: how each of the others hears, with any bytes, on any links, in any order
+-- marks: who is struck in it or, being late, does not end it (document 02, A8), heads and listeners by their bits as in `Round`; left: what
+-- these are left with, any records at all; calls: how each of the others hears, with any bytes, on any links, in any order
 pub record DeviceRound : Type 0 where
   pub marks : ℕ
   pub left : ℕ → Head
@@ -81,8 +82,9 @@ module _ (K : Family) (n f : ℕ) where
     unfoldable pub closedBy : ℕ → Head
     closedBy i = cond (bitOf (w .marks) i) (w .left i) (roundEnded (heardBy (openedBy R i) (w .calls i)))
 
-    -- What the cable owes. For each of n heads and m listeners that is not marked, and each head that is not marked: of all that comes to the one on the link
-    -- of the other, the first acceptable is the frame that the other's record writes. Links of marked heads, and those that no head has, bring anything.
+    -- What the cable owes. For each of n heads and m listeners that is not marked, and each head that is not marked: of all that comes to
+    -- the one on the link of the other, the first acceptable is the frame that the other's record writes. Links of marked heads, and those
+    -- that no head has, bring anything.
     unfoldable pub Carries : ℕ → Type 0
     Carries m =
         (i k : ℕ) → isReceiver n m i ≡ true → bitOf (w .marks) i ≡ false → k < n → bitOf (w .marks) k ≡ false
@@ -110,7 +112,8 @@ module _ (K : Family) (n f : ℕ) (v : ℕ → ℤ) (memory : ℕ → Head) wher
   unfoldable pub endsOfDevices : List DeviceRound → List PhaseEnd
   endsOfDevices [] = record { collect = 0; confess = 0; struck = allListeners; heads = startedBy } ∷ []
   endsOfDevices (w ∷ ws) =
-      withEnd (endsWith K (devicesAfter ws .round)) (phaseEnd K (devicesAfter ws .before) (w .marks) (devicesAfter (w ∷ ws) .heads)) (endsOfDevices ws)
+      withEnd (endsWith K (devicesAfter ws .round)) (phaseEnd K (devicesAfter ws .before) (w .marks) (devicesAfter (w ∷ ws) .heads))
+      (endsOfDevices ws)
 
   -- in every round at most f heads are marked, and the cable brings what it owes
   abbrev pub RoundsWithin : ℕ → List DeviceRound → Type 0
@@ -152,5 +155,6 @@ pub record NoneRefused (K : Family) (n m f : ℕ) (R : Ring) (w : DeviceRound) :
 
 abbrev pub DevicesUnrefused : Type 0
 DevicesUnrefused =
-    (K : Family) (n m f : ℕ) (v : ℕ → ℤ) (memory : ℕ → Head) (w : DeviceRound) (ws : List DeviceRound) → DevicesWithin K n m f v memory (w ∷ ws)
+    (K : Family) (n m f : ℕ) (v : ℕ → ℤ) (memory : ℕ → Head) (w : DeviceRound) (ws : List DeviceRound)
+    → DevicesWithin K n m f v memory (w ∷ ws)
     → NoneRefused K n m f (devicesAfter K n f v memory ws) w
