@@ -3,3 +3,4 @@ pub mod Kept
 pub mod Calls
 pub mod Converges
 pub mod Cables
+pub mod Fewer

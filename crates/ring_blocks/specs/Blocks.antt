@@ -179,3 +179,9 @@ abbrev pub BlocksConverge : Type 0
 BlocksConverge =
     (K : Family) (n m f : ℕ) (v : ℕ → ℤ) (memory : ℕ → List ℕ) (ws : List BlockRound) → BlocksWithin K n m f v memory ws
     → Promised K n m f (marksIn ws) (endsOfBlocks K n f v memory ws) (shown K n f v memory ws)
+
+-- What is owed to m listeners is owed to the first k of them: so the same holds of the heads with these, and of the heads alone.
+abbrev pub FewerListeners : Type 0
+FewerListeners =
+    (K : Family) (n m k f : ℕ) (v : ℕ → ℤ) (memory : ℕ → List ℕ) (ws : List BlockRound) → k ≤ m → BlocksWithin K n m f v memory ws
+    → BlocksWithin K n k f v memory ws
