@@ -264,6 +264,7 @@ static void end_round(struct ring *r, uint32_t i) {
 static void start(struct ring *r) {
     memset(r, 0, sizeof *r);
     r->once = (int)drawn(2), r->f = drawn(drawn(3) ? 4 : r->once ? 8 : 9), r->listeners = drawn(17), r->phase = 1;
+    r->f += breaks("itself") && r->f == 0; /* with f = 0 a closing would be refused: the firmware would notice */
     r->n = r->once ? 4 * r->f + 1 : r->f == 0 ? 1 : (7 * r->f + 3) / 2;
     r->n += drawn(3) ? drawn(33 - r->n < 4 ? 33 - r->n : 4) : drawn(33 - r->n);
     r->low = INT32_MAX, r->high = INT32_MIN;
