@@ -311,7 +311,8 @@ FOCUS_MUST_USE uint8_t focus_play(const uint8_t *file, size_t bytes, uint8_t *ou
  * so no block makes a call undefined; but nothing is promised of the ring then. A block of zeros is a head of a ring of
  * no heads, in phase 0: hearing is refused 3, and closing is taken (0), so a forgotten start is not noticed there.
  * Promised of each call: crates/head_c/specs/Blocks.antt says which record a block is, crates/head_c/specs/Events.antt
- * what stands beside it after a call, and crates/head_c/src which words change. */
+ * what stands beside it after a call, and crates/head_c/src which words change. Promised of n + m blocks that are driven as
+ * docs/TRUST.md says, on a cable that brings anything: `BlocksConverge` (crates/ring_blocks/specs/Blocks.antt). */
 typedef struct focus_head {
     uint32_t opaque[1116];
 } focus_head;
