@@ -1,4 +1,5 @@
 """What the commands share: a file or standard input in, all of the output or none of it out, and a status."""
+import contextlib
 import os
 import sys
 
@@ -8,6 +9,14 @@ def read(name):
         return sys.stdin.buffer.read()
     with open(name, 'rb') as file:
         return file.read()
+
+
+def lines(name):
+    """The lines of a file as text, each as soon as it is there."""
+    with contextlib.ExitStack() as stack:
+        file = sys.stdin.buffer if name == '-' else stack.enter_context(open(name, 'rb'))
+        for line in iter(file.readline, b''):
+            yield text_of(line)
 
 
 def shown(name):
