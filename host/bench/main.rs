@@ -8,29 +8,8 @@
 mod bars;
 mod calls;
 mod clock;
-#[path = "../exports/exported.rs"]
-#[allow(dead_code)]
-mod exported;
 mod players;
-#[path = "../compare/random.rs"]
-#[allow(dead_code)]
-mod random;
-#[path = "../compare/ring.rs"]
-#[allow(dead_code)]
-mod ring;
-#[path = "../plain/rules/mod.rs"]
-#[allow(dead_code)]
-mod rules;
-#[path = "../compare/run.rs"]
-#[allow(dead_code)]
-mod run;
 mod runs;
-#[path = "../compare/spoil.rs"]
-#[allow(dead_code)]
-mod spoil;
-#[path = "../compare/wire.rs"]
-#[allow(dead_code)]
-mod wire;
 
 use players::{failed, Players, Timed};
 use rules::family::Family;

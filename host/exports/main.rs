@@ -11,22 +11,14 @@
 
 mod calls;
 mod damage;
-mod exported;
 mod inputs;
-#[path = "../compare/random.rs"]
-mod random;
 mod rounds;
-#[path = "../plain/rules/mod.rs"]
-#[allow(dead_code)]
-mod rules;
 mod script;
-#[path = "../compare/spoil.rs"]
-mod spoil;
 mod tally;
 
 use calls::Call;
 use exported::{Block, BESIDE, OFFERED, SINCE, SIZE};
-use random::Random;
+use generator::random::Random;
 use rules::head::Head;
 use rules::window::Device;
 use std::io::Write;

@@ -4,8 +4,6 @@
 //! run file and prints the host page of its last phase end.
 
 mod player;
-#[allow(dead_code)]
-mod rules;
 mod shift;
 
 use std::io::{self, BufReader, BufWriter, Read, Write};
