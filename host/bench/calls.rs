@@ -1,4 +1,4 @@
-//! The proved exports against the functions of the second implementation, on the same inputs.
+//! The proved exports against the functions of the reference implementation, on the same inputs.
 
 use crate::clock::{black_box, now};
 use exported::{self, Aim, Block, SIZE, WORDS};
@@ -18,7 +18,7 @@ const TURNS: usize = 200;
 const WARM: usize = 5;
 const PHASE: usize = 7;
 
-/// Nanoseconds of CPU time a call; `plain` is what the call is set beside: the same call of the second implementation, or the proved midpoint (`beside`).
+/// Nanoseconds of CPU time a call; `plain` is what the call is set beside: the same call of the reference implementation, or the proved midpoint (`beside`).
 pub struct Row {
     pub name: String,
     pub export: f64,

@@ -1,4 +1,4 @@
-//! Times the proved exports and the proved player against the second implementation, side by side in one run, and prints Markdown.
+//! Times the proved exports and the proved player against the reference implementation, side by side in one run, and prints Markdown.
 //!
 //!     bench RIGPLAY PLAIN PLACE BYTES      all of it, with a run file of at least BYTES through a pipe; fails if a bar is missed
 //!     bench RIGPLAY PLAIN PLACE --quick    the rows that have a bar, on short files; fails beyond MARGIN times a bar

@@ -1,4 +1,4 @@
-//! A call with all its arguments, made on both sides: the proved export, and the second implementation.
+//! A call with all its arguments, made on both sides: the proved export, and the reference implementation.
 
 use exported::{self, Aim, Block, EVENTS, WORDS};
 use rules::family::Family::{self, OneRound, TwoRounds};
@@ -187,7 +187,7 @@ impl Call {
             || matches!(self, Call::Register { .. } | Call::Window { .. } | Call::Interrupt)
     }
 
-    /// By the second implementation, on its head.
+    /// By the reference implementation, on its head.
     pub fn plain(&self, device: &mut Device) -> Answer {
         let mut lent = self.lent();
         let head = &mut device.head;
