@@ -76,23 +76,24 @@ def unstruck(n, listeners, struck):
 def fault(place, record):
     """None, or the number with which a player refuses the record, and why. Up to here it has refused none."""
     judge = JUDGES.get(wire.kind_of(record))
-    return judge(place, record) if judge else (13, 'unknown kind')
+    return judge(place, record) if judge else (13, 'unknown kind: %04x' % wire.kind_of(record))
 
 
 def start_fault(place, record):
     if place.begun:
         return 13, 'a second start'
     if len(record) < 6 or len(record) != 6 + 4 * record[4]:
-        return 13, 'wrong length'
+        return 13, 'wrong length: a start of n heads has 6 + 4n bytes'
     n, f = record[4], record[5]
     if not 1 <= n <= 32:
-        return 1, 'head count'
+        return 1, 'head count: %d is not 1 to 32' % n
     if wire.kind_of(record) == wire.START_ONE and n < 4 * f + 1:
-        return 18, 'struck limit too high for a one-round ring'
+        return 18, 'struck limit too high for a one-round ring: n is %d, and 4f + 1 is %d' % (n, 4 * f + 1)
     if wire.kind_of(record) == wire.START and 2 * n < 7 * f + 2:
-        return 2, 'struck limit too high'
-    if any(abs(v) > LIMIT for v in wire.signed(record, 6, n)):
-        return 4, 'position out of range'
+        return 2, 'struck limit too high: 2n is %d, and 7f + 2 is %d' % (2 * n, 7 * f + 2)
+    for head, position in enumerate(wire.signed(record, 6, n)):
+        if abs(position) > LIMIT:
+            return 4, 'position out of range: head %d at %d' % (head, position)
     return None
 
 
@@ -100,7 +101,7 @@ def round_fault(place, record):
     if not place.begun:
         return 13, 'a round before the start'
     if len(record) != 8:
-        return 13, 'wrong length'
+        return 13, 'wrong length: a round has 8 bytes'
     heads = wire.heads_in(wire.word(record, 4))
     if any(head >= place.n for head in heads):
         return 14, 'a mark at %d or above' % place.n
@@ -115,7 +116,7 @@ def listeners_fault(place, record):
     if place.last not in (wire.START, wire.START_ONE):
         return 13, 'listeners not just after the start'
     if len(record) != 5:
-        return 13, 'wrong length'
+        return 13, 'wrong length: the listeners have 5 bytes'
     if not 1 <= record[4] <= wire.MOST_LISTENERS:
         return 13, 'listeners are 1 to 16'
     return None
@@ -125,7 +126,7 @@ def strike_fault(place, record):
     if place.last != wire.ROUND:
         return 13, 'struck listeners not directly after a round'
     if len(record) != 6:
-        return 13, 'wrong length'
+        return 13, 'wrong length: struck listeners have 6 bytes'
     if wire.half(record, 4) >> place.listeners:
         return 13, 'no such listener'
     return None
@@ -135,7 +136,7 @@ def plant_fault(place, record):
     if place.rounds == 0:
         return 13, 'planted before a round'
     if not 6 <= len(record) <= 146:
-        return 13, 'wrong length'
+        return 13, 'wrong length: 0 to 140 bytes can be planted'
     sender, receiver = record[4], record[5]
     if sender >= wire.FIRST_LISTENER and place.is_number(sender):
         return 13, 'a listener sends nothing'
@@ -157,9 +158,9 @@ JUDGES = {wire.START: start_fault, wire.START_ONE: start_fault, wire.LISTENERS: 
 def end_fault(place, rest):
     """The same for the end of the file, with the bytes that are left if its last record is not whole."""
     if len(rest) >= 4 and wire.half(rest, 0) < 4:
-        return 13, 'wrong length'
+        return 13, 'wrong length: a record has at least 4 bytes'
     if rest:
-        return 13, 'cut short'
+        return 13, 'cut short: %d bytes of a record' % len(rest)
     if not place.begun:
         return 13, 'the file ends before a start'
     if place.inside:
