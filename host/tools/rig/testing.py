@@ -40,6 +40,28 @@ def tool(name, *arguments, given=b''):
     return subprocess.run([sys.executable, os.path.join(TOOLS, name), *arguments], input=given, capture_output=True)
 
 
+def text_boxes(picture):
+    """Where the texts of an SVG stand, by about how wide letters are: left, top, right, bottom and the words."""
+    for part in picture.iter():
+        if part.tag.rpartition('}')[2] == 'text':
+            size, words = float(part.get('font-size', 12)), part.text or ''
+            wide = size * sum(0.28 if letter in 'il.,;:|! ' else 0.56 for letter in words)
+            left = float(part.get('x')) - wide * {'start': 0, 'middle': 0.5, 'end': 1}[part.get('text-anchor')]
+            foot = float(part.get('y'))
+            yield left, foot - 0.75 * size, left + wide, foot + 0.2 * size, words
+
+
+def crowded(picture):
+    """The texts of an SVG that overlap, or are not inside."""
+    wide, high = map(float, picture.get('viewBox').split()[2:])
+    boxes, found = list(text_boxes(picture)), []
+    for at, one in enumerate(boxes):
+        if one[0] < 0 or one[1] < 0 or one[2] > wide or one[3] > high:
+            found.append(one[4])
+        found += [(one[4], two[4]) for two in boxes[:at] if one[0] < two[2] and two[0] < one[2] and one[1] < two[3] and two[1] < one[3]]
+    return found
+
+
 def run_parts(*parts):
     """Runs the tests of each part; the last line counts them, and the status is 1 if one failed."""
     for part in parts:
