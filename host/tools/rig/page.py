@@ -25,6 +25,10 @@ summary { cursor: pointer; padding: .2rem 0 }
 SOURCE = ('All numbers are from the proved calls: the player judged the file, and heads as C keeps them were driven by its records; '
           'both agree at every phase end.')
 
+REASONS = ('An entry is not trusted if its link confessed to the head; if no position has the support of n - f links ("1000 has 3 of 4": the '
+           'one with the most has 3, and 4 are wanted), or two have; or if no list has a position for it. In a one-round ring: if its link '
+           'gave silence, or nothing.')
+
 
 def page(name, trace, data):
     played = trace.phases()
@@ -51,7 +55,7 @@ def element(tag, words, **attributes):
 def table(titles, rows, words=()):
     """Rows of cells, or of finished elements; the columns named in `words` hold text."""
     kinds = ['words' if title in words else '' for title in titles]
-    head = ''.join(cell('th', title, kind) for title, kind in zip(titles, kinds))
+    head = ''.join(element('th', title, scope='col', **({'class_': kind} if kind else {})) for title, kind in zip(titles, kinds))
     out = ['<div class="wide"><table>', '<thead><tr>%s</tr></thead>' % head, '<tbody>']
     for row in rows:
         cells = [one if str(one).startswith('<td') else cell('td', one, kind) for one, kind in zip(row, kinds)]
@@ -126,6 +130,8 @@ def cut_note(trace, phases):
 
 def refused(trace, phases):
     """The planted frames that their receivers refused."""
+    if not trace.ring:
+        return []
     sent = [(phase.number, given, one) for phase in phases for given in phase.rounds for one in given.planted]
     rows = [[phase, report.ROUNDS[trace.ring.rounds][given.round], one.sender, one.receiver, frame_words(one, phase), one.number,
              trace.refusals[one.number]] for phase, given, one in sent if one.number]
@@ -145,7 +151,7 @@ def frame_words(one, phase):
 
 def details(trace, phases):
     """For each phase what each head holds and why entries are not trusted."""
-    out = ['<h2>Head by head</h2>'] if phases else []
+    out = ['<h2>Head by head</h2>', element('p', REASONS)] if phases else []
     for phase in phases:
         if phase.number == 0:
             continue
