@@ -33,6 +33,8 @@ def program():
     libraries = [os.path.join(archives, 'lib%s.a' % crate) for crate in CRATES]
     for crate, library in zip(CRATES, libraries):
         if not os.path.exists(library):
+            if os.environ.get('STATICLIB'):
+                raise TraceError('no %s' % library)
             run(['rt', 'staticlib', crate], 'proving %s, once; the first time this takes minutes' % crate)
     code = os.path.join(ROOT, 'host', 'c')
     sources = [os.path.join(code, name) for name in ('play_trace.c', 'play.h', 'ring.h', 'check.h')]
