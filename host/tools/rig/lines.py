@@ -137,12 +137,12 @@ class Line:
     __slots__ = ('words', 'note', 'receivers', 'unstruck', 'frame', 'opens')
 
     def __init__(self, words, note, receivers=(), unstruck=(), frame='', opens=False):
-        self.words, self.note, self.receivers, self.unstruck, self.frame = words, note, list(receivers), unstruck, frame
+        self.words, self.note, self.receivers, self.unstruck, self.frame = words, note, receivers, unstruck, frame
         self.opens = opens           # a phase, so that a blank line stands before it
 
     def is_like(self, other):
         """Whether both are planted and differ in the receivers alone."""
-        return self.frame and (self.words, self.frame, self.note) == (other.words, other.frame, other.note)
+        return self.frame and self.frame == other.frame and self.words == other.words and self.note == other.note
 
     def text(self):
         words = self.words
@@ -151,7 +151,7 @@ class Line:
             words = '%s %s: %s' % (words, 'all' if everyone else write_heads(self.receivers), self.frame)
         if self.note:
             words = ('%-*s  # %s' % (NOTES_AT - 2, words, self.note)) if words else '# ' + self.note
-        return '\n' * self.opens + words + '\n'
+        return '\n' + words + '\n' if self.opens else words + '\n'
 
 
 def unpack(data):
@@ -211,6 +211,9 @@ def usual_note(record, place, following):
 
 def write_line(record, place, note):
     kind, size = wire.kind_of(record), len(record)
+    if kind == wire.PLANT and size >= 6:                 # most records are
+        frame = write_frame(record[6:], record[4], place.phase)
+        return Line('plant %d to' % record[4], note, [record[5]], place.unstruck, frame)
     if kind in (wire.START, wire.START_ONE) and size >= 6 and size == 6 + 4 * record[4]:
         return Line(write_start(record), note)
     if kind == wire.ROUND and size == 8:
@@ -221,9 +224,6 @@ def write_line(record, place, note):
     if kind == wire.STRIKE and size == 6:
         listeners = write_heads(wire.heads_in(wire.half(record, 4) << wire.FIRST_LISTENER))
         return Line('strike ' + (listeners or 'none'), note)
-    if kind == wire.PLANT and size >= 6:
-        frame = write_frame(record[6:], record[4], place.phase)
-        return Line('plant %d to' % record[4], note, [record[5]], place.unstruck, frame)
     return Line('record ' + write_bytes(record), note)
 
 

@@ -43,6 +43,10 @@ class Place:
     def follow(self, record):
         """Goes past one whole record, taken or not."""
         self.last = kind = wire.kind_of(record)
+        if kind == wire.PLANT:
+            if len(record) >= 6:
+                self.pair = (record[4], record[5])
+            return
         if kind in (wire.START, wire.START_ONE) and len(record) >= 6:
             self.begun, self.n, self.f = True, record[4], record[5]
             self.phase_rounds = 1 if kind == wire.START_ONE else 2
@@ -56,9 +60,6 @@ class Place:
             self.place_round()
             self.before, self.struck = self.struck, wire.word(record, 4)
             self.pair = (-1, -1)
-        elif kind == wire.PLANT and len(record) >= 6:
-            self.pair = (record[4], record[5])
-            return
         self.unstruck = unstruck(self.n, self.listeners, self.struck)
 
     def is_number(self, number):

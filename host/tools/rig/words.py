@@ -6,6 +6,7 @@ import struct
 from rig import wire
 
 FEW = 8
+FIXED = {(wire.POSITION, 11), (wire.SILENCE, 7), (wire.CONFESSION, 7)}    # kinds with their sizes
 FRONT = struct.Struct('<HHBH')       # length, kind, sender and phase
 NUMBER = re.compile('-?[0-9]+')
 PAIRS = re.compile('([0-9a-fA-F]{2})+')
@@ -192,14 +193,16 @@ def write_frame(frame, sender, phase):
     if kind is None:
         return 'bytes ' + write_bytes(frame)
     changes = header_changes(frame, kind, sender, phase) + (list_changes(frame) if kind == wire.LIST else [])
-    return ' '.join([write_said(frame, kind)] + (['with'] + changes if changes else []))
+    return ' '.join([write_said(frame, kind), 'with', *changes]) if changes else write_said(frame, kind)
 
 
 def layout(frame, sender):
     """The kind as which a frame can be said: its own, or for a frame that is right but for its kind, another. Or None."""
     kind, size = wire.kind_of(frame), len(frame)
+    if (kind, size) in FIXED:
+        return kind
     is_list = size in range(12, 12 + 4 * 256, 4)
-    if (kind, size) in ((wire.POSITION, 11), (wire.SILENCE, 7), (wire.CONFESSION, 7)) or kind == wire.LIST and is_list:
+    if kind == wire.LIST and is_list:
         return kind
     if wire.half(frame, 0) != size or frame[4] != sender:
         return None
