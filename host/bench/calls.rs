@@ -1,15 +1,15 @@
-//! The proved exports against the functions of the second implementation, on the same inputs.
+//! The proved exports against the functions of the reference implementation, on the same inputs.
 
 use crate::clock::{black_box, now};
-use crate::exported::{self, Aim, Block, SIZE, WORDS};
-use crate::random::Random;
-use crate::rules::family::Family::{self, OneRound, TwoRounds};
-use crate::rules::frames::{self, Said};
-use crate::rules::head::Head;
-use crate::rules::midpoint::{self, Entry, Kept, LIMIT};
-use crate::rules::reading;
-use crate::rules::scale;
-use crate::rules::window::Device;
+use exported::{self, Aim, Block, SIZE, WORDS};
+use generator::random::Random;
+use rules::family::Family::{self, OneRound, TwoRounds};
+use rules::frames::{self, Said};
+use rules::head::Head;
+use rules::midpoint::{self, Entry, Kept, LIMIT};
+use rules::reading;
+use rules::scale;
+use rules::window::Device;
 
 /// How many inputs, or heads, are taken in one measured stretch.
 const MANY: usize = 64;
@@ -18,7 +18,7 @@ const TURNS: usize = 200;
 const WARM: usize = 5;
 const PHASE: usize = 7;
 
-/// Nanoseconds of CPU time a call; `plain` is what the call is set beside: the same call of the second implementation, or the proved midpoint (`beside`).
+/// Nanoseconds of CPU time a call; `plain` is what the call is set beside: the same call of the reference implementation, or the proved midpoint (`beside`).
 pub struct Row {
     pub name: String,
     pub export: f64,

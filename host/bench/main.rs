@@ -1,4 +1,4 @@
-//! Times the proved exports and the proved player against the second implementation, side by side in one run, and prints Markdown.
+//! Times the proved exports and the proved player against the reference implementation, side by side in one run, and prints Markdown.
 //!
 //!     bench RIGPLAY PLAIN PLACE BYTES      all of it, with a run file of at least BYTES through a pipe; fails if a bar is missed
 //!     bench RIGPLAY PLAIN PLACE --quick    the rows that have a bar, on short files; fails beyond MARGIN times a bar
@@ -8,29 +8,8 @@
 mod bars;
 mod calls;
 mod clock;
-#[path = "../exports/exported.rs"]
-#[allow(dead_code)]
-mod exported;
 mod players;
-#[path = "../compare/random.rs"]
-#[allow(dead_code)]
-mod random;
-#[path = "../compare/ring.rs"]
-#[allow(dead_code)]
-mod ring;
-#[path = "../plain/rules/mod.rs"]
-#[allow(dead_code)]
-mod rules;
-#[path = "../compare/run.rs"]
-#[allow(dead_code)]
-mod run;
 mod runs;
-#[path = "../compare/spoil.rs"]
-#[allow(dead_code)]
-mod spoil;
-#[path = "../compare/wire.rs"]
-#[allow(dead_code)]
-mod wire;
 
 use players::{failed, Players, Timed};
 use rules::family::Family;

@@ -1,4 +1,4 @@
-//! The proved player against the second implementation, as programs on the same run files, and beside the speed of reading and copying these files.
+//! The proved player against the reference implementation, as programs on the same run files, and beside the speed of reading and copying these files.
 
 use crate::clock::{black_box, ended, now, watched, Used};
 use crate::runs::Run;

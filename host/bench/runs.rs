@@ -1,13 +1,13 @@
 //! Run files to be timed: quiet ones, and such in which f heads are struck in every round.
 
-use crate::random::Random;
-use crate::ring::{has, Ring};
-use crate::rules::family::Family::{self, OneRound, TwoRounds};
-use crate::rules::frames::{self, Said};
-use crate::rules::head::{FIRST_LISTENER, MOST_LISTENERS};
-use crate::rules::midpoint::LIMIT;
-use crate::rules::records;
-use crate::run::{any, list, round_records, value, Lies};
+use generator::random::Random;
+use generator::ring::{has, Ring};
+use rules::family::Family::{self, OneRound, TwoRounds};
+use rules::frames::{self, Said};
+use rules::head::{FIRST_LISTENER, MOST_LISTENERS};
+use rules::midpoint::LIMIT;
+use rules::records;
+use generator::run::{any, list, round_records, value, Lies};
 use std::io::{self, Write};
 
 #[derive(Clone, Copy, PartialEq)]

@@ -1,9 +1,9 @@
 //! Phases since the last strike (document 02, A10), by the words of the paper: from the marks of the rounds played alone.
 
-use crate::ring::LISTENER;
-use crate::rules::family::Family;
-use crate::rules::frames::{half, word};
-use crate::rules::records::{LISTENERS, ROUND, STRIKE};
+use generator::ring::LISTENER;
+use rules::family::Family;
+use rules::frames::{half, word};
+use rules::records::{LISTENERS, ROUND, STRIKE};
 
 /// What host/c/counts.c shows of a file of which these records were accepted, and which ended with this number: 0 if it was played to its end. In a file with a fault
 /// the last round given was not played.

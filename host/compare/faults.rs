@@ -1,12 +1,12 @@
 //! Run files that are not right: with one fault whose number is known, or damaged in any way.
 
-use crate::random::Random;
-use crate::ring::{has, marks, LISTENER};
-use crate::rules::family::Family::{self, OneRound, TwoRounds};
-use crate::rules::frames::{half, word};
-use crate::rules::head::MOST_LISTENERS;
-use crate::rules::records::{self, fitted, LISTENERS, PLANTED, ROUND, START, START_ONE, STRIKE};
-use crate::spoil::out_of_range;
+use generator::random::Random;
+use generator::ring::{has, marks, LISTENER};
+use rules::family::Family::{self, OneRound, TwoRounds};
+use rules::frames::{half, word};
+use rules::head::MOST_LISTENERS;
+use rules::records::{self, fitted, LISTENERS, PLANTED, ROUND, START, START_ONE, STRIKE};
+use generator::spoil::out_of_range;
 
 pub type Records = Vec<Vec<u8>>;
 

@@ -3,13 +3,13 @@
 use crate::counts;
 use crate::faults::{damaged, Faulty, Right};
 use crate::phases::{edge, liars, quiet, stubborn, twofold, TWOFOLD};
-use crate::random::Random;
-use crate::rules::family::Family::{self, OneRound, TwoRounds};
-use crate::rules::frames::half;
-use crate::rules::head::{LAST_PHASE, MOST_LISTENERS};
-use crate::rules::midpoint::LIMIT;
-use crate::rules::records;
-use crate::run::Run;
+use generator::random::Random;
+use rules::family::Family::{self, OneRound, TwoRounds};
+use rules::frames::half;
+use rules::head::{LAST_PHASE, MOST_LISTENERS};
+use rules::midpoint::LIMIT;
+use rules::records;
+use generator::run::Run;
 
 pub const TITLE: &str = "phase low high spread collect confess\n";
 

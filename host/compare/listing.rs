@@ -1,9 +1,9 @@
 //! What every listing must be, whatever the file: its form, demand 3 on its phase ends, and one position where no head was struck last.
 
 use crate::files::TITLE;
-use crate::rules::family::Family::{self, OneRound};
-use crate::rules::head::LAST_PHASE;
-use crate::rules::midpoint::LIMIT;
+use rules::family::Family::{self, OneRound};
+use rules::head::LAST_PHASE;
+use rules::midpoint::LIMIT;
 
 /// The numbers that a run file can be refused with.
 pub const NUMBERS: [u8; 7] = [1, 2, 18, 4, 13, 14, 26];

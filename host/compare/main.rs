@@ -13,14 +13,6 @@ mod files;
 mod listing;
 mod phases;
 mod programs;
-mod random;
-mod ring;
-#[path = "../plain/rules/mod.rs"]
-#[allow(dead_code)]
-mod rules;
-mod run;
-mod spoil;
-mod wire;
 
 use files::{File, Kind};
 use listing::{halving, End, Listing, NUMBERS};

@@ -1,10 +1,10 @@
 //! Phases of a run, each written against the ring as it stands: who is struck, and what the struck heads send to whom.
 
-use crate::random::Random;
-use crate::ring::{has, marks, Given, Ring};
-use crate::rules::frames::Said;
-use crate::rules::midpoint::LIMIT;
-use crate::run::{any, list, value, Lies, Run};
+use generator::random::Random;
+use generator::ring::{has, marks, Given, Ring};
+use rules::frames::Said;
+use rules::midpoint::LIMIT;
+use generator::run::{any, list, value, Lies, Run};
 
 /// Up to f heads, often those of the round before, often none of them.
 fn strikes(random: &mut Random, ring: &Ring) -> Vec<usize> {

@@ -1,14 +1,14 @@
-//! A call with all its arguments, made on both sides: the proved export, and the second implementation.
+//! A call with all its arguments, made on both sides: the proved export, and the reference implementation.
 
-use crate::exported::{self, Aim, Block, EVENTS, WORDS};
-use crate::rules::family::Family::{self, OneRound, TwoRounds};
-use crate::rules::frames;
-use crate::rules::limits;
-use crate::rules::midpoint::{self, Kept};
-use crate::rules::reach;
-use crate::rules::reading::{page, reading, Reading};
-use crate::rules::scale;
-use crate::rules::window::Device;
+use exported::{self, Aim, Block, EVENTS, WORDS};
+use rules::family::Family::{self, OneRound, TwoRounds};
+use rules::frames;
+use rules::limits;
+use rules::midpoint::{self, Kept};
+use rules::reach;
+use rules::reading::{page, reading, Reading};
+use rules::scale;
+use rules::window::Device;
 use std::fmt;
 
 /// What an export gives where no step reads so, and where no position brings the wanted one.
@@ -187,7 +187,7 @@ impl Call {
             || matches!(self, Call::Register { .. } | Call::Window { .. } | Call::Interrupt)
     }
 
-    /// By the second implementation, on its head.
+    /// By the reference implementation, on its head.
     pub fn plain(&self, device: &mut Device) -> Answer {
         let mut lent = self.lent();
         let head = &mut device.head;

@@ -1,7 +1,7 @@
 //! Frames with one to three faults, so that the order of checks shows.
 
-use crate::random::Random;
-use crate::spoil::{self, flip, put};
+use generator::random::Random;
+use generator::spoil::{self, flip, put};
 
 pub fn damaged(random: &mut Random, mut frame: Vec<u8>) -> Vec<u8> {
     if random.chance(1, 2_000) {

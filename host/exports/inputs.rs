@@ -2,11 +2,11 @@
 
 use crate::calls::{Bytes, Call};
 use crate::damage::damaged;
-use crate::exported::Aim;
-use crate::random::Random;
-use crate::rules::family::Family::{self, OneRound, TwoRounds};
-use crate::rules::midpoint::{self, LIMIT};
-use crate::spoil::out_of_range;
+use exported::Aim;
+use generator::random::Random;
+use rules::family::Family::{self, OneRound, TwoRounds};
+use rules::midpoint::{self, LIMIT};
+use generator::spoil::out_of_range;
 
 /// Ends of numbers, and struck limits f for which 7f + 2 or 4f + 1 is small again in 8 or in 32 bits.
 const EDGES: [u32; 14] = [0, 1, 31, 32, 33, 37, 64, 110, 255, 256, 613_566_757, 1 << 30, 1 << 31, u32::MAX];

@@ -1,4 +1,4 @@
-//! Compares the proved C exports with the second implementation of documents 01 and 02 (host/plain) on calls made from seeds: the camera's calls, and
+//! Compares the proved C exports with the reference implementation of documents 01 and 02 (host/plain) on calls made from seeds: the camera's calls, and
 //! whole sequences of calls on a head's block against a head of that implementation.
 //!
 //!     exports COUNT [SEED]    at least COUNT calls, from the seed on
@@ -11,22 +11,14 @@
 
 mod calls;
 mod damage;
-mod exported;
 mod inputs;
-#[path = "../compare/random.rs"]
-mod random;
 mod rounds;
-#[path = "../plain/rules/mod.rs"]
-#[allow(dead_code)]
-mod rules;
 mod script;
-#[path = "../compare/spoil.rs"]
-mod spoil;
 mod tally;
 
 use calls::Call;
 use exported::{Block, BESIDE, OFFERED, SINCE, SIZE};
-use random::Random;
+use generator::random::Random;
 use rules::head::Head;
 use rules::window::Device;
 use std::io::Write;
@@ -39,7 +31,7 @@ const ENOUGH: u64 = 100_000;
 /// How often each of the camera's calls is made for a seed.
 const EACH: usize = 24;
 
-/// A block between two others that no call may touch, and the second implementation's head.
+/// A block between two others that no call may touch, and the reference implementation's head.
 struct Pair {
     blocks: [Block; 3],
     device: Device,
@@ -133,7 +125,7 @@ fn run(count: u64, first: u64) -> Result<Tally, String> {
             break;
         }
         let done = catch_unwind(AssertUnwindSafe(|| compare(seed, &mut tally)));
-        done.unwrap_or_else(|_| Err("the second implementation panicked".to_owned())).map_err(|what| format!("seed {seed}, {what}"))?;
+        done.unwrap_or_else(|_| Err("the reference implementation panicked".to_owned())).map_err(|what| format!("seed {seed}, {what}"))?;
     }
     let unseen = tally.unseen();
     if count >= ENOUGH && !unseen.is_empty() {

@@ -2,14 +2,14 @@
 
 use crate::calls::{Bytes, Call};
 use crate::damage::damaged;
-use crate::exported::WORDS;
+use exported::WORDS;
 use crate::inputs::{four, near, position, size};
-use crate::random::Random;
-use crate::rules::family::Family::{self, OneRound, TwoRounds};
-use crate::rules::frames::{self, Said};
-use crate::rules::head::LAST_PHASE;
-use crate::rules::midpoint::Entry;
-use crate::spoil::out_of_range;
+use generator::random::Random;
+use rules::family::Family::{self, OneRound, TwoRounds};
+use rules::frames::{self, Said};
+use rules::head::LAST_PHASE;
+use rules::midpoint::Entry;
+use generator::spoil::out_of_range;
 
 /// Makes a call on both sides: its number if they agree.
 pub type Ask<'a> = &'a mut dyn FnMut(Call) -> Result<u8, String>;

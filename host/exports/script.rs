@@ -1,11 +1,11 @@
 //! Scripts of calls on one head, as crates/headplay reads them: the sequence of a seed, written down.
 
 use crate::calls::Call;
-use crate::random::Random;
+use generator::random::Random;
 use crate::rounds;
-use crate::rules::family::Family;
-use crate::rules::head::Head;
-use crate::rules::window::Device;
+use rules::family::Family;
+use rules::head::Head;
+use rules::window::Device;
 
 /// A number of no call: the script only looks.
 const LOOK: u8 = 255;

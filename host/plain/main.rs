@@ -1,11 +1,9 @@
-//! The second implementation: it reads a run file from standard input and prints its listing, by document 01's rules written once more, plainly. It
+//! The reference implementation: it reads a run file from standard input and prints its listing, by document 01's rules written once more, plainly. It
 //! shares nothing with the proved crates and serves to compare with them. `plain --counts` prints the phases since the last strike of each head
 //! and listener instead, as host/c/counts.c does; `plain --shift` reads a script of calls on one head, and prints their lines; `plain --page` reads a
 //! run file and prints the host page of its last phase end.
 
 mod player;
-#[allow(dead_code)]
-mod rules;
 mod shift;
 
 use std::io::{self, BufReader, BufWriter, Read, Write};

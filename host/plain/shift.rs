@@ -1,9 +1,9 @@
 //! One head's shift: a script of calls, a line for each call. crates/headplay/src/main.rt says what a script and a line are.
 
-use crate::rules::family::Family;
-use crate::rules::head::Head;
-use crate::rules::midpoint::Kept;
-use crate::rules::window::Device;
+use rules::family::Family;
+use rules::head::Head;
+use rules::midpoint::Kept;
+use rules::window::Device;
 use std::io::{self, Write};
 
 /// The longest script.

@@ -1,7 +1,7 @@
 """Phase ends put together if there are more of them than a picture has room for."""
 from collections import namedtuple
 
-from rig import listing
+from rig import listing, wire
 
 # Phases `first` to `last`: the lowest and highest position, the largest spread, and the heads struck in any of them.
 Column = namedtuple('Column', 'first last low high spread collect confess')
@@ -55,6 +55,13 @@ def settles(column, one_round):
     return listing.settles(column.first, column.collect, column.confess, one_round)
 
 
-def heads_shown(shown):
-    """How many heads the marks speak of: a listing does not say how many there are."""
-    return max((column.collect | column.confess).bit_length() for column in shown)
+def rows_shown(shown, known):
+    """The numbers of the heads and listeners whose strikes are drawn. Of a ring that is not known, heads up to the highest that is ever
+    struck: a listing does not say how many there are."""
+    struck = 0
+    for column in shown:
+        struck |= column.collect | column.confess
+    if not struck:
+        return []
+    heads = known.n if known.n is not None else (struck & listing.HEADS).bit_length()
+    return [*range(heads), *range(wire.FIRST_LISTENER, wire.FIRST_LISTENER + known.listeners)]

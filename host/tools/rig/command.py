@@ -1,5 +1,8 @@
 """What the commands share: a file or standard input in, all of the output or none of it out, and a status."""
+import argparse
+import contextlib
 import os
+import re
 import sys
 
 
@@ -8,6 +11,28 @@ def read(name):
         return sys.stdin.buffer.read()
     with open(name, 'rb') as file:
         return file.read()
+
+
+def version():
+    """That of the interface, from its header."""
+    root = os.path.dirname(os.path.dirname(os.path.dirname(os.path.abspath(__file__))))
+    with open(os.path.join(root, 'include', 'focus.h'), encoding='utf-8') as header:
+        return re.search('FOCUS_VERSION_TEXT "(.*)"', header.read())[1]
+
+
+def parser(name, usage, words):
+    """One that takes --help, which prints these words, and --version."""
+    made = argparse.ArgumentParser(prog=name, usage=usage, description=words, formatter_class=argparse.RawDescriptionHelpFormatter)
+    made.add_argument('--version', action='version', version='%s %s' % (name, version()), help='print the version')
+    return made
+
+
+def lines(name):
+    """The lines of a file as text, each as soon as it is there."""
+    with contextlib.ExitStack() as stack:
+        file = sys.stdin.buffer if name == '-' else stack.enter_context(open(name, 'rb'))
+        for line in iter(file.readline, b''):
+            yield text_of(line)
 
 
 def shown(name):

@@ -134,13 +134,15 @@ def read_record(words, place):
 class Line:
     """A line in the making. A planted one has receivers, and `unstruck`, the heads and listeners that `all` would stand for."""
 
+    __slots__ = ('words', 'note', 'receivers', 'unstruck', 'frame', 'opens')
+
     def __init__(self, words, note, receivers=(), unstruck=(), frame='', opens=False):
-        self.words, self.note, self.receivers, self.unstruck, self.frame = words, note, list(receivers), unstruck, frame
+        self.words, self.note, self.receivers, self.unstruck, self.frame = words, note, receivers, unstruck, frame
         self.opens = opens           # a phase, so that a blank line stands before it
 
     def is_like(self, other):
         """Whether both are planted and differ in the receivers alone."""
-        return self.frame and (self.words, self.frame, self.note) == (other.words, other.frame, other.note)
+        return self.frame and self.frame == other.frame and self.words == other.words and self.note == other.note
 
     def text(self):
         words = self.words
@@ -149,30 +151,41 @@ class Line:
             words = '%s %s: %s' % (words, 'all' if everyone else write_heads(self.receivers), self.frame)
         if self.note:
             words = ('%-*s  # %s' % (NOTES_AT - 2, words, self.note)) if words else '# ' + self.note
-        return '\n' * self.opens + words + '\n'
+        return '\n' + words + '\n' if self.opens else words + '\n'
 
 
 def unpack(data):
     """A text that packs to these bytes, whatever they are. Its notes say what a player makes of each record, up to the first fault."""
-    place, lines, fault = places.Place(), [], None
+    return ''.join(line.text() for line in joined(unpacked(data)))
+
+
+def unpacked(data):
+    """A line for each record."""
+    place, fault = places.Place(), None
     records, rest = wire.split(data)
     for record, following in zip(records, records[1:] + [b'']):
         unread = fault is not None
         fault = fault or places.fault(place, record)
         place.follow(record)
         note = '' if unread else refusal(fault) if fault else usual_note(record, place, following)
-        add(lines, write_line(record, place, note))
+        yield write_line(record, place, note)
     last = None if fault else places.end_fault(place, rest)
     if rest or last:
-        add(lines, Line('record ' + write_bytes(rest) if rest else '', refusal(last) if last else ''))
-    return ''.join(line.text() for line in lines)
+        yield Line('record ' + write_bytes(rest) if rest else '', refusal(last) if last else '')
 
 
-def add(lines, line):
-    if lines and line.is_like(lines[-1]):
-        lines[-1].receivers += line.receivers
-    else:
-        lines.append(line)
+def joined(lines):
+    """The lines, those that are alike but for the receivers in one."""
+    last = None
+    for line in lines:
+        if last is not None and line.is_like(last):
+            last.receivers += line.receivers
+        else:
+            if last is not None:
+                yield last
+            last = line
+    if last is not None:
+        yield last
 
 
 def refusal(fault):
@@ -181,7 +194,11 @@ def refusal(fault):
 
 def usual_note(record, place, following):
     """Which listeners are healed in a round is known at the record of its struck ones, if that follows."""
-    kind, healed = wire.kind_of(record), place.healed()
+    kind = wire.kind_of(record)
+    if kind == wire.PLANT:
+        fault = places.frame_fault(place, record[4], record[6:])
+        return 'gives nothing: %d, %s' % fault if fault else ''
+    healed = place.healed()
     if kind == wire.ROUND:
         told_next = following and wire.kind_of(following) == wire.STRIKE
         healed = write_heads([number for number in healed if number < wire.FIRST_LISTENER or not told_next])
@@ -189,14 +206,14 @@ def usual_note(record, place, following):
     if kind == wire.STRIKE:
         healed = write_heads([number for number in healed if number >= wire.FIRST_LISTENER])
         return 'healed: ' + healed if healed else ''
-    if kind == wire.PLANT:
-        fault = places.frame_fault(place, record[4], record[6:])
-        return 'gives nothing: %d, %s' % fault if fault else ''
     return ''
 
 
 def write_line(record, place, note):
     kind, size = wire.kind_of(record), len(record)
+    if kind == wire.PLANT and size >= 6:                 # most records are
+        frame = write_frame(record[6:], record[4], place.phase)
+        return Line('plant %d to' % record[4], note, [record[5]], place.unstruck, frame)
     if kind in (wire.START, wire.START_ONE) and size >= 6 and size == 6 + 4 * record[4]:
         return Line(write_start(record), note)
     if kind == wire.ROUND and size == 8:
@@ -207,9 +224,6 @@ def write_line(record, place, note):
     if kind == wire.STRIKE and size == 6:
         listeners = write_heads(wire.heads_in(wire.half(record, 4) << wire.FIRST_LISTENER))
         return Line('strike ' + (listeners or 'none'), note)
-    if kind == wire.PLANT and size >= 6:
-        frame = write_frame(record[6:], record[4], place.phase)
-        return Line('plant %d to' % record[4], note, [record[5]], place.unstruck, frame)
     return Line('record ' + write_bytes(record), note)
 
 

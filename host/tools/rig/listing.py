@@ -11,6 +11,12 @@ PhaseEnd = namedtuple('PhaseEnd', 'phase low high spread collect confess')
 Listing = namedtuple('Listing', 'ends ending last')      # some phase ends or all, the last line, and the last phase of all
 
 
+# What is known of a ring beside its listing: whether a phase has one round; n and f, or None; how many listeners there are, and which were
+# struck: for a phase the marks of its rounds, bit j for listener 32 + j.
+Known = namedtuple('Known', 'one_round n f listeners struck', defaults=(False, None, None, 0, {}))
+HEADS = 2 ** 32 - 1
+
+
 class ListingError(Exception):
     """Begins with the number of the line at fault."""
 
@@ -64,7 +70,7 @@ def no_confession(listing):
 def settles(phase, collect, confess, one_round):
     """Whether all sound heads and listeners stand at one position after a phase because no head was struck in its last round: in that
     round all of them hear the same. Document 02, A11, asks it of phases without a strike in either round. The start ends no phase."""
-    return phase > 0 and not (collect if one_round else confess)
+    return phase > 0 and not (collect if one_round else confess) & HEADS
 
 
 def settled(listing, one_round):
@@ -74,6 +80,36 @@ def settled(listing, one_round):
             hint = '' if one_round else '; of a one-round ring, say --one-round'
             raise ListingError('%d: a spread of %d, though no head was struck in the last round%s' % (at, end.spread, hint))
     return listing
+
+
+def halves(known):
+    """Whether the spread halves with every phase (demand 3): True, False, or None if it is not known."""
+    if known.one_round:
+        return True
+    return None if known.n is None or known.f is None else 3 * known.n >= 11 * known.f + 3
+
+
+def halved(spread, phases=1):
+    """So many times, rounded up."""
+    return -(-spread >> phases)
+
+
+def bounded(listing, known):
+    """The listing, if its spreads halve where they must, and no mark is for a head that the ring does not have."""
+    for at, (before, end) in enumerate(zip(listing.ends, listing.ends[1:]), 3):
+        if halves(known) and end.spread > halved(before.spread):
+            raise ListingError('%d: a spread of %d after one of %d: it must halve in this ring' % (at, end.spread, before.spread))
+        if known.n is not None and (end.collect | end.confess) >> known.n:
+            raise ListingError('%d: a head is struck that is not there: there are %d' % (at, known.n))
+    return listing
+
+
+def with_listeners(listing, known):
+    """The listing with the marks of struck listeners above those of heads."""
+    def marked(end):
+        marks = [word << 32 for word in known.struck.get(end.phase, ())] + [0, 0]
+        return end._replace(collect=end.collect | marks[0], confess=end.confess | marks[1])
+    return listing._replace(ends=[marked(end) for end in listing.ends]) if known.struck else listing
 
 
 def part(listing, first, last):

@@ -8,7 +8,7 @@ from xml.sax.saxutils import escape
 
 from rig import columns as parts
 from rig import wire
-from rig.listing import summary
+from rig.listing import HEADS, Known, halved, halves, summary
 from rig.words import neighbours, write_heads
 
 WIDTH, LEFT, RIGHT = 880, 92, 24
@@ -25,22 +25,41 @@ COLLECT, CONFESS = '#e08a00', '#7b3fa0'
 SETTLED = '#2f9e5b'
 
 
-def draw(listing, name, one_round=False):
+def draw(listing, name, known=Known()):
     shown = parts.columns(listing.ends, MOST_COLUMNS)
-    body, height = (no_phase(), 120) if not shown else panels(shown, one_round)
-    head = '<svg xmlns="http://www.w3.org/2000/svg" width="%d" height="%d" viewBox="0 0 %d %d" font-family="%s" font-size="12">' % (
-        WIDTH, height, WIDTH, height, 'Helvetica, Arial, DejaVu Sans, sans-serif')
-    out = [head, '<title>%s</title>' % escape(name), '<rect width="100%" height="100%" fill="white"/>']
-    out += heading(listing, shown, name) + body + ['</svg>']
+    body, height = (no_phase(), 120) if not shown else panels(shown, known)
+    out = opening(height, name, described(listing, known)) + heading(listing, shown, name) + body + ['</svg>']
     return '\n'.join(out) + '\n'
 
 
-def panels(shown, one_round):
+def opening(height, title, words, part='ring'):
+    """The first lines: the size, and what the picture is, for readers who do not see it."""
+    size = 'width="%d" height="%d" viewBox="0 0 %d %d"' % (WIDTH, height, WIDTH, height)
+    named = 'role="img" aria-labelledby="%s-title %s-desc"' % (part, part)
+    font = 'font-family="Helvetica, Arial, DejaVu Sans, sans-serif" font-size="12"'
+    return ['<svg xmlns="http://www.w3.org/2000/svg" %s %s %s>' % (size, named, font),
+            '<title id="%s-title">%s</title>' % (part, escape(title)),
+            '<desc id="%s-desc">%s</desc>' % (part, escape(words)), '<rect width="100%" height="100%" fill="white"/>']
+
+
+def described(listing, known):
+    """What the picture shows, in words."""
+    if not listing.ends:
+        return 'No phase: %s.' % listing.ending
+    marks = 0
+    for end in listing.ends:
+        marks |= end.collect | end.confess
+    ends = listing.ends[:1] + listing.ends[1:][-1:]
+    ranges = ['phase %d: sound positions %d to %d, spread %d' % (end.phase, end.low, end.high, end.spread) for end in ends]
+    struck = write_heads(wire.heads_in(marks)) or 'none'
+    return '%s; %s. Struck in some round: %s. %s.' % (summary(listing), '; '.join(ranges), struck, bound_words(known))
+
+
+def panels(shown, known):
     axis = Axis(shown)
-    heads = parts.heads_shown(shown)
-    strikes, bottom = strikes_panel(shown, axis, heads, one_round)
-    spreads = spread_panel(shown, axis) + settled_marks(shown, axis, one_round)
-    return positions_panel(shown, axis) + spreads + strikes + phase_axis(shown, axis, bottom), bottom + 52
+    strikes, bottom = strikes_panel(shown, axis, parts.rows_shown(shown, known), known.one_round)
+    spreads = spread_panel(shown, axis, known) + settled_marks(shown, axis, known.one_round)
+    return positions_panel(shown, axis) + spreads + strikes + phase_axis(shown, axis, bottom, known.one_round), bottom + 52
 
 
 # ---- elements
@@ -104,6 +123,16 @@ def ticks(low, high):
     return range(-(-low // step) * step, high + 1, step)
 
 
+def powers(most):
+    return [0] + [10 ** digits for digits in range(7) if 10 ** digits <= most]
+
+
+def grid(values, y):
+    """A line at each value, with its number."""
+    return [part for value in values for part in (
+        line(LEFT, y(value), WIDTH - RIGHT, y(value)), text(LEFT - 10, y(value) + 4, value, 'end', FAINT))]
+
+
 def spread_y(spread, most):
     """The largest at the top, 1 a little above the foot, 0 at the foot; between 1 and the largest each halving is one step down."""
     foot = SPREAD_TOP + SPREAD_HEIGHT
@@ -135,8 +164,7 @@ def positions_panel(shown, axis):
         return POSITIONS_TOP + POSITIONS_HEIGHT * (high - position) / (high - low)
 
     out = [text(LEFT, POSITIONS_TOP - 12, 'lowest to highest sound position, steps', weight='bold')]
-    for tick in ticks(low, high):
-        out += [line(LEFT, y(tick), WIDTH - RIGHT, y(tick)), text(LEFT - 10, y(tick) + 4, tick, 'end', FAINT)]
+    out += grid(ticks(low, high), y)
     highest = [(axis.x(at), y(column.high)) for at, column in enumerate(shown)]
     lowest = [(axis.x(at), y(column.low)) for at, column in enumerate(shown)]
     out.append(path(highest + lowest[::-1], 'none', BAND, closed=True))
@@ -154,27 +182,21 @@ def end_marks(x, y, column):
 
 # ---- spread
 
-def spread_panel(shown, axis):
+def spread_panel(shown, axis, known):
     most = max([2] + [column.spread for column in shown])
 
     def y(spread):
         return spread_y(spread, most)
 
-    out = [text(LEFT, SPREAD_TOP - 28, 'spread, each halving one step down', weight='bold')] + bound_legend()
-    for tick in [0] + [10 ** digits for digits in range(7) if 10 ** digits <= most]:
-        out += [line(LEFT, y(tick), WIDTH - RIGHT, y(tick)), text(LEFT - 10, y(tick) + 4, tick, 'end', FAINT)]
+    out = [text(LEFT, SPREAD_TOP - 28, 'spread, each halving one step down', weight='bold')] + bound_legend(known)
+    out += grid(powers(most), y)
     bound = [(axis.x(at), y(halved(shown[0].spread, column.first - shown[0].first))) for at, column in enumerate(shown)]
     spreads = [(axis.x(at), y(column.spread)) for at, column in enumerate(shown)]
-    out += [path(bound, BOUND, dashes='5 4'), path(spreads, EDGE)]
+    out += ([] if halves(known) is False else [path(bound, BOUND, dashes='5 4')]) + [path(spreads, EDGE)]
     if len(shown) <= FEW:
         out += [dot(x, at, EDGE, 'phase %s: spread %d' % (parts.phases(column), column.spread)) for (x, at), column in zip(spreads, shown)]
         out += spread_numbers(shown, spreads, axis.step)
     return out
-
-
-def halved(spread, phases):
-    """So many times, rounded up."""
-    return -(-spread >> phases)
 
 
 def spread_numbers(shown, spreads, step):
@@ -184,9 +206,19 @@ def spread_numbers(shown, spreads, step):
     return [text(x, at - 8, column.spread, 'middle', INK, 11, halo=True) for (x, at), column in zip(spreads, shown)]
 
 
-def bound_legend():
+def bound_words(known):
+    if halves(known) is False:
+        return 'Halving is not promised at (%d,%d)' % (known.n, known.f)
+    return 'The spread halves with every phase' if halves(known) else 'The spread halves with every phase if 3n is at least 11f + 3'
+
+
+def bound_legend(known):
     x, y = WIDTH - RIGHT - 345, SPREAD_TOP - 32
-    words = 'first spread halved with every phase, rounded up'
+    if halves(known) is False:
+        return [text(x + 38, y + 4, bound_words(known), colour=FAINT)]
+    words = 'bound: the first spread halved with every phase'
+    if not halves(known):
+        words = 'first spread halved: the bound if 3n is at least 11f + 3'
     return [path([(x, y), (x + 30, y)], BOUND, dashes='5 4'), text(x + 38, y + 4, words, colour=FAINT)]
 
 
@@ -203,32 +235,35 @@ def settled_marks(shown, axis, one_round):
 
 # ---- strikes
 
-def strikes_panel(shown, axis, heads, one_round):
-    """A row for each head up to the highest that is ever struck; and where the panel ends."""
-    title = text(LEFT, STRIKES_TOP - 14, 'heads struck' if heads else 'no head is struck', weight='bold')
-    if not heads:
+def strikes_panel(shown, axis, numbers, one_round):
+    """A row for each head and listener of these numbers; and where the panel ends."""
+    listeners = any(number >= wire.FIRST_LISTENER for number in numbers)
+    words = 'heads and listeners struck' if listeners else 'heads struck' if numbers else 'no head is struck'
+    title = text(LEFT, STRIKES_TOP - 14, words, weight='bold')
+    if not numbers:
         return [title], STRIKES_TOP - 4
-    row = 16 if heads <= 12 else 9
+    row = 16 if len(numbers) <= 12 else 9
     out = [title] + ([] if one_round else strikes_legend())
     for at, column in enumerate(shown):
         x, half = axis.x(at) - axis.step, axis.step / 2
         rounds = [(column.collect, x, COLLECT, ', collection'), (column.confess, x + half, CONFESS, ', confession')]
         if one_round:
             rounds, half = [(column.collect, x, COLLECT, '')], axis.step
-        out += [box for one in rounds for box in strike_boxes(*one, half, parts.phases(column), row)]
-    for head in range(heads + 1):
-        out.append(line(LEFT, STRIKES_TOP + head * row, WIDTH - RIGHT, STRIKES_TOP + head * row))
-    for head in range(0, heads, 1 if row == 16 else 4):
-        out.append(text(LEFT - 10, STRIKES_TOP + (head + 0.5) * row + 4, head, 'end', FAINT))
-    return out, STRIKES_TOP + heads * row
+        out += [box for one in rounds for box in strike_boxes(*one, half, parts.phases(column), row, numbers)]
+    for at in range(len(numbers) + 1):
+        out.append(line(LEFT, STRIKES_TOP + at * row, WIDTH - RIGHT, STRIKES_TOP + at * row))
+    for at, number in enumerate(numbers):
+        if row == 16 or number % 4 == 0:
+            out.append(text(LEFT - 10, STRIKES_TOP + (at + 0.5) * row + 4, number, 'end', FAINT))
+    return out, STRIKES_TOP + len(numbers) * row
 
 
-def strike_boxes(marks, x, colour, name, width, phases, row):
-    """A box for neighbours that are struck in the same round, in the round's part of the phase."""
+def strike_boxes(marks, x, colour, name, width, phases, row, numbers):
+    """A box for neighbours that are struck in the same round, in the round's part of the phase. Heads and listeners are not neighbours."""
     gap = 1 if width > 4 else 0
-    for run in neighbours(wire.heads_in(marks)):
+    for run in neighbours(wire.heads_in(marks & HEADS)) + neighbours(wire.heads_in(marks & ~HEADS)):
         words = 'phase %s%s: struck %s' % (phases, name, write_heads(run)) if gap else ''
-        yield box(x + gap, STRIKES_TOP + run[0] * row, width - 2 * gap, len(run) * row, colour, words)
+        yield box(x + gap, STRIKES_TOP + numbers.index(run[0]) * row, width - 2 * gap, len(run) * row, colour, words)
 
 
 def strikes_legend():
@@ -239,12 +274,18 @@ def strikes_legend():
 
 # ---- phases
 
-def phase_axis(shown, axis, bottom):
-    """A number at as many phases as there is room for, of several put together that of the first."""
+def phase_axis(shown, axis, bottom, one_round=True):
+    """A number at as many phases as there is room for, of several put together that of the first. A short tick is where a collection round
+    ends."""
     widest = len(str(shown[-1].first))
     every = math.ceil(max(len(shown) / 14, (widest * 7 + 12) / axis.step))
     out = []
+    if not one_round and len(shown) <= FEW:
+        middles = [axis.x(at) - axis.step / 2 for at, column in enumerate(shown) if column.first]
+        out += [line(x, bottom, x, bottom + 3, FAINT) for x in middles]
+        out += [line(axis.x(at), bottom, axis.x(at), bottom + 5, FAINT) for at in range(len(shown)) if at % every]
     for at in range(0, len(shown), every):
         x = axis.x(at)
         out += [line(x, bottom, x, bottom + 5, FAINT), text(x, bottom + 19, shown[at].first, 'middle', FAINT)]
-    return out + [text((LEFT + WIDTH - RIGHT) / 2, bottom + 40, 'phase', 'middle')]
+    words = 'phase' if one_round or len(shown) > FEW else 'phase; the short ticks are the ends of collection rounds'
+    return out + [text((LEFT + WIDTH - RIGHT) / 2, bottom + 40, words, 'middle')]

@@ -10,7 +10,7 @@ FIRST_LISTENER, MOST_LISTENERS = 32, 16
 
 
 def half(data, at):
-    return struct.unpack_from('<H', data, at)[0]
+    return data[at] | data[at + 1] << 8
 
 
 def word(data, at):
@@ -31,7 +31,7 @@ def record(kind, body):
 
 
 def kind_of(record_bytes):
-    return half(record_bytes, 2)
+    return record_bytes[2] | record_bytes[3] << 8
 
 
 def split(data):

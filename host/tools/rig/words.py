@@ -6,6 +6,8 @@ import struct
 from rig import wire
 
 FEW = 8
+FIXED = {(wire.POSITION, 11), (wire.SILENCE, 7), (wire.CONFESSION, 7)}    # kinds with their sizes
+FRONT = struct.Struct('<HHBH')       # length, kind, sender and phase
 NUMBER = re.compile('-?[0-9]+')
 PAIRS = re.compile('([0-9a-fA-F]{2})+')
 
@@ -48,6 +50,8 @@ def read_heads(words, most, what, whom='heads', least=0):
 
 
 def write_heads(heads):
+    if len(heads) == 1:
+        return str(heads[0])
     return ' '.join('%d-%d' % (run[0], run[-1]) if len(run) > 2 else ' '.join(map(str, run)) for run in neighbours(heads))
 
 
@@ -71,9 +75,12 @@ def unfolded(words):
 
 def folded(words):
     """The other way, if there are more than FEW words and one stands four times or more in a row."""
+    if len(words) <= FEW:
+        yield from words
+        return
     for value, run in itertools.groupby(words):
         times = len(list(run))
-        yield from ['%s*%d' % (value, times)] if len(words) > FEW and times >= 4 else [value] * times
+        yield from ['%s*%d' % (value, times)] if times >= 4 else [value] * times
 
 
 def read_bytes(words, what):
@@ -175,7 +182,7 @@ def frame_bytes(fields):
     if 'count' in fields:
         rest = struct.pack('<BI', fields['count'], fields['marks']) + rest
     length = fields.get('length', 7 + len(rest))
-    return struct.pack('<HHBH', length, fields['kind'], fields['sender'], fields['phase']) + rest
+    return FRONT.pack(length, fields['kind'], fields['sender'], fields['phase']) + rest
 
 
 def write_frame(frame, sender, phase):
@@ -186,14 +193,16 @@ def write_frame(frame, sender, phase):
     if kind is None:
         return 'bytes ' + write_bytes(frame)
     changes = header_changes(frame, kind, sender, phase) + (list_changes(frame) if kind == wire.LIST else [])
-    return ' '.join([write_said(frame, kind)] + (['with'] + changes if changes else []))
+    return ' '.join([write_said(frame, kind), 'with', *changes]) if changes else write_said(frame, kind)
 
 
 def layout(frame, sender):
     """The kind as which a frame can be said: its own, or for a frame that is right but for its kind, another. Or None."""
     kind, size = wire.kind_of(frame), len(frame)
+    if (kind, size) in FIXED:
+        return kind
     is_list = size in range(12, 12 + 4 * 256, 4)
-    if (kind, size) in ((wire.POSITION, 11), (wire.SILENCE, 7), (wire.CONFESSION, 7)) or kind == wire.LIST and is_list:
+    if kind == wire.LIST and is_list:
         return kind
     if wire.half(frame, 0) != size or frame[4] != sender:
         return None
@@ -215,11 +224,13 @@ def shown_entries(frame):
     """Each entry, and whether it is shown as a number: if it is marked or not 0."""
     marks = wire.word(frame, 8)
     entries = wire.signed(frame, 12, (len(frame) - 12) // 4)
-    return [(value, value != 0 or wire.marked(marks, head)) for head, value in enumerate(entries)]
+    return [(value, value != 0 or marks >> head & 1 == 1) for head, value in enumerate(entries)]
 
 
 def header_changes(frame, kind, sender, phase):
     """The fields that differ from those of a well-formed frame here."""
+    if frame[:7] == FRONT.pack(len(frame), kind, sender, phase % 65536) and phase < 65536:
+        return []
     fields = [
         ('length %d', wire.half(frame, 0), len(frame)),
         ('kind %04x', wire.kind_of(frame), kind),
@@ -230,8 +241,10 @@ def header_changes(frame, kind, sender, phase):
 
 
 def list_changes(frame):
+    size, changes = (len(frame) - 12) // 4, []
+    if frame[7] == size <= 32 and wire.word(frame, 8) + 1 == 1 << size:
+        return changes               # every entry is marked, and so shown
     shown = [is_shown for _, is_shown in shown_entries(frame)]
-    changes = []
     if frame[7] != len(shown):
         changes.append('count %d' % frame[7])
     if wire.word(frame, 8) != wire.marks_of(head for head, is_shown in enumerate(shown) if is_shown):

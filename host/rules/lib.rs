@@ -1,6 +1,6 @@
 //! The rules of documents 01 and 02, plainly: frames as bytes, families of rings, a record for each head, its window, the midpoint, limits,
-//! reach, the scale, what hosts read, and the records of a run file. They share nothing with the proved crates. The player of host/plain plays by them;
-//! host/exports, host/bench and the writer of host/compare take from them what they need.
+//! reach, the scale, what hosts read, and the records of a run file. They share nothing with the proved crates. The player of host/plain
+//! plays by them; host/generator, host/exports, host/compare and host/bench take from them what they need.
 
 pub mod family;
 pub mod frames;

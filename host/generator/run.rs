@@ -2,10 +2,10 @@
 
 use crate::random::Random;
 use crate::ring::{has, Given, Lie, Ring, Round, LISTENER};
-use crate::rules::family::Family;
-use crate::rules::frames::Said;
-use crate::rules::midpoint::LIMIT;
-use crate::rules::records;
+use rules::family::Family;
+use rules::frames::Said;
+use rules::midpoint::LIMIT;
+use rules::records;
 use crate::wire::Link;
 use std::collections::BTreeMap;
 

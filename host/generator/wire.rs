@@ -2,8 +2,8 @@
 
 use crate::random::Random;
 use crate::ring::Given;
-use crate::rules::frames::{self, Said};
-use crate::rules::records::LONGEST;
+use rules::frames::{self, Said};
+use rules::records::LONGEST;
 use crate::spoil;
 
 /// Where a frame is sent: what its receiver knows of it beforehand.

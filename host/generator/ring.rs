@@ -2,8 +2,8 @@
 //! host/plain it shares what a frame can say, and no rule. Listeners (document 02, A6) are numbered from 32; they settle as heads do and say nothing. In a
 //! one-round ring (A9) each round is a phase.
 
-use crate::rules::frames::Said;
-use crate::rules::midpoint::Entry;
+use rules::frames::Said;
+use rules::midpoint::Entry;
 use std::collections::BTreeMap;
 
 /// What a link gives to one receiver in a round, or nothing.

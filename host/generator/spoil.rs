@@ -1,8 +1,8 @@
 //! Frames spoilt, in one way each. A frame that was right is refused when it was spoilt once; any bytes may be spoilt, also again.
 
 use crate::random::Random;
-use crate::rules::frames::{half, word};
-use crate::rules::midpoint::LIMIT;
+use rules::frames::{half, word};
+use rules::midpoint::LIMIT;
 
 /// Bytes put at a place, if the frame is long enough.
 pub fn put(frame: &mut [u8], at: usize, bytes: &[u8]) {

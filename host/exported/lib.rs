@@ -1,7 +1,7 @@
 //! The proved calls, as host/include/focus.h declares them. Whatever is lent is taken as mutable here, even if a call only reads it, so that a
 //! change would be seen.
 
-use crate::rules::family::Family::{self, OneRound, TwoRounds};
+use rules::family::Family::{self, OneRound, TwoRounds};
 use std::ops::Range;
 
 mod c {
