@@ -7,6 +7,7 @@ pub mod OnePhase
 pub mod Counts
 pub mod HeadsAlone
 pub mod Demand3
+pub mod Agreed
 pub mod Since
 pub mod Late
 pub mod Unrefused

@@ -1,3 +1,4 @@
 pub mod Rounds
 pub mod Converges
 pub mod Late
+pub mod Agreed

@@ -2,3 +2,4 @@
 pub mod Heights
 pub mod Lowest
 pub mod Lines
+pub mod OneHeld

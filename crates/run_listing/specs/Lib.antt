@@ -1,4 +1,5 @@
 pub mod Held
+pub mod Level
 pub mod Heights
 pub mod Texts
 pub mod Inner

@@ -13,7 +13,9 @@ ghost use mathlib.Core.List.{_∷_, [], _++_};
 ghost use Rattle.run_spec.specs.Listing.{textOf, title, verdict};
 ghost use Rattle.texts.specs.Numbers.{whole};
 ghost use Rattle.texts.specs.Texts.{bytesOf, Longer};
+ghost use Rattle.ring_spec.specs.Agreed.{heldByAll, isAgreed};
 ghost use Rattle.run_listing.specs.Texts.{endLine};
+ghost use Rattle.run_listing.specs.Level.{levelled};
 use terms::Entry;
 use terms::Positions;
 use terms::RECEIVERS;
@@ -110,6 +112,27 @@ fn spread_of(low: Entry, high: Entry) -> u32
     let x = height(a);
     let y = height(b);
     if x <= y { y - x } else { x - y }
+}
+
+// Whether all heads and listeners that the mark word leaves hold one position. If they do, it becomes that of all places.
+pub fn level(positions: &mut Positions, struck: u64, n: u8, m: u8) -> bool
+    ensures is { λ r. ⌜ r ≡ isAgreed (heldByAll (endIn n m struck (now (positions .entry)))) ⌝ }
+    ensures becomes { λ _. ⌜ now (positions .exit) ≡ levelled (heldByAll (endIn n m struck (now (positions .entry)))) (now (positions .entry)) ⌝ }
+{
+    let ends = ends_of(positions, struck, n, m);
+    let low = ends.low;
+    let high = ends.high;
+    let Entry::Position(a) = low else {
+        return false;
+    };
+    let Entry::Position(b) = high else {
+        return false;
+    };
+    if a != b {
+        return false;
+    }
+    *positions = [a; 48];
+    true
 }
 
 // ---- The texts of a listing: its first line, a line for a phase end, and its last line.

@@ -6,16 +6,18 @@ use Prim.Native.Nat.{ℕ, zero, suc, _+_, _*_, _≤_, _<_}
 use native.Mathlib.Omega.{arith}
 use lib.Dec.{eqb, leb}
 use lib.ListN.{length, getD, drop}
-use lib.IntN.{pos}
+use lib.IntN.{ℤ, pos}
 use borrow.Author.Tests.{leb-true, ltb-true, eqb-true, not-true, le-leb, lt-leb, eq-eqb}
 use Rattle.terms.specs.Refusals as refusal
 use Rattle.terms.specs.Sizes.{isCount}
+use Rattle.terms.specs.declared.Entry.{Entry}
 use Rattle.terms.specs.declared.Family.{Family}
 use Rattle.convergence.specs.Counting.{Each}
 use Rattle.terms.proofs.Booleans.{and-both}
 use Rattle.head_spec.proofs.Proper.{both-passed}
-use Rattle.ring_spec.specs.Rounds.{Round, Ring, ringAfter, mostRounds}
-use Rattle.run_spec.specs.RunFile.{File, roundsGiven, RecordKind, start, round, plant, listeners, strikes, allowedWhen, lengthIn, kindIn, isAllowed, isFirst, isBare, listenerCountIn, listenersIn, headCountIn, limitIn, positionIn, struckIn, fewMarks, senderIn, receiverIn, plantFault, recordFault, withRecord, stopped, judged, ringFrom}
+use Rattle.ring_spec.specs.Rounds.{Round, Ring, ringAfter, endsAfter, mostRounds}
+use Rattle.ring_spec.specs.Agreed.{agreedOn}
+use Rattle.run_spec.specs.RunFile.{File, roundsGiven, RecordKind, start, round, plant, listeners, strikes, allowedWhen, lengthIn, kindIn, isAllowed, isFirst, isBare, listenerCountIn, listenersIn, headCountIn, limitIn, positionIn, struckIn, fewMarks, senderIn, receiverIn, plantFault, recordFault, withRecord, stopped, judged, ringFrom, endsFrom}
 use Rattle.run_spec.specs.declared.Pair.{Pair}
 use Rattle.run_spec.specs.Listing.{title, shown}
 use Rattle.run_spec.proofs.Bytes.{first-begun}
@@ -30,11 +32,12 @@ use Rattle.run_state.specs.declared.Player.{Player}
 use Rattle.run_state.specs.Memory.{Memory, withSlots}
 use Rattle.run_state.specs.Heads.{HeadsOf}
 use Rattle.run_state.specs.Changes.{freshPlayer, halted, withRoundGiven, pairIn, withPairPlanted, withListenersGiven, withStrikesGiven}
-use Rattle.run_state.specs.State.{ringBefore, PlayerOf, MemoryOf}
+use Rattle.run_state.specs.State.{PlayerOf, MemoryOf}
 use Rattle.run_round.specs.Played.{Played}
+use Rattle.run_round.specs.Agrees.{Agrees}
 use Rattle.run_record.specs.Next.{recordTaken, plantTaken, Next, afterPlant}
 use Rattle.run_record.specs.Inner.{dueTo, Turned}
-use Rattle.run_round.proofs.Keeping.{start-positions, start-keeps, start-keeps-any}
+use Rattle.run_round.proofs.Keeping.{no-position, start-positions, start-keeps, start-keeps-any}
 use Rattle.texts.proofs.Writing.{empty-text}
 use Rattle.run_state.proofs.Told.{start-tells, stop-tells, round-tells, plant-tells, listeners-tells, strikes-tells, allowed-as, plant-fault-as}
 
@@ -124,18 +127,18 @@ module _ {F : File} {t : Text} {M : Memory} (s : List ℕ) where
   unfolding shown ringAfter
   played-turns begun pending P =
       record {
-        keeps = rw pending (P .keeps);
+        holds = record { keeps = rw pending (P .keeps); level = P .level };
         shows = rw (pending, begun, P .shows) (sym (append-assoc title _ _));
       }
 
-  pub none-turns : F .rounds .pending ≡ false → HeadsOf (F .setup .n) (F .setup .listeners) (ringBefore F) M → t .len ≡ 0 → Turned F s t M
+  pub none-turns : F .rounds .pending ≡ false → F .setup .begun ≡ true → MemoryOf F M → t .len ≡ 0 → Turned F s t M
   unfolding shown
-  none-turns pending K none = record { keeps = rw pending K; shows = rw (pending, empty-text t none) (sym (append-nil _)) }
+  none-turns pending begun H none = record { holds = record { keeps = rw pending (H .keeps begun); level = H .level begun }; shows = rw (pending, empty-text t none) (sym (append-nil _)) }
 
 -- ---- what comes of a record
 
 -- which records the memory stands for is not settled by what is planted
-same-keeps : {n m : ℕ} {R : Ring} {M : Memory} {bytes lengths : List ℕ} → HeadsOf n m R M → HeadsOf n m R (withSlots M bytes lengths)
+same-keeps : {n m : ℕ} {A : Entry} {R : Ring} {M : Memory} {bytes lengths : List ℕ} → HeadsOf n m A R M → HeadsOf n m A R (withSlots M bytes lengths)
 same-keeps K = record { collection = K .collection; confession = K .confession; always = K .always }
 
 either-short : (b : Bool) (x y : List ℕ) → length x ≤ 140 → length y ≤ 140 → length (cond b x y) ≤ 140
@@ -149,7 +152,7 @@ module _ {F : File} {p : Player} {M : Memory} {r : RecordResult} where
       record {
         player = rw is (stop-tells T c);
         whole = rw is refl;
-        memory = record { keeps = H .keeps; slots = H .slots; short = H .short };
+        memory = record { keeps = H .keeps; level = H .level; slots = H .slots; short = H .short };
         refused = λ h. (refl, is);
         shows = stop-shows F c ∙ shows-none (shown F) (r .text) none;
         room = omega arith;
@@ -157,16 +160,22 @@ module _ {F : File} {p : Player} {M : Memory} {r : RecordResult} where
 
   module _ (s : List ℕ) where
     -- a round: what was planted is gone
-    pub round-next : {M′ : Memory} {bytes lengths : List ℕ} → Turned F s (r .text) M′ → r .text .len ≤ 64 → ((k i : ℕ) → k < 32 → k < p .n → i < 48 → plantedIn bytes lengths k i ≡ [])
-        → PlayerOf p F → roundsGiven F < mostRounds (F .setup .family) → r .player ≡ withRoundGiven p (struckIn s)
+    pub round-next : {M′ : Memory} {bytes lengths : List ℕ} {b : Bool} → shown (withRecord round F s) ≡ shown F ++ bytesOf (r .text) → Agrees F b M′ → r .text .len ≤ 64 → ((k i : ℕ) → k < 32 → k < p .n → i < 48 → plantedIn bytes lengths k i ≡ [])
+        → PlayerOf p F → roundsGiven F < mostRounds (F .setup .family) → r .player ≡ withRoundGiven p (struckIn s) b
         → Next F (withRecord round F s) p M r (withSlots M′ bytes lengths)
-    round-next P room cleared T more is =
+    round-next shows A room cleared T more is =
         record {
-          player = rw is (round-tells T s more);
+          player = rw is (round-tells T s more (A .is));
           whole = rw is refl;
-          memory = record { keeps = λ b. same-keeps (P .keeps); slots = λ w k i a b c. cleared k i a (rw (← T .n) b) c; short = λ w k i. omega arith };
+          memory =
+              record {
+                keeps = λ b. same-keeps (A .holds .keeps);
+                level = λ b. A .holds .level;
+                slots = λ w k i a b c. cleared k i a (rw (← T .n) b) c;
+                short = λ w k i. omega arith;
+              };
           refused = λ h. absurd (h refl);
-          shows = P .shows;
+          shows = shows;
           room = room;
         }
 
@@ -183,6 +192,7 @@ module _ {F : File} {p : Player} {M : Memory} {r : RecordResult} where
           memory =
               record {
                 keeps = λ b. same-keeps (H .keeps b);
+                level = H .level;
                 slots = λ w k i a m b. rw (new k i a b (rw (H .slots w k i a m b) (H .short w k i)), H .slots w k i a m b);
                 short = λ w k i. either-short (eqb (senderIn s) k && eqb (receiverIn s) i) (drop 6 s) _ few (H .short w k i);
               };
@@ -196,6 +206,7 @@ module _ {F : File} {p : Player} {M : Memory} {r : RecordResult} where
         → ((j : ℕ) → j < 32 → getD (M′ .positions) j (pos 0) ≡ positionIn s j)
         → r .player ≡ freshPlayer true K (headCountIn s) (limitIn s) → bytesOf (r .text) ≡ endLine (headCountIn s) 0 0 (M′ .positions) 0 0 0 → r .text .len ≤ 64
         → Next F (withRecord (start K) F s) p M r M′
+    unfolding endsAfter agreedOn
     start-next K {M′} begun sound first is text room =
         let most = start-small K F s sound in
         let same : Each (headCountIn s) (λ i. getD (M′ .positions) i (pos 0) ≡ positionIn s i) = λ i l. first i (omega arith) in
@@ -205,7 +216,8 @@ module _ {F : File} {p : Player} {M : Memory} {r : RecordResult} where
           whole = rw is refl;
           memory =
               record {
-                keeps = λ b. start-keeps K (headCountIn s) 0 (limitIn s) most (positionIn s) M′ same;
+                keeps = λ b. start-keeps K (headCountIn s) 0 (limitIn s) most (positionIn s) M′ same _;
+                level = λ b u a. no-position a;
                 slots = λ w. absurd (true≢false (sym w));
                 short = λ w. absurd (true≢false (sym w));
               };
@@ -219,20 +231,32 @@ module _ {F : File} {p : Player} {M : Memory} {r : RecordResult} where
     -- the number of listeners, just after the start: none of them holds a position
     pub listeners-next : isFirst F ≡ true → MemoryOf F M → PlayerOf p F → r .player ≡ withListenersGiven p (listenerCountIn s) → r .text .len ≡ 0
         → Next F (withRecord listeners F s) p M r M
+    unfolding endsAfter agreedOn
     listeners-next may H T is none =
         record {
-          player = rw is (listeners-tells T s);
+          player = rw is (listeners-tells T s (omega (arith, first-begun F may .1)));
           whole = rw is refl;
-          memory = record { keeps = λ b. recounted (F .rounds .played) (omega (arith, first-begun F may .1)) (H .keeps b); slots = H .slots; short = H .short };
+          memory =
+              record {
+                keeps = λ b. recounted (F .rounds .played) (omega (arith, first-begun F may .1)) (H .keeps b);
+                level = λ b u. not-yet (F .rounds .played) (omega (arith, first-begun F may .1));
+                slots = H .slots;
+                short = H .short;
+              };
           refused = λ h. absurd (h refl);
           shows = listeners-shows F s may ∙ shows-none (shown F) (r .text) none;
           room = omega arith;
         }
       where
-        recounted : (ws : List Round) → length ws ≡ 0 → HeadsOf (F .setup .n) (F .setup .listeners) (ringFrom (F .setup) ws) M
-            → HeadsOf (F .setup .n) (listenerCountIn s) (ringFrom (F .setup) ws) M
-        recounted [] z K = start-keeps-any (F .setup .family) (F .setup .n) (F .setup .listeners) (listenerCountIn s) (F .setup .f) (F .setup .first) K
+        recounted : (ws : List Round) → length ws ≡ 0 → {A B : Entry} → HeadsOf (F .setup .n) (F .setup .listeners) A (ringFrom (F .setup) ws) M
+            → HeadsOf (F .setup .n) (listenerCountIn s) B (ringFrom (F .setup) ws) M
+        recounted [] z {B = B} K = start-keeps-any (F .setup .family) (F .setup .n) (F .setup .listeners) (listenerCountIn s) (F .setup .f) (F .setup .first) B K
         recounted (w ∷ ws) z K = absurd (omega arith)
+
+        -- no end but the start is there
+        not-yet : (ws : List Round) → length ws ≡ 0 → {A : Type 0} {u : ℤ} → agreedOn (F .setup .n) (listenerCountIn s) (endsFrom (F .setup) ws) ≡ Entry.Position u → A
+        not-yet [] z a = no-position a
+        not-yet (w ∷ ws) z a = absurd (omega arith)
 
     -- the struck listeners of a round whose marks are those of heads so far
     pub strikes-next : F .rounds .last .struck < 4294967296 → MemoryOf F M → PlayerOf p F → r .player ≡ withStrikesGiven p (listenersIn s) → r .text .len ≡ 0
@@ -241,7 +265,7 @@ module _ {F : File} {p : Player} {M : Memory} {r : RecordResult} where
         record {
           player = rw is (strikes-tells T s small);
           whole = rw is refl;
-          memory = record { keeps = H .keeps; slots = H .slots; short = H .short };
+          memory = record { keeps = H .keeps; level = H .level; slots = H .slots; short = H .short };
           refused = λ h. absurd (h refl);
           shows = strikes-shows F s ∙ shows-none (shown F) (r .text) none;
           room = omega arith;

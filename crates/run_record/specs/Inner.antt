@@ -11,8 +11,8 @@ use Rattle.texts.specs.declared.Text.{Text}
 use Rattle.texts.specs.Texts.{bytesOf}
 use Rattle.run_state.specs.declared.Player.{Player}
 use Rattle.run_state.specs.Memory.{Memory}
-use Rattle.run_state.specs.Heads.{HeadsOf}
-use Rattle.run_state.specs.State.{ringBefore}
+use Rattle.run_state.specs.State.{agreedBefore}
+use Rattle.run_round.specs.Agrees.{HoldsAll}
 use Rattle.run_record.specs.Next.{allowedTo}
 
 -- whether the bytes s are a whole record that is allowed, by the player's numbers
@@ -21,5 +21,5 @@ dueTo p s = eqb (length s) (lengthIn s) && allowedTo p s
 
 -- as a round record s of the file F is taken, the pending round, if there is one, is played
 pub record Turned (F : File) (s : List ℕ) (text : Text) (M : Memory) : Type 0 where
-  pub keeps : HeadsOf (F .setup .n) (F .setup .listeners) (ringBefore (withRecord round F s)) M
+  pub holds : HoldsAll F (agreedBefore F) M
   pub shows : shown (withRecord round F s) ≡ shown F ++ bytesOf text

@@ -143,9 +143,10 @@ fn take_round(
         return refuse(p, fault);
     }
     let text = play_waiting(p, positions, marks, lists, planted, lengths);
+    let agreed = run_round::agree(p, positions);
     frame_slots::clear(lengths, p.n);
     RecordResult {
-        player: run_state::given_round(p, fields::word_at(bytes, 4)),
+        player: run_state::given_round(p, fields::word_at(bytes, 4), agreed),
         text,
     }
 }

@@ -60,12 +60,12 @@ more-receive n m M i l = go (ltb i n) (leb 32 i) (ltb i (32 + m)) refl
     go false false c q e = absurd (true≢false (sym e))
 
 -- what the memory holds of all listeners it holds of the first k
-fewer-listeners : {n m k : ℕ} {R : Ring} {M : Memory} → k ≤ m → HeadsOf n m R M → HeadsOf n k R M
+fewer-listeners : {n m k : ℕ} {A : Entry} {R : Ring} {M : Memory} → k ≤ m → HeadsOf n m A R M → HeadsOf n k A R M
 fewer-listeners {n} {m} {k} l H =
     record { collection = H .collection; confession = H .confession; always = λ i h r. H .always i h (more-receive n k m i l r) }
 
 -- what a phase end shows is the round's own
-phase-end-as : (K : Family) (before struck : ℕ) (heads : ℕ → Head)
+pub phase-end-as : (K : Family) (before struck : ℕ) (heads : ℕ → Head)
     → (phaseEnd K before struck heads .heads ≡ heads) × (phaseEnd K before struck heads .struck ≡ struck)
 phase-end-as TwoRounds before struck heads = (refl, refl)
 phase-end-as OneRound before struck heads = (refl, refl)
@@ -94,7 +94,7 @@ module _ (K : Family) (n m f : ℕ) (v : ℕ → ℤ) where
           let (heads, struck) = phase-end-as K (ringAfter K n f v ws .before) (w .struck) (ringAfter K n f v (w ∷ ws) .heads) in
           (heads, λ i q. ap (λ (x : ℕ). bitOf x i) (sym struck) ∙ q)
 
-  module _ (ws : List Round) {M : Memory} (A : AnyTwo K n m f (endsAfter K n f v ws)) (H : HeadsOf n m (ringAfter K n f v ws) M)
+  module _ (ws : List Round) {M : Memory} (A : AnyTwo K n m f (endsAfter K n f v ws)) {B : Entry} (H : HeadsOf n m B (ringAfter K n f v ws) M)
       (c : ringAfter K n f v ws .round ≡ 0) where
     abbrev e : PhaseEnd
     e = getD (endsAfter K n f v ws) 0 noEnd
@@ -126,13 +126,13 @@ module _ (b : Bool) (a : List ℕ) where
   abbrev F : File
   F = readFile a
 
-  pub held-converges : {M : Memory} → (F .setup .begun ≡ true → HeadsOf (F .setup .n) (F .setup .listeners) (ringFrom (F .setup) (playedWith b F)) M)
+  pub held-converges : {A : Entry} {M : Memory} → (F .setup .begun ≡ true → HeadsOf (F .setup .n) (F .setup .listeners) A (ringFrom (F .setup) (playedWith b F)) M)
       → ConvergedIn F (playedWith b F) (M .positions)
   held-converges K begun m l c =
       converged (F .setup .family) (F .setup .n) m (F .setup .f) (F .setup .first) (playedWith b F) (some-converge F (taken a begun) b m l) (fewer-listeners l (K begun)) c
 
   -- x: the latest end
-  pub held-at-end : {M : Memory} → F .setup .begun ≡ true → HeadsOf (F .setup .n) (F .setup .listeners) (ringFrom (F .setup) (playedWith b F)) M
+  pub held-at-end : {A : Entry} {M : Memory} → F .setup .begun ≡ true → HeadsOf (F .setup .n) (F .setup .listeners) A (ringFrom (F .setup) (playedWith b F)) M
       → ringFrom (F .setup) (playedWith b F) .round ≡ 0 → (x : PhaseEnd) {es : List PhaseEnd} → endsFrom (F .setup) (playedWith b F) ≡ x ∷ es
       → Each receivers (λ i. isOut (F .setup .n) (F .setup .listeners) (x .struck) i ≡ false
       → x .heads i .seat .position ≡ Entry.Position (getD (M .positions) i (pos 0)))

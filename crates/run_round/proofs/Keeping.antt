@@ -44,10 +44,10 @@ use Rattle.frame_spec.proofs.Tables.{table-of-entries}
 use Rattle.run_round.proofs.Carried.{Plays, heads-are, hears-unstruck, settles-unstruck, said-same}
 
 -- a record holds one position at most
-one-position : {e : Entry} {u v : ℤ} → e ≡ Entry.Position u → e ≡ Entry.Position v → u ≡ v
+pub one-position : {e : Entry} {u v : ℤ} → e ≡ Entry.Position u → e ≡ Entry.Position v → u ≡ v
 one-position p q = cc
 
-no-position : {A : Type 0} {v : ℤ} → Entry.Null ≡ Entry.Position v → A
+pub no-position : {A : Type 0} {v : ℤ} → Entry.Null ≡ Entry.Position v → A
 no-position p = let z : _≡_ {A = ℕ} 0 1 = cc in absurd (omega arith)
 
 -- a receiver that is not struck hears
@@ -66,9 +66,9 @@ module _ (K : Family) (n m f : ℕ) (most : n ≤ 32) (v : ℕ → ℤ) (M : Mem
   start-always i (inl l) u e = one-position (start-positions i l) e
   start-always i (inr h) u e = no-position (rw (le-ltb i 32 (listener-large i h)) at e)
 
-  pub start-keeps : HeadsOf n m (ringAfter K n f v []) M
+  pub start-keeps : (A : Entry) → HeadsOf n m A (ringAfter K n f v []) M
   unfolding ringAfter
-  start-keeps =
+  start-keeps A =
       record {
         collection = λ r i l q. start-positions i l;
         confession = λ r. absurd (omega arith);
@@ -76,10 +76,11 @@ module _ (K : Family) (n m f : ℕ) (most : n ≤ 32) (v : ℕ → ℤ) (M : Mem
       }
 
 -- with any other number of listeners
-pub start-keeps-any : (K : Family) (n m k f : ℕ) (v : ℕ → ℤ) {M : Memory} → HeadsOf n m (ringAfter K n f v []) M → HeadsOf n k (ringAfter K n f v []) M
+pub start-keeps-any : (K : Family) (n m k f : ℕ) (v : ℕ → ℤ) {A : Entry} (B : Entry) {M : Memory} → HeadsOf n m A (ringAfter K n f v []) M
+    → HeadsOf n k B (ringAfter K n f v []) M
 unfolding ringAfter firstHeads startedListener
-start-keeps-any K n m k f v {M} H =
-    record { collection = H .collection; confession = H .confession; always = λ i l r q. held i l q (hearer n k 0 i l r q) }
+start-keeps-any K n m k f v B {M} H =
+    record { collection = H .collection; confession = λ r. absurd (omega arith); always = λ i l r q. held i l q (hearer n k 0 i l r q) }
   where
     held : (i : ℕ) → i < receivers → bitOf 0 i ≡ false → Hears n i → (u : ℤ) → firstHeads K n f v i .seat .position ≡ Entry.Position u
         → getD (M .positions) i (pos 0) ≡ u
@@ -92,7 +93,7 @@ unfolding settling midpoint
 settles-midpoint r n z E e = rw e
 
 module _ {n m f : ℕ} {R : Ring} {w : Round} {s : Stage} {plant : ℕ → ℕ → List ℕ} (P : Plays n m f R w s plant)
-    {M : Memory} (H : HeadsOf n m R M) where
+    {A : Entry} {M : Memory} (H : HeadsOf n m A R M) where
   abbrev positions : List ℤ
   positions = M .positions
 
@@ -161,21 +162,27 @@ module _ {n m f : ℕ} {R : Ring} {w : Round} {s : Stage} {plant : ℕ → ℕ �
         go true b e = no-position (rw (q, b) at e)
         go false b e = H .always i l r b v (rw (opened-same K n f R w i q b) at e)
 
-    pub collect-keeps : {M′ : Memory} → M′ .positions ≡ positions
-        → (InRange s positions → (i : ℕ) → rowIn (M′ .marks) (M′ .lists) i ≡ cond (hears s i) (tableOf (heads s) (listEntry s positions plant i)) (rowIn (M .marks) (M .lists) i))
-        → HeadsOf n m (afterRound K n f R w) M′
+    -- the lists are kept as long as the ring has not agreed
+    pub collection-keeps : {M′ : Memory} → M′ .positions ≡ positions
+        → (A ≡ Entry.Null → (i : ℕ) → rowIn (M′ .marks) (M′ .lists) i ≡ cond (hears s i) (tableOf (heads s) (listEntry s positions plant i)) (rowIn (M .marks) (M .lists) i))
+        → HeadsOf n m A (afterRound K n f R w) M′
     unfolding afterRound
-    collect-keeps same new =
+    collection-keeps same new =
         let next = after-collection K n f R w S first .1 in
         record {
           collection = λ r. absurd (omega arith);
-          confession = λ r i l q. list-kept i l q ∙ sym (new (in-range S collection) i ∙ rw (hears-unstruck P S i l q));
+          confession = λ r a i l q. list-kept i l q ∙ sym (new a i ∙ rw (hears-unstruck P S i l q));
           always = λ i l r q v e. rw same (position-stays i l r q v e);
         }
 
+    pub collect-keeps : {M′ : Memory} → M′ .positions ≡ positions
+        → (InRange s positions → (i : ℕ) → rowIn (M′ .marks) (M′ .lists) i ≡ cond (hears s i) (tableOf (heads s) (listEntry s positions plant i)) (rowIn (M .marks) (M .lists) i))
+        → HeadsOf n m A (afterRound K n f R w) M′
+    collect-keeps same new = collection-keeps same (λ a. new (in-range S collection))
+
   -- ---- the last round of a phase. E: the entries of each receiver, as the memory has them; u: the positions that it makes of them
 
-  module _ {K : Family} (A : Playable K n f R) (few : AtMost f n (bitOf (w .struck))) (last : endsWith K (R .round) ≡ true) (E : ℕ → ℕ → Entry) (u : ℕ → ℤ)
+  module _ {K : Family} (D : Playable K n f R) (few : AtMost f n (bitOf (w .struck))) (last : endsWith K (R .round) ≡ true) (E : ℕ → ℕ → Entry) (u : ℕ → ℤ)
       (same : (i : ℕ) → i < receivers → Hears n i → bitOf (w .struck) i ≡ false → Each n (λ j. entriesBy K (heardAt K n f R w i) j ≡ E i j))
       (makes : (i : ℕ) → u i ≡ positionOf (settling (rounding (R .phase)) n (ruleOf K f) (E i))) where
     module _ (i : ℕ) (l : i < receivers) (r : isReceiver n m i ≡ true) (q : bitOf (w .struck) i ≡ false) where
@@ -183,7 +190,7 @@ module _ {n m f : ℕ} {R : Ring} {w : Round} {s : Stage} {plant : ℕ → ℕ �
       hear = hearer n m (w .struck) i l r q
 
       calm : enough n (ruleOf K f) (entriesBy K (heardAt K n f R w i)) ≡ true
-      calm = A .settles last w few i hear q
+      calm = D .settles last w few i hear q
 
       still-calm : enough n (ruleOf K f) (E i) ≡ true
       unfolding enough
@@ -192,7 +199,7 @@ module _ {n m f : ℕ} {R : Ring} {w : Round} {s : Stage} {plant : ℕ → ℕ �
       position-kept : afterRound K n f R w .heads i .seat .position ≡ Entry.Position (u i)
       unfolding afterRound
       position-kept =
-          confession-settles K n f R w (A .ready) i hear q last calm
+          confession-settles K n f R w (D .ready) i hear q last calm
           ∙ ap Entry.Position (midpoint-same (rounding (R .phase)) n (ruleOf K f) _ _ (same i l hear q)
           ∙ sym (makes i ∙ settles-midpoint (rounding (R .phase)) n (ruleOf K f) (E i) still-calm))
 
@@ -200,30 +207,31 @@ module _ {n m f : ℕ} {R : Ring} {w : Round} {s : Stage} {plant : ℕ → ℕ �
       -- in phase 65,535 too, where the ring ends
       pub ends-positions : Each receivers (λ i. isReceiver n m i ≡ true → bitOf (w .struck) i ≡ false
           → afterRound K n f R w .heads i .seat .position ≡ Entry.Position (getD (M′ .positions) i (pos 0)))
-      ends-positions i l r q = position-kept i l r q ∙ ap Entry.Position (sym (new i ∙ rw (settles-unstruck P (A .ready) i l r q)))
+      ends-positions i l r q = position-kept i l r q ∙ ap Entry.Position (sym (new i ∙ rw (settles-unstruck P (D .ready) i l r q)))
 
-      pub ends-keeps : HeadsOf n m (afterRound K n f R w) M′
-      unfolding afterRound
-      ends-keeps =
-          let next = after-confession K n f R w (A .ready) last .1 in
-          record {
-            collection = λ r i l. ends-positions i (omega (arith, A .ready .size .most)) (rw (lt-ltb i n l));
-            confession = λ r. absurd (omega arith);
-            always = λ i l r q v e. one-position (ends-positions i l r q) e;
-          }
+-- after the last round of a phase the memory holds the positions, and no list is kept
+module _ (K : Family) (n m f : ℕ) (R : Ring) (w : Round) (M : Memory) where
+  abbrev pub EndHeld : Type 0
+  EndHeld =
+      Each receivers (λ i. isReceiver n m i ≡ true → bitOf (w .struck) i ≡ false
+      → afterRound K n f R w .heads i .seat .position ≡ Entry.Position (getD (M .positions) i (pos 0)))
 
--- what the memory holds after the last round of a phase
-pub record Ended (K : Family) (n m f : ℕ) (R : Ring) (w : Round) (M′ : Memory) : Type 0 where
-  pub positions : Each receivers (λ i. isReceiver n m i ≡ true → bitOf (w .struck) i ≡ false
-      → afterRound K n f R w .heads i .seat .position ≡ Entry.Position (getD (M′ .positions) i (pos 0)))
-  pub keeps : HeadsOf n m (afterRound K n f R w) M′
+  pub end-keeps : RingReady K n f R → endsWith K (R .round) ≡ true → EndHeld → (A : Entry) → HeadsOf n m A (afterRound K n f R w) M
+  unfolding afterRound
+  end-keeps S last held A =
+      let next = after-confession K n f R w S last .1 in
+      record {
+        collection = λ r i l. held i (omega (arith, S .size .most)) (rw (lt-ltb i n l));
+        confession = λ r. absurd (omega arith);
+        always = λ i l r q v e. one-position (held i l r q) e;
+      }
 
 -- ---- a confession round
 
-module _ {n m f : ℕ} {R : Ring} {w : Round} {s : Stage} {plant : ℕ → ℕ → List ℕ} (P : Plays n m f R w s plant) {M : Memory} (H : HeadsOf n m R M)
-    (A : Playable TwoRounds n f R) (few : AtMost f n (bitOf (w .struck))) (last : endsWith TwoRounds (R .round) ≡ true) where
+module _ {n m f : ℕ} {R : Ring} {w : Round} {s : Stage} {plant : ℕ → ℕ → List ℕ} (P : Plays n m f R w s plant) {A : Entry} {M : Memory} (H : HeadsOf n m A R M)
+    (fresh : A ≡ Entry.Null) (D : Playable TwoRounds n f R) (few : AtMost f n (bitOf (w .struck))) (last : endsWith TwoRounds (R .round) ≡ true) where
   abbrev S : RingReady TwoRounds n f R
-  S = A .ready
+  S = D .ready
 
   confession : R .round ≡ 1
   confession = go (R .round) (S .round) last
@@ -238,7 +246,7 @@ module _ {n m f : ℕ} {R : Ring} {w : Round} {s : Stage} {plant : ℕ → ℕ �
       go : (b : Bool) → bitOf (R .before) k ≡ b
           → cond b confessed (listed (openedAt TwoRounds n f R w k .list)) ≡ cond b confessed (listed (rowIn (M .marks) (M .lists) k))
       go true e = refl
-      go false e = rw (opened-same TwoRounds n f R w k q e, H .confession confession k l e)
+      go false e = rw (opened-same TwoRounds n f R w k q e, H .confession confession fresh k l e)
 
   -- each list is what a frame can say
   sayable : Sayable s (M .marks) (M .lists)
@@ -251,7 +259,7 @@ module _ {n m f : ℕ} {R : Ring} {w : Round} {s : Stage} {plant : ℕ → ℕ �
           let q : bitOf (R .before) k ≡ false = sym (P .before k (omega arith)) ∙ e in
           let B = S .heads k (inl l′) q in
           let T : Proper n (listed (R .heads k .list)) = rw (B .seat .count) at (B .fresh .proper .list) in
-          rw (heads-are P S, ← H .confession confession k l′ q) T
+          rw (heads-are P S, ← H .confession confession fresh k l′ q) T
 
   abbrev G : ℕ → ℕ → Given
   G i = givenEntry s (M .marks) (M .lists) plant i
@@ -275,19 +283,15 @@ module _ {n m f : ℕ} {R : Ring} {w : Round} {s : Stage} {plant : ℕ → ℕ �
   pub confess-ends : (M′ : Memory)
       → (Sayable s (M .marks) (M .lists) → (i : ℕ) → getD (M′ .positions) i (pos 0)
       ≡ cond (settles s i) (newPosition s (M .marks) (M .lists) plant i) (getD (M .positions) i (pos 0)))
-      → Ended TwoRounds n m f R w M′
-  confess-ends M′ new =
-      record {
-        positions = ends-positions P H A few last (λ i. trusted n f (G i)) _ trust-same new-position M′ (new sayable);
-        keeps = ends-keeps P H A few last (λ i. trusted n f (G i)) _ trust-same new-position M′ (new sayable);
-      }
+      → EndHeld TwoRounds n m f R w M′
+  confess-ends M′ new = ends-positions P H D few last (λ i. trusted n f (G i)) _ trust-same new-position M′ (new sayable)
 
 -- ---- the round of a phase of one round
 
-module _ {n m f : ℕ} {R : Ring} {w : Round} {s : Stage} {plant : ℕ → ℕ → List ℕ} (P : Plays n m f R w s plant) {M : Memory} (H : HeadsOf n m R M)
-    (A : Playable OneRound n f R) (few : AtMost f n (bitOf (w .struck))) where
+module _ {n m f : ℕ} {R : Ring} {w : Round} {s : Stage} {plant : ℕ → ℕ → List ℕ} (P : Plays n m f R w s plant) {A : Entry} {M : Memory} (H : HeadsOf n m A R M)
+    (D : Playable OneRound n f R) (few : AtMost f n (bitOf (w .struck))) where
   abbrev S₁ : RingReady OneRound n f R
-  S₁ = A .ready
+  S₁ = D .ready
 
   sends-here : R .round ≡ 0
   sends-here = omega (arith, S₁ .round)
@@ -300,11 +304,7 @@ module _ {n m f : ℕ} {R : Ring} {w : Round} {s : Stage} {plant : ℕ → ℕ �
 
   pub conclude-ends : (M′ : Memory)
       → (InRange s (M .positions) → (i : ℕ) → getD (M′ .positions) i (pos 0) ≡ cond (settles s i) (heardPosition s (M .positions) plant i) (getD (M .positions) i (pos 0)))
-      → Ended OneRound n m f R w M′
+      → EndHeld OneRound n m f R w M′
   conclude-ends M′ new =
-      let same = heard-entries P H S₁ sends-here in
-      let fit = in-range P H S₁ sends-here in
-      record {
-        positions = ends-positions P H A few refl (λ i. listEntry s (M .positions) plant i) _ same heard-position M′ (new fit);
-        keeps = ends-keeps P H A few refl (λ i. listEntry s (M .positions) plant i) _ same heard-position M′ (new fit);
-      }
+      ends-positions P H D few refl (λ i. listEntry s (M .positions) plant i) _ (heard-entries P H S₁ sends-here) heard-position M′
+      (new (in-range P H S₁ sends-here))

@@ -1,13 +1,15 @@
 -- The pending round, played. What the player tells of the file is the stage that its round needs, and the memory holds the planted bytes and the records, so
 -- the memory keeps step with the ring; by its number it is the last of its phase, whose line is made of the new positions, or not, and then it shows nothing.
-use mathlib.Core.Path.{_≡_, refl, ap, ap₂, sym, subst, _∙_}
-use mathlib.Core.Bool.{Bool, true, false, cond}
-use mathlib.Core.List.{List, _∷_, _++_}
+use mathlib.Core.Path.{_≡_, refl, ap, sym, subst, _∙_}
+use mathlib.Core.Bool.{Bool, true, false, cond, true≢false}
+use mathlib.Core.List.{List, [], _∷_, _++_}
 use Prim.Native.Nat.{ℕ, _+_, _-_, _/_, _%_, _≤_}
 use native.Mathlib.Omega.{arith}
 use lib.ListN.{length, getD}
 use lib.IntN.{pos}
 use Rattle.terms.specs.Sizes.{endsWith}
+use Rattle.terms.specs.declared.Entry.{Entry}
+use Rattle.terms.specs.declared.Entry.the-variants.{Null, Position}
 use Rattle.terms.specs.declared.Family.{Family}
 use Rattle.terms.specs.declared.Family.the-variants.{TwoRounds, OneRound}
 use Rattle.marks.specs.Marks.{bitOf}
@@ -15,8 +17,9 @@ use Rattle.marks.proofs.Words.{word-low, word-high}
 use Rattle.entries.specs.Tables.{tableOf}
 use Rattle.convergence.specs.Counting.{AtMost}
 use Rattle.head_spec.specs.declared.Head.{Head}
-use Rattle.ring_spec.specs.Rounds.{Round, Ring, phaseOf, endsPhase, mostRounds, afterRound, PhaseEnd, phaseEnd}
-use Rattle.ring_spec.proofs.Counts.{next-phase, next-ends}
+use Rattle.ring_spec.specs.Rounds.{Round, lost, Ring, phaseOf, endsPhase, mostRounds, PhaseEnd, phaseEnd}
+use Rattle.ring_spec.specs.Agreed.{isAgreed}
+use Rattle.ring_spec.proofs.Counts.{next-phase}
 use Rattle.ring_spec.proofs.Demand3.{Playable}
 use Rattle.run_spec.specs.RunFile.{File, endsFrom}
 use Rattle.run_spec.specs.Listing.{line, lines}
@@ -32,31 +35,42 @@ use Rattle.run_listing.proofs.Lines.{line-is}
 use Rattle.run_state.specs.declared.Player.{Player}
 use Rattle.run_state.specs.Memory.{Memory}
 use Rattle.run_state.specs.Heads.{HeadsOf}
-use Rattle.run_state.specs.State.{ringBefore, PlayerOf, MemoryOf}
+use Rattle.run_state.specs.State.{ringBefore, agreedBefore, PlayerOf, MemoryOf}
 use Rattle.run_round.specs.Played.{Played}
-use Rattle.run_round.specs.Inner.{stageOf}
+use Rattle.run_round.specs.Inner.{stageOf, lineOf, ringPlayed, Kept}
 use Rattle.run_round.proofs.Carried.{Plays}
-use Rattle.run_round.proofs.Keeping.{Ended, collect-keeps, confess-ends, conclude-ends}
-use Rattle.run_round.proofs.Waiting.{waiting-playable}
+use Rattle.run_round.proofs.Keeping.{no-position, EndHeld, end-keeps, collection-keeps, collect-keeps, confess-ends, conclude-ends}
+use Rattle.run_round.proofs.Agreeing.{agreed-stays, agreed-end}
+use Rattle.run_round.proofs.Waiting.{given-number, ends-as, waiting-playable}
 use Rattle.run_round.proofs.Shown.{no-line, last-line}
-use Rattle.texts.proofs.Writing.{empty-text}
 
 -- by the family, whatever it is called
-module _ {n m f : ℕ} {R : Ring} {w : Round} {s : Stage} {plant : ℕ → ℕ → List ℕ} {M : Memory} where
-  in-two : (K : Family) → K ≡ TwoRounds → Plays n m f R w s plant → HeadsOf n m R M → Playable K n f R → AtMost f n (bitOf (w .struck))
+module _ {n m f : ℕ} {R : Ring} {w : Round} {s : Stage} {plant : ℕ → ℕ → List ℕ} {A : Entry} {M : Memory} where
+  in-two : (K : Family) → K ≡ TwoRounds → Plays n m f R w s plant → HeadsOf n m A R M → A ≡ Null → Playable K n f R → AtMost f n (bitOf (w .struck))
       → endsWith K (R .round) ≡ true → (M′ : Memory)
       → (Sayable s (M .marks) (M .lists) → (i : ℕ) → getD (M′ .positions) i (pos 0)
       ≡ cond (settles s i) (newPosition s (M .marks) (M .lists) plant i) (getD (M .positions) i (pos 0)))
-      → Ended K n m f R w M′
-  in-two K e P H A few last M′ new =
-      subst (λ (k : Family). Ended k n m f R w M′) (sym e)
-      (confess-ends P H (subst (λ (k : Family). Playable k n f R) e A) few (ap (λ (k : Family). endsWith k (R .round)) (sym e) ∙ last) M′ new)
+      → EndHeld K n m f R w M′
+  in-two K e P H fresh D few last M′ new =
+      subst (λ (k : Family). EndHeld k n m f R w M′) (sym e)
+      (confess-ends P H fresh (subst (λ (k : Family). Playable k n f R) e D) few (ap (λ (k : Family). endsWith k (R .round)) (sym e) ∙ last) M′ new)
 
-  in-one : (K : Family) → K ≡ OneRound → Plays n m f R w s plant → HeadsOf n m R M → Playable K n f R → AtMost f n (bitOf (w .struck)) → (M′ : Memory)
+  in-one : (K : Family) → K ≡ OneRound → Plays n m f R w s plant → HeadsOf n m A R M → Playable K n f R → AtMost f n (bitOf (w .struck)) → (M′ : Memory)
       → (InRange s (M .positions) → (i : ℕ) → getD (M′ .positions) i (pos 0) ≡ cond (settles s i) (heardPosition s (M .positions) plant i) (getD (M .positions) i (pos 0)))
-      → Ended K n m f R w M′
-  in-one K e P H A few M′ new =
-      subst (λ (k : Family). Ended k n m f R w M′) (sym e) (conclude-ends P H (subst (λ (k : Family). Playable k n f R) e A) few M′ new)
+      → EndHeld K n m f R w M′
+  in-one K e P H D few M′ new =
+      subst (λ (k : Family). EndHeld k n m f R w M′) (sym e) (conclude-ends P H (subst (λ (k : Family). Playable k n f R) e D) few M′ new)
+
+-- a phase end, by what it shows
+end-shown : (K : Family) (before struck : ℕ) (heads : ℕ → Head) → let e = phaseEnd K before struck (λ i. lost) in
+    phaseEnd K before struck heads ≡ record { collect = e .collect; confess = e .confess; struck = struck; heads = heads }
+end-shown TwoRounds before struck heads = refl
+end-shown OneRound before struck heads = refl
+
+-- by the flag
+pub not-agreed : (A : Entry) → isAgreed A ≡ false → A ≡ Null
+not-agreed Null e = refl
+not-agreed (Position u) e = absurd (true≢false e)
 
 -- 16 bits hold the phase
 phase-here : (K : Family) (k g p : ℕ) → k + 1 ≡ g → g ≤ mostRounds K → p ≡ phaseOf K (k + 1) → phaseOf K g % 65536 ≡ p
@@ -69,10 +83,6 @@ module _ {F : File} {p : Player} {s : Stage} {M : Memory}
   abbrev R : Ring
   R = ringBefore F
 
-  -- the number of the pending round
-  number : length (F .rounds .played) + 1 ≡ p .given
-  number = rw pending at (T .given)
-
   abbrev plant : ℕ → ℕ → List ℕ
   plant = plantedIn (M .planted) (M .lengths)
 
@@ -84,7 +94,7 @@ module _ {F : File} {p : Player} {s : Stage} {M : Memory}
         limit = sym (T .f);
         phase =
             ap (λ (k : Family). phaseOf k (p .given) % 65536) (sym (T .family))
-            ∙ phase-here (F .setup .family) (length (F .rounds .played)) (p .given) (R .phase) number (rw (T .given) at (I .count))
+            ∙ phase-here (F .setup .family) (length (F .rounds .played)) (p .given) (R .phase) (given-number T pending) (rw (T .given) at (I .count))
             (next-phase (F .setup .family) (F .setup .n) (F .setup .f) (F .setup .first) (F .rounds .played));
         listeners = sym (T .listeners);
         few = I .listeners;
@@ -105,74 +115,107 @@ module _ {F : File} {p : Player} {s : Stage} {M : Memory}
 
   -- whether it is the last of its phase
   last-as : {b : Bool} → endsPhase (p .family) (p .given) ≡ b → endsWith (F .setup .family) (R .round) ≡ b
-  last-as e =
-      sym (next-ends (F .setup .family) (F .setup .n) (F .setup .f) (F .setup .first) (F .rounds .played)) ∙ ap₂ endsPhase (T .family) number ∙ e
-
-  pub collection-played : endsPhase (p .family) (p .given) ≡ false → {t : Text} {M′ : Memory} → M′ .positions ≡ M .positions
-      → (InRange s (M .positions) → (i : ℕ) → rowIn (M′ .marks) (M′ .lists) i
-      ≡ cond (hears s i) (tableOf (heads s) (listEntry s (M .positions) plant i)) (rowIn (M .marks) (M .lists) i))
-      → t .len ≡ 0
-      → Played F t M′
-  collection-played opens {t} same new none =
-      record {
-        keeps = collect-keeps plays (H .keeps begun) (waiting-playable F I pending .ready) (last-as opens) same new;
-        shows = shows (no-line (F .setup .family) (F .setup .n) (F .setup .listeners) (F .setup .f) R (F .rounds .last) (last-as opens) ∙ sym (empty-text t none));
-        room = omega arith;
-      }
-
-  -- the last round of a phase; it shows the columns a and b
-  abbrev after : ℕ → Head
-  after = afterRound (F .setup .family) (F .setup .n) (F .setup .f) R (F .rounds .last) .heads
-
-  module _ (K : Family) (family : p .family ≡ K) (last : endsWith (F .setup .family) (R .round) ≡ true) (a b : ℕ)
-      (shown-as : phaseEnd K (p .before) (p .struck) after ≡ record { collect = a; confess = b; struck = p .struck; heads = after }) (M′ : Memory)
-      (ended : Ended (F .setup .family) (F .setup .n) (F .setup .listeners) (F .setup .f) R (F .rounds .last) M′) where
-    abbrev made : PhaseEnd
-    made = record { collect = a; confess = b; struck = p .struck; heads = after }
-
-    end-is : phaseEnd (F .setup .family) (R .before) (F .rounds .last .struck) after ≡ made
-    end-is = (λ t. phaseEnd ((T .family ∙ family) t) (T .before t) (T .struck t) after) ∙ shown-as
-
-    is-line : line (F .setup .n) (F .setup .listeners) (R .phase) made ≡ endLine (F .setup .n) (F .setup .listeners) (R .phase) (M′ .positions) a b (p .struck)
-    is-line =
-        line-is (F .setup .n) (F .setup .listeners) (R .phase) made (M′ .positions)
-        (λ i l r q. ended .positions i l r (ap (λ (x : ℕ). bitOf x i) (T .struck) ∙ q))
-
-    pub ended-played : {t : Text} → bytesOf t ≡ endLine (p .n) (p .listeners) (s .phase) (M′ .positions) a b (p .struck) → t .len ≤ 64 → Played F t M′
-    ended-played {t} text room =
-        record {
-          keeps = ended .keeps;
-          shows =
-              shows
-              (last-line (F .setup .family) (F .setup .n) (F .setup .listeners) (F .setup .f) R (F .rounds .last) last
-              ∙ ap (line (F .setup .n) (F .setup .listeners) (R .phase)) end-is
-              ∙ is-line
-              ∙ sym (text ∙ line-here));
-          room = room;
-        }
-      where
-        line-here : endLine (p .n) (p .listeners) (s .phase) (M′ .positions) a b (p .struck)
-            ≡ endLine (F .setup .n) (F .setup .listeners) (R .phase) (M′ .positions) a b (p .struck)
-        line-here = λ x. endLine (sym (T .n) x) (sym (T .listeners) x) (plays .phase x) (M′ .positions) a b (p .struck)
+  last-as = ends-as T pending
 
   abbrev K : Family
   K = F .setup .family
 
-  pub confession-played : p .family ≡ TwoRounds → endsPhase (p .family) (p .given) ≡ true → {t : Text} {M′ : Memory}
+  abbrev ready : Playable K (F .setup .n) (F .setup .f) R
+  ready = waiting-playable F I pending
+
+  -- ---- what the memory keeps: of a round that does not end its phase
+
+  pub collection-kept : endsPhase (p .family) (p .given) ≡ false → {M′ : Memory} → M′ .positions ≡ M .positions
+      → (InRange s (M .positions) → (i : ℕ) → rowIn (M′ .marks) (M′ .lists) i
+      ≡ cond (hears s i) (tableOf (heads s) (listEntry s (M .positions) plant i)) (rowIn (M .marks) (M .lists) i))
+      → Kept F M′
+  collection-kept opens same new =
+      record {
+        keeps = collect-keeps plays (H .keeps begun) (ready .ready) (last-as opens) same new;
+        level = λ u a i l. rw same (H .level begun u a i l);
+        ends = λ last. absurd (true≢false (sym last ∙ last-as opens));
+      }
+
+  -- and of one that does, in a ring that has not agreed
+
+  held-kept : p .agreed ≡ false → endsWith K (R .round) ≡ true → (M′ : Memory)
+      → EndHeld K (F .setup .n) (F .setup .listeners) (F .setup .f) R (F .rounds .last) M′ → Kept F M′
+  held-kept fresh last M′ held =
+      record {
+        keeps = end-keeps K (F .setup .n) (F .setup .listeners) (F .setup .f) R (F .rounds .last) M′ (ready .ready) last held (agreedBefore F);
+        level = λ u a. no-position (sym (not-agreed (agreedBefore F) (T .agreed ∙ fresh)) ∙ a);
+        ends = λ e. held;
+      }
+
+  pub confession-kept : p .agreed ≡ false → p .family ≡ TwoRounds → endsPhase (p .family) (p .given) ≡ true → {M′ : Memory}
       → (Sayable s (M .marks) (M .lists) → (i : ℕ) → getD (M′ .positions) i (pos 0)
       ≡ cond (settles s i) (newPosition s (M .marks) (M .lists) plant i) (getD (M .positions) i (pos 0)))
-      → bytesOf t ≡ endLine (p .n) (p .listeners) (s .phase) (M′ .positions) (p .before) (p .struck) (p .struck)
-      → t .len ≤ 64
-      → Played F t M′
-  confession-played two ends {t} {M′} new text room =
-      ended-played TwoRounds two (last-as ends) (p .before) (p .struck) refl M′
-      (in-two K (T .family ∙ two) plays (H .keeps begun) (waiting-playable F I pending) (I .waiting pending .few) (last-as ends) M′ new) text room
+      → Kept F M′
+  confession-kept fresh two ends {M′} new =
+      held-kept fresh (last-as ends) M′
+      (in-two K (T .family ∙ two) plays (H .keeps begun) (not-agreed (agreedBefore F) (T .agreed ∙ fresh)) ready (I .waiting pending .few) (last-as ends) M′ new)
 
-  pub conclusion-played : p .family ≡ OneRound → {t : Text} {M′ : Memory}
+  pub conclusion-kept : p .agreed ≡ false → p .family ≡ OneRound → {M′ : Memory}
       → (InRange s (M .positions) → (i : ℕ) → getD (M′ .positions) i (pos 0) ≡ cond (settles s i) (heardPosition s (M .positions) plant i) (getD (M .positions) i (pos 0)))
-      → bytesOf t ≡ endLine (p .n) (p .listeners) (s .phase) (M′ .positions) (p .struck) 0 (p .struck)
-      → t .len ≤ 64
-      → Played F t M′
-  conclusion-played one {t} {M′} new text room =
-      ended-played OneRound one (ap (λ (k : Family). endsWith k (R .round)) (T .family ∙ one)) (p .struck) 0 refl M′
-      (in-one K (T .family ∙ one) plays (H .keeps begun) (waiting-playable F I pending) (I .waiting pending .few) M′ new) text room
+      → Kept F M′
+  conclusion-kept fresh one {M′} new =
+      held-kept fresh (ap (λ (k : Family). endsWith k (R .round)) (T .family ∙ one)) M′
+      (in-one K (T .family ∙ one) plays (H .keeps begun) ready (I .waiting pending .few) M′ new)
+
+  -- ---- in a ring that has agreed all is as it was
+
+  pub agreed-kept : p .agreed ≡ true → Kept F M
+  agreed-kept agreed = go (agreedBefore F) refl (T .agreed ∙ agreed) (endsWith K (R .round)) refl
+    where
+      go : (A : Entry) → agreedBefore F ≡ A → isAgreed A ≡ true → (b : Bool) → endsWith K (R .round) ≡ b → Kept F M
+      go Null a e b last = absurd (true≢false (sym e))
+      go (Position u) a e false last =
+          record {
+            keeps = collection-keeps plays (H .keeps begun) (ready .ready) last refl (λ z. no-position (sym z ∙ a));
+            level = H .level begun;
+            ends = λ l. absurd (true≢false (sym l ∙ last));
+          }
+      go (Position u) a e true last =
+          let held = agreed-end F I pending last M (agreed-stays F a) (H .level begun u a) in
+          record {
+            keeps = end-keeps K (F .setup .n) (F .setup .listeners) (F .setup .f) R (F .rounds .last) M (ready .ready) last held (agreedBefore F);
+            level = H .level begun;
+            ends = λ l. held;
+          }
+
+  -- ---- what is shown
+
+  abbrev after : ℕ → Head
+  after = ringPlayed F .heads
+
+  -- the phase end, as the player knows it
+  abbrev made : PhaseEnd
+  made = let e = phaseEnd (p .family) (p .before) (p .struck) (λ i. lost) in record { collect = e .collect; confess = e .confess; struck = p .struck; heads = after }
+
+  end-is : phaseEnd (F .setup .family) (R .before) (F .rounds .last .struck) after ≡ made
+  end-is = (λ t. phaseEnd (T .family t) (T .before t) (T .struck t) after) ∙ end-shown (p .family) (p .before) (p .struck) after
+
+  pub kept-played : {t : Text} {M′ : Memory} → Kept F M′ → bytesOf t ≡ lineOf p (M′ .positions) → t .len ≤ 64 → Played F t M′
+  kept-played {t} {M′} Q text room =
+      record { keeps = Q .keeps; level = Q .level; shows = shows (go (endsPhase (p .family) (p .given)) refl ∙ sym text); room = room }
+    where
+      is-line : endsWith K (R .round) ≡ true
+          → line (F .setup .n) (F .setup .listeners) (R .phase) made
+          ≡ endLine (F .setup .n) (F .setup .listeners) (R .phase) (M′ .positions) (made .collect) (made .confess) (p .struck)
+      is-line last =
+          line-is (F .setup .n) (F .setup .listeners) (R .phase) made (M′ .positions)
+          (λ i l r q. Q .ends last i l r (ap (λ (x : ℕ). bitOf x i) (T .struck) ∙ q))
+
+      line-here : endLine (F .setup .n) (F .setup .listeners) (R .phase) (M′ .positions) (made .collect) (made .confess) (p .struck)
+          ≡ endLine (p .n) (p .listeners) (phaseOf (p .family) (p .given) % 65536) (M′ .positions) (made .collect) (made .confess) (p .struck)
+      line-here = λ x. endLine (T .n x) (T .listeners x) (sym (ap (λ (y : Stage). y .phase) (sym is) ∙ plays .phase) x) (M′ .positions) (made .collect) (made .confess) (p .struck)
+
+      go : (b : Bool) → endsPhase (p .family) (p .given) ≡ b
+          → roundLine K (F .setup .n) (F .setup .listeners) (F .setup .f) R (F .rounds .last)
+          ≡ cond b (endLine (p .n) (p .listeners) (phaseOf (p .family) (p .given) % 65536) (M′ .positions) (made .collect) (made .confess) (p .struck)) []
+      go false e = no-line K (F .setup .n) (F .setup .listeners) (F .setup .f) R (F .rounds .last) (last-as e)
+      go true e =
+          last-line K (F .setup .n) (F .setup .listeners) (F .setup .f) R (F .rounds .last) (last-as e)
+          ∙ ap (line (F .setup .n) (F .setup .listeners) (R .phase)) end-is
+          ∙ is-line (last-as e)
+          ∙ line-here

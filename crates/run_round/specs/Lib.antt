@@ -1,3 +1,4 @@
 pub mod Played
+pub mod Agrees
 pub mod Converged
 pub mod Inner

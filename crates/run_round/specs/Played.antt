@@ -9,11 +9,12 @@ use Rattle.texts.specs.declared.Text.{Text}
 use Rattle.texts.specs.Texts.{bytesOf}
 use Rattle.run_state.specs.Memory.{Memory}
 use Rattle.run_state.specs.Heads.{HeadsOf}
-use Rattle.run_state.specs.State.{ringBefore}
+use Rattle.run_state.specs.State.{ringBefore, agreedBefore, Level}
 
 -- the pending round is played: the memory after it, and the text by which the listing grows
 pub record Played (F : File) (text : Text) (M : Memory) : Type 0 where
-  pub keeps : HeadsOf (F .setup .n) (F .setup .listeners) (afterRound (F .setup .family) (F .setup .n) (F .setup .f) (ringBefore F) (F .rounds .last)) M
+  pub keeps : HeadsOf (F .setup .n) (F .setup .listeners) (agreedBefore F) (afterRound (F .setup .family) (F .setup .n) (F .setup .f) (ringBefore F) (F .rounds .last)) M
+  pub level : Level (agreedBefore F) (M .positions)
   pub shows : lines (F .setup .n) (F .setup .listeners) (endsFrom (F .setup) (F .rounds .last ∷ F .rounds .played))
       ≡ lines (F .setup .n) (F .setup .listeners) (endsFrom (F .setup) (F .rounds .played)) ++ bytesOf text
   pub room : text .len ≤ 64

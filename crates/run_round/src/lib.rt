@@ -1,13 +1,15 @@
 // The pending round, played on the heads' memory: when the next round record is accepted, or the file ends well.
-ghost use mathlib.Core.Bool.{true};
+ghost use mathlib.Core.Bool.{true, false};
 ghost use mathlib.Core.List.{List};
 ghost use mathlib.Core.Path.{_≡_};
 ghost use Prim.Native.Nat.{ℕ, _≤_};
 ghost use Rattle.run_spec.specs.RunFile.{roundsGiven, readFile};
-ghost use Rattle.run_state.specs.Memory.{memoryBefore, memoryAfter};
-ghost use Rattle.run_state.specs.State.{PlayerOf, MemoryOf};
+ghost use Rattle.run_state.specs.Memory.{Memory, memoryBefore, memoryAfter, withPositions};
+ghost use Rattle.run_state.specs.State.{agreedBefore, PlayerOf, MemoryOf};
 ghost use Rattle.run_round.specs.Played.{Played};
-ghost use Rattle.run_round.specs.Inner.{stageOf};
+ghost use Rattle.run_round.specs.Agrees.{HoldsAll, Agrees};
+ghost use Rattle.run_round.specs.Inner.{stageOf, lineOf, Kept};
+ghost use Rattle.texts.specs.Texts.{bytesOf};
 use frame_slots::PlantedBytes;
 use frame_slots::PlantedLengths;
 use ring_play::Stage;
@@ -34,7 +36,62 @@ fn stage_of(p: Player) -> Stage
     }
 }
 
-// Plays the pending round, and answers the line of the phase that it ends, if it ends one.
+// The line of the pending round's phase, once it is played, if it ends its phase.
+fn line_of(p: Player, positions: &Positions) -> Text
+    ensures { λ r. ⌜ bytesOf r ≡ lineOf p (now (positions .entry)) ⌝ }
+    ensures { λ r. ⌜ r .len ≤ 64 ⌝ }
+{
+    let family = p.family;
+    if !run_state::ends_phase(family, p.given) {
+        return texts::empty();
+    }
+    let phase = run_state::phase_of(family, p.given);
+    let n = p.n;
+    let m = p.listeners;
+    let struck = p.struck;
+    match family {
+        Family::TwoRounds => run_listing::end_line(
+            phase,
+            positions,
+            n,
+            m,
+            p.before,
+            struck,
+            struck,
+        ),
+        Family::OneRound => run_listing::end_line(phase, positions, n, m, struck, 0, struck),
+    }
+}
+
+// Plays the pending round of a ring that has not agreed.
+fn play_ring(
+    p: Player,
+    positions: &mut Positions,
+    marks: &mut Words,
+    lists: &mut Lists,
+    planted: &PlantedBytes,
+    lengths: &PlantedLengths,
+)
+    ensures { λ _. ⌜ ((a : List ℕ) → readFile a .setup .begun ≡ true → readFile a .rounds .pending ≡ true → PlayerOf p (readFile a)
+        → MemoryOf (readFile a) (memoryBefore positions marks lists planted lengths) → p .agreed ≡ false
+        → Kept (readFile a) (memoryAfter positions marks lists planted lengths)) ⌝ }
+{
+    let s = stage_of(p);
+    let family = p.family;
+    match family {
+        Family::TwoRounds => {
+            if !run_state::ends_phase(family, p.given) {
+                ring_play::collect(s, positions, planted, lengths, marks, lists);
+                return;
+            }
+            ring_play::confess(s, marks, lists, planted, lengths, positions);
+        }
+        Family::OneRound => ring_play::conclude(s, positions, planted, lengths),
+    }
+}
+
+// Plays the pending round, and answers the line of the phase that it ends, if it ends one. In a ring that has agreed every receiver holds the position on which it
+// did, whatever is planted, so that nothing is left to settle.
 pub fn play_round(
     p: Player,
     positions: &mut Positions,
@@ -48,23 +105,28 @@ pub fn play_round(
         → Played (readFile a) r (memoryAfter positions marks lists planted lengths)) ⌝ }
     ensures { λ r. ⌜ r .len ≤ 64 ⌝ }
 {
-    let s = stage_of(p);
-    let n = p.n;
-    let m = p.listeners;
-    let struck = p.struck;
-    let family = p.family;
-    match family {
-        Family::TwoRounds => {
-            if !run_state::ends_phase(family, p.given) {
-                ring_play::collect(s, positions, planted, lengths, marks, lists);
-                return texts::empty();
-            }
-            ring_play::confess(s, marks, lists, planted, lengths, positions);
-            run_listing::end_line(s.phase, positions, n, m, p.before, struck, struck)
-        }
-        Family::OneRound => {
-            ring_play::conclude(s, positions, planted, lengths);
-            run_listing::end_line(s.phase, positions, n, m, struck, 0, struck)
-        }
+    if !p.agreed {
+        play_ring(p, positions, marks, lists, planted, lengths);
+        return line_of(p, positions);
     }
+    line_of(p, positions)
+}
+
+// Whether the ring has agreed, once the pending round, if there is one, is played. If it agrees just then, the position on which it does becomes that of all places.
+pub fn agree(p: Player, positions: &mut Positions) -> bool
+    ensures { λ r. ⌜ ((a : List ℕ) (M : Memory) → readFile a .setup .begun ≡ true → PlayerOf p (readFile a)
+        → HoldsAll (readFile a) (agreedBefore (readFile a)) (withPositions M (now (positions .entry)))
+        → Agrees (readFile a) r (withPositions M (now (positions .exit)))) ⌝ }
+{
+    if p.agreed {
+        return true;
+    }
+    if !p.pending {
+        return false;
+    }
+    let family = p.family;
+    if !run_state::ends_phase(family, p.given) {
+        return false;
+    }
+    run_listing::level(positions, p.struck, p.n, p.listeners)
 }

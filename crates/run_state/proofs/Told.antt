@@ -1,5 +1,5 @@
 -- What the player tells of the file: before the first record, as bytes and records come, and whether a record is allowed or has a fault.
-use mathlib.Core.Path.{_≡_, refl}
+use mathlib.Core.Path.{_≡_, refl, _∙_}
 use mathlib.Core.Bool.{Bool, true, false, not, cond}
 use mathlib.Core.List.{List, [], _∷_}
 use Prim.Native.Nat.{ℕ, suc, _+_, _≤_, _<_}
@@ -11,13 +11,14 @@ use borrow.Author.Tests.{ne-eqb}
 use Rattle.terms.specs.declared.Family.{Family}
 use Rattle.terms.specs.declared.Family.the-variants.{TwoRounds, OneRound}
 use Rattle.convergence.specs.Counting.{bit}
-use Rattle.ring_spec.specs.Rounds.{Plant, mostRounds, endsPhase, afterRound, ringAfter}
-use Rattle.run_spec.specs.RunFile.{File, unread, roundsGiven, RecordKind, start, round, plant, listeners, strikes, allowedWhen, isFirst, isBare, isAllowed, headCountIn, limitIn, struckIn, roundFault, listenerCountIn, listenersIn, strikesFault, lastPair, plantFault, recordFault, thenPlayed, withRecord, stopped, withPart, feed, readFile, ringFrom}
+use Rattle.ring_spec.specs.Rounds.{Round, Plant, mostRounds, endsPhase, afterRound, ringAfter, endsAfter}
+use Rattle.ring_spec.specs.Agreed.{agreedOn, isAgreed}
+use Rattle.run_spec.specs.RunFile.{File, Setup, unread, roundsGiven, RecordKind, start, round, plant, listeners, strikes, allowedWhen, isFirst, isBare, isAllowed, headCountIn, limitIn, struckIn, roundFault, listenerCountIn, listenersIn, strikesFault, lastPair, plantFault, recordFault, thenPlayed, withRecord, stopped, withPart, feed, readFile, ringFrom, endsFrom}
 use Rattle.run_spec.proofs.Reached.{length-then}
 use Rattle.run_state.specs.declared.Player.{Player}
 use Rattle.run_state.specs.Changes.{freshPlayer, halted, withRoundGiven, pairIn, withPairPlanted, withListenersGiven, withStrikesGiven}
 use Rattle.run_state.specs.Places.{firstOf, bareOf}
-use Rattle.run_state.specs.State.{ringBefore, PlayerOf}
+use Rattle.run_state.specs.State.{ringBefore, agreedBefore, PlayerOf}
 use Rattle.run_state.specs.Counts.{CountsOf, countsThen, countsPlayed}
 use Rattle.run_state.proofs.Counts.{none-counted, round-counted}
 
@@ -25,12 +26,19 @@ most-of : (K : Family) → mostRounds K ≤ mostRounds TwoRounds
 most-of TwoRounds = omega arith
 most-of OneRound = omega arith
 
+-- at the start the ring has not agreed, whatever the number of listeners
+not-agreed : (S : Setup) (m k : ℕ) (ws : List Round) → length ws ≡ 0
+    → isAgreed (agreedOn (S .n) k (endsFrom S ws)) ≡ isAgreed (agreedOn (S .n) m (endsFrom S ws))
+unfolding endsAfter agreedOn
+not-agreed S m k [] e = refl
+not-agreed S m k (w ∷ ws) e = absurd (omega arith)
+
 pub unread-tells : PlayerOf (freshPlayer false TwoRounds 0 0) (readFile [])
-unfolding feed unread ringAfter
+unfolding feed unread ringAfter endsAfter agreedOn
 unread-tells = let counts = none-counted TwoRounds in search needs
 
 pub start-tells : (K : Family) (F : File) (s : List ℕ) → PlayerOf (freshPlayer true K (headCountIn s) (limitIn s)) (withRecord (start K) F s)
-unfolding ringAfter
+unfolding ringAfter endsAfter agreedOn
 start-tells K F s = let counts = none-counted K in search needs
 
 module _ {F : File} {p : Player} (T : PlayerOf p F) where
@@ -63,8 +71,9 @@ module _ {F : File} {p : Player} (T : PlayerOf p F) where
           rw z (round-counted (F .setup .family) (F .rounds .played) (F .rounds .last) (p .since) (T .since))
       go false e = T .since
 
-  pub round-tells : (s : List ℕ) → roundsGiven F < mostRounds (F .setup .family) → PlayerOf (withRoundGiven p (struckIn s)) (withRecord round F s)
-  round-tells s more =
+  pub round-tells : (s : List ℕ) {b : Bool} → roundsGiven F < mostRounds (F .setup .family) → isAgreed (agreedBefore (withRecord round F s)) ≡ b
+      → PlayerOf (withRoundGiven p (struckIn s) b) (withRecord round F s)
+  round-tells s more agreed =
       record {
         begun = T .begun;
         family = T .family;
@@ -78,14 +87,18 @@ module _ {F : File} {p : Player} (T : PlayerOf p F) where
         told = refl;
         last = refl;
         fault = refl;
+        agreed = agreed;
         since = round-since s;
       }
 
   pub plant-tells : (s : List ℕ) → PlayerOf (withPairPlanted p (pairIn s)) (withRecord plant F s)
   plant-tells s = search needs
 
-  pub listeners-tells : (s : List ℕ) → PlayerOf (withListenersGiven p (listenerCountIn s)) (withRecord listeners F s)
-  listeners-tells s = search needs
+  -- before the first round, so that no end but the start is there
+  pub listeners-tells : (s : List ℕ) → length (F .rounds .played) ≡ 0 → PlayerOf (withListenersGiven p (listenerCountIn s)) (withRecord listeners F s)
+  listeners-tells s none =
+      let agreed = not-agreed (F .setup) (F .setup .listeners) (listenerCountIn s) (F .rounds .played) none ∙ T .agreed in
+      search needs
 
   -- of a round whose struck listeners were not told, the marks are those of heads
   pub strikes-tells : (s : List ℕ) → F .rounds .last .struck < 4294967296 → PlayerOf (withStrikesGiven p (listenersIn s)) (withRecord strikes F s)
@@ -103,6 +116,7 @@ module _ {F : File} {p : Player} (T : PlayerOf p F) where
         told = refl;
         last = T .last;
         fault = refl;
+        agreed = T .agreed;
         since = T .since;
       }
 

@@ -29,6 +29,7 @@ freshPlayer begun K n f =
       last = lastPair [];
       have = 0;
       fault = 0;
+      agreed = false;
       since = replicate receivers 0;
     }
 
@@ -49,12 +50,14 @@ halted p have fault =
       last = p .last;
       have = have;
       fault = fault;
+      agreed = p .agreed;
       since = p .since;
     }
 
--- a round more, up to the most in either family: it is pending, and before it comes the round that was pending, which is played, or what was before that if none was
-abbrev pub withRoundGiven : Player → ℕ → Player
-withRoundGiven p struck =
+-- a round more, up to the most in either family: it is pending, and before it comes the round that was pending, which is played, or what was before that if none was;
+-- agreed: whether the ring has agreed then
+abbrev pub withRoundGiven : Player → ℕ → Bool → Player
+withRoundGiven p struck agreed =
     record {
       begun = p .begun;
       family = p .family;
@@ -69,6 +72,7 @@ withRoundGiven p struck =
       last = lastPair [];
       have = 0;
       fault = 0;
+      agreed = agreed;
       since = countsPlayed p;
     }
 
@@ -93,6 +97,7 @@ withPairPlanted p last =
       last = last;
       have = 0;
       fault = 0;
+      agreed = p .agreed;
       since = p .since;
     }
 
@@ -113,6 +118,7 @@ withListenersGiven p m =
       last = p .last;
       have = 0;
       fault = 0;
+      agreed = p .agreed;
       since = p .since;
     }
 
@@ -133,5 +139,6 @@ withStrikesGiven p marks =
       last = p .last;
       have = 0;
       fault = 0;
+      agreed = p .agreed;
       since = p .since;
     }

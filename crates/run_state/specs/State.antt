@@ -1,10 +1,16 @@
 -- What the player and the memory lent to it hold of the file read so far.
 use mathlib.Core.Bool.{true}
+use mathlib.Core.List.{List}
 use mathlib.Core.Path.{_≡_}
 use Prim.Native.Nat.{ℕ, _≤_, _<_}
-use lib.ListN.{length}
-use Rattle.ring_spec.specs.Rounds.{Ring, planted}
-use Rattle.run_spec.specs.RunFile.{File, roundsGiven, lastPair, ringFrom}
+use lib.ListN.{length, getD}
+use lib.IntN.{ℤ, pos}
+use Rattle.terms.specs.declared.Entry.{Entry}
+use Rattle.terms.specs.declared.Entry.the-variants.{Position}
+use Rattle.convergence.specs.Counting.{Each}
+use Rattle.ring_spec.specs.Rounds.{Ring, planted, receivers}
+use Rattle.ring_spec.specs.Agreed.{agreedOn, isAgreed}
+use Rattle.run_spec.specs.RunFile.{File, roundsGiven, lastPair, ringFrom, endsFrom}
 use Rattle.frame_slots.specs.Slots.{plantedIn}
 use Rattle.run_state.specs.declared.Player.{Player}
 use Rattle.run_state.specs.Memory.{Memory}
@@ -14,6 +20,14 @@ use Rattle.run_state.specs.Counts.{CountsOf}
 -- the ring when the rounds before the pending one are played
 abbrev pub ringBefore : File → Ring
 ringBefore F = ringFrom (F .setup) (F .rounds .played)
+
+-- the position on which it has agreed then; null if it has not
+abbrev pub agreedBefore : File → Entry
+agreedBefore F = agreedOn (F .setup .n) (F .setup .listeners) (endsFrom (F .setup) (F .rounds .played))
+
+-- in a ring that has agreed every position is the one on which it did
+abbrev pub Level : Entry → List ℤ → Type 0
+Level agreed positions = (u : ℤ) → agreed ≡ Position u → Each receivers (λ i. getD positions i (pos 0) ≡ u)
 
 -- the player's numbers are those of the file F; since: the counts when the rounds before the pending one are played (document 02, A10)
 pub record PlayerOf (p : Player) (F : File) : Type 0 where
@@ -29,13 +43,15 @@ pub record PlayerOf (p : Player) (F : File) : Type 0 where
   pub told : F .rounds .last .told ≡ p .told
   pub last : lastPair (F .rounds .last .plants) ≡ p .last
   pub fault : F .fault ≡ p .fault
+  pub agreed : isAgreed (agreedBefore F) ≡ p .agreed
   pub since : CountsOf (F .setup .family) (F .rounds .played) (p .since)
 
 -- The memory holds what the records of the heads hold, and what is planted in the pending round. Free, since nothing reads it: the numbers of receivers that
--- were struck or that the ring does not have, those of listeners before their first phase end, the lists in round 0, the slots if no round is pending,
+-- were struck or that the ring does not have, those of listeners before their first phase end, the lists in round 0 or once the ring has agreed, the slots if no round is pending,
 -- those of senders that the ring does not have, and the bytes of a slot past its length.
 pub record MemoryOf (F : File) (M : Memory) : Type 0 where
-  pub keeps : F .setup .begun ≡ true → HeadsOf (F .setup .n) (F .setup .listeners) (ringBefore F) M
+  pub keeps : F .setup .begun ≡ true → HeadsOf (F .setup .n) (F .setup .listeners) (agreedBefore F) (ringBefore F) M
+  pub level : F .setup .begun ≡ true → Level (agreedBefore F) (M .positions)
   pub slots : F .rounds .pending ≡ true → (k i : ℕ) → k < 32 → k < F .setup .n → i < 48
       → plantedIn (M .planted) (M .lengths) k i ≡ planted (F .rounds .last .plants) k i
   pub short : F .rounds .pending ≡ true → (k i : ℕ) → length (planted (F .rounds .last .plants) k i) ≤ 140

@@ -39,6 +39,7 @@ pub struct Player {
     pub told: bool, // its struck listeners were given
     pub fault: u8, // the number of the first fault, 0 for none
     pub last: Pair, // the last planted pair of the last round
+    pub agreed: bool, // all sound receivers held one position at a phase end that was played
     pub since: Counts, // of each head and listener, in the rounds played
 }
 
@@ -61,6 +62,7 @@ pub fn fresh(begun: bool, family: Family, n: u8, f: u8) -> Player
         last: no_pair(),
         have: 0,
         fault: 0,
+        agreed: false,
         since,
     }
 }
@@ -183,9 +185,9 @@ pub fn counts_played(p: Player) -> Counts
     cleared(since, p.struck)
 }
 
-// The player after an accepted round record.
-pub fn given_round(p: Player, struck: u32) -> Player
-    ensures { λ r. ⌜ r ≡ withRoundGiven p struck ⌝ }
+// The player after an accepted round record. agreed: whether the ring has agreed, now that the round that was pending is played.
+pub fn given_round(p: Player, struck: u32, agreed: bool) -> Player
+    ensures { λ r. ⌜ r ≡ withRoundGiven p struck agreed ⌝ }
 {
     let family = p.family;
     let since = counts_played(p);
@@ -203,6 +205,7 @@ pub fn given_round(p: Player, struck: u32) -> Player
         last: no_pair(),
         have: 0,
         fault: 0,
+        agreed,
         since,
     }
 }

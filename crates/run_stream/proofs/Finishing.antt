@@ -19,6 +19,7 @@ use Rattle.texts.specs.Texts.{bytesOf}
 use Rattle.run_state.specs.declared.Player.{Player}
 use Rattle.run_state.specs.Memory.{Memory}
 use Rattle.run_state.specs.Heads.{HeadsOf}
+use Rattle.run_state.specs.State.{agreedBefore}
 use Rattle.run_state.specs.Counts.{CountsOf, countsThen, countsPlayed}
 use Rattle.run_state.proofs.Counts.{round-counted}
 use Rattle.run_round.specs.Played.{Played}
@@ -62,7 +63,7 @@ module _ {a : List ℕ} {p : Player} {carry : List ℕ} {M : Memory} (L : StateA
   ends : {n : ℕ} {line v : Text} {since : List ℕ} {M′ : Memory} (ws : List Round) → roundsPlayed F ≡ ws
       → title ++ lines (F .setup .n) (F .setup .listeners) (cond (F .setup .begun) (endsFrom (F .setup) ws) []) ≡ shown F ++ bytesOf line
       → n ≡ endingOf p → bytesOf v ≡ verdict n
-      → (F .setup .begun ≡ true → HeadsOf (F .setup .n) (F .setup .listeners) (ringFrom (F .setup) ws) M′)
+      → (F .setup .begun ≡ true → HeadsOf (F .setup .n) (F .setup .listeners) (agreedBefore F) (ringFrom (F .setup) ws) M′)
       → (ws ≡ F .rounds .played → M′ ≡ M)
       → Grown (F .setup .n) (F .setup .listeners) (endsSoFar F) (cond (F .setup .begun) (endsFrom (F .setup) ws) []) (ringFrom (F .setup) ws) (bytesOf line)
       → CountsOf (F .setup .family) ws since

@@ -10,6 +10,7 @@ use Rattle.run_spec.specs.Listing.{shown, listing}
 use Rattle.texts.specs.Texts.{bytesOf}
 use Rattle.run_state.specs.Memory.{Memory}
 use Rattle.run_state.specs.Heads.{HeadsOf}
+use Rattle.run_state.specs.State.{agreedBefore}
 use Rattle.run_state.specs.Counts.{CountsOf}
 use Rattle.run_round.specs.Converged.{ConvergedIn}
 use Rattle.run_piece.specs.Advances.{Grown}
@@ -22,7 +23,7 @@ ringAtEnd F = ringFrom (F .setup) (roundsPlayed F)
 -- the file ends after a, and the text that is left is shown: from the memory M to the memory M′, which is the same if no round was left to play
 pub record Ends (a : List ℕ) (M : Memory) (text : List ℕ) (M′ : Memory) : Type 0 where
   pub shows : listing a ≡ shown (readFile a) ++ text
-  pub held : readFile a .setup .begun ≡ true → HeadsOf (readFile a .setup .n) (readFile a .setup .listeners) (ringAtEnd (readFile a)) M′
+  pub held : readFile a .setup .begun ≡ true → HeadsOf (readFile a .setup .n) (readFile a .setup .listeners) (agreedBefore (readFile a)) (ringAtEnd (readFile a)) M′
   pub unplayed : roundsPlayed (readFile a) ≡ readFile a .rounds .played → M′ ≡ M
   pub demand3 : ConvergedIn (readFile a) (roundsPlayed (readFile a)) (M′ .positions)
 

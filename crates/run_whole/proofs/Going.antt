@@ -34,7 +34,7 @@ use Rattle.texts.specs.Texts.{bytesOf}
 use Rattle.run_state.specs.declared.Player.{Player}
 use Rattle.run_state.specs.Memory.{Memory}
 use Rattle.run_state.specs.Heads.{HeadsOf}
-use Rattle.run_state.specs.State.{ringBefore}
+use Rattle.run_state.specs.State.{ringBefore, agreedBefore}
 use Rattle.run_state.specs.Counts.{CountsOf}
 use Rattle.run_piece.specs.Advances.{StateAt, AdvancesOnce}
 use Rattle.run_stream.specs.declared.FinishResult.{FinishResult}
@@ -218,7 +218,7 @@ started es e = rw e refl
 
 -- the positions of the last phase end, as the memory then holds them
 last-held : (s : List ℕ) {M : Memory} {es : List PhaseEnd} → let F = readFile s in
-    F .setup .begun ≡ true → HeadsOf (F .setup .n) (F .setup .listeners) (ringAtEnd F) M → ringAtEnd F .round ≡ 0 → (x : PhaseEnd)
+    F .setup .begun ≡ true → HeadsOf (F .setup .n) (F .setup .listeners) (agreedBefore F) (ringAtEnd F) M → ringAtEnd F .round ≡ 0 → (x : PhaseEnd)
     → endsPlayed F ≡ x ∷ es
     → Each receivers (λ i. isOut (F .setup .n) (F .setup .listeners) (x .struck) i ≡ false
     → x .heads i .seat .position ≡ Entry.Position (getD (M .positions) i (pos 0)))

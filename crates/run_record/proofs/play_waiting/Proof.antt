@@ -9,7 +9,7 @@ use Rattle.run_record.proofs.play_waiting.Tie as tie
 
 returns : tie.Need-returns
 returns c = (
-  λ a s begun T H. none-turns s (T .pending ∙ not-true _ (c .before .if1 .taken)) (H .keeps begun) (c .empty .ensures),
+  λ a s begun T H. none-turns s (T .pending ∙ not-true _ (c .before .if1 .taken)) begun H (c .empty .ensures),
   omega (arith, c .empty .ensures),
 )
 

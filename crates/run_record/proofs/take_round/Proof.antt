@@ -1,5 +1,7 @@
 -- `run_record::take_round` meets its contract: a fault stops the file, and else the pending round is played and what was planted in it is cleared.
 use mathlib.Core.Path.{ap, sym, _∙_}
+use mathlib.Core.List.{[]}
+use Prim.Native.Nat.{ℕ}
 use denote.Ref.{now}
 use borrow.Author.Needs.{needs}
 use Rattle.run_spec.specs.RunFile.{round, readFile}
@@ -23,16 +25,18 @@ returns c =
 returns-2 : tie.Need-returns-2
 returns-2 c =
     let l = c .before .before in
-    let k = l .before .before in
+    let g = l .before .before in
+    let k = g .before .before in
     let t = k .before .before .before .before .before in
     let x = t .before .before .before .args in
     let s = now (x .bytes) in
     let (turned, room) = k .play-waiting .ensures in
-    let is = c .given-round .ensures ∙ ap (withRoundGiven (x .p)) (c .before .word-at .ensures) in (
+    let is = c .given-round .ensures ∙ ap (λ (w : ℕ). withRoundGiven (x .p) w (g .agree .result)) (c .before .word-at .ensures) in (
       λ a begun T H.
           let e = t .before .round-fault .ensures ∙ sym (round-fault-as T s) in
+          let P = turned a s begun T H in
           rw (judged-taken round (readFile a) s e (t .if1 .left))
-          (round-next s (turned a s begun T H) room (l .clear .ensures _) T (round-room (readFile a) s (sym e ∙ t .if1 .left)) is),
+          (round-next s (P .shows) (g .agree .ensures a record { positions = []; marks = _; lists = _; planted = _; lengths = _ } begun T (P .holds)) room (l .clear .ensures _) T (round-room (readFile a) s (sym e ∙ t .if1 .left)) is),
       room,
     )
 
@@ -43,6 +47,7 @@ take-round-spec =
     (λ c κs. search needs)
     (λ c κs. search needs)
     returns
+    (λ c κs. search needs)
     (λ c κs. search needs)
     (λ c κs. search needs)
     (λ c κs. search needs)

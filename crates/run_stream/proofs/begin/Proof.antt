@@ -18,6 +18,7 @@ returns c carry M =
       memory =
           record {
             keeps = λ b. absurd (true≢false (sym b));
+            level = λ b. absurd (true≢false (sym b));
             slots = λ b. absurd (true≢false (sym b));
             short = λ b. absurd (true≢false (sym b));
           };
