@@ -14,12 +14,14 @@ pub const ONE_ROUND: [(&str, f64); 2] =
     [("(29,7) one round, quiet", 1.0 / 2.0), ("(29,7) one round, struck, other heads in each round", 1.0 / 4.0)];
 
 /// The name of a row, and its bar: in times of plain, and for limits and reach in times of the proved midpoint. A row that is not here has none.
-pub const BARS: [(&str, f64); 16] = [
+pub const BARS: [(&str, f64); 18] = [
     ("(5,1) struck, other heads in each round", 1.0 / 6.0),
     ("(5,1) struck, the same heads in all rounds", 1.0 / 6.0),
     ("(32,8) quiet", 1.0 / 120.0),
     ("(32,8) struck, other heads in each round", 1.0 / 20.0),
     ("(32,8) struck, the same heads in all rounds", 1.0 / 20.0),
+    ("frame check, all kinds, lists of 5", 1.3),
+    ("frame check, all kinds, lists of 32", 1.3),
     ("hearing a position, (5,1)", 2.0),
     ("hearing a list, (5,1)", 1.0),
     ("hearing a position, (32,8)", 2.0),

@@ -8,6 +8,7 @@ use rules::frames::{self, Said};
 use rules::head::Head;
 use rules::midpoint::{self, Entry, Kept, LIMIT};
 use rules::reading;
+use rules::records::LONGEST;
 use rules::scale;
 use rules::window::Device;
 
@@ -40,8 +41,10 @@ type Side<'a, S> = (&'a dyn Fn() -> S, &'a dyn Fn(&mut S) -> u64);
 fn stretch<S>(side: &Side<S>) -> (f64, u64) {
     let mut ready = black_box((side.0)());
     let before = now();
-    let sum = (side.1)(&mut ready);
-    (now() - before, black_box(sum))
+    let sum = black_box((side.1)(&mut ready));
+    let took = now() - before;
+    black_box(&ready);
+    (took, sum)
 }
 
 /// Both sides in turns, the least of each; their numbers must be the same.
@@ -73,6 +76,12 @@ fn list(random: &mut Random, n: usize) -> Vec<Entry> {
     (0..n).map(|_| Some(random.between(-LIMIT, LIMIT))).collect()
 }
 
+/// A call of plain's that takes a few nanoseconds is called as the proved one is, and not compiled into the loop.
+#[inline(never)]
+fn plain_check(frame: &[u8]) -> u64 {
+    frames::check(frame).map_or_else(u64::from, |_| 0)
+}
+
 fn frame_check(wanted: Wanted, n: usize) -> Option<Row> {
     let mut random = Random::new(1);
     let mut all = Vec::new();
@@ -83,7 +92,7 @@ fn frame_check(wanted: Wanted, n: usize) -> Option<Row> {
         all.push(frame);
     }
     let export = |all: &mut Vec<Vec<u8>>| (0..MANY * MANY).map(|i| exported::frame_check(&mut all[i % MANY]) as u64).sum();
-    let plain = |all: &mut Vec<Vec<u8>>| (0..MANY * MANY).map(|i| number(frames::check(&all[i % MANY]))).sum();
+    let plain = |all: &mut Vec<Vec<u8>>| (0..MANY * MANY).map(|i| plain_check(&all[i % MANY])).sum();
     let ready = || all.clone();
     row(wanted, format!("frame check, all kinds, lists of {n}"), MANY * MANY, (&ready, &export), (&ready, &plain))
 }
@@ -153,32 +162,59 @@ fn reach(wanted: Wanted, family: Family, n: usize, f: usize) -> Option<Row> {
     row(wanted, format!("{name}, ({n},{f})"), MANY, (&ready, &ask), (&ready, &settle))
 }
 
-/// Positions through a scale, or their readings back.
-fn scaled(wanted: Wanted, name: &str, back: bool) -> Option<Row> {
-    const RATIO: (u32, u32) = (1_000, 7);
+/// What a scale is asked: steps or nanometres, and a ratio that is known only when the call is made.
+#[derive(Clone, Copy)]
+struct Asked<T> {
+    of: T,
+    numerator: u32,
+    denominator: u32,
+}
+
+#[inline(never)]
+fn plain_scale(asked: Asked<i32>) -> u64 {
+    scale::scale(asked.of, asked.numerator, asked.denominator).map_or_else(u64::from, |out| out as u64 % 8)
+}
+
+#[inline(never)]
+fn plain_unscale(asked: Asked<i64>) -> u64 {
+    scale::unscale(asked.of, asked.numerator, asked.denominator).map_or_else(u64::from, |out| out.unwrap_or(i32::MIN) as u64 % 8)
+}
+
+fn steps_asked() -> Vec<Asked<i32>> {
     let mut random = Random::new(3);
-    let steps: Vec<i32> = (0..MANY * MANY).map(|_| random.between(-LIMIT, LIMIT)).collect();
-    let readings: Vec<i64> = steps.iter().map(|&v| scale::scale(v, RATIO.0, RATIO.1).expect("a reading") + (v % 5 == 0) as i64).collect();
-    let there = |_: &mut ()| {
+    let mut asked = || {
+        let denominator = random.between(1, LIMIT);
+        Asked { of: random.between(-LIMIT, LIMIT), numerator: random.between(denominator, LIMIT) as u32, denominator: denominator as u32 }
+    };
+    (0..MANY * MANY).map(|_| asked()).collect()
+}
+
+/// The readings of these, of which every fifth is one nanometre off.
+fn readings_asked() -> Vec<Asked<i64>> {
+    let reading = |a: &Asked<i32>| scale::scale(a.of, a.numerator, a.denominator).expect("a reading") + (a.of % 5 == 0) as i64;
+    steps_asked().iter().map(|a| Asked { of: reading(a), numerator: a.numerator, denominator: a.denominator }).collect()
+}
+
+fn scaling(wanted: Wanted) -> Option<Row> {
+    let export = |all: &mut Vec<Asked<i32>>| {
         let mut out = 0;
-        steps.iter().map(|&v| exported::scale(v, RATIO.0, RATIO.1, &mut out) as u64 + out as u64 % 8).sum()
+        all.iter().map(|a| exported::scale(a.of, a.numerator, a.denominator, &mut out) as u64 + out as u64 % 8).sum()
     };
-    let plain_there = |_: &mut ()| steps.iter().map(|&v| scale::scale(v, RATIO.0, RATIO.1).map_or_else(u64::from, |out| out as u64 % 8)).sum();
-    let from = |_: &mut ()| {
+    let plain = |all: &mut Vec<Asked<i32>>| all.iter().map(|&asked| plain_scale(asked)).sum();
+    row(wanted, "scale, from steps to nanometres".to_owned(), MANY * MANY, (&steps_asked, &export), (&steps_asked, &plain))
+}
+
+fn unscaling(wanted: Wanted) -> Option<Row> {
+    let export = |all: &mut Vec<Asked<i64>>| {
         let mut out = 0;
-        readings.iter().map(|&x| exported::unscale(x, RATIO.0, RATIO.1, &mut out) as u64 + out as u64 % 8).sum()
+        all.iter().map(|a| exported::unscale(a.of, a.numerator, a.denominator, &mut out) as u64 + out as u64 % 8).sum()
     };
-    let plain_from = |_: &mut ()| {
-        let given = |x| scale::unscale(x, RATIO.0, RATIO.1).map_or_else(u64::from, |out| out.unwrap_or(i32::MIN) as u64 % 8);
-        readings.iter().map(|&x| given(x)).sum()
-    };
-    let (export, plain): (&dyn Fn(&mut ()) -> u64, &dyn Fn(&mut ()) -> u64) = if back { (&from, &plain_from) } else { (&there, &plain_there) };
-    row(wanted, name.to_string(), MANY * MANY, (&|| (), export), (&|| (), plain))
+    let plain = |all: &mut Vec<Asked<i64>>| all.iter().map(|&asked| plain_unscale(asked)).sum();
+    row(wanted, "scale, from nanometres to steps".to_owned(), MANY * MANY, (&readings_asked, &export), (&readings_asked, &plain))
 }
 
 /// All sixteen bytes of a head's window.
 fn window(wanted: Wanted) -> Option<Row> {
-    let position = |i: usize| 15_625 * i as i32 - 500_000;
     let block = |i: usize| {
         let mut block = Block([0; SIZE]);
         block.start(TwoRounds, 5, 1, 2, position(i));
@@ -237,6 +273,77 @@ fn host_page(wanted: Wanted) -> Option<Row> {
     row(wanted, "the host page of 32 heads".to_owned(), MANY, (&blocks, &export), (&heads, &plain))
 }
 
+/// A position for each of many heads.
+fn position(i: usize) -> i32 {
+    15_625 * i as i32 - 500_000
+}
+
+/// A record that plain made is kept, as C keeps a block.
+fn keep(heads: &mut Vec<Head>, made: Result<Head, u8>) -> u64 {
+    made.map_or_else(u64::from, |head| {
+        heads.push(head);
+        0
+    })
+}
+
+/// Starting, in blocks that were in use. Plain makes a record anew.
+fn starting(wanted: Wanted, n: usize, f: usize) -> Option<Row> {
+    let used = Heard::new(n, f, 0, 0, 0);
+    let export = |blocks: &mut Vec<Block>| {
+        let start = |(i, block): (usize, &mut Block)| block.start(TwoRounds, n as u32, f as u32, 0, position(i)) as u64;
+        blocks.iter_mut().enumerate().map(start).sum()
+    };
+    let plain = |heads: &mut Vec<Head>| (0..MANY).map(|i| keep(heads, Head::start(TwoRounds, n, f, 0, position(i)))).sum();
+    row(wanted, format!("starting, ({n},{f})"), MANY, (&|| used.told(), &export), (&|| Vec::with_capacity(MANY), &plain))
+}
+
+/// Restarting in a confession round, the same way.
+fn restarting(wanted: Wanted, n: usize, f: usize) -> Option<Row> {
+    let used = Heard::new(n, f, 0, 0, 0);
+    let restart = |block: &mut Block| block.restart(TwoRounds, n as u32, f as u32, 0, PHASE as u32, 1) as u64;
+    let export = |blocks: &mut Vec<Block>| blocks.iter_mut().map(restart).sum();
+    let plain = |heads: &mut Vec<Head>| (0..MANY).map(|_| keep(heads, Head::restart(TwoRounds, n, f, 0, PHASE, 1))).sum();
+    row(wanted, format!("restarting, ({n},{f})"), MANY, (&|| used.told(), &export), (&|| Vec::with_capacity(MANY), &plain))
+}
+
+/// Writing the frame of a position, or that of a list of n positions, into a buffer.
+fn writing(wanted: Wanted, n: usize, f: usize, list: bool) -> Option<Row> {
+    let frame = |link: usize| frames::write(&Said::Position(position(link)), link, 1);
+    let block = |i: usize| {
+        let mut block = Block([0; SIZE]);
+        assert_eq!(block.start(TwoRounds, n as u32, f as u32, 0, position(i)), 0);
+        if list {
+            (0..n).for_each(|link| assert_eq!(block.hear(link as u32, &mut frame(link)), 0));
+            assert_eq!(block.close(), 0);
+        }
+        block
+    };
+    let head = |i: usize| {
+        let mut head = Head::start(TwoRounds, n, f, 0, position(i)).expect("a start that is taken");
+        if list {
+            (0..n).for_each(|link| head.hear(link, &frame(link)).expect("a frame that is heard"));
+            head.end_round().expect("a round that ends");
+        }
+        head
+    };
+    let export = |blocks: &mut Vec<Block>| {
+        let (mut buffer, mut length) = ([0; LONGEST], 0);
+        let mut write = |block: &mut Block| {
+            let number = block.write(&mut buffer, &mut length);
+            number as u64 + length as u64 + buffer[length - 1] as u64
+        };
+        blocks.iter_mut().map(&mut write).sum()
+    };
+    let plain = |heads: &mut Vec<Head>| {
+        let mut buffer = [0; LONGEST];
+        let mut write = |head: &Head| head.write(&mut buffer).map_or_else(u64::from, |length| length as u64 + buffer[length - 1] as u64);
+        heads.iter().map(&mut write).sum()
+    };
+    let name = format!("writing a {}, ({n},{f})", if list { "list" } else { "position" });
+    let (blocks, heads) = (|| (0..MANY).map(block).collect(), || (0..MANY).map(head).collect());
+    row(wanted, name, MANY, (&blocks, &export), (&heads, &plain))
+}
+
 /// A round as a head hears it: its frames by link.
 struct Heard {
     family: Family,
@@ -282,6 +389,13 @@ impl Heard {
         (0..MANY).map(|_| Head::restart(self.family, self.n, self.f, 0, PHASE, self.round).expect("a restart that is taken")).collect()
     }
 
+    /// Blocks that have heard all.
+    fn told(&self) -> Vec<Block> {
+        let mut ready = (self.blocks(), self.frames.clone());
+        self.tell_blocks(&mut ready);
+        ready.0
+    }
+
     fn tell_blocks(&self, (blocks, frames): &mut (Vec<Block>, Vec<Vec<u8>>)) -> u64 {
         let mut hear = |block: &mut Block| (0..self.n).map(|k| block.hear(k as u32, &mut frames[k]) as u64).sum::<u64>();
         blocks.iter_mut().map(&mut hear).sum()
@@ -316,11 +430,7 @@ impl Heard {
 
     fn closing(&self, wanted: Wanted, what: &str) -> Option<Row> {
         let name = format!("closing {what}, ({},{})", self.n, self.f);
-        let blocks = || {
-            let mut ready = (self.blocks(), self.frames.clone());
-            self.tell_blocks(&mut ready);
-            ready.0
-        };
+        let blocks = || self.told();
         let heads = || {
             let mut heads = self.heads();
             self.tell_heads(&mut heads);
@@ -335,10 +445,9 @@ impl Heard {
     fn adopting(&self, wanted: Wanted) -> Option<Row> {
         let name = format!("adopting, ({},{})", self.n, self.f);
         let blocks = || {
-            let mut ready = (self.blocks(), self.frames.clone());
-            self.tell_blocks(&mut ready);
-            ready.0.iter_mut().for_each(|block| assert_eq!(block.close(), 0));
-            ready.0
+            let mut blocks = self.told();
+            blocks.iter_mut().for_each(|block| assert_eq!(block.close(), 0));
+            blocks
         };
         let heads = || {
             let mut heads = self.heads();
@@ -370,9 +479,10 @@ pub fn beside(wanted: Wanted) -> Vec<Row> {
 pub fn rows(wanted: Wanted) -> Vec<Row> {
     let mut rows = vec![frame_check(wanted, 5), frame_check(wanted, 32)];
     rows.extend([midpoint(wanted, 5, 1, 0), midpoint(wanted, 32, 8, 0), midpoint(wanted, 32, 8, 16)]);
-    rows.extend([scaled(wanted, "scale, from steps to nanometres", false), scaled(wanted, "scale, from nanometres to steps", true)]);
+    rows.extend([scaling(wanted), unscaling(wanted)]);
     rows.extend([window(wanted), host_page(wanted)]);
     for (n, f) in [(5, 1), (32, 8)] {
+        rows.extend([starting(wanted, n, f), restarting(wanted, n, f), writing(wanted, n, f, false), writing(wanted, n, f, true)]);
         let (collection, confession, lies) = (Heard::new(n, f, 0, 0, 0), Heard::new(n, f, 1, 0, 0), Heard::new(n, f, 1, f, f));
         rows.extend([collection.hearing(wanted, "a position"), confession.hearing(wanted, "a list")]);
         rows.extend([collection.hearing_batch(wanted, "positions"), confession.hearing_batch(wanted, "lists")]);
@@ -382,6 +492,7 @@ pub fn rows(wanted: Wanted) -> Vec<Row> {
         rows.push(confession.adopting(wanted));
     }
     for (n, f) in [(5, 1), (29, 7)] {
+        rows.push(Heard::once(n, f, 0).hearing(wanted, "a one-round ring's position"));
         rows.push(Heard::once(n, f, 0).closing(wanted, "a one-round ring's round"));
         rows.push(Heard::once(n, f, 2 * f).closing(wanted, "a one-round ring's round, 2f null"));
     }

@@ -5,11 +5,13 @@
 //!
 //! PLACE is a directory for run files. host/bench/run builds and starts it.
 
+mod apart;
 mod bars;
 mod calls;
 mod clock;
 mod players;
 mod runs;
+mod whole;
 
 use players::{failed, Players, Timed};
 use rules::family::Family;
@@ -78,6 +80,16 @@ fn print_speeds(all: &[(String, Timed)]) {
     }
 }
 
+fn print_whole() -> io::Result<()> {
+    println!("\n## Files in memory\n\nMilliseconds of CPU time for a run file in memory: `focus_play`, and plain's player on the same bytes.\n");
+    println!("| Run file | phases | bytes | focus_play | plain | ratio |\n|---|--:|--:|--:|--:|--:|");
+    for timed in whole::rows()? {
+        let (ours, others, ratio) = (timed.export * 1e3, timed.plain * 1e3, bars::said(timed.export / timed.plain));
+        println!("| {} | {} | {} | {ours:.1} | {others:.1} | {ratio} |", timed.run.name(), timed.run.phases, timed.bytes);
+    }
+    Ok(())
+}
+
 fn print_listeners(players: &Players, missed: &mut bool) -> io::Result<()> {
     println!("\n## Listeners\n\nThe same, and rigplay's time in times of that for the run without listeners.\n");
     println!("| Run file | phases | bytes | rigplay | plain | ratio | without listeners | bar |\n|---|--:|--:|--:|--:|--:|--:|---|");
@@ -114,9 +126,9 @@ fn print_one_round(players: &Players, missed: &mut bool) -> io::Result<()> {
 }
 
 fn print_memory(players: &Players, bytes: u64, missed: &mut bool) -> io::Result<()> {
-    let phase = 2 * 8 + 8 * 24 * (17 + 146);
-    let phases = (bytes / phase) as usize + 1;
-    let run = Run { family: Family::TwoRounds, n: 32, f: 8, strikes: Strikes::Others, phases: phases.min(LAST_PHASE), listeners: 0 };
+    let run = |phases: usize| Run { family: Family::TwoRounds, n: 32, f: 8, strikes: Strikes::Others, phases: phases.min(LAST_PHASE), listeners: 0 };
+    let (one, two) = (run(1).write(&mut io::sink())?, run(2).write(&mut io::sink())?);
+    let run = run((bytes / (two - one)) as usize + 2);
     let (bytes, used) = players.stream(&run)?;
     let met = used.resident < bars::MEMORY;
     *missed |= !met;
@@ -159,6 +171,7 @@ fn all(players: &Players, bytes: u64) -> io::Result<bool> {
     let mut missed = false;
     print_calls(&mut missed);
     print_players(players, &mut missed)?;
+    print_whole()?;
     print_memory(players, bytes, &mut missed)?;
     print_listeners(players, &mut missed)?;
     print_one_round(players, &mut missed)?;

@@ -58,6 +58,12 @@ fn each(bytes: usize, mut pass: impl FnMut() -> io::Result<()>) -> io::Result<f6
     Ok((now() - before) / times as f64)
 }
 
+/// The spreads that a listing shows.
+fn spreads(listing: &[u8]) -> impl Iterator<Item = &str> {
+    let text = std::str::from_utf8(listing).expect("a listing is text");
+    text.lines().skip(1).filter_map(|line| line.split(' ').nth(3))
+}
+
 impl Players {
     fn path(&self, name: &str) -> String {
         format!("{}/{name}", self.place)
@@ -71,8 +77,9 @@ impl Players {
         Ok(ended(self.start(program, file, Stdio::null())?)?.seconds)
     }
 
-    /// Both players must print the same; this also warms up both, and the file. The proved player's memory is given.
-    fn compare(&self, file: &str) -> io::Result<u64> {
+    /// Both players must print the same, and a spread in each phase if the file is to keep one; this also warms up both, and the file. The proved
+    /// player's memory is given.
+    fn compare(&self, run: &Run, file: &str) -> io::Result<u64> {
         let listing = |program: &str, name: &str| {
             let used = watched(self.start(program, file, File::create(self.path(name))?.into())?)?;
             Ok::<_, io::Error>((fs::read(self.path(name))?, used.resident))
@@ -80,6 +87,9 @@ impl Players {
         let (ours, others) = (listing(&self.rigplay, "rigplay.listing")?, listing(&self.plain, "plain.listing")?);
         if ours.0 != others.0 || !ours.0.ends_with(b"\nend\n") {
             return Err(failed(format!("the listings of {file} differ, or it was not played out")));
+        }
+        if run.keeps_apart() && spreads(&ours.0).any(|spread| spread == "0") {
+            return Err(failed(format!("{} does not keep its spread", run.name())));
         }
         Ok(ours.1)
     }
@@ -107,7 +117,7 @@ impl Players {
     pub fn time(&self, run: &Run, turns: usize) -> io::Result<Timed> {
         let file = "timed.run";
         let bytes = self.store(run, file)?;
-        let resident = self.compare(file)?;
+        let resident = self.compare(run, file)?;
         let content = fs::read(self.path(file))?;
         let mut other = content.clone();
         let mut timed = Timed { bytes, resident, rigplay: f64::MAX, plain: f64::MAX, read: f64::MAX, copy: f64::MAX };

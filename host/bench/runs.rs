@@ -1,7 +1,8 @@
 //! Run files to be timed: quiet ones, and such in which f heads are struck in every round.
 
+use crate::apart::{held, Phase};
 use generator::random::Random;
-use generator::ring::{has, Ring};
+use generator::ring::{has, Given, Ring};
 use rules::family::Family::{self, OneRound, TwoRounds};
 use rules::frames::{self, Said};
 use rules::head::{FIRST_LISTENER, MOST_LISTENERS};
@@ -39,7 +40,7 @@ pub struct Run {
 
 /// All without listeners that are timed.
 pub fn runs() -> Vec<Run> {
-    let mut runs = Vec::new();
+    let mut runs = vec![Run { family: TwoRounds, n: 1, f: 0, strikes: Quiet, phases: 30_000, listeners: 0 }];
     for (n, f, quiet, struck) in [(5, 1, 30_000, 30_000), (32, 8, 6_000, 1_000)] {
         for strikes in [Quiet, Others, Same, Alike, Lists, Mix] {
             let phases = if strikes == Quiet { quiet } else { struck };
@@ -85,7 +86,7 @@ impl Run {
     }
 
     /// The mark word of the heads struck in a round, counted from 0.
-    fn struck(&self, round: usize) -> u64 {
+    pub fn struck(&self, round: usize) -> u64 {
         let first = if self.strikes == Same { 0 } else { round * self.f };
         let count = if self.strikes == Quiet { 0 } else { self.f };
         (0..count).map(|i| 1 << ((first + i) % self.n)).sum()
@@ -95,65 +96,76 @@ impl Run {
         (0..self.n).map(|_| random.between(-LIMIT, LIMIT)).collect()
     }
 
-    /// Any position, or in confession any list, as a frame.
-    fn wild(&self, random: &mut Random, round: usize, from: usize) -> Vec<u8> {
-        let rounds = self.family.rounds();
-        let said = match round % rounds {
-            0 => Said::Position(random.between(-LIMIT, LIMIT)),
-            _ => Said::List(self.positions(random).into_iter().map(Some).collect()),
-        };
-        frames::write(&said, from, round / rounds + 1)
+    /// Whether the lies keep the sound heads apart to the end. Those that tell all the same cannot: all that hear the same settle alike.
+    pub fn keeps_apart(&self) -> bool {
+        !matches!(self.strikes, Quiet | Alike)
     }
 
-    fn wild_round(&self, random: &mut Random, round: usize, out: &mut Vec<u8>) {
-        let struck = self.struck(round);
-        out.extend(records::round(struck as u32));
-        for from in (0..self.n).filter(|&head| has(struck, head)) {
-            let mut frame = self.wild(random, round, from);
+    /// What a struck head would say: any position or list, one near the truth, or anything. `ring` is the model of host/compare, which
+    /// knows the truth.
+    fn own(&self, random: &mut Random, collecting: bool, ring: Option<&Ring>) -> Given {
+        match (self.strikes, ring) {
+            (Mix, Some(ring)) => any(random, ring),
+            (Lists, Some(ring)) if collecting => Some(Said::Position(value(random, ring))),
+            (Lists, Some(ring)) => Some(list(random, ring)),
+            _ if collecting => Some(Said::Position(random.between(-LIMIT, LIMIT))),
+            _ => Some(Said::List(self.positions(random).into_iter().map(Some).collect())),
+        }
+    }
+
+    /// What is given to each receiver by each of a round's struck heads.
+    fn lies(&self, random: &mut Random, phase: &Phase, round: usize, ring: Option<&Ring>) -> Vec<(usize, usize, Given)> {
+        let (struck, collecting) = (self.struck(round), round % self.family.rounds() == 0);
+        let mut lies = Vec::new();
+        for (at, from) in (0..self.n).filter(|&head| has(struck, head)).enumerate() {
+            let mut own = self.own(random, collecting, ring);
             for to in (0..self.n).filter(|&head| !has(struck, head)).chain(FIRST_LISTENER..FIRST_LISTENER + self.listeners) {
-                out.extend(records::planted(from, to, &frame));
-                if self.strikes != Alike {
-                    frame = self.wild(random, round, from);
+                if self.strikes == Alike {
+                    lies.push((from, to, own.clone()));
+                } else {
+                    lies.push((from, to, phase.lie(random, collecting, at, to, own)));
+                    own = self.own(random, collecting, ring);
                 }
             }
         }
+        lies
     }
 
-    /// A round with the model of host/compare beside it, which knows the true lists.
-    fn modelled_round(&self, random: &mut Random, ring: &mut Ring, struck: u64, out: &mut Vec<u8>) {
-        let mut lies = Lies::of(ring);
-        for from in ring.heads(|head| has(struck, head)) {
-            for to in ring.receivers(|head| !has(struck, head)) {
-                match (self.strikes, ring.collecting()) {
-                    (Mix, _) => lies.give(from, to, any(random, ring)),
-                    (_, true) => lies.say(from, to, Said::Position(value(random, ring))),
-                    _ => lies.say(from, to, list(random, ring)),
-                }
-            }
+    /// The records of a round, and the model after it.
+    fn round(&self, random: &mut Random, phase: &Phase, round: usize, ring: &mut Option<Ring>) -> Vec<u8> {
+        let lies = self.lies(random, phase, round, ring.as_ref());
+        if let Some(ring) = ring {
+            let mut told = Lies::of(ring);
+            lies.into_iter().for_each(|(from, to, given)| told.give(from, to, given));
+            let round = told.round(self.struck(round));
+            ring.play(&round);
+            return round_records(&round, false).concat();
         }
-        let round = lies.round(struck);
-        out.extend(round_records(&round, false).concat());
-        ring.play(&round);
+        let number = round / self.family.rounds() + 1;
+        let mut records = records::round(self.struck(round) as u32);
+        for (from, to, given) in lies {
+            records.extend(records::planted(from, to, &frames::write(&given.expect("something said"), from, number)));
+        }
+        records
     }
 
     /// The whole file: its length.
     pub fn write(&self, out: &mut impl Write) -> io::Result<u64> {
         let mut random = Random::new(1);
-        let positions = self.positions(&mut random);
-        let mut ring = Ring::start(self.family == OneRound, self.f, &positions, self.listeners);
+        let positions = if self.keeps_apart() { held(self, &mut random, 0)[..self.n].to_vec() } else { self.positions(&mut random) };
+        let modelled = matches!(self.strikes, Lists | Mix);
+        let mut ring = modelled.then(|| Ring::start(self.family == OneRound, self.f, &positions, self.listeners));
         let mut piece = records::start(self.family, self.n, self.f, &positions);
         if self.listeners > 0 {
             piece.extend(records::listeners(self.listeners));
         }
-        let mut written = 0;
-        let rounds = self.family.rounds() * self.phases;
-        for round in 0..rounds {
-            if matches!(self.strikes, Lists | Mix) {
-                self.modelled_round(&mut random, &mut ring, self.struck(round), &mut piece);
-            } else {
-                self.wild_round(&mut random, round, &mut piece);
+        let (mut written, rounds) = (0, self.family.rounds());
+        for number in 1..=self.phases {
+            let phase = Phase::new(self, &mut random, number);
+            for round in rounds * (number - 1)..rounds * number {
+                piece.extend(self.round(&mut random, &phase, round, &mut ring));
             }
-            if piece.len() >= 1 << 16 || round + 1 == rounds {
+            if piece.len() >= 1 << 16 || number == self.phases {
                 out.write_all(&piece)?;
                 written += piece.len() as u64;
                 piece.clear();

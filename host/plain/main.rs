@@ -3,9 +3,9 @@
 //! and listener instead, as host/c/counts.c does; `plain --shift` reads a script of calls on one head, and prints their lines; `plain --page` reads a
 //! run file and prints the host page of its last phase end.
 
-mod player;
 mod shift;
 
+use rules::player;
 use std::io::{self, BufReader, BufWriter, Read, Write};
 
 /// A script of calls on one head.

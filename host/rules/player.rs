@@ -1,11 +1,11 @@
 //! The run file: records as they come, rounds of a whole ring, and the listing.
 
-use rules::family::Family;
-use rules::frames::{half, word};
-use rules::head::{Head, FIRST_LISTENER, LAST_PHASE, MOST_LISTENERS};
-use rules::midpoint::marked;
-use rules::reading::{reading, text};
-use rules::records::{LISTENERS, LONGEST, PLANTED, ROUND, START, START_ONE, STRIKE};
+use crate::family::Family;
+use crate::frames::{half, word};
+use crate::head::{Head, FIRST_LISTENER, LAST_PHASE, MOST_LISTENERS};
+use crate::midpoint::marked;
+use crate::reading::{reading, text};
+use crate::records::{LISTENERS, LONGEST, PLANTED, ROUND, START, START_ONE, STRIKE};
 use std::io::{self, Read, Write};
 
 /// The mark words of a round's struck heads and struck listeners.
