@@ -1,2 +1,0 @@
--- Laws that the proofs of these functions share.
-mod Signed
