@@ -3,8 +3,10 @@ use mathlib.Core.Path.{_≡_}
 use mathlib.Core.List.{List}
 use Prim.Native.Nat.{ℕ}
 use Rattle.frame_spec.specs.declared.Said.{Said}
+use Rattle.head_spec.specs.declared.Head.{Head}
 use Rattle.head_spec.specs.declared.Closed.{Closed}
 use Rattle.head_spec.specs.declared.Closing.{Closing}
+use Rattle.head_spec.specs.Record.{opened}
 use Rattle.head_c.specs.Blocks.{withClosing}
 
 -- the number of a refusal, 0 if something is said
@@ -13,6 +15,10 @@ numberOf (Said.Refused c) = c
 numberOf (Said.Collection e) = 0
 numberOf Said.List = 0
 numberOf Said.Confession = 0
+
+-- the record with nothing heard that has the seat and the list of h
+abbrev pub bare : Head → Head
+bare h = opened (h .seat) (h .list)
 
 -- the block w becomes w′ and r is answered, where closing by value answers c
 abbrev pub ClosesIn : Closing → List ℕ → Closed → List ℕ → Type 0

@@ -20,18 +20,17 @@ ghost use Rattle.head_spec.specs.declared.Offer.{Offer};
 ghost use Rattle.terms.specs.declared.Family.the-variants.{TwoRounds, OneRound};
 ghost use Rattle.head_window.specs.Window.{startedBeside, restartedBeside};
 ghost use Rattle.head_c.specs.Places as place;
-ghost use Rattle.head_c.specs.Blocks.{IsBlock, upTo, entryIn, rangeIn, numbersAt, listAt, seatOf, headOf};
+ghost use Rattle.head_c.specs.Blocks.{IsBlock, upTo, entryIn, rangeIn, numbersAt, seatOf, headOf};
 ghost use Rattle.head_c.specs.Blocks.{wordsOf, keptOf, familyNumber, seatWords, withHead, withAnswer, besideOf, withBeside, offerOf, withOffer, withoutOffer};
 ghost use Rattle.head_c.specs.Blocks.{marked, heardOn, changed, Hears, heardEach, HearsBatch};
 ghost use Rattle.head_c.specs.Events.{starts, restarts, startsListener, restartsListener, closes, adopts, blockAfter};
-ghost use Rattle.head_c.specs.Steps.{numberOf, ClosesIn};
+ghost use Rattle.head_c.specs.Steps.{numberOf, bare, ClosesIn};
 use frame_spec::Said;
 use head_spec::Answer;
 use head_spec::Closed;
 use head_spec::Head;
 use head_spec::LastKept;
 use head_spec::Offer;
-use head_spec::Row;
 use head_spec::Seat;
 use head_window::Beside;
 use settle_midpoint::Kept;
@@ -134,24 +133,6 @@ fn numbers_in(h: &[u32], from: usize) -> [i32; 32]
     out
 }
 
-// The lists received.
-fn lists_in(h: &[u32]) -> [Row; 32]
-    requires { ⌜ IsBlock (now h) ⌝ }
-    ensures { λ r. ⌜ r ≡ upTo 32 (listAt (now (h .entry))) ⌝ }
-{
-    let none = Row {
-        entries: [0i32; 32],
-    };
-    let mut out = [none; 32];
-    let mut k: usize = 0;
-    while k < 32 {
-        let entries = numbers_in(h, place::LISTS + 32 * k);
-        out[k] = Row { entries };
-        k += 1;
-    }
-    out
-}
-
 // The list.
 fn list_in(h: &[u32]) -> Table
     requires { ⌜ IsBlock (now h) ⌝ }
@@ -182,22 +163,14 @@ fn links_in(h: &[u32]) -> Links
     }
 }
 
-// The record.
-fn head_of(h: &[u32]) -> Head
+// The record with nothing heard that has the block's seat and list. No call but hearing and closing looks at what else was heard.
+fn bare_in(h: &[u32]) -> Head
     requires { ⌜ IsBlock (now h) ⌝ }
-    ensures { λ r. ⌜ r ≡ headOf (now (h .entry)) ⌝ }
+    ensures { λ r. ⌜ r ≡ bare (headOf (now (h .entry))) ⌝ }
 {
     let seat = seat_in(h);
     let list = list_in(h);
-    let links = links_in(h);
-    let lists = lists_in(h);
-    Head {
-        seat,
-        heard: h[place::HEARD],
-        list,
-        links,
-        lists,
-    }
+    head_calls::opened(seat, list)
 }
 
 // ---- A record put into a block.
@@ -672,7 +645,7 @@ fn start_in(h: &mut Block, family: Family, n: u32, f: u32, number: u32, position
     ensures { λ r. ⌜ (r ≡ start (headOf (now (h .entry))) family n f number position .refusal)
         × (now (h .exit) ≡ blockAfter (now (h .entry)) (starts family n f number position)) ⌝ }
 {
-    let a = head_calls::start(head_of(h), family, n, f, number, position);
+    let a = head_calls::start(bare_in(h), family, n, f, number, position);
     put_start(h, a)
 }
 
@@ -688,7 +661,7 @@ fn restart_in(
     ensures { λ r. ⌜ (r ≡ restart (headOf (now (h .entry))) family n f number phase round .refusal)
         × (now (h .exit) ≡ blockAfter (now (h .entry)) (restarts family n f number phase round)) ⌝ }
 {
-    let a = head_calls::restart(head_of(h), family, n, f, number, phase, round);
+    let a = head_calls::restart(bare_in(h), family, n, f, number, phase, round);
     put_restart(h, a)
 }
 
@@ -696,7 +669,7 @@ fn start_listener_in(h: &mut Block, family: Family, n: u32, f: u32, number: u32)
     ensures { λ r. ⌜ (r ≡ startListener (headOf (now (h .entry))) family n f number .refusal)
         × (now (h .exit) ≡ blockAfter (now (h .entry)) (startsListener family n f number)) ⌝ }
 {
-    let a = head_calls::start_listener(head_of(h), family, n, f, number);
+    let a = head_calls::start_listener(bare_in(h), family, n, f, number);
     put_start(h, a)
 }
 
@@ -712,7 +685,7 @@ fn restart_listener_in(
     ensures { λ r. ⌜ (r ≡ restartListener (headOf (now (h .entry))) family n f number phase round .refusal)
         × (now (h .exit) ≡ blockAfter (now (h .entry)) (restartsListener family n f number phase round)) ⌝ }
 {
-    let a = head_calls::restart_listener(head_of(h), family, n, f, number, phase, round);
+    let a = head_calls::restart_listener(bare_in(h), family, n, f, number, phase, round);
     put_restart(h, a)
 }
 
@@ -874,7 +847,7 @@ pub extern "C" fn focus_head_adopt(h: &mut Block) -> u8
     ensures { λ r. ⌜ (r ≡ adopt (headOf (now (h .entry))) (offerOf (now (h .entry))) .refusal)
         × (now (h .exit) ≡ blockAfter (now (h .entry)) adopts) ⌝ }
 {
-    let a = head_calls::adopt(head_of(h), offer_in(h));
+    let a = head_calls::adopt(bare_in(h), offer_in(h));
     let b = head_window::after_adopt(a.refusal, beside_in(h));
     put_call(h, a, b)
 }
@@ -900,9 +873,7 @@ pub extern "C" fn focus_head_write(h: &Block, buffer: &mut [u8], length: &mut us
         × (now (buffer .exit) ≡ writeBuffer (headOf (now (h .entry))) (now (buffer .entry)))
         × (now (length .exit) ≡ writtenOr (writeAnswer (headOf (now (h .entry))) (now (buffer .entry))) (now (length .entry))) ⌝ }
 {
-    let seat = seat_in(h); // what a head says is in its seat and its list
-    let list = list_in(h);
-    head_lent::written(head_calls::opened(seat, list), buffer, length)
+    head_lent::written(bare_in(h), buffer, length)
 }
 
 // The position that the head holds: 1, or 0 if it holds none.

@@ -3,8 +3,9 @@ use mathlib.Core.Path.{_∙_}
 use denote.Ref.{now}
 use Rattle.head_spec.specs.Calls.{adopt}
 use Rattle.head_window.specs.Window.{adoptedBeside}
+use Rattle.head_c.specs.Blocks.{headOf, offerOf}
 use Rattle.head_c.specs.Events.{blockAfter}
-use Rattle.head_c.proofs.After.{answered, adopt-opens, opens-as}
+use Rattle.head_c.proofs.After.{answered, adopt-like, adopt-opens, opens-as}
 use borrow.Author.Needs.{needs}
 use Rattle.head_c.proofs.focus_head_adopt.Statement.{statement}
 use Rattle.head_c.proofs.focus_head_adopt.Tie as tie
@@ -23,9 +24,9 @@ returns c =
     let offer = call .before in
     let head = offer .before .before .before in
     let a = head .before .before .before .args in
-    let made = call .adopt .ensures ∙ (λ i. adopt (head .head-of .ensures i) (offer .offer-in .ensures i)) in
-    answered (now (a .h)) (c .put-call .ensures) made
-    (beside .after-adopt .ensures ∙ (λ i. adoptedBeside (made i .refusal) (old .beside-in .ensures i)))
+    let w = now (a .h) in
+    let made = adopt-like w (headOf w) (offerOf w) (call .adopt .ensures ∙ (λ i. adopt (head .bare-in .ensures i) (offer .offer-in .ensures i))) in
+    answered w (c .put-call .ensures) made (beside .after-adopt .ensures ∙ (λ i. adoptedBeside (made .refusal i) (old .beside-in .ensures i)))
 
 pub focus-head-adopt-spec : {M : Type 1} → statement M
 focus-head-adopt-spec =

@@ -1,14 +1,11 @@
 -- A start of the record that the block is, left in the block, with what stands beside it.
-use mathlib.Core.Path.{ap, _∙_}
 use Prim.Native.Nat.{ℕ}
 use mir.Facts.{toZ-ofZ}
 use denote.Ref.{now}
-use Rattle.head_spec.specs.declared.Head.{Head}
-use Rattle.head_spec.specs.Calls.{start}
 use Rattle.head_window.specs.Window.{startedBeside}
-use Rattle.head_c.specs.Blocks.{besideOf}
+use Rattle.head_c.specs.Blocks.{headOf, besideOf}
 use Rattle.head_c.specs.Events.{blockAfter}
-use Rattle.head_c.proofs.After.{answered-by, start-opens, opens-as}
+use Rattle.head_c.proofs.After.{answered-by, start-like, start-opens, opens-as}
 use borrow.Author.Needs.{needs}
 use Rattle.head_c.proofs.start_in.Statement.{statement}
 use Rattle.head_c.proofs.start_in.Tie as tie
@@ -24,7 +21,7 @@ returns c =
     let a = b .args in
     let made = rw (toZ-ofZ (b .fits .position)) at (call .start .ensures) in
     answered-by (now (a .h)) (λ (x : ℕ). startedBeside x (besideOf (now (a .h)))) (c .put-start .ensures)
-    (made ∙ ap (λ (h : Head). start h (a .family) (a .n) (a .f) (a .number) (a .position)) (call .before .head-of .ensures))
+    (start-like (now (a .h)) _ (headOf (now (a .h))) (a .family) (a .n) (a .f) (a .number) (a .position) made)
 
 pub start-in-spec : {M : Type 1} → statement M
 start-in-spec = tie.close (tie.spec (λ c κs. search needs) (λ c κs. search needs) put-start-requires returns)
