@@ -10,7 +10,7 @@ ghost use lib.Seq.{paste};
 ghost use lib.IntN.{pos};
 ghost use Rattle.fields.specs.Bytes.{signedOf, wordOf};
 ghost use Rattle.frame_spec.specs.Said.{collected, listed, confessed, restField, tableIn, saidOf, meant};
-ghost use Rattle.head_spec.specs.Record.{opened, rows};
+ghost use Rattle.head_spec.specs.Record.{opened};
 ghost use Rattle.head_spec.specs.Seats.{familyIn};
 ghost use Rattle.head_spec.specs.Calls.{start, restart, startListener, restartListener, hearEach, answersTo, writeAnswer, writeBuffer, closedCollection, settlingOf, closeIn, close, adopt};
 ghost use Rattle.head_spec.specs.Batch.{isBatch, entriesOf};
@@ -38,12 +38,12 @@ use settle_midpoint::Settled;
 use settle_trust::Links;
 use terms::Entry;
 use terms::Family;
-use terms::Lists;
 use terms::Table;
 use terms::refusal;
 
 pub mod page;
 pub mod place;
+mod settle;
 pub mod window;
 
 // A head as C keeps it: 1,116 words.
@@ -552,22 +552,6 @@ fn hear_entries(h: &mut [u32], batch: &[u8], answers: &mut [u8])
 
 // ---- Closing, on the block itself.
 
-// The lists received, without their marks, as settling takes them.
-fn rows_in(h: &[u32]) -> Lists
-    requires { ⌜ IsBlock (now h) ⌝ }
-    ensures { λ r. ⌜ r ≡ rows (headOf (now (h .entry)) .lists) ⌝ }
-{
-    let zeros = [0i32; 32];
-    let mut out = [zeros; 32];
-    let mut k: usize = 0;
-    while k < 32 {
-        let entries = numbers_in(h, place::LISTS + 32 * k);
-        out[k] = entries;
-        k += 1;
-    }
-    out
-}
-
 // What the end of a phase settles: in a ring of two rounds from the lists, in one of one round from what was heard.
 fn settled_in(h: &[u32]) -> Settled
     requires { ⌜ IsBlock (now h) ⌝ }
@@ -579,8 +563,7 @@ fn settled_in(h: &[u32]) -> Settled
     match family {
         Family::TwoRounds => {
             let links = links_in(h);
-            let lists = rows_in(h);
-            settle_position::settle_by(&lists, links, 0, seat.n, seat.f, up)
+            settle::settle_lists(h, links, seat.n, seat.f, up)
         }
         Family::OneRound => {
             let list = list_in(h);

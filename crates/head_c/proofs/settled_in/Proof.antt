@@ -20,6 +20,7 @@ use Rattle.head_spec.specs.Record.{rows}
 use Rattle.head_spec.specs.Calls.{settlingOf}
 use Rattle.head_spec.proofs.RoundEnd.{settles-by}
 use Rattle.head_c.specs.Blocks.{headOf}
+use Rattle.head_c.proofs.Rows.{rows-are}
 use borrow.Author.Needs.{needs}
 use Rattle.head_c.proofs.settled_in.Statement.{statement}
 use Rattle.head_c.proofs.settled_in.Tie as tie
@@ -43,13 +44,12 @@ module _ (h : Head) {s : Seat} {r : ℕ} {a : Settled} (p : s ≡ h .seat) (e : 
 returns : tie.Need-returns
 unfolding headOf
 returns c =
-    let rows = c .before .before in
-    let links = rows .before in
+    let links = c .before in
     let m = links .before in
     let up = m .before .before in
     let seat = up .before in
     let w = now (seat .before .before .args .h) in
-    from-lists (headOf w) (seat .seat-in .ensures) (up .rounds-up .ensures) (m .enum-told .given .1) (links .links-in .ensures) (rows .rows-in .ensures) (c .settle-by .ensures)
+    from-lists (headOf w) (seat .seat-in .ensures) (up .rounds-up .ensures) (m .enum-told .given .1) (links .links-in .ensures) (sym (rows-are w)) (c .settle-lists .ensures)
 
 returns-2 : tie.Need-returns-2
 unfolding headOf
@@ -68,7 +68,6 @@ settled-in-spec =
     (λ c κs. search needs)
     (λ c κs. search needs)
     (λ c. search needs)
-    (λ c κs. search needs)
     (λ c κs. search needs)
     (λ c κs. search needs)
     (λ c. search needs)
