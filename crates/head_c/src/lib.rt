@@ -278,13 +278,13 @@ fn put_seat(h: &mut [u32], s: Seat)
     h[place::SINCE] = s.since as u32;
 }
 
-// Clears what the links gave.
+// Clears what the links gave: who confessed, who gave a list, and the mark words. A list that no link gave is no part of the record, so the lists stay.
 fn clear_links(h: &mut [u32])
     requires { ⌜ IsBlock (now h) ⌝ }
-    ensures { λ _. ⌜ now (h .exit) ≡ paste (now (h .entry)) place.confessed (upTo 1058 (λ _. 0)) 1058 ⌝ }
+    ensures { λ _. ⌜ now (h .exit) ≡ paste (now (h .entry)) place.confessed (upTo 34 (λ _. 0)) 34 ⌝ }
 {
     let mut j: usize = 0;
-    while j < 1058 {
+    while j < 34 {
         h[place::CONFESSED + j] = 0;
         j += 1;
     }
