@@ -2,22 +2,24 @@
 -- where the last one ended.
 use mathlib.Core.Path.{_≡_, refl, ap, sym, _∙_}
 use mathlib.Core.List.{List, [], _∷_, _++_, append-assoc}
-use Prim.Native.Nat.{ℕ, suc, _+_, _≤_, _<_}
+use Prim.Native.Nat.{ℕ, zero, suc, _+_, _≤_, _<_}
 use native.Mathlib.Omega.{arith}
-use lib.ListN.{length, getD, set, take, drop, length-append, length-drop, take-append-drop}
+use lib.ListN.{length, getD, set, take, drop, length-append, length-drop, length-set, take-append-drop}
 use lib.ListN.{replicate, length-replicate, getD-replicate}
-use lib.Seq.{take-at, take-all, take-suc-set, drop-set-lt, drop-drop, drop-append-le, drop-append-add, append-snoc, length-take-le, length-slice}
+use lib.Seq.{take-at, take-all, take-suc-set, drop-set-lt, drop-drop, drop-append-le, drop-append-add, append-snoc, length-take-le, length-slice, length-paste, getD-set-other}
 use lib.Seq.{sets, sets-eq, paste, slice}
 use lib.IntN.{ℤ, pos}
 use Rattle.fields.specs.Bytes.{wordOf}
+use Rattle.fields.proofs.Bytes.{word-back}
 use Rattle.terms.specs.declared.Table.{Table}
 use Rattle.convergence.specs.Counting.{bit}
 use Rattle.head_spec.specs.declared.Seat.{Seat}
 use Rattle.head_spec.specs.declared.Head.{Head}
 use Rattle.head_spec.specs.Record.{noLinks, opened}
 use Rattle.head_lent.specs.Answers.{heldNumber, heldOr, rangeNumber}
-use Rattle.head_c.specs.Blocks.{IsBlock, upTo, wordsOf, keptOf, familyNumber, seatWords, withHead}
-use Rattle.head_c.proofs.Copying.{upTo-long, upTo-at, upTo-list}
+use Rattle.head_c.specs.Blocks.{IsBlock, upTo, numbersAt, wordsOf, keptOf, familyNumber, seatWords, withHead}
+use Rattle.head_c.proofs.Copying.{upTo-long, upTo-at, upTo-list, copied-behind, copied-same}
+use Rattle.head_c.proofs.Reading.{number-at}
 
 -- ---- the words of numbers
 
@@ -115,3 +117,35 @@ put-record s t w block {w₁} {w₂} {w₃} a b c =
     c
     ∙ rw b′ (on-paste w y 58 (second-long h w block) (blank 34) 34 (upTo-long 34 _) (omega arith))
     ∙ ap (λ (l : List ℕ). y ++ l ++ drop 92 w) (sym no-links)
+
+-- the same of a record whose list stands: its words are no others
+pub put-round : (s : Seat) (w : List ℕ) → IsBlock w → ((i : ℕ) → getD w i 0 < 4294967296) → {w₁ w₃ : List ℕ} → w₁ ≡ paste w 0 (seatWords s) 16
+    → w₃ ≡ paste (set w₁ 24 0) 58 (blank 34) 34 → w₃ ≡ withHead (opened s (record { marks = getD w 25 0; entries = numbersAt w 26 })) w
+put-round s w block small {w₁} {w₃} a c = put-record s t w block a (sym stands) c
+  where
+    t : Table
+    t = record { marks = getD w 25 0; entries = numbersAt w 26 }
+
+    long : length w₁ ≡ 1116
+    long = ap length a ∙ length-paste w 0 (seatWords s) 16 (omega arith) (omega arith) ∙ block
+
+    behind : (i : ℕ) → 25 ≤ i → getD (set w₁ 24 0) i 0 ≡ getD w i 0
+    behind i l =
+        getD-set-other w₁ 24 i 0 0 (omega arith)
+        ∙ ap (λ (v : List ℕ). getD v i 0) a
+        ∙ copied-behind w (seatWords s) 0 16 0 refl (omega arith) i (omega arith)
+
+    at-j : (j : ℕ) → j < 33 → getD (t .marks ∷ wordsOf (t .entries)) j 0 ≡ getD (set w₁ 24 0) (25 + j) 0
+    at-j zero l = sym (behind 25 (omega arith))
+    at-j (suc j) l =
+        let m : j < 32 = omega arith in
+        let e : 25 + suc j ≡ 26 + j = omega arith in
+        word-at (numbersAt w 26) j m
+        ∙ ap wordOf (number-at w 26 j m)
+        ∙ word-back (getD w (26 + j) 0) (small (26 + j))
+        ∙ sym (ap (λ (i : ℕ). getD (set w₁ 24 0) i 0) e ∙ behind (26 + j) (omega arith))
+
+    stands : paste (set w₁ 24 0) 25 (t .marks ∷ wordsOf (t .entries)) 33 ≡ set w₁ 24 0
+    stands =
+        copied-same (set w₁ 24 0) (t .marks ∷ wordsOf (t .entries)) 25 33 0 (omega (arith, words-long (t .entries)))
+        (omega (arith, long, length-set w₁ 24 0)) at-j

@@ -572,14 +572,15 @@ fn settled_in(h: &[u32]) -> Settled
     }
 }
 
-// Closes a collection round: the list stands.
+// Closes a collection round: the list stands, in its words too.
 fn close_collection(h: &mut [u32])
     requires { ⌜ IsBlock (now h) ⌝ }
     ensures { λ _. ⌜ now (h .exit) ≡ withHead (closedCollection (headOf (now (h .entry)))) (now (h .entry)) ⌝ }
 {
     let seat = seat_in(h);
-    let list = list_in(h);
-    put_opened(h, head_calls::confession_seat(seat), list);
+    put_seat(h, head_calls::confession_seat(seat));
+    h[place::HEARD] = 0;
+    clear_links(h);
 }
 
 // Closes the last round of a phase: what it settles is offered.
