@@ -10,23 +10,23 @@ ghost use lib.Seq.{paste};
 ghost use lib.IntN.{pos};
 ghost use Rattle.fields.specs.Bytes.{signedOf, wordOf};
 ghost use Rattle.frame_spec.specs.Said.{collected, listed, confessed, restField, tableIn, saidOf, meant};
-ghost use Rattle.head_spec.specs.Record.{opened};
-ghost use Rattle.head_spec.specs.Seats.{familyIn};
+ghost use Rattle.head_spec.specs.Record.{noEntries, opened};
+ghost use Rattle.terms.specs.Refusals.{leaves};
+ghost use Rattle.head_spec.specs.Seats.{familyIn, healedSeat};
+ghost use Rattle.head_calls.specs.Steps.{openingSeat};
 ghost use Rattle.head_spec.specs.Calls.{start, restart, startListener, restartListener, hearEach, answersTo, writeAnswer, writeBuffer, closedCollection, settlingOf, closeIn, close, adopt};
 ghost use Rattle.head_spec.specs.Batch.{isBatch, entriesOf};
 ghost use Rattle.head_hear.specs.Steps.{linkRefusal, saidOn};
 ghost use Rattle.head_lent.specs.Answers.{closedNumber, writtenNumber, writtenOr, heldNumber, heldOr, rangeNumber, rangeOr, offerNumber, offerOr};
 ghost use Rattle.head_spec.specs.declared.Offer.{Offer};
 ghost use Rattle.terms.specs.declared.Family.the-variants.{TwoRounds, OneRound};
-ghost use Rattle.head_window.specs.Window.{startedBeside, restartedBeside};
 ghost use Rattle.head_c.specs.Places as place;
 ghost use Rattle.head_c.specs.Blocks.{IsBlock, upTo, entryIn, rangeIn, numbersAt, seatOf, headOf};
-ghost use Rattle.head_c.specs.Blocks.{wordsOf, keptOf, familyNumber, seatWords, withHead, withAnswer, besideOf, withBeside, offerOf, withOffer, withoutOffer};
+ghost use Rattle.head_c.specs.Blocks.{wordsOf, keptOf, familyNumber, seatWords, withHead, besideOf, withBeside, offerOf, withOffer, withoutOffer};
 ghost use Rattle.head_c.specs.Blocks.{marked, heardOn, changed, Hears, heardEach, HearsBatch};
 ghost use Rattle.head_c.specs.Events.{starts, restarts, startsListener, restartsListener, closes, adopts, blockAfter};
 ghost use Rattle.head_c.specs.Steps.{numberOf, bare, ClosesIn};
 use frame_spec::Said;
-use head_spec::Answer;
 use head_spec::Closed;
 use head_spec::Head;
 use head_spec::LastKept;
@@ -301,20 +301,6 @@ fn put_opened(h: &mut [u32], seat: Seat, list: Table)
     clear_links(h);
 }
 
-// Leaves what a call answers in the block, and gives its number. A record that a call makes has nothing heard.
-fn put_answer(h: &mut [u32], a: Answer) -> u8
-    requires { ⌜ IsBlock (now h) × (a .refusal ≡ 0 → a .head ≡ opened (a .head .seat) (a .head .list)) ⌝ }
-    ensures { λ r. ⌜ (r ≡ a .refusal) × (now (h .exit) ≡ withAnswer (now (h .entry)) a) ⌝ }
-{
-    if a.refusal == 0 {
-        let head = a.head;
-        let seat = head.seat;
-        let list = head.list;
-        put_opened(h, seat, list);
-    }
-    a.refusal
-}
-
 // ---- What stands beside the head.
 
 fn beside_in(h: &[u32]) -> Beside
@@ -333,18 +319,6 @@ fn put_beside(h: &mut [u32], b: Beside)
 {
     h[place::EVENTS] = b.events;
     h[place::MASK] = b.mask;
-}
-
-// Leaves what a start, a restart or an adoption answers in the block, and what stands beside the head after it, and gives its number. It ends an offer, unless it is
-// refused.
-fn put_call(h: &mut [u32], a: Answer, b: Beside) -> u8
-    requires { ⌜ IsBlock (now h) × (a .refusal ≡ 0 → a .head ≡ opened (a .head .seat) (a .head .list)) ⌝ }
-    ensures { λ r. ⌜ (r ≡ a .refusal) × (now (h .exit) ≡ withoutOffer (a .refusal) (withBeside b (withAnswer (now (h .entry)) a))) ⌝ }
-{
-    let number = put_answer(h, a);
-    put_beside(h, b);
-    end_offer(h, number);
-    number
 }
 
 // ---- The offer beside it.
@@ -385,24 +359,24 @@ fn end_offer(h: &mut [u32], number: u8)
     }
 }
 
-// Leaves what a start answers: what stood beside the head is cleared, unless it is refused.
-fn put_start(h: &mut [u32], a: Answer) -> u8
-    requires { ⌜ IsBlock (now h) × (a .refusal ≡ 0 → a .head ≡ opened (a .head .seat) (a .head .list)) ⌝ }
-    ensures { λ r. ⌜ (r ≡ a .refusal)
-        × (now (h .exit) ≡ withoutOffer (a .refusal) (withBeside (startedBeside (a .refusal) (besideOf (now (h .entry)))) (withAnswer (now (h .entry)) a))) ⌝ }
+// Puts a record with nothing heard and no entries, in this seat, if the number is 0.
+fn put_seated(h: &mut [u32], number: u8, seat: Seat)
+    requires { ⌜ IsBlock (now h) ⌝ }
+    ensures { λ _. ⌜ now (h .exit) ≡ leaves number (withHead (opened seat noEntries) (now (h .entry))) (now (h .entry)) ⌝ }
 {
-    let b = head_window::after_start(a.refusal, beside_in(h));
-    put_call(h, a, b)
+    if number == 0 {
+        put_opened(h, seat, head_calls::no_entries());
+    }
 }
 
-// Leaves what a restart answers: its event stands beside the head, unless it is refused.
-fn put_restart(h: &mut [u32], a: Answer) -> u8
-    requires { ⌜ IsBlock (now h) × (a .refusal ≡ 0 → a .head ≡ opened (a .head .seat) (a .head .list)) ⌝ }
-    ensures { λ r. ⌜ (r ≡ a .refusal)
-        × (now (h .exit) ≡ withoutOffer (a .refusal) (withBeside (restartedBeside (a .refusal) (besideOf (now (h .entry)))) (withAnswer (now (h .entry)) a))) ⌝ }
+// Leaves what a start, a restart or an adoption makes that answers this number: the record, what stands beside the head, and no offer.
+fn put_fresh(h: &mut [u32], number: u8, seat: Seat, b: Beside)
+    requires { ⌜ IsBlock (now h) ⌝ }
+    ensures { λ _. ⌜ now (h .exit) ≡ withoutOffer number (withBeside b (leaves number (withHead (opened seat noEntries) (now (h .entry))) (now (h .entry)))) ⌝ }
 {
-    let b = head_window::after_restart(a.refusal, beside_in(h));
-    put_call(h, a, b)
+    put_seated(h, number, seat);
+    put_beside(h, b);
+    end_offer(h, number);
 }
 
 // ---- What hearing changes.
@@ -579,7 +553,7 @@ fn close_collection(h: &mut [u32])
 {
     let seat = seat_in(h);
     put_seat(h, head_calls::confession_seat(seat));
-    h[place::HEARD] = 0;
+    h[place::HEARD] = 0; // of the next round
     clear_links(h);
 }
 
@@ -625,12 +599,43 @@ fn closed_number(c: Closed) -> u8
 
 // ---- Starts and restarts in a ring of either family, left in the block.
 
+// The seat of a start whose checks pass.
+fn first_seat(family: Family, n: u32, f: u32, number: u32, held: Entry) -> Seat
+    ensures { λ r. ⌜ r ≡ openingSeat family (n % 256) (f % 256) (number % 256) held ⌝ }
+{
+    head_calls::opening_seat(
+        family,
+        (n % 256) as u8,
+        (f % 256) as u8,
+        (number % 256) as u8,
+        held,
+    )
+}
+
+// The seat of a restart whose checks pass.
+fn restart_seat(family: Family, n: u32, f: u32, number: u32, phase: u32, round: u32) -> Seat
+    ensures { λ r. ⌜ r ≡ healedSeat family (n % 256) (f % 256) (number % 256) (phase % 65536) (round % 256) ⌝ }
+{
+    head_calls::healed_seat(
+        family,
+        (n % 256) as u8,
+        (f % 256) as u8,
+        (number % 256) as u8,
+        (phase % 65536) as u16,
+        (round % 256) as u8,
+    )
+}
+
 fn start_in(h: &mut Block, family: Family, n: u32, f: u32, number: u32, position: i32) -> u8
     ensures { λ r. ⌜ (r ≡ start (headOf (now (h .entry))) family n f number position .refusal)
         × (now (h .exit) ≡ blockAfter (now (h .entry)) (starts family n f number position)) ⌝ }
 {
-    let a = head_calls::start(bare_in(h), family, n, f, number, position);
-    put_start(h, a)
+    let last = head_calls::check(steps::is_position(position), refusal::POSITION, 0);
+    let refused = head_calls::member_refusal(family, false, n, f, number, last);
+    let seat = first_seat(family, n, f, number, Entry::Position(position));
+    let b = head_window::after_start(refused, beside_in(h)); // a start clears both
+    put_fresh(h, refused, seat, b);
+    refused
 }
 
 fn restart_in(
@@ -645,16 +650,23 @@ fn restart_in(
     ensures { λ r. ⌜ (r ≡ restart (headOf (now (h .entry))) family n f number phase round .refusal)
         × (now (h .exit) ≡ blockAfter (now (h .entry)) (restarts family n f number phase round)) ⌝ }
 {
-    let a = head_calls::restart(bare_in(h), family, n, f, number, phase, round);
-    put_restart(h, a)
+    let last = head_calls::check(head_calls::is_time(family, phase, round), refusal::PHASE, 0);
+    let refused = head_calls::member_refusal(family, false, n, f, number, last);
+    let seat = restart_seat(family, n, f, number, phase, round);
+    let b = head_window::after_restart(refused, beside_in(h));
+    put_fresh(h, refused, seat, b);
+    refused
 }
 
 fn start_listener_in(h: &mut Block, family: Family, n: u32, f: u32, number: u32) -> u8
     ensures { λ r. ⌜ (r ≡ startListener (headOf (now (h .entry))) family n f number .refusal)
         × (now (h .exit) ≡ blockAfter (now (h .entry)) (startsListener family n f number)) ⌝ }
 {
-    let a = head_calls::start_listener(bare_in(h), family, n, f, number);
-    put_start(h, a)
+    let refused = head_calls::member_refusal(family, true, n, f, number, 0);
+    let seat = first_seat(family, n, f, number, Entry::Null);
+    let b = head_window::after_start(refused, beside_in(h));
+    put_fresh(h, refused, seat, b);
+    refused
 }
 
 fn restart_listener_in(
@@ -669,8 +681,12 @@ fn restart_listener_in(
     ensures { λ r. ⌜ (r ≡ restartListener (headOf (now (h .entry))) family n f number phase round .refusal)
         × (now (h .exit) ≡ blockAfter (now (h .entry)) (restartsListener family n f number phase round)) ⌝ }
 {
-    let a = head_calls::restart_listener(bare_in(h), family, n, f, number, phase, round);
-    put_restart(h, a)
+    let last = head_calls::check(head_calls::is_time(family, phase, round), refusal::PHASE, 0);
+    let refused = head_calls::member_refusal(family, true, n, f, number, last);
+    let seat = restart_seat(family, n, f, number, phase, round);
+    let b = head_window::after_restart(refused, beside_in(h)); // a restart sets its event
+    put_fresh(h, refused, seat, b);
+    refused
 }
 
 // ---- The calls.
@@ -831,9 +847,18 @@ pub extern "C" fn focus_head_adopt(h: &mut Block) -> u8
     ensures { λ r. ⌜ (r ≡ adopt (headOf (now (h .entry))) (offerOf (now (h .entry))) .refusal)
         × (now (h .exit) ≡ blockAfter (now (h .entry)) adopts) ⌝ }
 {
-    let a = head_calls::adopt(bare_in(h), offer_in(h));
-    let b = head_window::after_adopt(a.refusal, beside_in(h));
-    put_call(h, a, b)
+    match offer_in(h) {
+        Offer::Nothing => refusal::NO_OFFER,
+        Offer::Standing(kept) => {
+            let seat = seat_in(h);
+            if seat.ended {
+                return refusal::ENDED;
+            }
+            let b = head_window::after_adopt(0, beside_in(h));
+            put_fresh(h, 0, head_calls::next_seat(seat, kept), b);
+            0
+        }
+    }
 }
 
 // What is offered, where it was lent: the lowest kept entry, the highest, the trim and the position. 1, or 0 if no offer stands.
