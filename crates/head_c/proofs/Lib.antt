@@ -13,6 +13,7 @@ pub mod Beside
 pub mod Lapsing
 pub mod Events
 pub mod Refused
+pub mod Strike
 pub mod Closing
 pub mod Made
 pub mod Pages
