@@ -85,8 +85,8 @@ fn cell_at(h: &[u32], k: usize, m: u32, j: usize) -> u64
 
 // The cells of entry j of the first n lists.
 fn column_in(h: &[u32], marks: &Words, n: usize, j: usize, cells: &mut [u64; 32])
-    requires { ⌜ IsBlock (now h) × (n ≤ 32) × (j < 32) × (n ≤ length (now cells)) ⌝ }
-    ensures { λ _. ⌜ HoldsEach n (now (cells .exit)) (columnOf (now (marks .entry)) (rowsIn (now (h .entry))) j) ⌝ }
+    requires { ⌜ IsBlock (now h) × (n ≤ 32) × (j < 32) × (length (now cells) ≡ 32) ⌝ }
+    ensures { λ _. ⌜ (length (now (cells .exit)) ≡ 32) × HoldsEach n (now (cells .exit)) (columnOf (now (marks .entry)) (rowsIn (now (h .entry))) j) ⌝ }
 {
     let mut k: usize = 0;
     while k < n {
@@ -95,20 +95,35 @@ fn column_in(h: &[u32], marks: &Words, n: usize, j: usize, cells: &mut [u64; 32]
     }
 }
 
-// The cell of the entry that the first n lists decide.
-fn search_in(h: &[u32], marks: &Words, n: usize, need: usize, j: usize) -> u64
-    requires { ⌜ IsBlock (now h) × (n ≤ 32) × (j < 32) ⌝ }
-    ensures { λ r. ⌜ CellOf r (decided false n need (columnOf (now (marks .entry)) (rowsIn (now (h .entry))) j)) ⌝ }
+// The cell of the entry that the first n lists decide; `cells` is room to work in.
+fn search_in(
+    h: &[u32],
+    marks: &Words,
+    n: usize,
+    need: usize,
+    j: usize,
+    cells: &mut [u64; 32],
+) -> u64
+    requires { ⌜ IsBlock (now h) × (n ≤ 32) × (j < 32) × (length (now cells) ≡ 32) ⌝ }
+    ensures { λ r. ⌜ (length (now (cells .exit)) ≡ 32) × CellOf r (decided false n need (columnOf (now (marks .entry)) (rowsIn (now (h .entry))) j)) ⌝ }
 {
-    let mut cells = [0u64; 32];
-    column_in(h, marks, n, j, &mut cells);
-    settle_trust::agreed_cell(&cells, n, need)
+    column_in(h, marks, n, j, cells);
+    settle_trust::agreed_cell(cells, n, need)
 }
 
 // The cell of trusted entry j: from the reference alone if that decides, else by a search of the lists.
-fn cell_in(h: &[u32], marks: &Words, reference: usize, same: &Words, d: Deciding, j: usize) -> u64
-    requires { ⌜ IsBlock (now h) × (reference < 32) × (j < 32) × (d .count ≤ 32) ⌝ }
-    ensures { λ r. ⌜ ((E : ℕ → Entry) → Prepared E (rowsIn (now (h .entry))) (now (marks .entry)) (getD (rowsIn (now (h .entry))) reference []) (now (same .entry)) d
+fn cell_in(
+    h: &[u32],
+    marks: &Words,
+    reference: usize,
+    same: &Words,
+    d: Deciding,
+    j: usize,
+    cells: &mut [u64; 32],
+) -> u64
+    requires { ⌜ IsBlock (now h) × (reference < 32) × (j < 32) × (d .count ≤ 32) × (length (now cells) ≡ 32) ⌝ }
+    ensures { λ r. ⌜ (length (now (cells .exit)) ≡ 32)
+        × ((E : ℕ → Entry) → Prepared E (rowsIn (now (h .entry))) (now (marks .entry)) (getD (rowsIn (now (h .entry))) reference []) (now (same .entry)) d
         → CellOf r (E j)) ⌝ }
 {
     if marks::marked(d.confessed, j) {
@@ -121,7 +136,7 @@ fn cell_in(h: &[u32], marks: &Words, reference: usize, same: &Words, d: Deciding
     if settle_position::lacks(x, d.need, d.alike, d.apart, same[j]) {
         return 0;
     }
-    search_in(h, marks, d.count as usize, d.need as usize, j)
+    search_in(h, marks, d.count as usize, d.need as usize, j, cells)
 }
 
 // The new position from the lists in the block, with the first link that gave one as reference; `up`: whether an odd sum is rounded up.
@@ -142,11 +157,12 @@ pub fn settle_lists(h: &[u32], links: Links, n: u8, f: u8, up: bool) -> Settled
         alike: compared.alike,
         apart: compared.apart,
     };
+    let mut cells = [0u64; 32];
     let mut positions = [0i32; 32];
     let mut len: usize = 0;
     let mut j: usize = 0;
     while j < count {
-        let x = cell_in(h, &marks, first, &same, d, j);
+        let x = cell_in(h, &marks, first, &same, d, j, &mut cells);
         len = settle_midpoint::place(settle_trust::entry_of(x), &mut positions, len);
         j += 1;
     }

@@ -1,4 +1,5 @@
 -- After k turns the first k cells hold what the first k lists say of head j.
+use mathlib.Core.Path.{_≡_}
 use Prim.Native.Nat.{_-_, _≤_}
 use native.Mathlib.Omega.{arith}
 use denote.Ref.{now}
@@ -11,7 +12,7 @@ use Rattle.head_c.proofs.settle.column_in.Statement.{statement}
 use Rattle.head_c.proofs.settle.column_in.Tie as tie
 
 abbrev Inv-loop : tie.InvT-loop
-Inv-loop h marks n j cells₀ k₀ cells k = (k ≤ n) × (n ≤ length cells) × HoldsEach k cells (columnOf marks (rowsIn h) j)
+Inv-loop h marks n j cells₀ k₀ cells k = (k ≤ n) × (length cells ≡ 32) × HoldsEach k cells (columnOf marks (rowsIn h) j)
 
 abbrev μ-loop : tie.MeasureT-loop
 μ-loop h marks n j cells₀ k₀ cells k = n - k
@@ -29,7 +30,7 @@ loop-again c =
     )
 
 returns : tie.Need-returns Inv-loop μ-loop
-returns c = λ i h. c .before .loop .inv .2 i (omega arith)
+returns c = (c .before .loop .inv .1, λ i h. c .before .loop .inv .2 i (omega arith))
 
 pub column-in-spec : {M : Type 1} → statement M
 column-in-spec =

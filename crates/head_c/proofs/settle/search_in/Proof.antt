@@ -12,7 +12,8 @@ returns c =
     let s = c .before .before .before .before .before in
     let few = min-eq-left (s .pre .1) in
     let E = columnOf (now (s .args .marks)) (rowsIn (now (s .args .h))) (s .args .j) in
-    rw few at (c .agreed-cell .ensures E (rw few (c .before .before .column-in .ensures)))
+    let column = c .before .before .column-in .ensures in
+    (column .0, rw few at (c .agreed-cell .ensures E (rw few (column .1))))
 
 pub search-in-spec : {M : Type 1} → statement M
 search-in-spec = tie.close (tie.spec (λ c κs. search needs) (λ c κs. search needs) returns)
