@@ -102,7 +102,7 @@ FOCUS_MUST_USE uint32_t focus_version(void);
 #define FOCUS_SINCE_MAX 255     /* where the count of phase ends rests */
 
 /* Bytes of stack that a call may take. */
-#define FOCUS_STACK 4096
+#define FOCUS_STACK 2048
 #define FOCUS_STACK_PLAY 262144
 
 /* The rounds of a phase; a one-round ring has the first alone. */
