@@ -627,6 +627,7 @@ static void frames(void) {
 }
 
 int main(void) {
+    same("the library's version", focus_version(), FOCUS_VERSION);
     for (int faults = 0; faults < FAULTS; faults++)
         for (int null_entry = 0; null_entry < 2; null_entry++) {
             int impossible = faults & HEADS && faults & MARK && faults & RANGE; /* a count of 0 has no entries */

@@ -26,6 +26,7 @@ static void start(struct ring *r, int once, uint32_t n, uint32_t f, const int32_
 }
 
 static void restart(struct ring *r, uint32_t i) {
+    focus_head_window_reset(&r->heads[i], FOCUS_EVENT_TOO_FEW); /* the strike took events and mask too */
     if (i < 32)
         same("restart", (r->once ? focus_one_round_restart : focus_head_restart)(&r->heads[i], r->n, r->f, i, r->phase, r->round), 0);
     else

@@ -80,7 +80,9 @@ static void host_page(void) { number = focus_host_page(heads[0].opaque, sizeof h
 static void reads_register(void) { number = focus_head_register(heads, 6, &byte); }
 static void reads_window(void) { focus_head_window(heads, window); }
 static void sets_register(void) { number = focus_head_set_register(heads, FOCUS_WINDOW_MASK, 7); }
+static void resets_window(void) { focus_head_window_reset(heads, 7); }
 static void line(void) { number = focus_head_interrupt(heads); }
+static void version(void) { number = (uint8_t)focus_version(); }
 
 static uint8_t *file, *out;
 static int32_t *rows;
@@ -149,6 +151,7 @@ static void without_heads(void) {
     taken("focus_one_round_reach", one_reach);
     taken("focus_scale", scale);
     taken("focus_unscale", unscale);
+    answers_only("focus_version", version);
 }
 
 static void of_a_head(void) {
@@ -185,6 +188,7 @@ static void of_a_head(void) {
     answers_only("focus_head_register", reads_register);
     answers_only("focus_head_window", reads_window);
     taken("focus_head_set_register", sets_register);
+    answers_only("focus_head_window_reset", resets_window);
     answers_only("focus_head_interrupt", line);
 }
 

@@ -143,6 +143,17 @@ static void restarted(focus_head *head, struct seen *now, uint32_t phase, uint32
     shows(head, *now);
 }
 
+/* A strike takes the block, and with it what stands beside the head. The host writes the window anew, and restarts the head: only that is pending. */
+static void struck(focus_head *head, struct seen *now, uint8_t mask, uint32_t phase, uint32_t round) {
+    for (int left = 0; left < 256; left++) {
+        tried = left;
+        memset(head, left, sizeof *head);
+        focus_head_window_reset(head, mask | 0xf8);
+        now->events = 0, now->mask = mask;
+        restarted(head, now, phase, round);
+    }
+}
+
 int main(void) {
     static focus_head head;
     shows(&head, (struct seen){0, 0, 0, 0, 0, 0, 0, 0});
@@ -169,7 +180,7 @@ int main(void) {
         same("refusal 25", served(&head, &now), TOO_FEW);
     }
 
-    /* a strike takes the head's memory; events and mask are what they were when it is over */
+    /* a restart keeps events and mask, where no strike took them */
     masks(&head, &now, STRIKE_OVER | TOO_FEW);
     restarted(&head, &now, 513, 0);
     refused(&head, now);
@@ -177,7 +188,7 @@ int main(void) {
     same("no position is held", now.status & HELD, 0);
     confessed(&head, &now, 77);
     same("a strike over and a phase end", served(&head, &now), STRIKE_OVER | PHASE_END);
-    restarted(&head, &now, 65535, 1);
+    struck(&head, &now, STRIKE_OVER, 65535, 1);
     same("a strike over", served(&head, &now), STRIKE_OVER);
 
     /* the last phase: phase and round stay, and refusal 26 is no event */

@@ -8,7 +8,7 @@
  *                           a round    focus_head_write to send; focus_head_hear for each link, or focus_head_hear_batch for all;
  *                                      focus_head_close
  *                           phase end  focus_head_close offers, focus_head_offer shows it, focus_head_adopt takes it
- *                           strikes    focus_head_restart, focus_listener_restart, focus_one_round_restart,
+ *                           strikes    focus_head_window_reset, then focus_head_restart, focus_listener_restart, focus_one_round_restart or
  *                                      focus_one_round_listener_restart
  *   what a head holds       numbers    focus_head_position, focus_head_kept, focus_head_since
  *                           floats     focus_head_reading; focus_host_page for n heads, as text
@@ -19,10 +19,12 @@
  *                           the scale  focus_scale, focus_unscale
  *   a run file              playing    focus_play
  *   an answer               in words   focus_refusal_text
+ *   the library             version    focus_version
  *
- * Each function returns 0 (FOCUS_OK), or the number of the refusal, and puts a result where the caller lends room for it. Six answer
+ * Each function returns 0 (FOCUS_OK), or the number of the refusal, and puts a result where the caller lends room for it. Seven answer
  * otherwise, and refuse nothing: focus_head_offer, focus_head_position and focus_head_kept 1 if there is one and 0 if there is none,
- * focus_head_interrupt 1 if the line is up, focus_head_since a count, focus_head_reading a kind. focus_head_window returns nothing.
+ * focus_head_interrupt 1 if the line is up, focus_head_since a count, focus_head_reading a kind, focus_version a version.
+ * focus_head_window and focus_head_window_reset return nothing.
  *
  * If a call has several faults, the first check that fails decides, in the order given at each call. A refusal writes nothing, but
  * for the event that a closing refused 25 leaves in the head's window. No function keeps a pointer, allocates, or changes the bytes
@@ -81,8 +83,12 @@ extern "C" {
 /* Which interface this is. 1.14 has document 01, and of document 02 A1 to A14. A later one with the same first number has all of it. */
 #define FOCUS_VERSION_MAJOR 1
 #define FOCUS_VERSION_MINOR 14
-#define FOCUS_VERSION_PATCH 0
-#define FOCUS_VERSION_TEXT "1.14.0"
+#define FOCUS_VERSION_PATCH 1
+#define FOCUS_VERSION_TEXT "1.14.1"
+#define FOCUS_VERSION (FOCUS_VERSION_MAJOR * 10000 + FOCUS_VERSION_MINOR * 100 + FOCUS_VERSION_PATCH)
+
+/* No refusal: the version of the library that is linked, as FOCUS_VERSION is that of the header. */
+FOCUS_MUST_USE uint32_t focus_version(void);
 
 /* Limits: heads are numbered from 0, listeners from 32; positions are whole steps; phases are numbered from 1. */
 #define FOCUS_HEADS_MAX 32
@@ -96,7 +102,7 @@ extern "C" {
 #define FOCUS_SINCE_MAX 255     /* where the count of phase ends rests */
 
 /* Bytes of stack that a call may take. */
-#define FOCUS_STACK 16384
+#define FOCUS_STACK 2048
 #define FOCUS_STACK_PLAY 262144
 
 /* The rounds of a phase; a one-round ring has the first alone. */
@@ -326,7 +332,7 @@ FOCUS_MUST_USE uint8_t focus_head_start(focus_head *head, uint32_t n, uint32_t f
 
 /* Restarts a head whose strike is over, in the phase and round (0 collection, 1 confession) that are told it, with no
  * position. Sets the event of a strike that is over. Events and mask stay as they are in the block: after a strike that took
- * its memory, write 3 to byte 10 of the window, which clears the other two events, and the mask to byte 11.
+ * its memory, call focus_head_window_reset first.
  * Refusals 1, 2, 3, 5. */
 FOCUS_MUST_USE uint8_t focus_head_restart(focus_head *head, uint32_t n, uint32_t f, uint32_t number, uint32_t phase,
                                           uint32_t round);
@@ -485,6 +491,11 @@ void focus_head_window(const focus_head *head, uint8_t bytes[FOCUS_WINDOW_BYTES]
 /* Writes a byte of the window: byte 10 clears the events written as one, byte 11 sets the mask to its low three bits.
  * Refusal 16 at every other address. */
 FOCUS_MUST_USE uint8_t focus_head_set_register(focus_head *head, uint32_t address, uint8_t byte);
+
+/* No refusal. After a strike, which may have left anything in the block: clears all events and sets the mask to the low three
+ * bits of mask, as a write of 7 to byte 10 and one of mask to byte 11 do. A restart that follows sets its event, and no other is
+ * pending: `AfterStrike` (crates/head_c/specs/Events.antt). */
+void focus_head_window_reset(focus_head *head, uint8_t mask);
 
 /* No refusal: 1 if the interrupt line is up, that is, if a pending event is also in the mask, else 0. */
 FOCUS_MUST_USE uint8_t focus_head_interrupt(const focus_head *head);

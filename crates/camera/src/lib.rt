@@ -7,6 +7,7 @@ ghost use Rattle.frame_check.specs.Check.{frameRefusal};
 ghost use Rattle.settle_midpoint.specs.Call.{midpointCall};
 ghost use Rattle.steps.specs.Scale.{scaled};
 ghost use Rattle.settle_midpoint.specs.Answers.{settledNumber};
+ghost use Rattle.camera.specs.Version.{version};
 ghost use Rattle.camera.specs.Out.{settledOr, keptOr, RangeLent, reachedNumber, reachedOr, PositionLent, scaledNumber, scaledOr, StepLent};
 use settle_limits::Ranged;
 use settle_midpoint::Settled;
@@ -15,6 +16,14 @@ use settle_reach::Reached;
 use steps::scale::Scaled;
 use steps::scale::Unscaled;
 use terms::Family;
+
+// The version of the library, as the header has it in FOCUS_VERSION.
+#[no_mangle]
+pub extern "C" fn focus_version() -> u32
+    ensures { λ r. ⌜ r ≡ version ⌝ }
+{
+    11401
+}
 
 // The frame check: 0, 6, 7 or 8. The rest of an accepted frame starts at its byte 7.
 #[no_mangle]

@@ -1,62 +1,66 @@
--- What start, restart, closing and adopting leave in a block, from the call by value on the record that the block is: a record with nothing heard, or the block
--- as it was.
-use mathlib.Core.Path.{_≡_, refl, ap, _∙_}
+-- What a start, a restart and an adoption leave in a block: a record with nothing heard and no entries, in the seat that the call by value makes, or the block as it was.
+use mathlib.Core.Path.{_≡_, refl, ap, sym, _∙_}
+use mathlib.Core.Bool.{Bool, true, false}
 use mathlib.Core.List.{List}
-use Prim.Native.Nat.{ℕ, zero, suc}
+use Prim.Native.Nat.{ℕ, zero, suc, _%_, _<_}
 use native.Mathlib.Omega.{arith}
-use lib.IntN.{ℤ}
+use native.Mathlib.Nat.{mod-eq-of-lt}
+use Rattle.terms.specs.Refusals as refusal
+use Rattle.terms.specs.Refusals.{check, leaves}
+use Rattle.terms.specs.declared.Entry.{Entry}
 use Rattle.terms.specs.declared.Family.{Family}
+use Rattle.head_spec.specs.declared.Seat.{Seat}
 use Rattle.head_spec.specs.declared.Head.{Head}
-use Rattle.head_spec.specs.declared.Answer.{Answer}
-use Rattle.head_spec.specs.declared.Offer.{Offer}
-use Rattle.head_spec.specs.Record.{opened}
-use Rattle.head_spec.specs.Calls.{answer, startRefusal, started, start, restartRefusal, restarted, restart}
-use Rattle.head_spec.specs.Calls.{startListenerRefusal, startedListener, startListener, restartListenerRefusal, restartListener}
-use Rattle.head_spec.specs.Calls.{closedPhase, adoptRefusal, adopt}
+use Rattle.head_spec.specs.Record.{noEntries, opened}
+use Rattle.head_spec.specs.Seats.{healedSeat}
+use Rattle.head_spec.specs.Calls.{answer, isTime, restarted}
+use Rattle.head_spec.proofs.Proper.{rounds-few, number-small}
+use Rattle.head_spec.proofs.Stops.{answer-refusal}
+use Rattle.convergence.proofs.Demand3.{size-large}
+use Rattle.head_calls.specs.Steps.{checkMember, openingSeat}
+use Rattle.head_calls.proofs.Answers.{member-sized, member-small, proper-restarted-as}
 use Rattle.head_window.specs.declared.Beside.{Beside}
-use Rattle.head_c.specs.Blocks.{withAnswer, withBeside, withoutOffer}
+use Rattle.head_c.specs.Blocks.{withHead, withAnswer, withBeside, withoutOffer}
 
--- what a call leaves: its answer is a, found to be a′, and b stands beside the head; an offer is ended unless it is refused
-pub answered : (w : List ℕ) {r : ℕ} {w′ : List ℕ} {a a′ : Answer} {b b′ : Beside}
-    → (r ≡ a .refusal) × (w′ ≡ withoutOffer (a .refusal) (withBeside b (withAnswer w a))) → a ≡ a′ → b ≡ b′
-    → (r ≡ a′ .refusal) × (w′ ≡ withoutOffer (a′ .refusal) (withBeside b′ (withAnswer w a′)))
-answered w p e q = (p .0 ∙ ap (λ (x : Answer). x .refusal) e, p .1 ∙ (λ i. withoutOffer (e i .refusal) (withBeside (q i) (withAnswer w (e i)))))
+-- the seats are those of the definitions where the checks pass: each number has room in its byte
+pub first-seat : (K : Family) (listens : Bool) (n f i rest : ℕ) (e : Entry) → checkMember K listens n f i rest ≡ 0
+    → openingSeat K (n % 256) (f % 256) (i % 256) e ≡ openingSeat K n f i e
+first-seat K listens n f i rest e ok =
+    let S = member-sized K listens n f i rest ok in
+    let a : n < 256 = omega (arith, S .most) in
+    let b : f < 256 = omega (arith, S .most, size-large K n f (S .limit)) in
+    let c : i < 256 = omega (arith, member-small K listens n f i rest ok) in
+    λ t. openingSeat K (mod-eq-of-lt a t) (mod-eq-of-lt b t) (mod-eq-of-lt c t) e
 
--- the same where what stands beside the head is decided by the number answered
-pub answered-by : (w : List ℕ) (beside : ℕ → Beside) {r : ℕ} {w′ : List ℕ} {a a′ : Answer}
-    → (r ≡ a .refusal) × (w′ ≡ withoutOffer (a .refusal) (withBeside (beside (a .refusal)) (withAnswer w a))) → a ≡ a′
-    → (r ≡ a′ .refusal) × (w′ ≡ withoutOffer (a′ .refusal) (withBeside (beside (a′ .refusal)) (withAnswer w a′)))
-answered-by w beside p e = answered w p e (ap (λ (x : Answer). beside (x .refusal)) e)
+pub restart-seat : (K : Family) (listens : Bool) (n f i p r : ℕ) → checkMember K listens n f i (check (isTime K p r) refusal.phase 0) ≡ 0
+    → healedSeat K (n % 256) (f % 256) (i % 256) (p % 65536) (r % 256) ≡ healedSeat K n f i p r
+unfolding restarted
+restart-seat K listens n f i p r ok =
+    let P = proper-restarted-as K listens n f i p r ok .seat in
+    let S = P .size in
+    let a : n < 256 = omega (arith, S .most) in
+    let b : f < 256 = omega (arith, S .most, size-large K n f (S .limit)) in
+    let c : i < 256 = omega (arith, number-small P) in
+    let d : p < 65536 = omega (arith, P .to-last) in
+    let e : r < 256 = omega (arith, P .round, rounds-few K) in
+    λ t. healedSeat K (mod-eq-of-lt a t) (mod-eq-of-lt b t) (mod-eq-of-lt c t) (mod-eq-of-lt d t) (mod-eq-of-lt e t)
 
--- ---- a call that is not refused makes a record with nothing heard
+-- what is left by number c: the answer of the call by value, of whatever record there was
+module _ (w : List ℕ) (s s′ : Seat) (old : Head) where
+  left : (c : ℕ) → (c ≡ 0 → s ≡ s′) → leaves c (withHead (opened s noEntries) w) w ≡ withAnswer w (answer c (opened s′ noEntries) old)
+  unfolding withAnswer
+  left zero p = ap (λ (x : Seat). withHead (opened x noEntries) w) (p refl)
+  left (suc c) p = refl
 
-abbrev pub Opens : Answer → Type 0
-Opens a = a .refusal ≡ 0 → a .head ≡ opened (a .head .seat) (a .head .list)
-
-answer-opens : (c : ℕ) (new old : Head) → new ≡ opened (new .seat) (new .list) → Opens (answer c new old)
-answer-opens zero new old e z = e
-answer-opens (suc c) new old e z = absurd (omega arith)
-
-pub start-opens : (h : Head) (K : Family) (n f i : ℕ) (v : ℤ) → Opens (start h K n f i v)
-unfolding start started
-start-opens h K n f i v = answer-opens (startRefusal K n f i v) (started K n f i v) h refl
-
-pub restart-opens : (h : Head) (K : Family) (n f i p r : ℕ) → Opens (restart h K n f i p r)
-unfolding restart restarted
-restart-opens h K n f i p r = answer-opens (restartRefusal K n f i p r) (restarted K n f i p r) h refl
-
-pub start-listener-opens : (h : Head) (K : Family) (n f i : ℕ) → Opens (startListener h K n f i)
-unfolding startListener startedListener
-start-listener-opens h K n f i = answer-opens (startListenerRefusal K n f i) (startedListener K n f i) h refl
-
-pub restart-listener-opens : (h : Head) (K : Family) (n f i p r : ℕ) → Opens (restartListener h K n f i p r)
-unfolding restartListener restarted
-restart-listener-opens h K n f i p r = answer-opens (restartListenerRefusal K n f i p r) (restarted K n f i p r) h refl
-
-pub adopt-opens : (h : Head) (o : Offer) → Opens (adopt h o)
-unfolding adopt closedPhase
-adopt-opens h Offer.Nothing z = absurd (omega arith)
-adopt-opens h (Offer.Standing k) z = answer-opens (adoptRefusal h (Offer.Standing k)) (closedPhase h k) h refl z
-
-pub opens-as : {a b : Answer} → a ≡ b → Opens b → Opens a
-opens-as e p = rw e p
+  pub fresh-left : (beside : ℕ → Beside) {b : Beside} {r c : ℕ} {w′ : List ℕ} → r ≡ c → b ≡ beside r
+      → w′ ≡ withoutOffer r (withBeside b (leaves r (withHead (opened s noEntries) w) w)) → (c ≡ 0 → s ≡ s′)
+      → let a = answer c (opened s′ noEntries) old in
+      (r ≡ a .refusal) × (w′ ≡ withoutOffer (a .refusal) (withBeside (beside (a .refusal)) (withAnswer w a)))
+  fresh-left beside {b} {r} {c} e q p seats =
+      let n = sym (answer-refusal c (opened s′ noEntries) old) in (
+        e ∙ n,
+        p
+            ∙ (λ i. withoutOffer (e i) (withBeside ((q ∙ ap beside e) i) (leaves (e i) (withHead (opened s noEntries) w) w)))
+            ∙ ap (λ (x : List ℕ). withoutOffer c (withBeside (beside c) x)) (left c seats)
+            ∙ ap (λ (x : ℕ). withoutOffer x (withBeside (beside x) (withAnswer w (answer c (opened s′ noEntries) old)))) n,
+      )

@@ -1,4 +1,4 @@
--- A block is read as the record that was put into it, if the record's numbers fit their words.
+-- A block is read as the record that was put into it, if nothing was heard in the record and its numbers fit their words.
 use mathlib.Core.Path.{_≡_, refl, ap, sym, _∙_}
 use mathlib.Core.Bool.{Bool, true, false}
 use mathlib.Core.List.{List, [], _∷_, _++_, append-assoc}
@@ -6,7 +6,7 @@ use Prim.Native.Nat.{ℕ, zero, suc, _+_, _-_, _*_, _%_, _<_}
 use native.Mathlib.Omega.{arith}
 use native.Mathlib.Nat.{mod-eq-of-lt}
 use native.Mathlib.Decide.{decLt}
-use lib.ListN.{length, getD, List·getD-append}
+use lib.ListN.{length, getD, drop, List·getD-append, getD-replicate}
 use lib.Seq.{getD-append-add}
 use lib.IntN.{ℤ, pos, negsuc}
 use Rattle.terms.specs.declared.Entry.{Entry}
@@ -14,16 +14,20 @@ use Rattle.terms.specs.declared.Family.{Family}
 use Rattle.terms.specs.declared.Family.the-variants.{TwoRounds, OneRound}
 use Rattle.fields.specs.Bytes.{signedOf, wordOf}
 use Rattle.fields.proofs.Bytes.{signed-low, signed-high}
+use Rattle.terms.specs.declared.Table.{Table}
+use Rattle.marks.proofs.Marks.{bit-none}
+use Rattle.entries.specs.Entries.{zeros}
 use Rattle.convergence.specs.Counting.{bit}
 use Rattle.head_spec.specs.declared.Row.{Row}
 use Rattle.head_spec.specs.declared.LastKept.{LastKept}
 use Rattle.head_spec.specs.declared.Seat.{Seat}
 use Rattle.head_spec.specs.declared.Head.{Head}
+use Rattle.head_spec.specs.Record.{noLinks, noLists, opened}
 use Rattle.head_lent.specs.Answers.{heldNumber, heldOr, rangeNumber}
 use Rattle.head_spec.specs.Seats.{familyIn}
-use Rattle.head_c.specs.Blocks.{IsBlock, flag, familyNumber, entryIn, rangeIn, upTo, numbersAt, listAt, seatOf, headOf, wordsOf, listWords, keptOf, withHead}
+use Rattle.head_c.specs.Blocks.{IsBlock, flag, familyNumber, entryIn, rangeIn, upTo, numbersAt, listAt, seatOf, headOf, wordsOf, keptOf, withHead}
 use Rattle.head_c.proofs.Copying.{upTo-list}
-use Rattle.head_c.proofs.Putting.{words-long, word-at, lists-long, first, second, third, first-long, second-long, third-long}
+use Rattle.head_c.proofs.Putting.{words-long, word-at, first, second, first-long, second-long}
 
 -- ---- numbers of 32 bits with a sign
 
@@ -70,16 +74,6 @@ pub record FitSeat (s : Seat) : Type 0 where
   pub last : FitLast (s .last)
   pub since : s .since < 256
 
-abbrev none : Row
-none = record { entries = [] }
-
-pub record Fit (h : Head) : Type 0 where
-  pub seat : FitSeat (h .seat)
-  pub list : FitNumbers (h .list .entries)
-  pub marks : length (h .links .marks) ≡ 32
-  pub lists-long : length (h .lists) ≡ 32
-  pub lists : (k : ℕ) → k < 32 → FitNumbers (getD (h .lists) k none .entries)
-
 -- ---- what was put is read
 
 flag-back : (b : Bool) → flag (bit b) ≡ b
@@ -106,26 +100,6 @@ range-back (LastKept.Range k) f = λ i.
       position = signed-back (k .position) (f .3) i;
     })
 
--- number j of list k
-list-word : (l : List Row) (n k j : ℕ) → k < n → j < 32 → getD (listWords l n) (32 * k + j) 0 ≡ wordOf (getD (getD l k none .entries) j (pos 0))
-unfolding listWords
-list-word l zero k j b m = absurd (omega arith)
-list-word l (suc n) k j b m = go (decLt k n) (list-word l n k j)
-  where
-    row : ℕ → List ℕ
-    row i = wordsOf (getD l i none .entries)
-
-    go : Dec (k < n) → (k < n → j < 32 → getD (listWords l n) (32 * k + j) 0 ≡ wordOf (getD (getD l k none .entries) j (pos 0)))
-        → getD (listWords l n ++ row n) (32 * k + j) 0 ≡ wordOf (getD (getD l k none .entries) j (pos 0))
-    go (yes h) before = List·getD-append (listWords l n) (row n) 0 (32 * k + j) (omega (arith, lists-long l n)) ∙ before h m
-    go (no h) before =
-        let e : k ≡ n = omega arith in
-        let place : 32 * k + j ≡ length (listWords l n) + j = omega (arith, lists-long l n) in
-        ap (λ (i : ℕ). getD (listWords l n ++ row n) i 0) place
-        ∙ getD-append-add (listWords l n) (row n) j 0
-        ∙ word-at (getD l n none .entries) j m
-        ∙ ap (λ (i : ℕ). wordOf (getD (getD l i none .entries) j (pos 0))) (sym e)
-
 -- numbers that stand somewhere as their words
 pub numbers-back : (w : List ℕ) (i : ℕ) (E : List ℤ) → FitNumbers E → ((j : ℕ) → j < 32 → getD w (i + j) 0 ≡ wordOf (getD E j (pos 0)))
     → numbersAt w i ≡ E
@@ -133,25 +107,23 @@ unfolding numbersAt
 numbers-back w i E F h =
     upTo-list 32 _ E (pos 0) (F .long) (λ j l. ap signedOf (h j l) ∙ signed-back _ (F .each j l))
 
-module _ (h : Head) (w : List ℕ) (block : IsBlock w) (F : Fit h) where
+-- a record with nothing heard
+module _ (s : Seat) (t : Table) (w : List ℕ) (block : IsBlock w) (S : FitSeat s) (F : FitNumbers (t .entries)) where
+  abbrev h : Head
+  h = opened s t
+
   abbrev w′ : List ℕ
   w′ = withHead h w
 
-  -- the words from 24 on, from 58 on and from 92 on
+  -- the words from 92 on, from 58 on and from 24 on
   abbrev D : List ℕ
-  D = listWords (h .lists) 32
+  D = drop 92 w
 
   abbrev C : List ℕ
   C = h .links .confessed ∷ h .links .listed ∷ (h .links .marks ++ D)
 
   abbrev B : List ℕ
   B = h .heard ∷ h .list .marks ∷ (wordsOf (h .list .entries) ++ C)
-
-  from-92 : (i : ℕ) → getD w′ (92 + i) 0 ≡ getD D i 0
-  unfolding withHead
-  from-92 i =
-      let t = third h w in
-      ap (λ (n : ℕ). getD (t ++ D) (n + i) 0) (sym (third-long h w block (F .marks))) ∙ getD-append-add t D i 0
 
   from-58 : (i : ℕ) → getD w′ (58 + i) 0 ≡ getD C i 0
   unfolding withHead
@@ -170,7 +142,7 @@ module _ (h : Head) (w : List ℕ) (block : IsBlock w) (F : Fit h) where
       ∙ getD-append-add t B i 0
 
   entries-back : numbersAt w′ 26 ≡ h .list .entries
-  entries-back = numbers-back w′ 26 (h .list .entries) (F .list) at-j
+  entries-back = numbers-back w′ 26 (h .list .entries) F at-j
     where
       at-j : (j : ℕ) → j < 32 → getD w′ (26 + j) 0 ≡ wordOf (getD (h .list .entries) j (pos 0))
       at-j j l =
@@ -179,32 +151,27 @@ module _ (h : Head) (w : List ℕ) (block : IsBlock w) (F : Fit h) where
           ∙ List·getD-append (wordsOf (h .list .entries)) C 0 j (omega (arith, words-long (h .list .entries)))
           ∙ word-at (h .list .entries) j l
 
-  marks-back : upTo 32 (λ k. getD w′ (60 + k) 0) ≡ h .links .marks
-  marks-back = upTo-list 32 _ (h .links .marks) 0 (F .marks) at-k
+  marks-back : upTo 32 (λ k. getD w′ (60 + k) 0) ≡ noLinks .marks
+  unfolding noLinks
+  marks-back = upTo-list 32 _ (noLinks .marks) 0 refl at-k
     where
-      at-k : (k : ℕ) → k < 32 → getD w′ (60 + k) 0 ≡ getD (h .links .marks) k 0
+      at-k : (k : ℕ) → k < 32 → getD w′ (60 + k) 0 ≡ getD (noLinks .marks) k 0
       at-k k l =
           let e : 60 + k ≡ 58 + suc (suc k) = omega arith in
-          ap (λ (i : ℕ). getD w′ i 0) e ∙ from-58 (suc (suc k)) ∙ List·getD-append (h .links .marks) D 0 k (omega (arith, F .marks))
+          ap (λ (i : ℕ). getD w′ i 0) e ∙ from-58 (suc (suc k)) ∙ List·getD-append (noLinks .marks) D 0 k (omega arith)
 
-  lists-back : upTo 32 (listAt w′) ≡ h .lists
-  lists-back = upTo-list 32 (listAt w′) (h .lists) none (F .lists-long) at-k
+  -- no link gave a list
+  lists-back : upTo 32 (listAt w′) ≡ noLists
+  unfolding noLinks noLists
+  lists-back = upTo-list 32 (listAt w′) noLists (record { entries = [] }) refl at-k
     where
-      at-j : (k j : ℕ) → k < 32 → j < 32 → getD w′ (92 + 32 * k + j) 0 ≡ wordOf (getD (getD (h .lists) k none .entries) j (pos 0))
-      at-j k j l m =
-          let e : 92 + 32 * k + j ≡ 92 + (32 * k + j) = omega arith in
-          ap (λ (i : ℕ). getD w′ i 0) e ∙ from-92 (32 * k + j) ∙ list-word (h .lists) 32 k j l m
-
-      at-k : (k : ℕ) → k < 32 → listAt w′ k ≡ getD (h .lists) k none
+      at-k : (k : ℕ) → k < 32 → listAt w′ k ≡ getD noLists k (record { entries = [] })
       at-k k l =
-          let E = getD (h .lists) k none .entries in
-          ap (λ (x : List ℤ). record { entries = x }) (numbers-back w′ (92 + 32 * k) E (F .lists k l) (λ j m. at-j k j l m))
+          rw (from-58 1, bit-none k) (sym (getD-replicate {A = Row} 32 k (record { entries = zeros }) (record { entries = [] }) l))
 
   seat-back : seatOf w′ ≡ h .seat
   unfolding seatOf withHead
   seat-back = λ i.
-      let s = h .seat in
-      let S = F .seat in
       record {
         family = family-back (s .family) i;
         n = mod-eq-of-lt (S .n) i;
@@ -220,7 +187,7 @@ module _ (h : Head) (w : List ℕ) (block : IsBlock w) (F : Fit h) where
       }
 
   pub head-back : headOf w′ ≡ h
-  unfolding headOf
+  unfolding headOf noLinks
   head-back = λ i.
       record {
         seat = seat-back i;

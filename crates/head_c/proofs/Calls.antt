@@ -2,11 +2,11 @@
 -- all shift. Of closing and adopting this is shown for a proper record, as all calls make them: its numbers fit their words.
 use mathlib.Core.Path.{_≡_, refl, sym, _∙_}
 use mathlib.Core.Bool.{Bool, true, false, not, cond, and-true, true≢false}
-use mathlib.Core.List.{List, []}
+use mathlib.Core.List.{List}
 use Prim.Native.Nat.{ℕ, zero, suc, _+_, _≤_, _<_}
 use native.Mathlib.Omega.{arith}
 use native.Mathlib.Decide.{decLt}
-use lib.ListN.{getD, getD-replicate}
+use lib.ListN.{getD}
 use lib.IntN.{ℤ, pos, negsuc}
 use borrow.Author.Tests.{leb-true, leb-false, eqb-true}
 use Rattle.terms.specs.Refusals as refusal
@@ -18,18 +18,17 @@ use Rattle.terms.specs.declared.Family.{Family}
 use Rattle.terms.specs.declared.Family.the-variants.{TwoRounds, OneRound}
 use Rattle.terms.specs.declared.Table.{Table}
 use Rattle.marks.specs.Marks.{bitOf}
-use Rattle.entries.specs.Entries.{fits, zeros}
+use Rattle.entries.specs.Entries.{fits}
 use Rattle.convergence.specs.Demand3.{AcceptedSize}
 use Rattle.frame_spec.specs.Said.{collected}
 use Rattle.frame_spec.specs.Proper.{ProperTable, Proper}
 use Rattle.settle_midpoint.specs.declared.Kept.{Kept}
-use Rattle.head_spec.specs.declared.Row.{Row}
 use Rattle.head_spec.specs.declared.LastKept.{LastKept}
 use Rattle.head_spec.specs.declared.Seat.{Seat}
 use Rattle.head_spec.specs.declared.Head.{Head}
 use Rattle.head_spec.specs.declared.Closed.{Closed}
 use Rattle.head_spec.specs.declared.Offer.{Offer}
-use Rattle.head_spec.specs.Record.{noEntries, noLinks, noLists, opened}
+use Rattle.head_spec.specs.Record.{noEntries, opened}
 use Rattle.head_spec.specs.Seats.{firstSeat, listenerSeat, healedSeat, confessionSeat, isLast, nextSeat}
 use Rattle.head_spec.specs.Calls.{answer, startRefusal, started, start, restartRefusal, restarted, restart}
 use Rattle.head_spec.specs.Calls.{startListenerRefusal, startedListener, startListener, restartListenerRefusal, restartListener}
@@ -37,7 +36,7 @@ use Rattle.head_spec.specs.Calls.{closedCollection, closedPhase, close, adopt}
 use Rattle.head_spec.proofs.Proper.{Sized, ProperLast, ProperSeat, ProperHead, number-small, no-entries, proper-started, proper-restarted, proper-started-listener, proper-restarted-listener}
 use Rattle.head_spec.proofs.RoundClose.{Closes, closes, proper-close}
 use Rattle.head_c.specs.Blocks.{IsBlock, headOf, withHead, withAnswer, offerOf, withClosing}
-use Rattle.head_c.proofs.Blocks.{Fits32, FitNumbers, FitEntry, FitLast, FitSeat, Fit, head-back}
+use Rattle.head_c.proofs.Blocks.{Fits32, FitNumbers, FitEntry, FitLast, FitSeat, head-back}
 use Rattle.head_c.proofs.Offers.{FitOffer, offer-fits, offer-apart}
 
 -- ---- a proper record with nothing heard fits its words
@@ -96,23 +95,6 @@ seat-fits s P =
       since = omega (arith, P .since);
     }
 
-opened-fit : (s : Seat) (t : Table) → FitSeat s → FitNumbers (t .entries) → Fit (opened s t)
-unfolding noLinks noLists zeros
-opened-fit s t S E =
-    record {
-      seat = S;
-      list = E;
-      marks = refl;
-      lists-long = refl;
-      lists =
-          λ k l.
-          rw (getD-replicate {A = Row} 32 k (record { entries = zeros }) (record { entries = [] }) l)
-          (record { long = refl; each = λ j m. rw (getD-replicate 32 j (pos 0) (pos 0) m) (omega arith) });
-    }
-
-opened-fits : (s : Seat) (t : Table) → ProperHead (opened s t) → Fit (opened s t)
-opened-fits s t P = opened-fit s t (seat-fits s (P .seat)) (table-fits (s .n) t (P .list))
-
 -- what a proper seat is after a phase that ends with an offer whose numbers fit
 next-fits : (s : Seat) (k : Kept) → ProperSeat s → FitLast (LastKept.Range k) → FitSeat (nextSeat s k)
 next-fits s k P F =
@@ -128,7 +110,7 @@ next-fits s k P F =
 
 module _ (w : List ℕ) (block : IsBlock w) where
   put-back : (s : Seat) (t : Table) → ProperHead (opened s t) → headOf (withHead (opened s t) w) ≡ opened s t
-  put-back s t P = head-back (opened s t) w block (opened-fits s t P)
+  put-back s t P = head-back s t w block (seat-fits s (P .seat)) (table-fits (s .n) t (P .list))
 
   -- a call that makes a proper record with nothing heard, unless it is refused
   after-answer : (c : ℕ) (s : Seat) → (c ≡ 0 → ProperHead (opened s noEntries))
@@ -178,8 +160,7 @@ module _ (w : List ℕ) (block : IsBlock w) where
       ends true k F = refl
       ends false k F =
           let s = nextSeat (h .seat) k in
-          head-back (opened s noEntries) w block
-          (opened-fit s noEntries (next-fits (h .seat) k (P .seat) F) (table-fits (h .seat .n) noEntries (no-entries (h .seat .n))))
+          head-back s noEntries w block (next-fits (h .seat) k (P .seat) F) (table-fits (h .seat .n) noEntries (no-entries (h .seat .n)))
 
       go : (o : Offer) → FitOffer o → let a = adopt h o in headOf (withAnswer w a) ≡ a .head
       go Offer.Nothing F = refl

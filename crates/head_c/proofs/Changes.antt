@@ -1,6 +1,7 @@
 -- What each meaning of a frame changes in a block, read as a record: just what hearing it changes of the record. All other words are as they were.
 use mathlib.Core.Path.{_≡_, ap, sym, _∙_}
 use mathlib.Core.Logic.{_≢_}
+use mathlib.Core.Bool.{cond}
 use mathlib.Core.List.{List}
 use Prim.Native.Nat.{ℕ, _+_, _*_, _%_, _≤_, _<_}
 use native.Mathlib.Omega.{arith}
@@ -11,7 +12,9 @@ use lib.IntN.{ℤ}
 use Rattle.terms.specs.declared.Entry.{Entry}
 use Rattle.terms.specs.declared.Table.{Table}
 use Rattle.fields.specs.Bytes.{signedOf, wordOf}
-use Rattle.marks.specs.Marks.{withMark}
+use Rattle.marks.specs.Marks.{bitOf, withMark}
+use Rattle.marks.proofs.Marks.{with-same, with-other}
+use Rattle.entries.specs.Entries.{zeros}
 use Rattle.frame_spec.specs.Said.{collected, listed, confessed}
 use Rattle.head_spec.specs.Calls.{taken}
 use Rattle.head_spec.specs.Seats.{familyIn}
@@ -49,11 +52,12 @@ module _ (w w′ : List ℕ) where
   unfolding numbersAt
   numbers-same i h = upTo-same 32 _ _ (λ j l. ap signedOf (h j l))
 
-  list-same : (k : ℕ) → ((j : ℕ) → j < 32 → Same (92 + 32 * k + j)) → listAt w′ k ≡ listAt w k
-  list-same k h = ap (λ (E : List ℤ). record { entries = E }) (numbers-same (92 + 32 * k) h)
+  list-same : (k : ℕ) → bitOf (getD w′ 59 0) k ≡ bitOf (getD w 59 0) k → ((j : ℕ) → j < 32 → Same (92 + 32 * k + j)) → listAt w′ k ≡ listAt w k
+  list-same k e h = λ i. record { entries = cond (e i) (numbers-same (92 + 32 * k) h i) zeros }
 
-  lists-same : ((i : ℕ) → 92 ≤ i → Same i) → upTo 32 (listAt w′) ≡ upTo 32 (listAt w)
-  lists-same h = upTo-same 32 (listAt w′) (listAt w) (λ k l. list-same k (λ j m. h (92 + 32 * k + j) (omega arith)))
+  lists-same : Same 59 → ((i : ℕ) → 92 ≤ i → Same i) → upTo 32 (listAt w′) ≡ upTo 32 (listAt w)
+  lists-same e h =
+      upTo-same 32 (listAt w′) (listAt w) (λ k l. list-same k (ap (λ (m : ℕ). bitOf m k) e) (λ j m. h (92 + 32 * k + j) (omega arith)))
 
   marks-same : ((i : ℕ) → 60 ≤ i → i < 92 → Same i) → upTo 32 (λ k. getD w′ (60 + k) 0) ≡ upTo 32 (λ k. getD w (60 + k) 0)
   marks-same h = upTo-same 32 _ _ (λ k l. h (60 + k) (omega arith) (omega arith))
@@ -72,7 +76,7 @@ module _ (w w′ : List ℕ) where
               listed = back 59 (omega arith) i;
               marks = marks-same (λ j l m. back j (omega arith)) i;
             };
-        lists = lists-same (λ j l. back j (omega arith)) i;
+        lists = lists-same (back 59 (omega arith)) (λ j l. back j (omega arith)) i;
       }
 
 -- so it is no other for a word from 16 to 23
@@ -131,7 +135,7 @@ module _ (w : List ℕ) (block : IsBlock w) (k : ℕ) (below : k < 32) where
               listed = same 59 (omega arith) i;
               marks = marks-same w w′ (λ j l m. same j (omega arith)) i;
             };
-        lists = lists-same w w′ (λ j l. same j (omega arith)) i;
+        lists = lists-same w w′ (same 59 (omega arith)) (λ j l. same j (omega arith)) i;
       }
 
   pub confession-is : headOf (marked 58 k (marked 24 k w)) ≡ taken (headOf w) k confessed
@@ -154,7 +158,7 @@ module _ (w : List ℕ) (block : IsBlock w) (k : ℕ) (below : k < 32) where
               listed = same 59 (omega arith) i;
               marks = marks-same w w′ (λ j l m. same j (omega arith)) i;
             };
-        lists = lists-same w w′ (λ j l. same j (omega arith)) i;
+        lists = lists-same w w′ (same 59 (omega arith)) (λ j l. same j (omega arith)) i;
       }
 
   module _ (v : ℤ) (fits : Fits32 v) where
@@ -192,7 +196,7 @@ module _ (w : List ℕ) (block : IsBlock w) (k : ℕ) (below : k < 32) where
                 listed = placed-other 59 (omega arith) i;
                 marks = marks-same w placed (λ j l m. placed-other j (omega arith)) i;
               };
-          lists = lists-same w placed (λ j l. placed-other j (omega arith)) i;
+          lists = lists-same w placed (placed-other 59 (omega arith)) (λ j l. placed-other j (omega arith)) i;
         }
 
   module _ (t : Table) (fits : FitNumbers (t .entries)) where
@@ -238,15 +242,23 @@ module _ (w : List ℕ) (block : IsBlock w) (k : ℕ) (below : k < 32) where
     marks-stored =
         upTo-set 32 (λ j. getD w (60 + j) 0) (λ j. getD stored (60 + j) 0) k (t .marks) word-there (λ j l d. low-other (60 + j) (omega arith))
 
+    -- the links that gave a list
+    listed-there : getD stored 59 0 ≡ withMark (getD w 59 0) k
+    listed-there =
+        stored-before 59 (omega arith)
+        ∙ getD-set-other marked-list (60 + k) 59 (t .marks) 0 (omega arith)
+        ∙ twice-there w block k 59 (omega arith) (omega arith)
+
     -- list k
     this-list : listAt stored k ≡ record { entries = t .entries }
     this-list =
-        ap (λ (E : List ℤ). record { entries = E })
-        (numbers-back stored (92 + 32 * k) (t .entries) fits (λ j l. stored-there j l ∙ word-at (t .entries) j l))
+        rw (listed-there, with-same (getD w 59 0) k below)
+        (ap (λ (E : List ℤ). record { entries = E }) (numbers-back stored (92 + 32 * k) (t .entries) fits (λ j l. stored-there j l ∙ word-at (t .entries) j l)))
 
     -- any other
     other-list : (j : ℕ) → j < 32 → j ≢ k → listAt stored j ≡ listAt w j
-    other-list j l d = list-same w stored j (λ i m. go i m (decLt j k))
+    other-list j l d =
+        list-same w stored j (ap (λ (m : ℕ). bitOf m j) listed-there ∙ with-other (getD w 59 0) k below j d) (λ i m. go i m (decLt j k))
       where
         go : (i : ℕ) → i < 32 → Dec (j < k) → getD stored (92 + 32 * j + i) 0 ≡ getD w (92 + 32 * j + i) 0
         go i m (yes h) = stored-before (92 + 32 * j + i) (omega arith) ∙ word-other (92 + 32 * j + i) (omega arith)
@@ -259,7 +271,6 @@ module _ (w : List ℕ) (block : IsBlock w) (k : ℕ) (below : k < 32) where
     unfolding headOf
     list-is =
         let two = twice-heard w block k 59 (omega arith) (omega arith) in
-        let mark = twice-there w block k 59 (omega arith) (omega arith) in
         λ i.
         record {
           seat = seat-same w stored (λ j l. low-other j (omega arith)) i;
@@ -272,7 +283,7 @@ module _ (w : List ℕ) (block : IsBlock w) (k : ℕ) (below : k < 32) where
           links =
               record {
                 confessed = low-other 58 (omega arith) i;
-                listed = (stored-before 59 (omega arith) ∙ getD-set-other marked-list (60 + k) 59 (t .marks) 0 (omega arith) ∙ mark) i;
+                listed = listed-there i;
                 marks = marks-stored i;
               };
           lists = lists-stored i;

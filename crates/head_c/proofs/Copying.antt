@@ -8,7 +8,7 @@ use native.Mathlib.Numerals.{add-one}
 use native.Mathlib.Decide.{ℕ-discrete, decLt}
 use lib.ListN.{length, getD, set, take, drop, length-append, length-set, List·getD-append}
 use lib.Seq.{getD-at, getD-take, getD-drop, getD-set-same, getD-set-other, getD-append-add, ext-getD, take-all, take-suc, take-suc-set}
-use lib.Seq.{length-take-le, length-paste-head, paste, paste-suc}
+use lib.Seq.{length-take-le, length-paste, length-paste-head, paste, paste-suc}
 use Rattle.head_c.specs.Blocks.{upTo}
 
 -- ---- made element by element
@@ -108,3 +108,15 @@ module _ {A : Type 0} (d s : List A) (at n : ℕ) (z : A) (long : length s ≡ n
       ∙ getD-append-add front (drop (at + n) d) j z
       ∙ getD-drop (at + n) d j z
       ∙ ap (λ (m : ℕ). getD d m z) q
+
+  -- what stands there already is copied to no effect
+  pub copied-same : ((j : ℕ) → j < n → getD s j z ≡ getD d (at + j) z) → paste d at s n ≡ d
+  copied-same h = ext-getD z (paste d at s n) d (length-paste d at s n (omega arith) (omega arith)) (λ i b. go i (decLt i at) (decLt i (at + n)))
+    where
+      go : (i : ℕ) → Dec (i < at) → Dec (i < at + n) → getD (paste d at s n) i z ≡ getD d i z
+      go i (yes l) m = copied-before i l
+      go i (no l) (yes m) =
+          let j = i - at in
+          let e : i ≡ at + j = omega arith in
+          rw e (copied-there j (omega arith) ∙ h j (omega arith))
+      go i (no l) (no m) = copied-behind i (omega arith)

@@ -5,7 +5,7 @@ use mathlib.Core.Logic.{_≢_}
 use mathlib.Core.List.{List, _∷_}
 use Prim.Native.Nat.{ℕ, zero, suc, _≤_, _<_}
 use native.Mathlib.Omega.{arith}
-use lib.ListN.{length, getD, set, length-append, length-set}
+use lib.ListN.{length, getD, set, drop, length-append, length-set}
 use lib.Seq.{getD-set-same, getD-set-other}
 use lib.IntN.{ℤ}
 use Rattle.terms.specs.Refusals.{leaves}
@@ -23,7 +23,7 @@ use Rattle.head_spec.specs.Offers.{lapsed, lapsedBy, offered}
 use Rattle.head_spec.proofs.Proper.{ProperHead}
 use Rattle.head_spec.proofs.RoundClose.{ProperClosed, proper-closed}
 use Rattle.head_window.specs.declared.Beside.{Beside}
-use Rattle.head_c.specs.Blocks.{IsBlock, headOf, listWords, withHead, withAnswer, besideOf, withBeside, offerOf, withOffer, withoutOffer, withClosing, heardIn, heardEach}
+use Rattle.head_c.specs.Blocks.{IsBlock, headOf, withHead, withAnswer, besideOf, withBeside, offerOf, withOffer, withoutOffer, withClosing, heardIn, heardEach}
 use Rattle.head_c.specs.Events.{Call, starts, restarts, startsListener, restartsListener, hears, hearsBatch, closes, adopts, sets, blockAfter, OnlyTheseChange}
 use Rattle.head_c.proofs.Putting.{second, third, second-long}
 use Rattle.head_c.proofs.Changes.{set-apart}
@@ -67,7 +67,7 @@ put-long w h block =
     omega (
       arith,
       second-long h w block,
-      length-append (third h w) (listWords (h .lists) 32),
+      length-append (third h w) (drop 92 w),
       length-append (second h w) (h .links .confessed ∷ h .links .listed ∷ h .links .marks),
     )
 

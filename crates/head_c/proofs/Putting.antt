@@ -1,28 +1,27 @@
 -- A record put into a block part by part, from the front on: what is written so far stands before the rest of the block, so that each store goes on
 -- where the last one ended.
-use mathlib.Core.Path.{_≡_, refl, ap, ap₂, sym, _∙_}
-use mathlib.Core.List.{List, [], _∷_, _++_, append-assoc, append-nil}
-use Prim.Native.Nat.{ℕ, zero, suc, _+_, _*_, _≤_, _<_}
+use mathlib.Core.Path.{_≡_, refl, ap, sym, _∙_}
+use mathlib.Core.List.{List, [], _∷_, _++_, append-assoc}
+use Prim.Native.Nat.{ℕ, zero, suc, _+_, _≤_, _<_}
 use native.Mathlib.Omega.{arith}
-use native.Mathlib.Nat.{add-zero, add-suc}
-use lib.ListN.{length, getD, set, take, drop, length-append, length-drop, take-append-drop, drop-of-length-le}
+use lib.ListN.{length, getD, set, take, drop, length-append, length-drop, length-set, take-append-drop}
 use lib.ListN.{replicate, length-replicate, getD-replicate}
-use lib.Seq.{take-at, take-all, take-suc-set, drop-set-lt, drop-drop, drop-append-le, drop-append-add, append-snoc, length-take-le, length-slice}
+use lib.Seq.{take-at, take-all, take-suc-set, drop-set-lt, drop-drop, drop-append-le, drop-append-add, append-snoc, length-take-le, length-slice, length-paste, getD-set-other}
 use lib.Seq.{sets, sets-eq, paste, slice}
 use lib.IntN.{ℤ, pos}
 use Rattle.fields.specs.Bytes.{wordOf}
+use Rattle.fields.proofs.Bytes.{word-back}
 use Rattle.terms.specs.declared.Table.{Table}
-use Rattle.entries.specs.Entries.{zeros}
 use Rattle.convergence.specs.Counting.{bit}
-use Rattle.head_spec.specs.declared.Row.{Row}
 use Rattle.head_spec.specs.declared.Seat.{Seat}
 use Rattle.head_spec.specs.declared.Head.{Head}
-use Rattle.head_spec.specs.Record.{noLinks, noLists, opened}
+use Rattle.head_spec.specs.Record.{noLinks, opened}
 use Rattle.head_lent.specs.Answers.{heldNumber, heldOr, rangeNumber}
-use Rattle.head_c.specs.Blocks.{IsBlock, upTo, wordsOf, listWords, keptOf, familyNumber, seatWords, withHead}
-use Rattle.head_c.proofs.Copying.{upTo-long, upTo-at, upTo-same, upTo-list}
+use Rattle.head_c.specs.Blocks.{IsBlock, upTo, numbersAt, wordsOf, keptOf, familyNumber, seatWords, withHead}
+use Rattle.head_c.proofs.Copying.{upTo-long, upTo-at, upTo-list, copied-behind, copied-same}
+use Rattle.head_c.proofs.Reading.{number-at}
 
--- ---- the words of numbers and of lists
+-- ---- the words of numbers
 
 pub words-long : (E : List ℤ) → length (wordsOf E) ≡ 32
 unfolding wordsOf
@@ -32,39 +31,13 @@ pub word-at : (E : List ℤ) (j : ℕ) → j < 32 → getD (wordsOf E) j 0 ≡ w
 unfolding wordsOf
 word-at E j l = upTo-at 32 _ j 0 l
 
-pub lists-long : (l : List Row) (k : ℕ) → length (listWords l k) ≡ 32 * k
-unfolding listWords
-lists-long l zero = refl
-lists-long l (suc k) =
-    let row = getD l k (record { entries = [] }) .entries in
-    length-append (listWords l k) (wordsOf row) ∙ omega (arith, lists-long l k, words-long row)
-
 -- ---- nothing heard: only zeros
 
 abbrev blank : ℕ → List ℕ
 blank n = upTo n (λ i. 0)
 
-blank-both : (m n : ℕ) → blank m ++ blank n ≡ blank (m + n)
-unfolding upTo
-blank-both m zero = append-nil (blank m) ∙ ap blank (sym (add-zero m))
-blank-both m (suc n) =
-    sym (append-assoc (blank m) (blank n) (0 ∷ [])) ∙ ap (λ (l : List ℕ). l ++ (0 ∷ [])) (blank-both m n) ∙ ap blank (sym (add-suc m n))
-
 blank-is : (n : ℕ) → replicate n 0 ≡ blank n
 blank-is n = sym (upTo-list n (λ i. 0) (replicate n 0) 0 (length-replicate n 0) (λ i l. sym (getD-replicate n i 0 0 l)))
-
-no-words : wordsOf zeros ≡ blank 32
-unfolding wordsOf zeros wordOf
-no-words = upTo-same 32 _ (λ i. 0) (λ j l. ap wordOf (getD-replicate 32 j (pos 0) (pos 0) l))
-
-no-lists : (k : ℕ) → k ≤ 32 → listWords noLists k ≡ blank (32 * k)
-unfolding listWords noLists upTo
-no-lists zero l = refl
-no-lists (suc k) l =
-    let more : 32 * suc k ≡ 32 * k + 32 = omega arith in
-    let row = getD-replicate {A = Row} 32 k (record { entries = zeros }) (record { entries = [] }) (omega arith) in
-    ap₂ (λ (a b : List ℕ). a ++ b) (no-lists k (omega arith)) (ap (λ (r : Row). wordsOf (r .entries)) row ∙ no-words)
-    ∙ blank-both (32 * k) 32 ∙ ap blank (sym more)
 
 no-links : 0 ∷ 0 ∷ noLinks .marks ≡ blank 34
 unfolding noLinks
@@ -128,7 +101,7 @@ module _ (h : Head) (w : List ℕ) where
 
 -- a record with nothing heard
 pub put-record : (s : Seat) (t : Table) (w : List ℕ) → IsBlock w → {w₁ w₂ w₃ : List ℕ} → w₁ ≡ paste w 0 (seatWords s) 16
-    → w₂ ≡ paste (set w₁ 24 0) 25 (t .marks ∷ wordsOf (t .entries)) 33 → w₃ ≡ paste w₂ 58 (blank 1058) 1058 → w₃ ≡ withHead (opened s t) w
+    → w₂ ≡ paste (set w₁ 24 0) 25 (t .marks ∷ wordsOf (t .entries)) 33 → w₃ ≡ paste w₂ 58 (blank 34) 34 → w₃ ≡ withHead (opened s t) w
 unfolding withHead noLinks
 put-record s t w block {w₁} {w₂} {w₃} a b c =
     let h = opened s t in
@@ -141,11 +114,38 @@ put-record s t w block {w₁} {w₂} {w₃} a b c =
     b
     ∙ rw a′ (set-paste (x ++ drop 24 w) words 24 33 0 (omega (arith, long, length-append x (drop 24 w), length-drop 24 w)))
     ∙ on-paste w x 24 long (0 ∷ words) 34 (omega (arith, words-long (t .entries))) (omega arith) in
-    let rest : blank 1058 ≡ 0 ∷ 0 ∷ (noLinks .marks ++ listWords noLists 32) =
-    sym (ap₂ (λ (l m : List ℕ). l ++ m) no-links (no-lists 32 (omega arith)) ∙ blank-both 34 1024) in
     c
-    ∙ rw b′ (on-paste w y 58 (second-long h w block) (blank 1058) 1058 (upTo-long 1058 _) (omega arith))
-    ∙ ap (λ (l : List ℕ). y ++ blank 1058 ++ l) (drop-of-length-le w {i = 1116} (omega arith))
-    ∙ append-nil (y ++ blank 1058)
-    ∙ ap (λ (l : List ℕ). y ++ l) rest
-    ∙ sym (append-assoc y (0 ∷ 0 ∷ noLinks .marks) (listWords noLists 32))
+    ∙ rw b′ (on-paste w y 58 (second-long h w block) (blank 34) 34 (upTo-long 34 _) (omega arith))
+    ∙ ap (λ (l : List ℕ). y ++ l ++ drop 92 w) (sym no-links)
+
+-- the same of a record whose list stands: its words are no others
+pub put-round : (s : Seat) (w : List ℕ) → IsBlock w → ((i : ℕ) → getD w i 0 < 4294967296) → {w₁ w₃ : List ℕ} → w₁ ≡ paste w 0 (seatWords s) 16
+    → w₃ ≡ paste (set w₁ 24 0) 58 (blank 34) 34 → w₃ ≡ withHead (opened s (record { marks = getD w 25 0; entries = numbersAt w 26 })) w
+put-round s w block small {w₁} {w₃} a c = put-record s t w block a (sym stands) c
+  where
+    t : Table
+    t = record { marks = getD w 25 0; entries = numbersAt w 26 }
+
+    long : length w₁ ≡ 1116
+    long = ap length a ∙ length-paste w 0 (seatWords s) 16 (omega arith) (omega arith) ∙ block
+
+    behind : (i : ℕ) → 25 ≤ i → getD (set w₁ 24 0) i 0 ≡ getD w i 0
+    behind i l =
+        getD-set-other w₁ 24 i 0 0 (omega arith)
+        ∙ ap (λ (v : List ℕ). getD v i 0) a
+        ∙ copied-behind w (seatWords s) 0 16 0 refl (omega arith) i (omega arith)
+
+    at-j : (j : ℕ) → j < 33 → getD (t .marks ∷ wordsOf (t .entries)) j 0 ≡ getD (set w₁ 24 0) (25 + j) 0
+    at-j zero l = sym (behind 25 (omega arith))
+    at-j (suc j) l =
+        let m : j < 32 = omega arith in
+        let e : 25 + suc j ≡ 26 + j = omega arith in
+        word-at (numbersAt w 26) j m
+        ∙ ap wordOf (number-at w 26 j m)
+        ∙ word-back (getD w (26 + j) 0) (small (26 + j))
+        ∙ sym (ap (λ (i : ℕ). getD (set w₁ 24 0) i 0) e ∙ behind (26 + j) (omega arith))
+
+    stands : paste (set w₁ 24 0) 25 (t .marks ∷ wordsOf (t .entries)) 33 ≡ set w₁ 24 0
+    stands =
+        copied-same (set w₁ 24 0) (t .marks ∷ wordsOf (t .entries)) 25 33 0 (omega (arith, words-long (t .entries)))
+        (omega (arith, long, length-set w₁ 24 0)) at-j

@@ -6,7 +6,7 @@ use mathlib.Core.Bool.{Bool, not, cond}
 use mathlib.Core.List.{List, [], _∷_, _++_}
 use Prim.Native.Nat.{ℕ, zero, suc, _+_, _*_, _%_}
 use lib.Dec.{eqb, ltb}
-use lib.ListN.{length, getD, set}
+use lib.ListN.{length, getD, set, drop}
 use lib.Seq.{paste, slice}
 use lib.IntN.{ℤ, pos}
 use Rattle.terms.specs.Refusals.{leaves}
@@ -14,7 +14,8 @@ use Rattle.terms.specs.declared.Entry.{Entry}
 use Rattle.terms.specs.declared.Family.{Family}
 use Rattle.terms.specs.declared.Family.the-variants.{TwoRounds, OneRound}
 use Rattle.fields.specs.Bytes.{signedOf, wordOf}
-use Rattle.marks.specs.Marks.{withMark}
+use Rattle.marks.specs.Marks.{bitOf, withMark}
+use Rattle.entries.specs.Entries.{zeros}
 use Rattle.convergence.specs.Counting.{bit}
 use Rattle.frame_spec.specs.Said.{Meaning, refused, collected, listed, confessed}
 use Rattle.settle_midpoint.specs.declared.Kept.{Kept}
@@ -61,9 +62,9 @@ rangeIn (suc b) low high trim position = LastKept.Range (record { low = low; hig
 unfoldable pub numbersAt : List ℕ → ℕ → List ℤ
 numbersAt w i = upTo 32 (λ j. signedOf (getD w (i + j) 0))
 
--- the list received from link k
+-- the list received from link k; if it gave none, what stands there is no part of the record
 abbrev pub listAt : List ℕ → ℕ → Row
-listAt w k = record { entries = numbersAt w (place.lists + 32 * k) }
+listAt w k = record { entries = cond (bitOf (getD w place.listed 0) k) (numbersAt w (place.lists + 32 * k)) zeros }
 
 -- the seat
 unfoldable pub seatOf : List ℕ → Seat
@@ -105,11 +106,6 @@ headOf w =
 unfoldable pub wordsOf : List ℤ → List ℕ
 wordsOf E = upTo 32 (λ j. wordOf (getD E j (pos 0)))
 
--- the words of the first k lists
-unfoldable pub listWords : List Row → ℕ → List ℕ
-listWords l zero = []
-listWords l (suc k) = listWords l k ++ wordsOf (getD l k (record { entries = [] }) .entries)
-
 -- a kept range, with zeros if none is held
 abbrev pub keptOf : LastKept → Kept
 keptOf LastKept.Nothing = record { low = pos 0; high = pos 0; trim = 0; position = pos 0 }
@@ -125,12 +121,13 @@ seatWords s =
     ∷ wordOf (heldOr (s .position) (pos 0)) ∷ rangeNumber (s .last) ∷ wordOf (keptOf (s .last) .low) ∷ wordOf (keptOf (s .last) .high)
     ∷ keptOf (s .last) .trim ∷ wordOf (keptOf (s .last) .position) ∷ familyNumber (s .family) ∷ s .since ∷ []
 
+-- a record to which no link gave a list: what stands in the places of lists stays
 unfoldable pub withHead : Head → List ℕ → List ℕ
 withHead h w =
     seatWords (h .seat) ++ slice 16 24 w
     ++ (h .heard ∷ h .list .marks ∷ wordsOf (h .list .entries))
     ++ (h .links .confessed ∷ h .links .listed ∷ h .links .marks)
-    ++ listWords (h .lists) 32
+    ++ drop place.lists w
 
 -- after a call that answers a, its record is put into the block
 unfoldable pub withAnswer : List ℕ → Answer → List ℕ

@@ -8,6 +8,7 @@ use lib.IntN.{ℤ}
 use Rattle.terms.specs.Refusals as refusal
 use Rattle.terms.specs.Refusals.{leaves}
 use Rattle.terms.specs.declared.Family.{Family}
+use Rattle.marks.specs.Marks.{bitOf}
 use Rattle.head_spec.specs.Calls.{start, restart, startListener, restartListener, hear, saidTo, answersTo, close, adopt}
 use Rattle.head_spec.specs.Batch.{entriesOf, batchRefusal}
 use Rattle.head_spec.specs.Proper.{ProperHead}
@@ -15,7 +16,7 @@ use Rattle.head_spec.specs.Offers.{lapsed, lapsedBy, offered}
 use Rattle.head_spec.specs.declared.Offer.{Offer}
 use Rattle.head_lent.specs.Answers.{closedNumber}
 use Rattle.head_window.specs.declared.Beside.{Beside}
-use Rattle.head_window.specs.Window.{startedBeside, restartedBeside, closedBeside, adoptedBeside, setRefusal, setBeside}
+use Rattle.head_window.specs.Window.{three, startedBeside, restartedBeside, closedBeside, adoptedBeside, setRefusal, setBeside}
 use Rattle.head_c.specs.Blocks.{IsBlock, headOf, withAnswer, besideOf, withBeside, offerOf, withoutOffer, withClosing, heardIn, heardEach}
 
 -- a call that is lent the block to change; all others are lent it to read. K: the family of the ring, which starts and restarts give
@@ -96,3 +97,33 @@ abbrev pub RefusedLeaves : Type 0
 RefusedLeaves =
     (w : List ℕ) (c : Call) → numberAfter w c ≢ 0
     → (blockAfter w c ≡ withBeside (besideAfter w c) w) × (numberAfter w c ≢ refusal.trusted → blockAfter w c ≡ w)
+
+-- ---- a strike takes the block, and may leave anything beside the head: both bytes are written anew
+
+-- after the two writes: all three events are cleared, and the mask is set
+abbrev pub windowReset : List ℕ → ℕ → List ℕ
+windowReset w mask = blockAfter (blockAfter w (sets 10 7)) (sets 11 mask)
+
+-- a restart, of a head or a listener
+abbrev pub Restarts : Call → Type 0
+Restarts (starts K n f i v) = ⊥
+Restarts (restarts K n f i p r) = Unit {0}
+Restarts (startsListener K n f i) = ⊥
+Restarts (restartsListener K n f i p r) = Unit {0}
+Restarts (hears k s) = ⊥
+Restarts (hearsBatch s room) = ⊥
+Restarts closes = ⊥
+Restarts adopts = ⊥
+Restarts (sets at x) = ⊥
+
+-- what stands beside the head then, if events and the mask were anything
+pub record ResetsWindow (w : List ℕ) (mask : ℕ) : Type 0 where
+  pub beside : besideOf (windowReset w mask) ≡ record { events = 0; mask = three (bitOf mask) }
+  -- the record is as it was
+  pub head : headOf (windowReset w mask) ≡ headOf w
+  -- a restart that is taken then leaves its own event alone
+  pub restarted : (c : Call) → Restarts c → numberAfter (windowReset w mask) c ≡ 0
+      → besideOf (blockAfter (windowReset w mask) c) ≡ record { events = 4; mask = three (bitOf mask) }
+
+abbrev pub AfterStrike : Type 0
+AfterStrike = (w : List ℕ) (mask : ℕ) → IsBlock w → ResetsWindow w mask

@@ -1,11 +1,16 @@
 -- What the private functions promise each other. Readers of the public promises do not need this file.
 use mathlib.Core.Path.{_≡_}
 use mathlib.Core.List.{List}
-use Prim.Native.Nat.{ℕ}
+use Prim.Native.Nat.{ℕ, _+_, _*_}
+use lib.IntN.{ℤ}
+use lib.ListN.{take, drop}
 use Rattle.frame_spec.specs.declared.Said.{Said}
+use Rattle.head_spec.specs.declared.Head.{Head}
 use Rattle.head_spec.specs.declared.Closed.{Closed}
 use Rattle.head_spec.specs.declared.Closing.{Closing}
-use Rattle.head_c.specs.Blocks.{withClosing}
+use Rattle.head_spec.specs.Record.{opened}
+use Rattle.head_c.specs.Places as place
+use Rattle.head_c.specs.Blocks.{upTo, numbersAt, withClosing}
 
 -- the number of a refusal, 0 if something is said
 abbrev pub numberOf : Said → ℕ
@@ -14,6 +19,18 @@ numberOf (Said.Collection e) = 0
 numberOf Said.List = 0
 numberOf Said.Confession = 0
 
+-- the record with nothing heard that has the seat and the list of h
+abbrev pub bare : Head → Head
+bare h = opened (h .seat) (h .list)
+
 -- the block w becomes w′ and r is answered, where closing by value answers c
 abbrev pub ClosesIn : Closing → List ℕ → Closed → List ℕ → Type 0
 ClosesIn c w r w′ = (r ≡ c .closed) × (w′ ≡ withClosing (c .closed) (c .head) w)
+
+-- the words of the list of link k
+abbrev pub rowWords : List ℕ → ℕ → List ℕ
+rowWords w k = take 32 (drop (place.lists + 32 * k) w)
+
+-- the numbers of all lists, as they stand in the block
+abbrev pub rowsIn : List ℕ → List (List ℤ)
+rowsIn w = upTo 32 (λ k. numbersAt w (place.lists + 32 * k))

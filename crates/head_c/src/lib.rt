@@ -10,28 +10,27 @@ ghost use lib.Seq.{paste};
 ghost use lib.IntN.{pos};
 ghost use Rattle.fields.specs.Bytes.{signedOf, wordOf};
 ghost use Rattle.frame_spec.specs.Said.{collected, listed, confessed, restField, tableIn, saidOf, meant};
-ghost use Rattle.head_spec.specs.Record.{opened, rows};
-ghost use Rattle.head_spec.specs.Seats.{familyIn};
+ghost use Rattle.head_spec.specs.Record.{noEntries, opened};
+ghost use Rattle.terms.specs.Refusals.{leaves};
+ghost use Rattle.head_spec.specs.Seats.{familyIn, healedSeat};
+ghost use Rattle.head_calls.specs.Steps.{openingSeat};
 ghost use Rattle.head_spec.specs.Calls.{start, restart, startListener, restartListener, hearEach, answersTo, writeAnswer, writeBuffer, closedCollection, settlingOf, closeIn, close, adopt};
 ghost use Rattle.head_spec.specs.Batch.{isBatch, entriesOf};
 ghost use Rattle.head_hear.specs.Steps.{linkRefusal, saidOn};
 ghost use Rattle.head_lent.specs.Answers.{closedNumber, writtenNumber, writtenOr, heldNumber, heldOr, rangeNumber, rangeOr, offerNumber, offerOr};
 ghost use Rattle.head_spec.specs.declared.Offer.{Offer};
 ghost use Rattle.terms.specs.declared.Family.the-variants.{TwoRounds, OneRound};
-ghost use Rattle.head_window.specs.Window.{startedBeside, restartedBeside};
 ghost use Rattle.head_c.specs.Places as place;
-ghost use Rattle.head_c.specs.Blocks.{IsBlock, upTo, entryIn, rangeIn, numbersAt, listAt, seatOf, headOf};
-ghost use Rattle.head_c.specs.Blocks.{wordsOf, keptOf, familyNumber, seatWords, withHead, withAnswer, besideOf, withBeside, offerOf, withOffer, withoutOffer};
+ghost use Rattle.head_c.specs.Blocks.{IsBlock, upTo, entryIn, rangeIn, numbersAt, seatOf, headOf};
+ghost use Rattle.head_c.specs.Blocks.{wordsOf, keptOf, familyNumber, seatWords, withHead, besideOf, withBeside, offerOf, withOffer, withoutOffer};
 ghost use Rattle.head_c.specs.Blocks.{marked, heardOn, changed, Hears, heardEach, HearsBatch};
 ghost use Rattle.head_c.specs.Events.{starts, restarts, startsListener, restartsListener, closes, adopts, blockAfter};
-ghost use Rattle.head_c.specs.Steps.{numberOf, ClosesIn};
+ghost use Rattle.head_c.specs.Steps.{numberOf, bare, ClosesIn};
 use frame_spec::Said;
-use head_spec::Answer;
 use head_spec::Closed;
 use head_spec::Head;
 use head_spec::LastKept;
 use head_spec::Offer;
-use head_spec::Row;
 use head_spec::Seat;
 use head_window::Beside;
 use settle_midpoint::Kept;
@@ -39,12 +38,12 @@ use settle_midpoint::Settled;
 use settle_trust::Links;
 use terms::Entry;
 use terms::Family;
-use terms::Lists;
 use terms::Table;
 use terms::refusal;
 
 pub mod page;
 pub mod place;
+mod settle;
 pub mod window;
 
 // A head as C keeps it: 1,116 words.
@@ -134,24 +133,6 @@ fn numbers_in(h: &[u32], from: usize) -> [i32; 32]
     out
 }
 
-// The lists received.
-fn lists_in(h: &[u32]) -> [Row; 32]
-    requires { ⌜ IsBlock (now h) ⌝ }
-    ensures { λ r. ⌜ r ≡ upTo 32 (listAt (now (h .entry))) ⌝ }
-{
-    let none = Row {
-        entries: [0i32; 32],
-    };
-    let mut out = [none; 32];
-    let mut k: usize = 0;
-    while k < 32 {
-        let entries = numbers_in(h, place::LISTS + 32 * k);
-        out[k] = Row { entries };
-        k += 1;
-    }
-    out
-}
-
 // The list.
 fn list_in(h: &[u32]) -> Table
     requires { ⌜ IsBlock (now h) ⌝ }
@@ -182,22 +163,14 @@ fn links_in(h: &[u32]) -> Links
     }
 }
 
-// The record.
-fn head_of(h: &[u32]) -> Head
+// The record with nothing heard that has the block's seat and list. No call but hearing and closing looks at what else was heard.
+fn bare_in(h: &[u32]) -> Head
     requires { ⌜ IsBlock (now h) ⌝ }
-    ensures { λ r. ⌜ r ≡ headOf (now (h .entry)) ⌝ }
+    ensures { λ r. ⌜ r ≡ bare (headOf (now (h .entry))) ⌝ }
 {
     let seat = seat_in(h);
     let list = list_in(h);
-    let links = links_in(h);
-    let lists = lists_in(h);
-    Head {
-        seat,
-        heard: h[place::HEARD],
-        list,
-        links,
-        lists,
-    }
+    head_calls::opened(seat, list)
 }
 
 // ---- A record put into a block.
@@ -305,13 +278,13 @@ fn put_seat(h: &mut [u32], s: Seat)
     h[place::SINCE] = s.since as u32;
 }
 
-// Clears what the links gave.
+// Clears what the links gave: who confessed, who gave a list, and the mark words. A list that no link gave is no part of the record, so the lists stay.
 fn clear_links(h: &mut [u32])
     requires { ⌜ IsBlock (now h) ⌝ }
-    ensures { λ _. ⌜ now (h .exit) ≡ paste (now (h .entry)) place.confessed (upTo 1058 (λ _. 0)) 1058 ⌝ }
+    ensures { λ _. ⌜ now (h .exit) ≡ paste (now (h .entry)) place.confessed (upTo 34 (λ _. 0)) 34 ⌝ }
 {
     let mut j: usize = 0;
-    while j < 1058 {
+    while j < 34 {
         h[place::CONFESSED + j] = 0;
         j += 1;
     }
@@ -326,20 +299,6 @@ fn put_opened(h: &mut [u32], seat: Seat, list: Table)
     h[place::HEARD] = 0;
     put_list(h, list);
     clear_links(h);
-}
-
-// Leaves what a call answers in the block, and gives its number. A record that a call makes has nothing heard.
-fn put_answer(h: &mut [u32], a: Answer) -> u8
-    requires { ⌜ IsBlock (now h) × (a .refusal ≡ 0 → a .head ≡ opened (a .head .seat) (a .head .list)) ⌝ }
-    ensures { λ r. ⌜ (r ≡ a .refusal) × (now (h .exit) ≡ withAnswer (now (h .entry)) a) ⌝ }
-{
-    if a.refusal == 0 {
-        let head = a.head;
-        let seat = head.seat;
-        let list = head.list;
-        put_opened(h, seat, list);
-    }
-    a.refusal
 }
 
 // ---- What stands beside the head.
@@ -360,18 +319,6 @@ fn put_beside(h: &mut [u32], b: Beside)
 {
     h[place::EVENTS] = b.events;
     h[place::MASK] = b.mask;
-}
-
-// Leaves what a start, a restart or an adoption answers in the block, and what stands beside the head after it, and gives its number. It ends an offer, unless it is
-// refused.
-fn put_call(h: &mut [u32], a: Answer, b: Beside) -> u8
-    requires { ⌜ IsBlock (now h) × (a .refusal ≡ 0 → a .head ≡ opened (a .head .seat) (a .head .list)) ⌝ }
-    ensures { λ r. ⌜ (r ≡ a .refusal) × (now (h .exit) ≡ withoutOffer (a .refusal) (withBeside b (withAnswer (now (h .entry)) a))) ⌝ }
-{
-    let number = put_answer(h, a);
-    put_beside(h, b);
-    end_offer(h, number);
-    number
 }
 
 // ---- The offer beside it.
@@ -412,24 +359,24 @@ fn end_offer(h: &mut [u32], number: u8)
     }
 }
 
-// Leaves what a start answers: what stood beside the head is cleared, unless it is refused.
-fn put_start(h: &mut [u32], a: Answer) -> u8
-    requires { ⌜ IsBlock (now h) × (a .refusal ≡ 0 → a .head ≡ opened (a .head .seat) (a .head .list)) ⌝ }
-    ensures { λ r. ⌜ (r ≡ a .refusal)
-        × (now (h .exit) ≡ withoutOffer (a .refusal) (withBeside (startedBeside (a .refusal) (besideOf (now (h .entry)))) (withAnswer (now (h .entry)) a))) ⌝ }
+// Puts a record with nothing heard and no entries, in this seat, if the number is 0.
+fn put_seated(h: &mut [u32], number: u8, seat: Seat)
+    requires { ⌜ IsBlock (now h) ⌝ }
+    ensures { λ _. ⌜ now (h .exit) ≡ leaves number (withHead (opened seat noEntries) (now (h .entry))) (now (h .entry)) ⌝ }
 {
-    let b = head_window::after_start(a.refusal, beside_in(h));
-    put_call(h, a, b)
+    if number == 0 {
+        put_opened(h, seat, head_calls::no_entries());
+    }
 }
 
-// Leaves what a restart answers: its event stands beside the head, unless it is refused.
-fn put_restart(h: &mut [u32], a: Answer) -> u8
-    requires { ⌜ IsBlock (now h) × (a .refusal ≡ 0 → a .head ≡ opened (a .head .seat) (a .head .list)) ⌝ }
-    ensures { λ r. ⌜ (r ≡ a .refusal)
-        × (now (h .exit) ≡ withoutOffer (a .refusal) (withBeside (restartedBeside (a .refusal) (besideOf (now (h .entry)))) (withAnswer (now (h .entry)) a))) ⌝ }
+// Leaves what a start, a restart or an adoption makes that answers this number: the record, what stands beside the head, and no offer.
+fn put_fresh(h: &mut [u32], number: u8, seat: Seat, b: Beside)
+    requires { ⌜ IsBlock (now h) ⌝ }
+    ensures { λ _. ⌜ now (h .exit) ≡ withoutOffer number (withBeside b (leaves number (withHead (opened seat noEntries) (now (h .entry))) (now (h .entry)))) ⌝ }
 {
-    let b = head_window::after_restart(a.refusal, beside_in(h));
-    put_call(h, a, b)
+    put_seated(h, number, seat);
+    put_beside(h, b);
+    end_offer(h, number);
 }
 
 // ---- What hearing changes.
@@ -579,22 +526,6 @@ fn hear_entries(h: &mut [u32], batch: &[u8], answers: &mut [u8])
 
 // ---- Closing, on the block itself.
 
-// The lists received, without their marks, as settling takes them.
-fn rows_in(h: &[u32]) -> Lists
-    requires { ⌜ IsBlock (now h) ⌝ }
-    ensures { λ r. ⌜ r ≡ rows (headOf (now (h .entry)) .lists) ⌝ }
-{
-    let zeros = [0i32; 32];
-    let mut out = [zeros; 32];
-    let mut k: usize = 0;
-    while k < 32 {
-        let entries = numbers_in(h, place::LISTS + 32 * k);
-        out[k] = entries;
-        k += 1;
-    }
-    out
-}
-
 // What the end of a phase settles: in a ring of two rounds from the lists, in one of one round from what was heard.
 fn settled_in(h: &[u32]) -> Settled
     requires { ⌜ IsBlock (now h) ⌝ }
@@ -606,8 +537,7 @@ fn settled_in(h: &[u32]) -> Settled
     match family {
         Family::TwoRounds => {
             let links = links_in(h);
-            let lists = rows_in(h);
-            settle_position::settle_by(&lists, links, 0, seat.n, seat.f, up)
+            settle::settle_lists(h, links, seat.n, seat.f, up)
         }
         Family::OneRound => {
             let list = list_in(h);
@@ -616,14 +546,15 @@ fn settled_in(h: &[u32]) -> Settled
     }
 }
 
-// Closes a collection round: the list stands.
+// Closes a collection round: the list stands, in its words too.
 fn close_collection(h: &mut [u32])
     requires { ⌜ IsBlock (now h) ⌝ }
     ensures { λ _. ⌜ now (h .exit) ≡ withHead (closedCollection (headOf (now (h .entry)))) (now (h .entry)) ⌝ }
 {
     let seat = seat_in(h);
-    let list = list_in(h);
-    put_opened(h, head_calls::confession_seat(seat), list);
+    put_seat(h, head_calls::confession_seat(seat));
+    h[place::HEARD] = 0; // of the next round
+    clear_links(h);
 }
 
 // Closes the last round of a phase: what it settles is offered.
@@ -668,12 +599,43 @@ fn closed_number(c: Closed) -> u8
 
 // ---- Starts and restarts in a ring of either family, left in the block.
 
+// The seat of a start whose checks pass.
+fn first_seat(family: Family, n: u32, f: u32, number: u32, held: Entry) -> Seat
+    ensures { λ r. ⌜ r ≡ openingSeat family (n % 256) (f % 256) (number % 256) held ⌝ }
+{
+    head_calls::opening_seat(
+        family,
+        (n % 256) as u8,
+        (f % 256) as u8,
+        (number % 256) as u8,
+        held,
+    )
+}
+
+// The seat of a restart whose checks pass.
+fn restart_seat(family: Family, n: u32, f: u32, number: u32, phase: u32, round: u32) -> Seat
+    ensures { λ r. ⌜ r ≡ healedSeat family (n % 256) (f % 256) (number % 256) (phase % 65536) (round % 256) ⌝ }
+{
+    head_calls::healed_seat(
+        family,
+        (n % 256) as u8,
+        (f % 256) as u8,
+        (number % 256) as u8,
+        (phase % 65536) as u16,
+        (round % 256) as u8,
+    )
+}
+
 fn start_in(h: &mut Block, family: Family, n: u32, f: u32, number: u32, position: i32) -> u8
     ensures { λ r. ⌜ (r ≡ start (headOf (now (h .entry))) family n f number position .refusal)
         × (now (h .exit) ≡ blockAfter (now (h .entry)) (starts family n f number position)) ⌝ }
 {
-    let a = head_calls::start(head_of(h), family, n, f, number, position);
-    put_start(h, a)
+    let last = head_calls::check(steps::is_position(position), refusal::POSITION, 0);
+    let refused = head_calls::member_refusal(family, false, n, f, number, last);
+    let seat = first_seat(family, n, f, number, Entry::Position(position));
+    let b = head_window::after_start(refused, beside_in(h)); // a start clears both
+    put_fresh(h, refused, seat, b);
+    refused
 }
 
 fn restart_in(
@@ -688,16 +650,23 @@ fn restart_in(
     ensures { λ r. ⌜ (r ≡ restart (headOf (now (h .entry))) family n f number phase round .refusal)
         × (now (h .exit) ≡ blockAfter (now (h .entry)) (restarts family n f number phase round)) ⌝ }
 {
-    let a = head_calls::restart(head_of(h), family, n, f, number, phase, round);
-    put_restart(h, a)
+    let last = head_calls::check(head_calls::is_time(family, phase, round), refusal::PHASE, 0);
+    let refused = head_calls::member_refusal(family, false, n, f, number, last);
+    let seat = restart_seat(family, n, f, number, phase, round);
+    let b = head_window::after_restart(refused, beside_in(h));
+    put_fresh(h, refused, seat, b);
+    refused
 }
 
 fn start_listener_in(h: &mut Block, family: Family, n: u32, f: u32, number: u32) -> u8
     ensures { λ r. ⌜ (r ≡ startListener (headOf (now (h .entry))) family n f number .refusal)
         × (now (h .exit) ≡ blockAfter (now (h .entry)) (startsListener family n f number)) ⌝ }
 {
-    let a = head_calls::start_listener(head_of(h), family, n, f, number);
-    put_start(h, a)
+    let refused = head_calls::member_refusal(family, true, n, f, number, 0);
+    let seat = first_seat(family, n, f, number, Entry::Null);
+    let b = head_window::after_start(refused, beside_in(h));
+    put_fresh(h, refused, seat, b);
+    refused
 }
 
 fn restart_listener_in(
@@ -712,8 +681,12 @@ fn restart_listener_in(
     ensures { λ r. ⌜ (r ≡ restartListener (headOf (now (h .entry))) family n f number phase round .refusal)
         × (now (h .exit) ≡ blockAfter (now (h .entry)) (restartsListener family n f number phase round)) ⌝ }
 {
-    let a = head_calls::restart_listener(head_of(h), family, n, f, number, phase, round);
-    put_restart(h, a)
+    let last = head_calls::check(head_calls::is_time(family, phase, round), refusal::PHASE, 0);
+    let refused = head_calls::member_refusal(family, true, n, f, number, last);
+    let seat = restart_seat(family, n, f, number, phase, round);
+    let b = head_window::after_restart(refused, beside_in(h)); // a restart sets its event
+    put_fresh(h, refused, seat, b);
+    refused
 }
 
 // ---- The calls.
@@ -874,9 +847,18 @@ pub extern "C" fn focus_head_adopt(h: &mut Block) -> u8
     ensures { λ r. ⌜ (r ≡ adopt (headOf (now (h .entry))) (offerOf (now (h .entry))) .refusal)
         × (now (h .exit) ≡ blockAfter (now (h .entry)) adopts) ⌝ }
 {
-    let a = head_calls::adopt(head_of(h), offer_in(h));
-    let b = head_window::after_adopt(a.refusal, beside_in(h));
-    put_call(h, a, b)
+    match offer_in(h) {
+        Offer::Nothing => refusal::NO_OFFER,
+        Offer::Standing(kept) => {
+            let seat = seat_in(h);
+            if seat.ended {
+                return refusal::ENDED;
+            }
+            let b = head_window::after_adopt(0, beside_in(h));
+            put_fresh(h, 0, head_calls::next_seat(seat, kept), b);
+            0
+        }
+    }
 }
 
 // What is offered, where it was lent: the lowest kept entry, the highest, the trim and the position. 1, or 0 if no offer stands.
@@ -900,9 +882,7 @@ pub extern "C" fn focus_head_write(h: &Block, buffer: &mut [u8], length: &mut us
         × (now (buffer .exit) ≡ writeBuffer (headOf (now (h .entry))) (now (buffer .entry)))
         × (now (length .exit) ≡ writtenOr (writeAnswer (headOf (now (h .entry))) (now (buffer .entry))) (now (length .entry))) ⌝ }
 {
-    let seat = seat_in(h); // what a head says is in its seat and its list
-    let list = list_in(h);
-    head_lent::written(head_calls::opened(seat, list), buffer, length)
+    head_lent::written(bare_in(h), buffer, length)
 }
 
 // The position that the head holds: 1, or 0 if it holds none.

@@ -4,7 +4,7 @@ ghost use mathlib.Core.Path.{_≡_};
 ghost use Rattle.convergence.specs.Counting.{bit};
 ghost use Rattle.head_window.specs.Window.{window, readRefusal, byteRead, setRefusal, isUp};
 ghost use Rattle.head_c.specs.Blocks.{IsBlock, headOf, besideOf};
-ghost use Rattle.head_c.specs.Events.{sets, blockAfter};
+ghost use Rattle.head_c.specs.Events.{sets, blockAfter, windowReset};
 use crate::Block;
 use crate::beside_in;
 use crate::put_beside;
@@ -50,6 +50,16 @@ pub extern "C" fn focus_head_set_register(h: &mut Block, at: u32, byte: u8) -> u
     let b = head_window::set_register(at, byte, beside_in(h));
     put_beside(h, b);
     head_window::set_refusal(at)
+}
+
+// Writes both bytes anew after a strike, which may have left anything beside the head: no event is pending then, and the mask is given. A restart that follows sets
+// its event.
+#[no_mangle]
+pub extern "C" fn focus_head_window_reset(h: &mut Block, mask: u8)
+    ensures { λ _. ⌜ now (h .exit) ≡ windowReset (now (h .entry)) mask ⌝ }
+{
+    focus_head_set_register(h, 10, 7);
+    focus_head_set_register(h, 11, mask);
 }
 
 // Whether the interrupt line is up: 1, or 0.

@@ -31,7 +31,7 @@ use terms::Table;
 use terms::refusal;
 
 // A table of nulls.
-fn no_entries() -> Table
+pub fn no_entries() -> Table
     ensures { λ r. ⌜ r ≡ noEntries ⌝ }
 {
     let entries = [0i32; 32]; // a null entry holds 0
@@ -63,7 +63,7 @@ pub fn opened(seat: Seat, list: Table) -> Head
 // ---- The seats that calls make.
 
 // A start: phase 1 opens.
-fn opening_seat(family: Family, n: u8, f: u8, number: u8, held: Entry) -> Seat
+pub fn opening_seat(family: Family, n: u8, f: u8, number: u8, held: Entry) -> Seat
     ensures { λ r. ⌜ r ≡ openingSeat family n f number held ⌝ }
 {
     Seat {
@@ -82,7 +82,7 @@ fn opening_seat(family: Family, n: u8, f: u8, number: u8, held: Entry) -> Seat
 }
 
 // A restart: the head is healed, with no position and no kept range.
-fn healed_seat(family: Family, n: u8, f: u8, number: u8, phase: u16, round: u8) -> Seat
+pub fn healed_seat(family: Family, n: u8, f: u8, number: u8, phase: u16, round: u8) -> Seat
     ensures { λ r. ⌜ r ≡ healedSeat family n f number phase round ⌝ }
 {
     let none = Entry::Null;
@@ -120,7 +120,7 @@ fn one_more(since: u8) -> u8
 }
 
 // The phase has ended and settled a position with its kept range; after phase 65,535 phase and round stay, and the head has ended.
-fn next_seat(seat: Seat, kept: Kept) -> Seat
+pub fn next_seat(seat: Seat, kept: Kept) -> Seat
     ensures { λ r. ⌜ r ≡ nextSeat seat kept ⌝ }
 {
     let held = Entry::Position(kept.position);
@@ -150,7 +150,7 @@ fn next_seat(seat: Seat, kept: Kept) -> Seat
 // ---- The calls.
 
 // One check: its number if it fails, and else what the checks that follow gave.
-fn check(holds: bool, number: u8, rest: u8) -> u8
+pub fn check(holds: bool, number: u8, rest: u8) -> u8
     ensures { λ r. ⌜ r ≡ check holds number rest ⌝ }
 {
     if holds { rest } else { number }
@@ -167,7 +167,7 @@ fn is_member(listens: bool, n: u32, number: u32) -> bool
 }
 
 // Refusals 1, 2 or 18, and 3, before the checks that follow.
-fn member_refusal(family: Family, listens: bool, n: u32, f: u32, number: u32, rest: u8) -> u8
+pub fn member_refusal(family: Family, listens: bool, n: u32, f: u32, number: u32, rest: u8) -> u8
     ensures { λ r. ⌜ r ≡ checkMember family listens n f number rest ⌝ }
 {
     let size = steps::size_refusal(family, n, f);
@@ -178,7 +178,7 @@ fn member_refusal(family: Family, listens: bool, n: u32, f: u32, number: u32, re
 }
 
 // Whether there is such a phase, and such a round.
-fn is_time(family: Family, phase: u32, round: u32) -> bool
+pub fn is_time(family: Family, phase: u32, round: u32) -> bool
     ensures { λ r. ⌜ r ≡ isTime family phase round ⌝ }
 {
     if !steps::is_phase(phase) {

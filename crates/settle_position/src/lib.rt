@@ -23,10 +23,10 @@ use terms::Words;
 
 // How n lists stand to the list of one link, the reference: how many have its mark word, how many another one that is not 0, and for each entry how many of the
 // first have its number.
-struct Comparison {
-    alike: u8,
-    apart: u8,
-    same: Words,
+pub struct Comparison {
+    pub alike: u8,
+    pub apart: u8,
+    pub same: Words,
 }
 
 // What deciding an entry looks at beside the lists, their marks, the reference list, and how many lists agree with it: worked out once when a round is closed. How
@@ -53,7 +53,7 @@ fn add_same(a: &Numbers, b: &Numbers, same: &mut Words)
 }
 
 // Whether a list with the mark word m has marks, and others than `word`.
-fn is_apart(m: u32, word: u32) -> bool
+pub fn is_apart(m: u32, word: u32) -> bool
     ensures { λ r. ⌜ r ≡ isApart m word ⌝ }
 {
     if m == word {
@@ -85,7 +85,7 @@ fn compare(lists: &Lists, marks: &Words, n: usize, reference: usize) -> Comparis
 }
 
 // Whether the cell x of the reference decides: enough lists hold it, and those that may hold another position are too few.
-fn decides(x: u64, need: u8, alike: u8, apart: u8, same: u32) -> bool
+pub fn decides(x: u64, need: u8, alike: u8, apart: u8, same: u32) -> bool
     ensures { λ r. ⌜ (r ≡ true → Decides x need alike apart same) × (r ≡ false → Decides x need alike apart same → ⊥) ⌝ }
 {
     if x == 0 {
@@ -98,7 +98,7 @@ fn decides(x: u64, need: u8, alike: u8, apart: u8, same: u32) -> bool
 }
 
 // Whether there is no trusted position, by the cell x of the reference's list: the lists that may hold it are too few, and so are those that may hold another.
-fn lacks(x: u64, need: u8, alike: u8, apart: u8, same: u32) -> bool
+pub fn lacks(x: u64, need: u8, alike: u8, apart: u8, same: u32) -> bool
     ensures { λ r. ⌜ (r ≡ true → Lacks x need alike apart same) ⌝ }
 {
     if x == 0 {

@@ -3,4 +3,5 @@ pub mod Tests
 pub mod Cells
 pub mod Received
 pub mod Search
+pub mod Voting
 pub mod Trusted

@@ -6,6 +6,7 @@ ghost use Rattle.marks.specs.Marks.{markedTo, bitOf};
 ghost use Rattle.entries.specs.Entries.{entryAt};
 ghost use Rattle.entries.specs.Tables.{mark, number, tableOf};
 ghost use Rattle.settle_trust.specs.Cells.{marksGiven, marksTo, cellFor, cellEntry, CellOf, columnOf, HoldsEach, equalTo, isAnother, agreed, decided};
+ghost use Rattle.settle_trust.specs.Voting.{Leads};
 ghost use mathlib.Core.Bool.{false};
 ghost use Rattle.convergence.specs.Trust.{support, trusted, choose};
 ghost use Rattle.settle_trust.specs.Received.{givenBy};
@@ -149,9 +150,66 @@ fn is_another(cells: &[u64; 32], n: usize, need: usize, found: u64, x: u64) -> b
     need <= equal_to(cells, n, x)
 }
 
+// A vote among cells: the one that leads, by how many, and how many are not null.
+struct Vote {
+    leader: u64,
+    lead: usize,
+    some: usize,
+}
+
+// The vote after one cell more: it leads if none did, it joins the leader, or it takes from its lead.
+fn after_cell(v: Vote, x: u64) -> Vote
+    requires { ⌜ (v .lead < 32) × (v .some < 32) ⌝ }
+    ensures { λ r. ⌜ (r .lead ≤ v .lead + 1) × (r .some ≤ v .some + 1)
+        × ((E : ℕ → Entry) (k : ℕ) → CellOf x (E k) → Leads k E v → Leads (k + 1) E r) ⌝ }
+{
+    if x == 0 {
+        return v;
+    }
+    let some = v.some + 1;
+    if v.lead == 0 {
+        return Vote {
+            leader: x,
+            lead: 1,
+            some,
+        };
+    }
+    let leader = v.leader;
+    if x == leader {
+        return Vote {
+            leader,
+            lead: v.lead + 1,
+            some,
+        };
+    }
+    Vote {
+        leader,
+        lead: v.lead - 1,
+        some,
+    }
+}
+
+// The vote among the first n cells.
+fn voted(cells: &[u64; 32], n: usize) -> Vote
+    requires { ⌜ n ≤ 32 ⌝ }
+    ensures { λ r. ⌜ ((E : ℕ → Entry) → HoldsEach n (now (cells .entry)) E → Leads n E r) ⌝ }
+{
+    let mut v = Vote {
+        leader: 0,
+        lead: 0,
+        some: 0,
+    };
+    let mut k: usize = 0;
+    while k < n {
+        v = after_cell(v, cells[k]);
+        k += 1;
+    }
+    v
+}
+
 // The cell of the only position that stands in `need` lists or more; 0 if there is none, or several. What stands in so many lists stands in an early
 // one, so the search ends if fewer than `need` are left.
-fn only(cells: &[u64; 32], n: usize, need: usize) -> u64
+fn searched(cells: &[u64; 32], n: usize, need: usize) -> u64
     requires { ⌜ (n ≤ 32) × (0 < need) ⌝ }
     ensures { λ r. ⌜ ((E : ℕ → Entry) → HoldsEach n (now (cells .entry)) E → CellOf r (choose false false (agreed n need E))) ⌝ }
 {
@@ -170,6 +228,31 @@ fn only(cells: &[u64; 32], n: usize, need: usize) -> u64
     found
 }
 
+// The same by a vote: if `need` is more than half of the cells that are not null, only the leader can stand in so many.
+fn only(cells: &[u64; 32], n: usize, need: usize) -> u64
+    requires { ⌜ (n ≤ 32) × (0 < need) ⌝ }
+    ensures { λ r. ⌜ ((E : ℕ → Entry) → HoldsEach n (now (cells .entry)) E → CellOf r (choose false false (agreed n need E))) ⌝ }
+{
+    let v = voted(cells, n);
+    if need <= v.some / 2 {
+        return searched(cells, n, need);
+    }
+    if need <= equal_to(cells, n, v.leader) {
+        return v.leader;
+    }
+    0
+}
+
+// The cell of the entry that the first n cells decide, if `need` of them have to agree.
+pub fn agreed_cell(cells: &[u64; 32], n: usize, need: usize) -> u64
+    ensures { λ r. ⌜ ((E : ℕ → Entry) → HoldsEach (min n 32) (now (cells .entry)) E → CellOf r (decided false (min n 32) need E)) ⌝ }
+{
+    if need == 0 {
+        return 0;
+    }
+    only(cells, terms::at_most_32(n), need)
+}
+
 // The cell of trusted entry j among the first n links, from their lists, the mark words of these, and how many of them have to agree.
 pub fn trusted_cell(
     lists: &Lists,
@@ -184,13 +267,9 @@ pub fn trusted_cell(
     if marks::marked(confessed, j) {
         return 0;
     }
-    if need == 0 {
-        return 0;
-    }
-    let count = terms::at_most_32(n);
     let mut cells = [0u64; 32];
-    column(lists, marks, count, j, &mut cells);
-    only(&cells, count, need)
+    column(lists, marks, terms::at_most_32(n), j, &mut cells);
+    agreed_cell(&cells, n, need)
 }
 
 // The support of the position u for head j among n links.

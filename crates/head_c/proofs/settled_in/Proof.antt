@@ -1,5 +1,5 @@
 -- What is settled from the parts of the block, by its family, is what is settled from the record that it is.
-use mathlib.Core.Path.{_≡_, ap, sym, _∙_}
+use mathlib.Core.Path.{_≡_, refl, ap, sym, _∙_}
 use mathlib.Core.List.{List}
 use Prim.Native.Nat.{ℕ}
 use lib.IntN.{ℤ}
@@ -20,17 +20,20 @@ use Rattle.head_spec.specs.Record.{rows}
 use Rattle.head_spec.specs.Calls.{settlingOf}
 use Rattle.head_spec.proofs.RoundEnd.{settles-by}
 use Rattle.head_c.specs.Blocks.{headOf}
+use Rattle.head_c.specs.Steps.{rowsIn}
+use Rattle.head_c.proofs.Rows.{given-rows}
 use borrow.Author.Needs.{needs}
 use Rattle.head_c.proofs.settled_in.Statement.{statement}
 use Rattle.head_c.proofs.settled_in.Tie as tie
 
 module _ (h : Head) {s : Seat} {r : ℕ} {a : Settled} (p : s ≡ h .seat) (e : r ≡ rounding (s .phase)) where
-  from-lists : {l : Links} {lists : List (List ℤ)} → s .family ≡ TwoRounds → l ≡ h .links → lists ≡ rows (h .lists)
+  from-lists : {l : Links} (lists : List (List ℤ)) → s .family ≡ TwoRounds → l ≡ h .links → givenBy (h .links) lists ≡ givenBy (h .links) (rows (h .lists))
       → a ≡ settling r (s .n) (ruleOf TwoRounds (s .f)) (trusted (s .n) (s .f) (givenBy l lists)) → a ≡ settlingOf h
-  from-lists {l} {lists} K q t b =
+  from-lists {l} lists K q t b =
       b
       ∙ ap (λ (x : ℕ). settling x (s .n) (ruleOf TwoRounds (s .f)) (trusted (s .n) (s .f) (givenBy l lists))) e
-      ∙ (λ i. settling (rounding (p i .phase)) (p i .n) (ruleOf TwoRounds (p i .f)) (trusted (p i .n) (p i .f) (givenBy (q i) (t i))))
+      ∙ ap (λ (g : Links). settling (rounding (s .phase)) (s .n) (ruleOf TwoRounds (s .f)) (trusted (s .n) (s .f) (givenBy g lists))) q
+      ∙ (λ i. settling (rounding (p i .phase)) (p i .n) (ruleOf TwoRounds (p i .f)) (trusted (p i .n) (p i .f) (t i)))
       ∙ settles-by h (sym (ap (λ (x : Seat). x .family) p) ∙ K)
 
   from-heard : {t : Table} → s .family ≡ OneRound → t ≡ h .list → a ≡ settling r (s .n) (ruleOf OneRound (s .f)) (tableAt t) → a ≡ settlingOf h
@@ -43,13 +46,13 @@ module _ (h : Head) {s : Seat} {r : ℕ} {a : Settled} (p : s ≡ h .seat) (e : 
 returns : tie.Need-returns
 unfolding headOf
 returns c =
-    let rows = c .before .before in
-    let links = rows .before in
+    let links = c .before in
     let m = links .before in
     let up = m .before .before in
     let seat = up .before in
     let w = now (seat .before .before .args .h) in
-    from-lists (headOf w) (seat .seat-in .ensures) (up .rounds-up .ensures) (m .enum-told .given .1) (links .links-in .ensures) (rows .rows-in .ensures) (c .settle-by .ensures)
+    from-lists (headOf w) (seat .seat-in .ensures) (up .rounds-up .ensures) (rowsIn w) (m .enum-told .given .1) (links .links-in .ensures)
+    (given-rows w (headOf w .links) refl) (c .settle-lists .ensures)
 
 returns-2 : tie.Need-returns-2
 unfolding headOf
@@ -68,7 +71,6 @@ settled-in-spec =
     (λ c κs. search needs)
     (λ c κs. search needs)
     (λ c. search needs)
-    (λ c κs. search needs)
     (λ c κs. search needs)
     (λ c κs. search needs)
     (λ c. search needs)

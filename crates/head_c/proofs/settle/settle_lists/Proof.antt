@@ -1,0 +1,98 @@
+-- Before entry j the order holds the positions among the trusted entries below j. After the last entry these are all that settling asks of the entries.
+use mathlib.Core.Path.{_≡_, refl, sym, _∙_}
+use mathlib.Core.List.{[]}
+use Prim.Native.Nat.{ℕ, _-_, _≤_}
+use native.Mathlib.Omega.{arith}
+use lib.ListN.{length, getD}
+use denote.Ref.{now}
+use borrow.Author.Needs.{needs}
+use Rattle.terms.specs.declared.Entry.{Entry}
+use Rattle.convergence.specs.Trust.{trusted}
+use Rattle.settle_trust.specs.Received.{givenBy}
+use Rattle.settle_trust.proofs.Received.{words}
+use Rattle.settle_trust.proofs.Trusted.{decided-marked, trusted-past}
+use Rattle.settle_midpoint.specs.Orders.{OrderAfter}
+use Rattle.settle_midpoint.proofs.Ordering.{order-none, order-next, order-all}
+use Rattle.settle_midpoint.proofs.Middle.{settling-after}
+use Rattle.settle_position.specs.Deciding.{Prepared}
+use Rattle.settle_position.proofs.Reference.{prepared}
+use Rattle.head_c.specs.Steps.{rowsIn}
+use Rattle.head_c.proofs.settle.settle_lists.Statement.{statement}
+use Rattle.head_c.proofs.settle.settle_lists.Tie as tie
+
+abbrev Inv-loop : tie.InvT-loop
+Inv-loop h n f up count first marks same d cells₀ positions₀ len₀ j₀ cells positions len j =
+    (j ≤ count) × (length cells ≡ 32) × ((E : ℕ → Entry) → Prepared E (rowsIn h) marks (getD (rowsIn h) first []) same d → OrderAfter j E len positions)
+
+abbrev μ-loop : tie.MeasureT-loop
+μ-loop h n f up count first marks same d cells₀ positions₀ len₀ j₀ cells positions len j = count - j
+
+loop-holds : tie.Need-loop-holds Inv-loop μ-loop
+loop-holds c = (omega arith, refl, λ E P. order-none E)
+
+compare-in-requires : tie.Need-compare-in-requires Inv-loop μ-loop
+compare-in-requires c κs =
+    let s = c .before .before .before .before .before in
+    (s .pre, omega (arith, c .before .before .before .at-most-32 .ensures), omega arith)
+
+cell-in-requires : tie.Need-cell-in-requires Inv-loop μ-loop
+cell-in-requires c κs =
+    let l = c .before .before .before .before in
+    let k = l .before .before .before .before .before .before .before in
+    (k .before .before .pre, omega arith, omega (arith, k .at-most-32 .ensures), omega (arith, k .at-most-32 .ensures), l .loop .inv .1)
+
+loop-again : tie.Need-loop-again Inv-loop μ-loop
+loop-again c =
+    let e = c .before .before in
+    let x = e .before in
+    let l = x .before .before .before .before .before in
+    let few = l .before .before .before .before .before .before .before .at-most-32 .ensures in (
+      omega arith,
+      x .cell-in .ensures .0,
+      λ E P.
+          rw (c .place .ensures .0, c .place .ensures .1)
+          (order-next E _ (omega (arith, few)) (sym (e .entry-of .ensures ∙ x .cell-in .ensures .1 E P .entry)) (l .loop .inv .2 E P)),
+    )
+
+returns : tie.Need-returns Inv-loop μ-loop
+returns c =
+    let l = c .before .before in
+    let needed = l .before in
+    let compared = needed .before .before in
+    let marks = compared .before .before in
+    let k = marks .before .before in
+    let s = k .before .before in
+    let a = s .args in
+    let g = words (a .links) (s .good .1 .0) in
+    let L = rowsIn (now (a .h)) in
+    let E = trusted (a .n) (a .f) (givenBy (a .links) L) in
+    let past = trusted-past (a .links) L g (a .n) (a .f) in
+    let P = prepared E L _ _ (compared .compare-in .result) _ (compared .compare-in .ensures) refl refl refl
+    (λ j. decided-marked (a .links) L g (a .n) (a .f) j (k .at-most-32 .ensures) (needed .lists-needed .ensures) (marks .all-marks .ensures)) past
+    (omega (arith, k .at-most-32 .ensures)) in
+    c .middle-of .ensures ∙ settling-after _ _ _ _ (order-all E past (a .n) (omega (arith, k .at-most-32 .ensures)) (l .loop .inv .2 E P))
+
+pub settle-lists-spec : {M : Type 1} → statement M
+settle-lists-spec =
+    tie.close
+    (tie.spec
+    Inv-loop
+    μ-loop
+    (λ c κs. search needs)
+    (λ c. search needs)
+    (λ c κs. search needs)
+    compare-in-requires
+    (λ c. search needs)
+    (λ c κs. search needs)
+    (λ c. search needs)
+    (λ c. search needs)
+    (λ c. search needs)
+    loop-holds
+    cell-in-requires
+    (λ c κs. search needs)
+    (λ c κs. search needs)
+    (λ c. search needs)
+    (λ c. search needs)
+    loop-again
+    (λ c κs. search needs)
+    returns)
