@@ -3,7 +3,7 @@ use mathlib.Core.Path.{_≡_, refl, ap, _∙_}
 use mathlib.Core.List.{List, [], _∷_}
 use Prim.Native.Nat.{ℕ, zero, suc}
 use native.Mathlib.Omega.{arith}
-use lib.ListN.{length, length-append, length-set, length-replicate}
+use lib.ListN.{length, drop, length-append, length-drop, length-set, length-replicate}
 use Rattle.terms.specs.Refusals.{leaves}
 use Rattle.terms.specs.declared.Table.{Table}
 use Rattle.head_spec.specs.declared.Seat.{Seat}
@@ -15,9 +15,9 @@ use Rattle.head_spec.specs.Calls.{start, restart, startListener, restartListene
 use Rattle.head_spec.specs.Batch.{entriesOf, batchRefusal}
 use Rattle.head_spec.proofs.RoundClose as round
 use Rattle.head_window.specs.declared.Beside.{Beside}
-use Rattle.head_c.specs.Blocks.{IsBlock, headOf, listWords, withHead, withAnswer, withBeside, offerOf, withoutOffer, withClosing, heardIn, heardEach}
+use Rattle.head_c.specs.Blocks.{IsBlock, headOf, withHead, withAnswer, withBeside, offerOf, withoutOffer, withClosing, heardIn, heardEach}
 use Rattle.head_c.specs.Events.{Call, starts, restarts, startsListener, restartsListener, hears, hearsBatch, closes, adopts, sets, blockAfter}
-use Rattle.head_c.proofs.Putting.{third, third-long, lists-long}
+use Rattle.head_c.proofs.Putting.{third, third-long}
 use Rattle.head_c.proofs.Beside.{heard-block}
 use Rattle.head_c.proofs.After.{Opens, start-opens, restart-opens, start-listener-opens, restart-listener-opens, adopt-opens}
 
@@ -27,7 +27,7 @@ unfolding withHead noLinks
 put-block w s t block =
     let h = opened s t in
     let long = third-long h w block (length-replicate {A = ℕ} 32 0) in
-    length-append (third h w) (listWords (h .lists) 32) ∙ omega (arith, long, lists-long (h .lists) 32)
+    length-append (third h w) (drop 92 w) ∙ omega (arith, long, length-drop 92 w)
 
 -- a collection round that is closed makes one
 listed-opens : (h : Head) → close h .closed ≡ Closed.Listed → close h .head ≡ opened (close h .head .seat) (close h .head .list)
