@@ -11,10 +11,10 @@ ghost use mathlib.Core.Logic.{_↔_};
 ghost use lib.Dec.{T};
 ghost use Rattle.convergence.specs.Demand3.{Halves};
 
-// The last two positions that were answered.
+// The last two answers.
 pub struct Said {
-    pub before: i32,
-    pub last: i32,
+    pub before: u64,
+    pub last: u64,
 }
 
 // Whether halving is promised: 3n at least 11f + 3.
@@ -24,11 +24,13 @@ fn halves(n: u32, f: u32) -> bool
     11 * (f as u64) + 3 <= 3 * (n as u64)
 }
 
-fn promise(n: u32, f: u32) {
-    if !halves(n, f) {
-        show::text(b"not ");
+fn promise(n: u32, f: u32) -> u64 {
+    if halves(n, f) {
+        show::text(b"promised");
+        return show::WORD;
     }
-    show::text(b"promised");
+    show::text(b"not promised");
+    show::OTHER
 }
 
 // Number k of a line, as a word, a count and a position.
@@ -45,21 +47,30 @@ fn position(x: First, k: usize) -> i32 {
 }
 
 // Half of the sum of numbers a and b, rounded by the phase that is number p.
-fn half(x: First, a: usize, b: usize, p: usize) -> i32 {
+fn half(x: First, a: usize, b: usize, p: usize) -> u64 {
     let up = steps::rounds_up((word(x, p) % 65536) as u16);
-    let v = steps::half_sum(position(x, a), position(x, b), up);
-    show::position(v);
-    v
+    show::position(steps::half_sum(position(x, a), position(x, b), up))
 }
 
-// How far two positions lie apart.
-fn spread(a: i32, b: i32) -> u32 {
+// The position that was answered.
+fn position_of(answer: u64) -> i32 {
+    fields::signed((answer % show::WORD) as u32)
+}
+
+fn answered(answer: u64) {
+    show::position(position_of(answer));
+}
+
+// How far the last two lie apart.
+fn spread(said: Said) -> u64 {
+    let a = position_of(said.before);
+    let b = position_of(said.last);
     let x = fields::unsigned(a);
     let y = fields::unsigned(b);
     if a < b {
-        return std::num::wrapping_sub_u32(y, x);
+        return show::count(std::num::wrapping_sub_u32(y, x) as u64);
     }
-    std::num::wrapping_sub_u32(x, y)
+    show::count(std::num::wrapping_sub_u32(x, y) as u64)
 }
 
 // The first len bytes; all of them if they are fewer.
@@ -71,7 +82,7 @@ fn front(s: &[u8], len: usize) -> &[u8] {
 }
 
 // The midpoint of the entries in brackets.
-fn midpoint(x: First, r: Brackets) {
+fn midpoint(x: First, r: Brackets) -> u64 {
     let n = word(x, 0);
     let bytes = r.bytes;
     let entries = front(&bytes, 4 * (n as usize));
@@ -82,11 +93,11 @@ fn midpoint(x: First, r: Brackets) {
         word(x, 2),
         r.marks,
         entries,
-    ));
+    ))
 }
 
 // The frame of a list of nulls, by its length and its count; the bytes up to 1,032 are 0.
-fn list_frame(x: First) {
+fn list_frame(x: First) -> u64 {
     let len = word(x, 0);
     let mut bytes = [0u8; 1032];
     bytes[0] = (len % 256) as u8;
@@ -94,7 +105,7 @@ fn list_frame(x: First) {
     bytes[2] = 3;
     bytes[5] = 1;
     bytes[7] = byte(x, 1);
-    show::check(front(&bytes, len as usize));
+    show::check(front(&bytes, len as usize))
 }
 
 // What the links gave. In a settling each list is the one in brackets; else a link's list has its position in brackets for every head.
@@ -120,7 +131,7 @@ fn links(r: Brackets, settling: bool) -> Links {
 }
 
 // The trusted entry of the head that is number 0, in a ring of the size that follows.
-fn trusted(x: First, r: Brackets) {
+fn trusted(x: First, r: Brackets) -> u64 {
     let j = word(x, 0) as usize;
     show::entry(settle_trust::trusted_entry(
         lists(r, false),
@@ -128,11 +139,11 @@ fn trusted(x: First, r: Brackets) {
         byte(x, 1),
         byte(x, 2),
         j,
-    ));
+    ))
 }
 
 // The support of the last of count numbers.
-fn support(x: First, r: Brackets, count: usize) {
+fn support(x: First, r: Brackets, count: usize) -> u64 {
     let j = word(x, 0) as usize;
     let k = if 0 < count { count - 1 } else { 0 };
     show::count(
@@ -143,10 +154,10 @@ fn support(x: First, r: Brackets, count: usize) {
             j,
             position(x, k),
         ) as u64,
-    );
+    )
 }
 
-fn settled(x: First, r: Brackets) -> i32 {
+fn settled(x: First, r: Brackets) -> u64 {
     show::settled(settle_position::settle(
         lists(r, true),
         links(r, true),
@@ -175,13 +186,13 @@ fn numbered(x: First, r: Brackets, settling: bool, k: u8) {
     }
 }
 
-fn frame(r: Brackets) {
+fn frame(r: Brackets) -> u64 {
     let bytes = r.bytes;
-    show::check(front(&bytes, r.places));
+    show::check(front(&bytes, r.places))
 }
 
-// Answers about frames, sizes and the scale.
-fn tell(x: First, b: u8) {
+// Answers about numbers.
+fn of_numbers(x: First, b: u8) -> u64 {
     let n = word(x, 0);
     let f = word(x, 1);
     match b {
@@ -190,47 +201,55 @@ fn tell(x: First, b: u8) {
         b'L' => list_frame(x),
         b'B' => show::check(&io::large_buffer()),
         b'N' => show::scaled(steps::scale::scale(position(x, 0), f, word(x, 2))),
-        _ => {}
+        b'h' => half(x, 0, 1, 2),
+        b'd' => half(x, 1, 2, 0),
+        _ => half(x, 3, 4, 0),
     }
 }
 
-// Answers about what stands in brackets, but for new positions.
-fn tell_inside(x: First, r: Brackets, count: usize, b: u8) {
+// Answers about what stands in brackets.
+fn of_brackets(x: First, r: Brackets, count: usize, b: u8) -> u64 {
     match b {
         b'm' => midpoint(x, r),
         b't' => trusted(x, r),
         b's' => support(x, r, count),
         b'F' => frame(r),
-        _ => tell(x, b),
+        b'p' => settled(x, r),
+        _ => of_numbers(x, b),
     }
 }
 
-// A new position: half of a sum, or what a settling gives.
-fn moved(x: First, r: Brackets, b: u8) -> i32 {
-    match b {
-        b'h' => half(x, 0, 1, 2),
-        b'd' => half(x, 1, 2, 0),
-        b'e' => half(x, 3, 4, 0),
-        _ => settled(x, r),
+// Whether a wrong reading answers as ours does.
+fn compare(ours: u64, wrong: u64) {
+    if ours == wrong {
+        show::text(b"SAME");
+    } else {
+        show::text(b"differs");
     }
 }
 
-// Prints the answer, and keeps a new position.
+// Prints the answer, and keeps it if more may be asked about it.
 pub(crate) fn say(line: Line, said: Said, b: u8) -> Said {
     let x = line.numbers;
     let r = line.brackets;
     match b {
-        b'<' => show::position(said.before),
-        b'>' => show::position(said.last),
-        b'r' => show::count(spread(said.before, said.last) as u64),
+        b'x' | b'l' | b'c' => {}
         b'0'..=b'9' => numbered(x, r, line.mode != 0, b - b'0'),
-        b'h' | b'd' | b'e' | b'p' => {
+        b'<' => answered(said.before),
+        b'>' => answered(said.last),
+        b'=' => compare(said.last, line.wrong),
+        b'r' => {
             return Said {
                 before: said.last,
-                last: moved(x, r, b),
+                last: spread(said),
             };
         }
-        _ => tell_inside(x, r, line.count, b),
+        _ => {
+            return Said {
+                before: said.last,
+                last: of_brackets(x, r, line.count, b),
+            };
+        }
     }
     said
 }

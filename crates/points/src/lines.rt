@@ -1,4 +1,5 @@
 // What a line of the table asks about, read byte by byte: its numbers, and what stands in brackets.
+use crate::show;
 
 // The first eight numbers, as words.
 pub type First = [u32; 8];
@@ -21,7 +22,7 @@ pub struct Number {
     pub value: u32,
 }
 
-// `mode` is what the last `#x`, `#l` or `#c` said.
+// `mode` is what the last `#x`, `#l` or `#c` said; `wrong` is the number or word before the last closing parenthesis.
 pub struct Line {
     pub count: usize,
     pub numbers: First,
@@ -29,6 +30,7 @@ pub struct Line {
     pub number: Number,
     pub inside: bool,
     pub mode: u8,
+    pub wrong: u64,
 }
 
 pub(crate) fn fresh() -> Line {
@@ -52,6 +54,7 @@ pub(crate) fn fresh() -> Line {
         number,
         inside: false,
         mode: 0,
+        wrong: 0,
     }
 }
 
@@ -64,6 +67,13 @@ fn digit(b: u8, hex: bool) -> u8 {
         return b - b'a' + 10;
     }
     16
+}
+
+fn word_of(number: Number) -> u32 {
+    if number.below {
+        return std::num::wrapping_sub_u32(0, number.value);
+    }
+    number.value
 }
 
 fn with_digit(number: Number, d: u8, hex: bool) -> Number {
@@ -135,12 +145,8 @@ fn put(line: Line, w: u32) -> Line {
 fn close(line: Line) -> Line {
     let mut l = line;
     let n = l.number;
-    let w = if n.below {
-        std::num::wrapping_sub_u32(0, n.value)
-    } else {
-        n.value
-    };
     let r = l.brackets;
+    let w = word_of(n);
     l.number.open = false;
     l.number.below = false;
     l.number.value = 0;
@@ -179,6 +185,13 @@ pub(crate) fn read(line: Line, b: u8) -> Line {
     if d < 16 {
         l.number = with_digit(n, d, hex);
         return l;
+    }
+    if b == b')' {
+        l.wrong = if n.open {
+            word_of(n) as u64
+        } else {
+            show::WORD
+        };
     }
     if n.open {
         return sign(close(l), b);

@@ -1,6 +1,6 @@
 // Every worked point of document 01, "Points on the ring", and the probes of its open points. The table is printed as it is, but that each
 // `#` with the letter after it gives way to what the proved functions answer (asks.rt) to what was read of the line (lines.rt). What a
-// wrong reading would answer is part of the table, in parentheses.
+// wrong reading answers is part of the table, in parentheses; the line ends in `differs`, or in `SAME` if ours is the same.
 mod asks;
 mod lines;
 mod show;
@@ -46,23 +46,23 @@ size 33 0: #S\n",
 halving at 9 2: #H\n\
 halving at 12 3: #H\n\
 halving at 23 6: #H\n\
-halving at 8 2: #H (from 2n at least 7f + 2: promised) differs\n\
-halving at 22 6: #H (from 2n at least 7f + 2: promised) differs\n",
+halving at 8 2: #H (from 2n at least 7f + 2: promised) #=\n\
+halving at 22 6: #H (from 2n at least 7f + 2: promised) #=\n",
     );
     // Half sums, rounded by the phase.
     print(
-        b"half of -5 + 0 in phase 1: #h (towards zero: -2) differs\n\
-half of -5 + 0 in phase 2: #h (away from zero: -3) differs\n\
-half of -3 + -2 in phase 1: #h (towards zero: -2) differs\n\
-half of -3 + -2 in phase 2: #h (away from zero: -3) differs\n\
-half of -1 + 0 in phase 1: #h (towards zero: 0) differs\n\
-half of -1 + 0 in phase 2: #h (away from zero: -1) differs\n\
-half of -1000000 + -999999 in phase 1: #h (towards zero: -999999) differs\n\
-half of -1000000 + -999999 in phase 2: #h (away from zero: -1000000) differs\n\
-in phase 1, kept 0 to 1 and 1 to 2: #d and #e (odd sums to even: 0 and 2), spread #r (odd sums to even: 2) differs\n\
-in phase 2, kept 0 to 1 and 1 to 2: #d and #e (odd sums to even: 0 and 2), spread #r (odd sums to even: 2) differs\n\
-in phase 1, kept -2 to -1 and -1 to 0: #d and #e (odd sums to even: -2 and 0), spread #r (odd sums to even: 2) differs\n\
-in phase 2, kept -2 to -1 and -1 to 0: #d and #e (odd sums to even: -2 and 0), spread #r (odd sums to even: 2) differs\n",
+        b"half of -5 + 0 in phase 1: #h (towards zero: -2) #=\n\
+half of -5 + 0 in phase 2: #h (away from zero: -3) #=\n\
+half of -3 + -2 in phase 1: #h (towards zero: -2) #=\n\
+half of -3 + -2 in phase 2: #h (away from zero: -3) #=\n\
+half of -1 + 0 in phase 1: #h (towards zero: 0) #=\n\
+half of -1 + 0 in phase 2: #h (away from zero: -1) #=\n\
+half of -1000000 + -999999 in phase 1: #h (towards zero: -999999) #=\n\
+half of -1000000 + -999999 in phase 2: #h (away from zero: -1000000) #=\n\
+in phase 1, kept 0 to 1 and 1 to 2: #d and #e (odd sums to even: 0 and 2), spread #r (odd sums to even: 2) #=\n\
+in phase 2, kept 0 to 1 and 1 to 2: #d and #e (odd sums to even: 0 and 2), spread #r (odd sums to even: 2) #=\n\
+in phase 1, kept -2 to -1 and -1 to 0: #d and #e (odd sums to even: -2 and 0), spread #r (odd sums to even: 2) #=\n\
+in phase 2, kept -2 to -1 and -1 to 0: #d and #e (odd sums to even: -2 and 0), spread #r (odd sums to even: 2) #=\n",
     );
     // The trim, by the number of nulls.
     print(
@@ -72,18 +72,18 @@ trim at f = 3 with 0 to 9 nulls: #0 #1 #2 #3 #4 #5 #6 #7 #8 #9\n",
     );
     // The midpoint of trusted entries.
     print(
-        b"midpoint 5 1 in phase 1 [10 20 30 40 null]: #m (null for zero: 20) differs\n\
-midpoint 5 1 in phase 1 [10 20 30 null null]: #m (null for zero: 10) differs\n\
-midpoint 5 1 in phase 1 [10 20 null null null]: #m (null for zero: 5) differs\n\
-midpoint 5 1 in phase 1 [10 null null null null]: #m (null for zero: 0) differs\n\
+        b"midpoint 5 1 in phase 1 [10 20 30 40 null]: #m (null for zero: 20) #=\n\
+midpoint 5 1 in phase 1 [10 20 30 null null]: #m (null for zero: 10) #=\n\
+midpoint 5 1 in phase 1 [10 20 null null null]: #m (null for zero: 5) #=\n\
+midpoint 5 1 in phase 1 [10 null null null null]: #m (null for zero: 0) #=\n\
 midpoint 5 1 in phase 1 [0 0 0 1 1]: #m\n\
 midpoint 5 1 in phase 2 [0 0 0 1 1]: #m\n\
 midpoint 5 1 in phase 1 [-3 -3 -2 -2 -2]: #m\n\
 midpoint 5 1 in phase 2 [-3 -3 -2 -2 -2]: #m\n\
 midpoint 1 0 in phase 1 [7]: #m\n\
 midpoint 1 0 in phase 1 [0]: #m\n\
-midpoint 1 0 in phase 1 [null]: #m (null for zero: 0) differs\n\
-midpoint 2 0 in phase 1 [10 null]: #m (null for zero: 5) differs\n\
+midpoint 1 0 in phase 1 [null]: #m (null for zero: 0) #=\n\
+midpoint 2 0 in phase 1 [10 null]: #m (null for zero: 5) #=\n\
 midpoint 5 1 in phase 0 [0 0 0 1 1]: #m\n\
 midpoint 5 1 in phase 65536 [0 0 0 1 1]: #m\n",
     );
@@ -105,12 +105,12 @@ trusted 0 of 22 6, links gave [1 1 1 1 1 2 2 2 2 2 2 confession confession confe
 confession confession confession confession confession]: #t, support of 1 is #s, of 2 is #s\n\
 trusted 0 of 22 6, links gave [1 1 1 1 1 2 2 2 2 2 2 nothing confession confession confession confession confession confession \
 confession confession confession confession]: #t, support of 1 is #s, of 2 is #s\n\
-trusted 4 of 5 1, links gave [50 50 50 50 nothing]: #t (nothing for a confession: null) differs\n\
-trusted 0 of 5 1, links gave [10 10 10 nothing nothing]: #t (nothing for a confession: 10) differs\n\
-trusted 0 of 5 1, links gave [10 10 nothing nothing confession]: #t (nothing for a confession: 10) differs\n\
-trusted 0 of 5 1, links gave [null null null null null]: #t (null for zero: 0) differs\n\
-trusted 0 of 5 1, links gave [10 null null null null]: #t (null for zero: 0) differs\n\
-trusted 0 of 5 1, links gave [0 0 null null nothing]: #t (null for zero: 0) differs\n",
+trusted 4 of 5 1, links gave [50 50 50 50 nothing]: #t (nothing for a confession: null) #=\n\
+trusted 0 of 5 1, links gave [10 10 10 nothing nothing]: #t (nothing for a confession: 10) #=\n\
+trusted 0 of 5 1, links gave [10 10 nothing nothing confession]: #t (nothing for a confession: 10) #=\n\
+trusted 0 of 5 1, links gave [null null null null null]: #t (null for zero: 0) #=\n\
+trusted 0 of 5 1, links gave [10 null null null null]: #t (null for zero: 0) #=\n\
+trusted 0 of 5 1, links gave [0 0 null null nothing]: #t (null for zero: 0) #=\n",
     );
     // Confession rounds in which every link that gave a list gave the same one.
     print(
@@ -124,7 +124,7 @@ settle 8 2: list [null null null null 2 0 0 2] from#l 0 1 5 6 7, confession from
 position: #p\n\
 settle 8 2: list [null null null null 2 0 0 2] from#l 0 1 4 6 7, confession from#c 2 3 5: trusted [#0 #1 #2 #3 #4 #5 #6 #7], new \
 position: #p\n\
-these two settle on #< and #>: spread 2 becomes #r (halving from 2n at least 7f + 2: 1) differs\n",
+these two settle on #< and #>: spread 2 becomes #r (halving from 2n at least 7f + 2: 1) #=\n",
     );
     // The frame check.
     print(
@@ -179,9 +179,9 @@ scale 1000001 by 0/1: #N\n\
 scale 1000001 by 2/3: #N\n\
 scale 1000001 by 1/1: #N\n\
 scale -1000001 by 1/1: #N\n\
-scale -1 by 3/2: #N (towards zero: -1) differs\n\
-scale -5 by 3/2: #N (towards zero: -7) differs\n\
-scale -7 by 10/3: #N (towards zero: -23) differs\n\
-scale -1000000 by 1000000/999999: #N (towards zero: -1000001) differs\n",
+scale -1 by 3/2: #N (towards zero: -1) #=\n\
+scale -5 by 3/2: #N (towards zero: -7) #=\n\
+scale -7 by 10/3: #N (towards zero: -23) #=\n\
+scale -1000000 by 1000000/999999: #N (towards zero: -1000001) #=\n",
     );
 }

@@ -59,7 +59,8 @@ nanometres-spec =
     cast-count
     add-count
     (λ c κs. search needs)
-    cast-count-2
     (λ c κs. search needs)
     (λ c. search needs)
+    cast-count-2
+    (λ c κs. search needs)
     (λ c. search needs))
