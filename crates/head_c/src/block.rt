@@ -6,7 +6,6 @@ ghost use lib.ListN.{length};
 ghost use lib.Seq.{paste};
 ghost use lib.IntN.{pos};
 ghost use Rattle.fields.specs.Bytes.{signedOf, wordOf};
-ghost use Rattle.frame_spec.specs.Said.{confessed};
 ghost use Rattle.head_spec.specs.Record.{noEntries, opened};
 ghost use Rattle.terms.specs.Refusals.{leaves};
 ghost use Rattle.head_spec.specs.Seats.{familyIn};
