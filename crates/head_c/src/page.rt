@@ -7,7 +7,7 @@ ghost use Rattle.head_c.specs.Blocks.{headOf};
 ghost use Rattle.head_c.specs.Pages.{kindOf, floatsOr, readingAt, readingsOf};
 use crate::Block;
 use crate::WORDS;
-use crate::seat_in;
+use crate::block::seat_in;
 use frame_spec::Written;
 use hostpage::Readings;
 use reading::Reading;

@@ -1,5 +1,5 @@
-// What the end of a phase settles in a ring of two rounds, from the lists where they stand in the block: none is copied. Entries are decided by a reference
-// list, as `settle_position` decides them from lists by value.
+// What the end of a phase settles in a ring of two rounds, from the lists where they stand in the block: none is copied. Entries are
+// decided by a reference list, as `settle_position` decides them from lists by value.
 ghost use mathlib.Core.Path.{_≡_};
 ghost use mathlib.Core.Bool.{false};
 ghost use mathlib.Core.List.{[]};

@@ -6,9 +6,9 @@ ghost use Rattle.head_window.specs.Window.{window, readRefusal, byteRead, setRe
 ghost use Rattle.head_c.specs.Blocks.{IsBlock, headOf, besideOf};
 ghost use Rattle.head_c.specs.Events.{sets, blockAfter, windowReset};
 use crate::Block;
-use crate::beside_in;
-use crate::put_beside;
-use crate::seat_in;
+use crate::block::beside_in;
+use crate::block::put_beside;
+use crate::block::seat_in;
 use head_window::Window;
 
 // The sixteen bytes.
@@ -52,8 +52,8 @@ pub extern "C" fn focus_head_set_register(h: &mut Block, at: u32, byte: u8) -> u
     head_window::set_refusal(at)
 }
 
-// Writes both bytes anew after a strike, which may have left anything beside the head: no event is pending then, and the mask is given. A restart that follows sets
-// its event.
+// Writes both bytes anew after a strike, which may have left anything beside the head: no event is pending then, and the mask is given. A
+// restart that follows sets its event.
 #[no_mangle]
 pub extern "C" fn focus_head_window_reset(h: &mut Block, mask: u8)
     ensures { λ _. ⌜ now (h .exit) ≡ windowReset (now (h .entry)) mask ⌝ }
