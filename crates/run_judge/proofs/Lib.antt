@@ -1,2 +1,3 @@
--- Laws of the crate: the positions of a start record.
+-- Laws of the crate: the positions of a start record, and marks counted at once.
 pub mod Positions
+pub mod Ones

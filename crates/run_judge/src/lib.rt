@@ -107,11 +107,10 @@ pub fn first_positions(bytes: &[u8]) -> Numbers
 fn few_marks(n: u8, f: u8, m: u32) -> bool
     ensures { λ r. ⌜ r ≡ fewMarks n f m ⌝ }
 {
-    let count = n as usize;
-    if !marks::marks_below(m, count) {
+    if !marks::marks_below(m, n as usize) {
         return false;
     }
-    marks::marked_to(m, count) <= f as usize
+    u32::count_ones(m) <= f as u32
 }
 
 // How many rounds 65,535 phases have.

@@ -42,3 +42,11 @@ pub record RecordTaken (t : RecordResult) (n : ℕ) (r : FeedResult) : Type 0 wh
   pub player : r .player ≡ t .player
   pub used : r .used ≡ n
   pub text : r .text ≡ t .text
+
+-- the ring has agreed, nothing is planted in the pending round, and no record is cut or refused
+pub record Unplanted (p : Player) : Type 0 where
+  pub agreed : p .agreed ≡ true
+  pub pending : p .pending ≡ true
+  pub none : p .last .some ≡ false
+  pub fresh : p .have ≡ 0
+  pub sound : p .fault ≡ 0

@@ -1,9 +1,10 @@
 -- What one step over a piece promises to the stream over it: how many bytes it takes, and that they are read.
 use mathlib.Core.Path.{_≡_}
-use mathlib.Core.Bool.{true}
+use mathlib.Core.Bool.{true, false}
 use mathlib.Core.List.{List, []}
 use Prim.Native.Nat.{ℕ, _≤_, _<_}
 use lib.ListN.{length, take}
+use Rattle.run_spec.specs.RunFile.{round, lengthIn, kindIn, roundFault}
 use Rattle.run_spec.specs.declared.Pair.{Pair}
 use Rattle.texts.specs.Texts.{bytesOf}
 use Rattle.run_state.specs.declared.Player.{Player}
@@ -44,3 +45,15 @@ pub record Waits (p : Player) (count number marks : ℕ) (pair : Pair) : Type 0 
   pub listeners : p .listeners ≡ number
   pub struck : p .struck ≡ marks
   pub last : p .last ≡ pair
+
+-- a piece begins with a whole round record that has no fault, when the ring has agreed and nothing is planted in the pending round
+pub record Calm (p : Player) (s : List ℕ) : Type 0 where
+  pub agreed : p .agreed ≡ true
+  pub pending : p .pending ≡ true
+  pub unplanted : p .last .some ≡ false
+  pub fresh : p .have ≡ 0
+  pub sound : p .fault ≡ 0
+  pub within : 8 ≤ length s
+  pub long : lengthIn s ≡ 8
+  pub kind : kindIn s ≡ round
+  pub faultless : roundFault (p .family) (p .n) (p .f) (p .given) s ≡ 0

@@ -8,8 +8,8 @@ ghost use lib.ListN.{length, take};
 ghost use Rattle.run_state.specs.Memory.{memoryBefore, memoryAfter};
 ghost use Rattle.run_state.specs.Changes.{halted, withPairPlanted};
 ghost use Rattle.run_record.specs.Next.{allowedTo};
-ghost use Rattle.run_piece.specs.Steps.{Quiet, Used, Reads, Waits, Passes};
-ghost use Rattle.run_piece.specs.Inner.{Missing, BeginsWhole, Plants, headedTo, RecordTaken};
+ghost use Rattle.run_piece.specs.Steps.{Quiet, Used, Reads, Waits, Passes, Calm};
+ghost use Rattle.run_piece.specs.Inner.{Missing, BeginsWhole, Plants, Unplanted, headedTo, RecordTaken};
 use frame_slots::PlantedBytes;
 use frame_slots::PlantedLengths;
 use run_record::RecordResult;
@@ -240,4 +240,44 @@ pub fn advance(
         return taken(t, used);
     }
     take_part(p, rest, carry, positions, marks, lists, planted, lengths)
+}
+
+// Whether the ring has agreed, nothing is planted in the pending round, and the player is between records and has no fault.
+fn is_settled(p: Player) -> bool
+    ensures { λ r. ⌜ (r ≡ true → Unplanted p) ⌝ }
+{
+    if !p.agreed {
+        return false;
+    }
+    if !p.pending {
+        return false;
+    }
+    if p.last.some {
+        return false;
+    }
+    if p.have != 0 {
+        return false;
+    }
+    p.fault == 0
+}
+
+// Whether a piece begins with a whole round record that has no fault, in a ring that has agreed, when nothing is planted in the pending round. Such a record changes
+// the player alone.
+pub fn is_calm(p: Player, bytes: &[u8]) -> bool
+    ensures { λ r. ⌜ (r ≡ true → Calm p (now (bytes .entry))) ⌝ }
+{
+    if !is_settled(p) {
+        return false;
+    }
+    if bytes.len() < 8 {
+        return false;
+    }
+    if fields::half_at(bytes, 0) != 8 {
+        return false;
+    }
+    if fields::half_at(bytes, 2) != run_judge::ROUND {
+        return false;
+    }
+    let family = p.family;
+    run_judge::round_fault(family, bytes, p.n, p.f, p.given) == 0
 }

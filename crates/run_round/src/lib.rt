@@ -90,8 +90,17 @@ fn play_ring(
     }
 }
 
-// Plays the pending round, and answers the line of the phase that it ends, if it ends one. In a ring that has agreed every receiver holds the position on which it
-// did, whatever is planted, so that nothing is left to settle.
+// The pending round of a ring that has agreed: every receiver holds the position on which it did, whatever is planted, so that nothing is left to settle. Answers the
+// line of the phase that the round ends, if it ends one.
+pub fn play_agreed(p: Player, positions: &Positions) -> Text
+    ensures { λ r. ⌜ ((a : List ℕ) (M : Memory) → readFile a .setup .begun ≡ true → readFile a .rounds .pending ≡ true → PlayerOf p (readFile a) → p .agreed ≡ true
+        → MemoryOf (readFile a) (withPositions M (now (positions .entry))) → Played (readFile a) r (withPositions M (now (positions .entry)))) ⌝ }
+    ensures { λ r. ⌜ r .len ≤ 64 ⌝ }
+{
+    line_of(p, positions)
+}
+
+// Plays the pending round, and answers the line of the phase that it ends, if it ends one.
 pub fn play_round(
     p: Player,
     positions: &mut Positions,
@@ -109,7 +118,7 @@ pub fn play_round(
         play_ring(p, positions, marks, lists, planted, lengths);
         return line_of(p, positions);
     }
-    line_of(p, positions)
+    play_agreed(p, positions)
 }
 
 // Whether the ring has agreed, once the pending round, if there is one, is played. If it agrees just then, the position on which it does becomes that of all places.

@@ -1,10 +1,11 @@
 -- Step by step through a piece: after some bytes the state is that after them, with the text that they show, and the next step is one from there.
-use mathlib.Core.Path.{_≡_, refl, ap, sym, _∙_}
+use mathlib.Core.Path.{_≡_, refl, ap, sym, subst, _∙_}
 use mathlib.Core.List.{List, [], _++_, append-nil, append-assoc}
 use Prim.Native.Nat.{ℕ, _+_, _-_, _≤_, _<_}
 use native.Mathlib.Omega.{arith}
 use native.Mathlib.Nat.{le-refl}
 use lib.ListN.{length, take, drop, length-drop}
+use lib.IntN.{ℤ}
 use lib.Seq.{take-add, take-all}
 use Rattle.ring_spec.specs.Rounds.{Ring, PhaseEnd}
 use Rattle.run_spec.specs.RunFile.{File, readFile, accepted, endsSoFar}
@@ -12,12 +13,13 @@ use Rattle.run_spec.specs.Listing.{shown}
 use Rattle.run_spec.proofs.Bytes.{more-accepted}
 use Rattle.texts.specs.Texts.{bytesOf}
 use Rattle.run_state.specs.declared.Player.{Player}
-use Rattle.run_state.specs.Memory.{Memory}
+use Rattle.run_state.specs.Memory.{Memory, withPositions}
 use Rattle.run_state.specs.Changes.{halted}
 use Rattle.texts.proofs.Writing.{empty-text}
 use Rattle.run_piece.specs.declared.FeedResult.{FeedResult}
 use Rattle.run_piece.specs.Advances.{StateAt, Advances, endHere, Grown, none, one, AdvancesOnce}
 use Rattle.run_piece.specs.Steps.{Quiet}
+use Rattle.run_stream.specs.Inner.{Follows}
 use Rattle.run_piece.proofs.Growing.{line-some}
 use Rattle.run_piece.proofs.Feeding.{Idle, shows-there, used-as}
 
@@ -72,6 +74,16 @@ idle-both F G H p {r} less more f g e =
     let (same′, is′) = g (omega arith) in
     (same′ ∙ same, is′ ∙ ap (λ (x : Player). halted x (r .have) (r .fault)) is)
 
+-- one piece after the other
+pub then : {a b xs : List ℕ} {p q r : Player} {M M′ M″ : Memory} {text text′ carry carry′ : List ℕ} → Advances a b p M q text carry M′
+    → (StateAt (a ++ b) q carry M′ → AdvancesOnce (a ++ b) xs q M′ r text′ carry′ M″) → Advances a (b ++ xs) p M r (text ++ text′) carry′ M″
+then {a} {b} {xs} {p} {text} {text′} f S =
+    let g = S (f .state) .advances in
+    let is : (a ++ b) ++ xs ≡ a ++ (b ++ xs) = append-assoc a b xs in
+    shows-there (rw (← is) (g .state))
+    (rw (← is) (g .shows ∙ ap (λ (l : List ℕ). l ++ text′) (f .shows) ∙ append-assoc (shown (readFile a)) text text′))
+    (rw (← is) (idle-both (readFile a) (readFile (a ++ b)) (readFile ((a ++ b) ++ xs)) p (more-accepted a b) (more-accepted (a ++ b) xs) (f .idle) (g .idle)))
+
 module _ {bytes : List ℕ} {p : Player} {carry₀ : List ℕ} {M₀ : Memory} where
   pub at-first : Reached bytes p carry₀ M₀ p carry₀ M₀ 0 []
   at-first =
@@ -101,8 +113,35 @@ module _ {bytes : List ℕ} {p : Player} {carry₀ : List ℕ} {M₀ : Memory} w
               (more-accepted a (take at bytes)) (more-accepted (a ++ take at bytes) (take used (rest at bytes))) (before .idle) (f .idle)));
         }
 
+    -- more of them, after which the memory is as it was
+    pub more-then : {q′ : Player} {text′ : List ℕ} (used : ℕ) → at + used ≤ length bytes → Follows q (rest at bytes) (M .positions) text q′ used text′
+        → Reached bytes p carry₀ M₀ q′ carry M (at + used) text′
+    more-then {q′} {text′} used within S =
+        record {
+          within = within;
+          advances = λ a L. subst (λ (x : List ℕ). Advances a x p M₀ q′ text′ carry M) (joined [] at used bytes) (S .after a (take at bytes) carry p M₀ M (R .advances a L));
+        }
+
     pub text-as : {s : List ℕ} → s ≡ text → Reached bytes p carry₀ M₀ q carry M at s
     text-as e = rw e R
+
+-- ---- records that change the player alone
+
+module _ {p : Player} {bytes : List ℕ} {positions : List ℤ} {text : List ℕ} where
+  pub follows-first : Follows p bytes positions text p 0 text
+  follows-first = record { after = λ a b carry p₀ M₀ M f. rw (append-nil b) f }
+
+  pub follows-more : {q r : Player} {at : ℕ} {text′ text″ new : List ℕ} (used : ℕ) → Follows p bytes positions text q at text′
+      → ((a carry : List ℕ) (M : Memory) → StateAt a q carry (withPositions M positions)
+      → AdvancesOnce a (take used (rest at bytes)) q (withPositions M positions) r new carry (withPositions M positions))
+      → text″ ≡ text′ ++ new → Follows p bytes positions text r (at + used) text″
+  follows-more {r = r} {at} {text′} {new = new} used S T e =
+      record {
+        after =
+            λ a b carry p₀ M₀ M f.
+            let g = then (S .after a b carry p₀ M₀ M f) (λ L. T (a ++ (b ++ take at bytes)) carry M L) in
+            rw e (subst (λ (x : List ℕ). Advances a x p₀ M₀ r (text′ ++ new) carry (withPositions M positions)) (joined b at used bytes) g);
+      }
 
 -- ---- up to the first line
 

@@ -12,7 +12,7 @@ ghost use Rattle.run_piece.specs.Steps.{Used, Reads, Waits, Passes};
 ghost use Rattle.run_stream.specs.Ends.{Ends, EndsWith};
 ghost use Rattle.run_stream.specs.Pages.{Fills};
 ghost use Rattle.run_spec.specs.Listing.{title};
-ghost use Rattle.run_stream.specs.Inner.{endingOf};
+ghost use Rattle.run_stream.specs.Inner.{endingOf, Follows};
 use frame_slots::PlantedBytes;
 use frame_slots::PlantedLengths;
 use run_piece::FeedResult;
@@ -242,6 +242,42 @@ fn put(page: &mut [u8], len: usize, t: Text) -> usize
     len + count
 }
 
+// Takes the round records at the front of a piece, as many as stand there one after the other, of a ring that has agreed, as long as nothing is planted and the page has
+// room for a line. They change the player alone. Puts their lines after the first bytes of a page. How many it takes is free: one that is left is taken by `feed`.
+fn pass_rounds(
+    p: Player,
+    bytes: &[u8],
+    page: &mut Page,
+    from: usize,
+    positions: &Positions,
+) -> FillResult
+    requires { ⌜ from ≤ 4096 ⌝ }
+    ensures { λ r. ⌜ (r .used ≤ length (now (bytes .entry))) × (r .len ≤ 4096) ⌝ }
+    ensures { λ r. ⌜ Follows p (now (bytes .entry)) (now (positions .entry)) (take from (now (page .entry))) (r .player) (r .used) (take (r .len) (now (page .exit))) ⌝ }
+{
+    let mut player = p;
+    let mut used: usize = 0;
+    let mut to = from;
+    while used < bytes.len() && to <= 4032 {
+        let rest = &bytes[used..];
+        if !run_piece::is_calm(player, rest) {
+            return FillResult {
+                player,
+                used,
+                len: to,
+            };
+        }
+        to = put(page, to, run_round::play_agreed(player, positions));
+        player = run_state::given_round(player, fields::word_at(rest, 4), true);
+        used += 8;
+    }
+    FillResult {
+        player,
+        used,
+        len: to,
+    }
+}
+
 // Takes bytes of a piece as long as the page has room for a line. How many it takes when the page is full is free. What the page holds after its first `len` bytes is free.
 pub fn fill(
     p: Player,
@@ -277,6 +313,10 @@ pub fn fill(
         used += more.used;
         let text = more.text;
         len = put(page, len, text);
+        let calm = pass_rounds(player, &bytes[used..], page, len, positions);
+        player = calm.player;
+        used += calm.used;
+        len = calm.len;
     }
     FillResult { player, used, len }
 }

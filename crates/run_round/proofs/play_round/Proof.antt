@@ -1,9 +1,10 @@
--- `run_round::play_round` meets its contract: a ring that has agreed is as it was, any other is played, and its line is made.
+-- `run_round::play_round` meets its contract: any ring that has not agreed is played, and its line is made.
 use mathlib.Core.Path.{refl}
+use mathlib.Core.List.{[]}
 use borrow.Author.Needs.{needs}
 use borrow.Author.Tests.{not-true, not-false}
 use Rattle.run_spec.proofs.Reached.{taken}
-use Rattle.run_round.proofs.Rounds.{agreed-kept, kept-played}
+use Rattle.run_round.proofs.Rounds.{kept-played}
 use Rattle.run_round.proofs.play_round.Statement.{statement}
 use Rattle.run_round.proofs.play_round.Tie as tie
 
@@ -19,11 +20,8 @@ returns c =
 returns-2 : tie.Need-returns-2
 returns-2 c =
     let t = c .before .before in
-    let (text, room) = c .line-of2 .ensures in (
-      λ a begun pending T H.
-          kept-played (taken a begun) begun pending T H refl (agreed-kept (taken a begun) begun pending T H refl (not-false _ (t .if1 .left))) text room,
-      room,
-    )
+    let (played, room) = c .play-agreed .ensures in
+    (λ a begun pending T H. played a record { positions = []; marks = _; lists = _; planted = _; lengths = _ } begun pending T (not-false _ (t .if1 .left)) H, room)
 
 pub play-round-spec : {M : Type 1} → statement M
 play-round-spec = tie.close (tie.spec (λ c κs. search needs) (λ c κs. search needs) returns (λ c κs. search needs) returns-2)

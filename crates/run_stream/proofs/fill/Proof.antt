@@ -5,7 +5,7 @@ use lib.ListN.{length, take}
 use denote.Ref.{now}
 use borrow.Author.Needs.{needs}
 use borrow.Author.Tests.{leb-true, leb-false}
-use Rattle.run_stream.proofs.Pieces.{Reached, at-first, moved, one-more, text-as}
+use Rattle.run_stream.proofs.Pieces.{Reached, at-first, moved, moved-within, one-more, more-then, text-as}
 use Rattle.run_stream.proofs.fill.Statement.{statement}
 use Rattle.run_stream.proofs.fill.Tie as tie
 
@@ -46,17 +46,57 @@ put-requires c κs =
     let room = c .before .before .before .before .feed .ensures .0 .2 in
     (omega (arith, leb-true, c .put-arg .given .0 .1), room)
 
+-- the page after the line of that step has room for one more
+filled : (u : tie.After-put Inv-loop μ-loop) → u .put .result ≤ 4096
+filled u =
+    let v = u .before .before .before .before .before in
+    omega (arith, leb-true, u .put .ensures .0, v .feed .ensures .0 .2)
+
+pass-rounds-requires : tie.Need-pass-rounds-requires Inv-loop μ-loop
+pass-rounds-requires c κs = filled (c .before .before .before)
+
+sub-pass-rounds : tie.Need-sub-pass-rounds Inv-loop μ-loop
+sub-pass-rounds c = omega (arith, moves (c .before .before .before .before .before) .0)
+
+part-start : tie.Need-part-pass-rounds-start Inv-loop μ-loop
+part-start c = omega (arith, moves (c .before .before .before .before .before) .0)
+
+part-end : tie.Need-part-pass-rounds-end Inv-loop μ-loop
+part-end c = search needs
+
+-- the round records after it
+passes : (c : tie.After-pass-rounds Inv-loop μ-loop) →
+    let v = c .before .before .before .before .before .before .before .before .before in
+    let l = v .before .before .before .before .before .before .before .before .before .before in
+    l .loop .used + v .feed .result .used + c .pass-rounds .result .used ≤ length (now (l .before .before .args .bytes))
+passes c =
+    let v = c .before .before .before .before .before .before .before .before .before in
+    let l = v .before .before .before .before .before .before .before .before .before .before in
+    moved-within (l .loop .used + v .feed .result .used) (c .pass-rounds .result .used) (now (l .before .before .args .bytes)) (moves v .0) (c .pass-rounds .ensures .0 .0)
+
+add-used-2 : tie.Need-add-used-2 Inv-loop μ-loop
+add-used-2 c =
+    let q = c .before .before in
+    let v = q .before .before .before .before .before .before .before .before .before in
+    let s = v .before .before .before .before .before .before .before .before .before .before .before .before in
+    omega (arith, passes q, s .good .1 .0 .0)
+
 loop-less : tie.Need-loop-less Inv-loop μ-loop
-loop-less c = let m = moves (c .before .before .before .before .before) in omega arith
+loop-less c =
+    let q = c .before .before in
+    let m = moves (q .before .before .before .before .before .before .before .before .before) in
+    omega (arith, passes q)
 
 loop-again : tie.Need-loop-again Inv-loop μ-loop
 loop-again c =
-    let v = c .before .before .before .before .before in
+    let q = c .before .before in
+    let u = q .before .before .before .before in
+    let v = u .before .before .before .before .before in
     let l = v .before .before .before .before .before .before .before .before .before .before .loop in
     let e = v .feed .ensures in
-    let P = c .put .ensures in
     let m = moves v in
-    (text-as (one-more (l .inv .0) (v .feed .result .used) (m .0) (e .1)) (P .1), omega (arith, leb-true, P .0, e .0 .2), λ h. omega arith)
+    let fed = text-as (one-more (l .inv .0) (v .feed .result .used) (m .0) (e .1)) (u .put .ensures .1) in
+    (more-then fed (q .pass-rounds .result .used) (passes q) (q .pass-rounds .ensures .1), q .pass-rounds .ensures .0 .1, λ h. omega arith)
 
 returns : tie.Need-returns Inv-loop μ-loop
 returns c =
@@ -81,6 +121,11 @@ fill-spec =
     (λ c κs. search needs)
     add-used
     put-requires
+    sub-pass-rounds
+    part-start
+    part-end
+    pass-rounds-requires
+    add-used-2
     loop-less
     loop-again
     returns
