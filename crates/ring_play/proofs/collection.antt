@@ -1,2 +1,3 @@
--- Laws: the lists of a collection round.
+-- Laws: what a frame says in a collection round, and the lists of one.
+pub mod Positions
 pub mod Lists

@@ -13,12 +13,11 @@ ghost use Rattle.convergence.specs.Settling.{ordered};
 ghost use Rattle.settle_midpoint.specs.Orders.{orderOf};
 ghost use Rattle.frame_slots.specs.Slots.{plantedIn};
 ghost use Rattle.ring_play.specs.Inner.Before.{SettlesBefore, HeldBefore};
-ghost use Rattle.ring_play.specs.Inner.Collection.{ownEntry, sentBy, heardOf, heardWith, Shared, settledFrom};
+ghost use Rattle.ring_play.specs.Inner.Collection.{isPositionFrame, ownEntry, sentBy, heardOf, heardWith, Shared, settledFrom};
 use crate::Stage;
 use crate::ends;
 use crate::round;
 use crate::round::Before;
-use frame_spec::Said;
 use settle_midpoint::Order;
 use settle_midpoint::Settled;
 use terms::Entry;
@@ -28,16 +27,37 @@ use terms::Positions;
 use terms::Table;
 use terms::Words;
 
-// The entry that a collection frame says; null if it says none.
-fn entry_in(frame: &[u8], n: u8, phase: u16, k: u8) -> Entry
-    ensures { λ r. ⌜ r ≡ heardEntry (said n phase 0 k (now (frame .entry))) ⌝ }
+// Whether a frame is that of a position, from head k in this phase. The position may be out of range.
+fn is_position_frame(frame: &[u8], phase: u16, k: u8) -> bool
+    ensures { λ r. ⌜ r ≡ isPositionFrame phase k (now (frame .entry)) ⌝ }
 {
-    match frame_codec::read(frame, n, phase, 0, k) {
-        Said::Refused(_) => Entry::Null,
-        Said::Collection(e) => e,
-        Said::List => Entry::Null,
-        Said::Confession => Entry::Null,
+    if frame.len() != 11 {
+        return false;
     }
+    if fields::half_at(frame, 0) != 11 {
+        return false;
+    }
+    if fields::half_at(frame, 2) != frame_check::POSITION {
+        return false;
+    }
+    if fields::byte_at(frame, 4) != k {
+        return false;
+    }
+    fields::half_at(frame, 5) == phase
+}
+
+// The entry that a collection frame says; null if it says none. A refused frame, silence and a frame of another round are null alike,
+// so only the frame of a position is told apart.
+fn entry_in(frame: &[u8], phase: u16, k: u8) -> Entry
+    ensures { λ r. ⌜ ((n : ℕ) → r ≡ heardEntry (said n phase 0 k (now (frame .entry)))) ⌝ }
+{
+    if is_position_frame(frame, phase, k) {
+        let word = fields::word_at(frame, 7);
+        if entries::is_position_word(word) {
+            return Entry::Position(fields::signed(word));
+        }
+    }
+    Entry::Null
 }
 
 // What head k sends: a healed head silence, a healthy one its position.
@@ -97,7 +117,7 @@ pub(crate) fn entry_planted(s: Stage, planted: &[u8], lengths: &[u8], k: usize, 
     ensures { λ r. ⌜ r ≡ heardOf s (plantedIn (now (planted .entry)) (now (lengths .entry)) k i) k ⌝ }
 {
     let frame = frame_slots::planted(planted, lengths, k as u8, i as u8);
-    entry_in(frame, round::head_count(s), s.phase, k as u8)
+    entry_in(frame, s.phase, k as u8)
 }
 
 // The list of receiver i: what all hear alike, with what is planted to it.

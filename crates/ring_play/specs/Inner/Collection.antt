@@ -1,14 +1,17 @@
 -- What head i hears in a collection round: of the unstruck heads what all hear, of the struck ones what is planted to it.
 use mathlib.Core.Path.{_≡_}
-use mathlib.Core.Bool.{true, cond}
+use mathlib.Core.Bool.{Bool, true, cond, _&&_}
 use mathlib.Core.List.{List}
 use Prim.Native.Nat.{ℕ}
-use lib.ListN.{getD}
+use lib.Dec.{eqb}
+use lib.ListN.{length, getD}
 use lib.IntN.{ℤ, pos}
 use Rattle.terms.specs.declared.Entry.{Entry}
 use Rattle.terms.specs.declared.Table.{Table}
 use Rattle.marks.specs.Marks.{bitOf}
 use Rattle.entries.specs.Tables.{tableOf}
+use Rattle.fields.specs.Bytes.{at2}
+use Rattle.frame_check.specs.Check.{lengthField, senderField, phaseField}
 use Rattle.frame_spec.specs.Said.{said}
 use Rattle.head_spec.specs.Record.{heardEntry}
 use Rattle.ring_play.specs.declared.Stage.{Stage}
@@ -20,6 +23,10 @@ use Rattle.ring_play.specs.Memory.{heads, positionOf}
 -- what head k sends
 abbrev pub ownEntry : Stage → List ℤ → ℕ → Entry
 ownEntry s positions k = cond (bitOf (s .before) k) Entry.Null (Entry.Position (getD positions k (pos 0)))
+
+-- the frame of a position from head k in phase p; the position may be out of range
+unfoldable pub isPositionFrame : ℕ → ℕ → List ℕ → Bool
+isPositionFrame p k s = eqb (length s) 11 && (eqb (lengthField s) 11 && (eqb (at2 s 2) 1 && (eqb (senderField s) k && eqb (phaseField s) p)))
 
 -- what is heard of head k, if these bytes come from it
 unfoldable pub heardOf : Stage → List ℕ → ℕ → Entry

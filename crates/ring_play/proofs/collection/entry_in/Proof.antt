@@ -1,30 +1,35 @@
--- `ring_play::collection::entry_in` meets its contract: in each arm what was read is all that the entry depends on.
-use mathlib.Core.Path.{_≡_, ap, sym, _∙_}
+-- `ring_play::collection::entry_in` meets its contract: only the frame of a position in range says one.
+use mathlib.Core.Path.{refl, ap, _∙_}
+use lib.IntN.{ℤ}
+use mir.Facts.{toZ-ofZ}
 use denote.Ref.{now}
 use borrow.Author.Needs.{needs}
-use Rattle.frame_spec.specs.declared.Said.{Said}
-use Rattle.frame_spec.specs.Said.{tableIn, said, meant, restField}
-use Rattle.head_spec.specs.Record.{heardEntry}
-use Rattle.ring_play.proofs.round.Frames.{said-read}
+use Rattle.terms.specs.declared.Entry.{Entry}
+use Rattle.ring_play.proofs.collection.Positions.{heard-in}
 use Rattle.ring_play.proofs.collection.entry_in.Statement.{statement}
 use Rattle.ring_play.proofs.collection.entry_in.Tie as tie
 
-by-what : (c : tie.After-read) {x : Said} → c .read .result ≡ x →
-    let a = c .before .before .args in
-    heardEntry (meant x (tableIn (a .n) (restField (now (a .frame))))) ≡ heardEntry (said (a .n) (a .phase) 0 (a .k) (now (a .frame)))
-by-what c e = let a = c .before .before .args in ap heardEntry (sym (said-read (a .n) (a .phase) 0 (a .k) (now (a .frame)) (sym e ∙ c .read .ensures)))
-
 returns : tie.Need-returns
-returns c = by-what (c .before .before) (c .enum-told .given .1)
+returns c n =
+    let t = c .before in
+    let w = t .before in
+    let f = w .before .before .before in
+    let a = f .before .before .args in
+    ap (λ (z : ℤ). Entry.Position z) (toZ-ofZ (record { sfits = c .signed .ok }) ∙ c .signed .ensures)
+    ∙ (rw (w .before .before .if1 .taken, t .if2 .taken) at (heard-in n (a .phase) (a .k) (now (a .frame)) (f .is-position-frame .ensures) (w .before .word-at .ensures) (w .is-position-word .ensures)))
 
 returns-2 : tie.Need-returns-2
-returns-2 c = by-what (c .before .before .before) (c .before .e .given .1)
+returns-2 c n =
+    let w = c .before in
+    let f = w .before .before .before in
+    let a = f .before .before .args in
+    rw (w .before .before .if1 .taken, c .if2 .left) at (heard-in n (a .phase) (a .k) (now (a .frame)) (f .is-position-frame .ensures) (w .before .word-at .ensures) (w .is-position-word .ensures))
 
 returns-3 : tie.Need-returns-3
-returns-3 c = by-what (c .before .before) (c .enum-told2 .given .1)
-
-returns-4 : tie.Need-returns-4
-returns-4 c = by-what (c .before .before) (c .enum-told3 .given .1)
+returns-3 c n =
+    let f = c .before in
+    let a = f .before .before .args in
+    rw (c .if1 .left) at (heard-in n (a .phase) (a .k) (now (a .frame)) (f .is-position-frame .ensures) refl refl)
 
 pub entry-in-spec : {M : Type 1} → statement M
-entry-in-spec = tie.close (tie.spec (λ c κs. search needs) (λ c. search needs) (λ c. search needs) (λ c. search needs) (λ c. search needs) returns returns-2 returns-3 returns-4)
+entry-in-spec = tie.close (tie.spec (λ c κs. search needs) (λ c κs. search needs) (λ c κs. search needs) (λ c κs. search needs) returns returns-2 returns-3)

@@ -1,10 +1,11 @@
 -- `ring_play::collection::entry_planted` meets its contract: the entry is what the planted frame says.
-use mathlib.Core.Path.{ap₂, _∙_}
+use mathlib.Core.Path.{ap, _∙_}
 use mathlib.Core.List.{List}
 use Prim.Native.Nat.{ℕ}
 use borrow.Author.Needs.{needs}
 use Rattle.frame_spec.specs.Said.{said}
 use Rattle.head_spec.specs.Record.{heardEntry}
+use Rattle.ring_play.specs.Memory.{heads}
 use Rattle.ring_play.specs.Inner.Collection.{heardOf}
 use Rattle.ring_play.proofs.collection.entry_planted.Statement.{statement}
 use Rattle.ring_play.proofs.collection.entry_planted.Tie as tie
@@ -12,10 +13,9 @@ use Rattle.ring_play.proofs.collection.entry_planted.Tie as tie
 returns : tie.Need-returns
 unfolding heardOf
 returns c =
-    let h = c .before in
-    let p = h .before in
+    let p = c .before in
     let a = p .before .before .before .args in
-    c .entry-in .ensures ∙ ap₂ (λ (n : ℕ) (s : List ℕ). heardEntry (said n (a .s .phase) 0 (a .k) s)) (h .head-count .ensures) (p .planted .ensures)
+    c .entry-in .ensures (heads (a .s)) ∙ ap (λ (b : List ℕ). heardEntry (said (heads (a .s)) (a .s .phase) 0 (a .k) b)) (p .planted .ensures)
 
 pub entry-planted-spec : {M : Type 1} → statement M
 entry-planted-spec =
@@ -23,7 +23,6 @@ entry-planted-spec =
     (tie.spec
     (λ c. search needs)
     (λ c. search needs)
-    (λ c κs. search needs)
     (λ c κs. search needs)
     (λ c. search needs)
     (λ c κs. search needs)
