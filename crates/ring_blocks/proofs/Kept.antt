@@ -19,7 +19,7 @@ use Rattle.head_c.specs.Blocks.{IsBlock, headOf, withHead, withAnswer, withBesi
 use Rattle.head_c.specs.Events.{Call, starts, restarts, startsListener, restartsListener, hears, hearsBatch, closes, adopts, sets, blockAfter}
 use Rattle.head_c.proofs.Putting.{third, third-long}
 use Rattle.head_c.proofs.Beside.{heard-block}
-use Rattle.head_c.proofs.After.{Opens, start-opens, restart-opens, start-listener-opens, restart-listener-opens, adopt-opens}
+use Rattle.ring_blocks.proofs.Opened.{Opens, start-opens, restart-opens, start-listener-opens, restart-listener-opens, adopt-opens}
 
 -- a record with nothing heard
 put-block : (w : List ℕ) (s : Seat) (t : Table) → IsBlock w → IsBlock (withHead (opened s t) w)
