@@ -3,7 +3,6 @@ use mathlib.Core.Path.{_∙_}
 use mathlib.Core.List.{[], _∷_, _++_}
 use native.Mathlib.Omega.{arith}
 use native.Mathlib.Nat.{le-of-eq}
-use denote.Ref.{now}
 use borrow.Author.Needs.{needs}
 use Rattle.texts.specs.Numbers.{decimal}
 use Rattle.texts.specs.Texts.{Longer}
@@ -14,7 +13,7 @@ use Rattle.run_listing.proofs.end_line.Statement.{statement}
 use Rattle.run_listing.proofs.end_line.Tie as tie
 
 -- the phase
-phase : (c : tie.After-put-number) → Longer (c .before .empty .result) (decimal (c .before .before .before .args .phase) ++ (32 ∷ [])) 11 (c .put-number .result)
+phase : (c : tie.After-put-number) → Longer (c .before .empty .result) (decimal (c .before .before .args .phase) ++ (32 ∷ [])) 11 (c .put-number .result)
 phase c = put-fits 11 (decimal-short _ 32) (omega (arith, c .before .empty .ensures)) (c .put-number .ensures)
 
 put-entry-requires : tie.Need-put-entry-requires
@@ -34,7 +33,7 @@ returns c =
     let t2 = t3 .before in
     let t1 = t2 .before in
     let o = t1 .before in
-    let a = o .before .before .args in
+    let a = o .before .args in
     let e = o .empty .ensures in
     let p = phase t1 in
     let low = t2 .put-entry .ensures in
@@ -46,8 +45,7 @@ returns c =
     put-fits 9 (le-of-eq (hex-length 8 (h2 .heads-of2 .result) 10)) (omega (arith, e, p .room, low .room, high .room, wide .room, collect .room))
     (c .put-hex2 .ensures) in (
       from-empty e (longer-then p (longer-then low (longer-then high (longer-then wide (longer-then collect confess)))))
-          ∙ fields-are (a .n) (a .m) (a .phase) (a .collect) (a .confess) (a .struck) (now (a .positions)) (o .before .ends-of .ensures) (w .spread-of .ensures)
-          (h1 .heads-of .ensures) (h2 .heads-of2 .ensures),
+          ∙ fields-are (a .phase) (a .collect) (a .confess) (a .ends .low) (a .ends .high) (w .spread-of .ensures) (h1 .heads-of .ensures) (h2 .heads-of2 .ensures),
       omega (arith, e, p .room, low .room, high .room, wide .room, collect .room, confess .room),
     )
 
@@ -55,7 +53,6 @@ pub end-line-spec : {M : Type 1} → statement M
 end-line-spec =
     tie.close
     (tie.spec
-    (λ c κs. search needs)
     (λ c κs. search needs)
     (λ c κs. search needs)
     put-entry-requires
