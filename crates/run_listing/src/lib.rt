@@ -13,13 +13,14 @@ ghost use Rattle.run_listing.specs.Inner.{Reaches};
 ghost use mathlib.Core.List.{_∷_, [], _++_};
 ghost use Rattle.run_spec.specs.Listing.{textOf, title, verdict};
 ghost use Rattle.texts.specs.Numbers.{whole};
-ghost use Rattle.texts.specs.Texts.{bytesOf, Longer};
+ghost use Rattle.texts.specs.Texts.{bytesOf, textIn, Longer};
 ghost use Rattle.ring_spec.specs.Agreed.{heldByAll, isAgreed};
 ghost use Rattle.run_listing.specs.Texts.{fields};
 ghost use Rattle.run_listing.specs.Level.{levelled};
 use terms::Entry;
 use terms::Positions;
 use terms::RECEIVERS;
+use texts::Line;
 use texts::Text;
 
 // The lowest and the highest position.
@@ -160,27 +161,28 @@ pub fn level(positions: &mut Positions, struck: u64, n: u8, m: u8) -> bool
 
 // ---- The texts of a listing: its first line, a line for a phase end, and its last line.
 
-// A text with a position after it, and a space.
-fn put_position(t: Text, v: i32) -> Text
-    requires { ⌜ t .len + 12 ≤ 64 ⌝ }
-    ensures { λ r. ⌜ Longer t (whole v ++ (32 ∷ [])) 12 r ⌝ }
+// A position behind the first bytes of a line, and a space. Answers how many bytes the text has then.
+fn put_position(line: &mut Line, at: usize, v: i32) -> usize
+    requires { ⌜ at + 12 ≤ 64 ⌝ }
+    ensures { λ r. ⌜ Longer (textIn at (now (line .entry))) (whole v ++ (32 ∷ [])) 12 (textIn r (now (line .exit))) ⌝ }
 {
     let h = height(v);
     if h < 2147483648 {
-        texts::put_number(texts::put(t, b"-"), 2147483648 - h, b' ')
+        let to = texts::put_at(line, at, b"-");
+        texts::put_number_at(line, to, 2147483648 - h, b' ')
     } else {
-        texts::put_number(t, h - 2147483648, b' ')
+        texts::put_number_at(line, at, h - 2147483648, b' ')
     }
 }
 
-// A text with an entry after it, and a space.
-fn put_entry(t: Text, e: Entry) -> Text
-    requires { ⌜ t .len + 12 ≤ 64 ⌝ }
-    ensures { λ r. ⌜ Longer t (textOf e ++ (32 ∷ [])) 12 r ⌝ }
+// An entry, and a space.
+fn put_entry(line: &mut Line, at: usize, e: Entry) -> usize
+    requires { ⌜ at + 12 ≤ 64 ⌝ }
+    ensures { λ r. ⌜ Longer (textIn at (now (line .entry))) (textOf e ++ (32 ∷ [])) 12 (textIn r (now (line .exit))) ⌝ }
 {
     match e {
-        Entry::Null => texts::put(t, b" "),
-        Entry::Position(v) => put_position(t, v),
+        Entry::Null => texts::put_at(line, at, b" "),
+        Entry::Position(v) => put_position(line, at, v),
     }
 }
 
@@ -222,9 +224,12 @@ pub fn end_line(phase: u16, ends: Ends, collect: u64, confess: u64) -> Text
 {
     let low = ends.low;
     let high = ends.high;
-    let t = texts::put_number(texts::empty(), phase as u32, b' ');
-    let t = put_entry(put_entry(t, low), high);
-    let t = texts::put_number(t, spread_of(low, high), b' ');
-    let t = texts::put_hex(t, heads_of(collect), b' ');
-    texts::put_hex(t, heads_of(confess), b'\n')
+    let mut bytes = [0u8; 64];
+    let at = texts::put_number_at(&mut bytes, 0, phase as u32, b' ');
+    let at = put_entry(&mut bytes, at, low);
+    let at = put_entry(&mut bytes, at, high);
+    let at = texts::put_number_at(&mut bytes, at, spread_of(low, high), b' ');
+    let at = texts::put_hex_at(&mut bytes, at, heads_of(collect), b' ');
+    let len = texts::put_hex_at(&mut bytes, at, heads_of(confess), b'\n');
+    Text { len, bytes }
 }
