@@ -55,7 +55,8 @@ fn ends_at(p: Player, positions: &Positions) -> Ends
 
 // The line of the pending round's phase, once it is played, if it ends its phase.
 fn line_of(p: Player, positions: &Positions) -> Text
-    ensures { λ r. ⌜ ((A : Entry) → isAgreed A ≡ p .agreed → Level A (now (positions .entry)) → bytesOf r ≡ lineOf p (now (positions .entry))) ⌝ }
+    ensures { λ r. ⌜ ((A : Entry) → isAgreed A ≡ p .agreed → Level A (now (positions .entry))
+        → bytesOf r ≡ lineOf p (now (positions .entry))) ⌝ }
     ensures { λ r. ⌜ r .len ≤ 64 ⌝ }
 {
     let family = p.family;
@@ -98,11 +99,13 @@ fn play_ring(
     }
 }
 
-// The pending round of a ring that has agreed: every receiver holds the position on which it did, whatever is planted, so that nothing is left to settle. Answers the
-// line of the phase that the round ends, if it ends one.
+// The pending round of a ring that has agreed: every receiver holds the position on which it did, whatever is planted, so that nothing is
+// left to settle. Answers the line of the phase that the round ends, if it ends one.
 pub fn play_agreed(p: Player, positions: &Positions) -> Text
-    ensures { λ r. ⌜ ((a : List ℕ) (M : Memory) → readFile a .setup .begun ≡ true → readFile a .rounds .pending ≡ true → PlayerOf p (readFile a) → p .agreed ≡ true
-        → MemoryOf (readFile a) (withPositions M (now (positions .entry))) → Played (readFile a) r (withPositions M (now (positions .entry)))) ⌝ }
+    ensures { λ r. ⌜ ((a : List ℕ) (M : Memory) → readFile a .setup .begun ≡ true → readFile a .rounds .pending ≡ true
+        → PlayerOf p (readFile a) → p .agreed ≡ true
+        → MemoryOf (readFile a) (withPositions M (now (positions .entry)))
+        → Played (readFile a) r (withPositions M (now (positions .entry)))) ⌝ }
     ensures { λ r. ⌜ r .len ≤ 64 ⌝ }
 {
     line_of(p, positions)
