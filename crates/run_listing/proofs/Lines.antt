@@ -30,18 +30,22 @@ use Rattle.run_listing.proofs.Lowest.{no-listener, found-same, found-he
 hex-heads : (x : ℕ) → hex 8 (x % 4294967296) ≡ hex 8 x
 hex-heads x = hex-low 8 x
 
-pub fields-are : (n m p collect confess struck : ℕ) (ps : List ℤ) {low high : Entry} {wide x y : ℕ} → Found receivers (endIn n m struck ps) low high
-    → wide ≡ apart low high → x ≡ collect % 4294967296 → y ≡ confess % 4294967296
+pub fields-are : (p collect confess : ℕ) (low high : Entry) {wide x y : ℕ} → wide ≡ apart low high → x ≡ collect % 4294967296 → y ≡ confess % 4294967296
     → (decimal p ++ (32 ∷ []))
     ++ ((textOf low ++ (32 ∷ []))
     ++ ((textOf high ++ (32 ∷ []))
     ++ ((decimal wide ++ (32 ∷ []))
     ++ ((hex 8 x ++ (32 ∷ []))
     ++ (hex 8 y ++ (10 ∷ []))))))
-    ≡ endLine n m p ps collect confess struck
-unfolding endLine fields spread
-fields-are n m p collect confess struck ps f w a b =
-    rw (w, ← f .is-low, ← f .is-high, a, b, hex-heads collect, hex-heads confess) (simp append-snoc)
+    ≡ fields p low high (apart low high) collect confess
+unfolding fields
+fields-are p collect confess low high w a b = rw (w, a, b, hex-heads collect, hex-heads confess) (simp append-snoc)
+
+-- of the lowest and the highest that are found, they are the line
+pub found-line : (n m p collect confess struck : ℕ) (ps : List ℤ) {low high : Entry} → Found receivers (endIn n m struck ps) low high
+    → fields p low high (apart low high) collect confess ≡ endLine n m p ps collect confess struck
+unfolding endLine spread
+found-line n m p collect confess struck ps f = rw (← f .is-low, ← f .is-high)
 
 pub line-is : (n m p : ℕ) (e : PhaseEnd) (positions : List ℤ)
     → Each receivers (λ i. isReceiver n m i ≡ true → bitOf (e .struck) i ≡ false → e .heads i .seat .position ≡ Entry.Position (getD positions i (pos 0)))

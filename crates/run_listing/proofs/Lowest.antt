@@ -84,6 +84,33 @@ module _ (n m struck : ℕ) (ps : List ℤ) {j : ℕ} {low high : Entry} (f : Fo
   unfolding endIn
   found-all R = found-past j receivers (R .most) (λ i l h. rw (R .none i l h)) f
 
+-- ---- where all places hold one position
+
+either-same : (b : Bool) (u : ℤ) → cond b u u ≡ u
+either-same true u = refl
+either-same false u = refl
+
+outward-same : (high : Bool) (u : ℤ) → outward high u u ≡ u
+outward-same high u = outward-is high u u ∙ either-same (Bool·beq (leZ u u) high) u
+
+module _ (n m struck : ℕ) (ps : List ℤ) {u : ℤ} (h : Each receivers (λ i. getD ps i (pos 0) ≡ u)) where
+  one-more-level : (k : ℕ) → k < receivers → Found k (endIn n m struck ps) (Position u) (Position u) → Found (suc k) (endIn n m struck ps) (Position u) (Position u)
+  one-more-level k l f = go (isOut n m struck k) refl
+    where
+      go : (b : Bool) → isOut n m struck k ≡ b → Found (suc k) (endIn n m struck ps) (Position u) (Position u)
+      go true o = rw (add-one k) at (found-struck n m struck ps f o)
+      go false o =
+          rw (add-one k) at
+          (found-sound n m struck ps f {v = u} {x = Position u} {y = Position u} o (sym (h k l)) (ap Position (sym (outward-same false u))) (ap Position (sym (outward-same true u))))
+
+  -- the first that is sound says it of all
+  pub found-level : {j : ℕ} {v : ℤ} → j < receivers → Found j (endIn n m struck ps) Null Null → isOut n m struck j ≡ false → v ≡ getD ps j (pos 0)
+      → Found receivers (endIn n m struck ps) (Position v) (Position v)
+  found-level {j} {v} l f o e =
+      let is : v ≡ u = e ∙ h j l in
+      let first = rw is at (found-sound n m struck ps f {v = v} {x = Position v} {y = Position v} o e refl refl) in
+      rw is (le-ind (λ k. k ≤ receivers → Found k (endIn n m struck ps) (Position u) (Position u)) (λ i. first) (λ k i more less. one-more-level k less (more (omega arith))) receivers (omega arith) (omega arith))
+
 -- ---- of two phase ends that say the same of each receiver
 
 pub found-same : (e e′ : End) (n : ℕ) → Each n (λ j. soundAt e j ≡ soundAt e′ j) → Found n e′ (lowest n e) (highest n e)

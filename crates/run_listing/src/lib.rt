@@ -3,7 +3,8 @@ ghost use mathlib.Core.Path.{_≡_};
 ghost use mathlib.Core.Bool.{not};
 ghost use Prim.Native.Nat.{_+_, _%_, _<_, _≤_};
 ghost use lib.ListN.{getD, length};
-ghost use lib.IntN.{pos};
+ghost use lib.IntN.{ℤ, pos};
+ghost use Rattle.convergence.specs.Counting.{Each};
 ghost use Rattle.convergence.specs.Phases.{join, apart};
 ghost use Rattle.ring_spec.specs.Rounds.{receivers, isOut};
 ghost use Rattle.run_listing.specs.Held.{endIn};
@@ -12,13 +13,14 @@ ghost use Rattle.run_listing.specs.Inner.{Reaches};
 ghost use mathlib.Core.List.{_∷_, [], _++_};
 ghost use Rattle.run_spec.specs.Listing.{textOf, title, verdict};
 ghost use Rattle.texts.specs.Numbers.{whole};
-ghost use Rattle.texts.specs.Texts.{bytesOf, Longer};
+ghost use Rattle.texts.specs.Texts.{bytesOf, textIn, Longer};
 ghost use Rattle.ring_spec.specs.Agreed.{heldByAll, isAgreed};
-ghost use Rattle.run_listing.specs.Texts.{endLine};
+ghost use Rattle.run_listing.specs.Texts.{fields};
 ghost use Rattle.run_listing.specs.Level.{levelled};
 use terms::Entry;
 use terms::Positions;
 use terms::RECEIVERS;
+use texts::Line;
 use texts::Text;
 
 // The lowest and the highest position.
@@ -81,7 +83,7 @@ fn is_sound(struck: u64, n: u8, m: u8, j: usize) -> bool
 }
 
 // The lowest and the highest position of the heads and listeners that the mark word leaves.
-fn ends_of(positions: &Positions, struck: u64, n: u8, m: u8) -> Ends
+pub fn ends_of(positions: &Positions, struck: u64, n: u8, m: u8) -> Ends
     ensures { λ r. ⌜ Found receivers (endIn n m struck (now (positions .entry))) (r .low) (r .high) ⌝ }
 {
     let count = reach(n, m);
@@ -97,6 +99,28 @@ fn ends_of(positions: &Positions, struck: u64, n: u8, m: u8) -> Ends
         j += 1;
     }
     Ends { low, high }
+}
+
+// The same where all places hold one position: that of the first of them.
+pub fn ends_held(positions: &Positions, struck: u64, n: u8, m: u8) -> Ends
+    ensures { λ r. ⌜ ((u : ℤ) → Each receivers (λ i. getD (now (positions .entry)) i (pos 0) ≡ u)
+        → Found receivers (endIn n m struck (now (positions .entry))) (r .low) (r .high)) ⌝ }
+{
+    let mut first: usize = 0;
+    while first < RECEIVERS {
+        if is_sound(struck, n, m, first) {
+            let v = position_at(positions, first);
+            return Ends {
+                low: Entry::Position(v),
+                high: Entry::Position(v),
+            };
+        }
+        first += 1;
+    }
+    Ends {
+        low: Entry::Null,
+        high: Entry::Null,
+    }
 }
 
 // How far apart two entries are; 0 if one is null.
@@ -137,27 +161,28 @@ pub fn level(positions: &mut Positions, struck: u64, n: u8, m: u8) -> bool
 
 // ---- The texts of a listing: its first line, a line for a phase end, and its last line.
 
-// A text with a position after it, and a space.
-fn put_position(t: Text, v: i32) -> Text
-    requires { ⌜ t .len + 12 ≤ 64 ⌝ }
-    ensures { λ r. ⌜ Longer t (whole v ++ (32 ∷ [])) 12 r ⌝ }
+// A position behind the first bytes of a line, and a space. Answers how many bytes the text has then.
+fn put_position(line: &mut Line, at: usize, v: i32) -> usize
+    requires { ⌜ at + 12 ≤ 64 ⌝ }
+    ensures { λ r. ⌜ Longer (textIn at (now (line .entry))) (whole v ++ (32 ∷ [])) 12 (textIn r (now (line .exit))) ⌝ }
 {
     let h = height(v);
     if h < 2147483648 {
-        texts::put_number(texts::put(t, b"-"), 2147483648 - h, b' ')
+        let to = texts::put_at(line, at, b"-");
+        texts::put_number_at(line, to, 2147483648 - h, b' ')
     } else {
-        texts::put_number(t, h - 2147483648, b' ')
+        texts::put_number_at(line, at, h - 2147483648, b' ')
     }
 }
 
-// A text with an entry after it, and a space.
-fn put_entry(t: Text, e: Entry) -> Text
-    requires { ⌜ t .len + 12 ≤ 64 ⌝ }
-    ensures { λ r. ⌜ Longer t (textOf e ++ (32 ∷ [])) 12 r ⌝ }
+// An entry, and a space.
+fn put_entry(line: &mut Line, at: usize, e: Entry) -> usize
+    requires { ⌜ at + 12 ≤ 64 ⌝ }
+    ensures { λ r. ⌜ Longer (textIn at (now (line .entry))) (textOf e ++ (32 ∷ [])) 12 (textIn r (now (line .exit))) ⌝ }
 {
     match e {
-        Entry::Null => texts::put(t, b" "),
-        Entry::Position(v) => put_position(t, v),
+        Entry::Null => texts::put_at(line, at, b" "),
+        Entry::Position(v) => put_position(line, at, v),
     }
 }
 
@@ -192,26 +217,19 @@ fn heads_of(marks: u64) -> u32
     (marks % 4294967296) as u32
 }
 
-// The line of a phase end: the positions of n heads and m listeners, the two mark words of which it prints the heads' bits, and that of the round that ended
-// the phase, which says who is sound.
-pub fn end_line(
-    phase: u16,
-    positions: &Positions,
-    n: u8,
-    m: u8,
-    collect: u64,
-    confess: u64,
-    struck: u64,
-) -> Text
-    ensures { λ r. ⌜ bytesOf r ≡ endLine n m phase (now (positions .entry)) collect confess struck ⌝ }
+// The line of a phase end: its lowest and highest position, and the two mark words of which it prints the heads' bits.
+pub fn end_line(phase: u16, ends: Ends, collect: u64, confess: u64) -> Text
+    ensures { λ r. ⌜ bytesOf r ≡ fields phase (ends .low) (ends .high) (apart (ends .low) (ends .high)) collect confess ⌝ }
     ensures { λ r. ⌜ r .len ≤ 64 ⌝ }
 {
-    let e = ends_of(positions, struck, n, m);
-    let low = e.low;
-    let high = e.high;
-    let t = texts::put_number(texts::empty(), phase as u32, b' ');
-    let t = put_entry(put_entry(t, low), high);
-    let t = texts::put_number(t, spread_of(low, high), b' ');
-    let t = texts::put_hex(t, heads_of(collect), b' ');
-    texts::put_hex(t, heads_of(confess), b'\n')
+    let low = ends.low;
+    let high = ends.high;
+    let mut bytes = [0u8; 64];
+    let at = texts::put_number_at(&mut bytes, 0, phase as u32, b' ');
+    let at = put_entry(&mut bytes, at, low);
+    let at = put_entry(&mut bytes, at, high);
+    let at = texts::put_number_at(&mut bytes, at, spread_of(low, high), b' ');
+    let at = texts::put_hex_at(&mut bytes, at, heads_of(collect), b' ');
+    let len = texts::put_hex_at(&mut bytes, at, heads_of(confess), b'\n');
+    Text { len, bytes }
 }

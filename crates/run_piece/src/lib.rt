@@ -261,8 +261,8 @@ fn is_settled(p: Player) -> bool
     p.fault == 0
 }
 
-// Whether a piece begins with a whole round record that has no fault, in a ring that has agreed, when nothing is planted in the pending round. Such a record changes
-// the player alone.
+// Whether a piece begins with a whole round record that has no fault, in a ring that has agreed, when nothing is planted in the pending
+// round. Such a record changes the player alone.
 pub fn is_calm(p: Player, bytes: &[u8]) -> bool
     ensures { λ r. ⌜ (r ≡ true → Calm p (now (bytes .entry))) ⌝ }
 {

@@ -3,9 +3,14 @@ ghost use mathlib.Core.Bool.{true, false};
 ghost use mathlib.Core.List.{List};
 ghost use mathlib.Core.Path.{_≡_};
 ghost use Prim.Native.Nat.{ℕ, _≤_};
+ghost use Rattle.terms.specs.declared.Entry.{Entry};
+ghost use Rattle.ring_spec.specs.Agreed.{isAgreed};
+ghost use Rattle.ring_spec.specs.Rounds.{receivers};
 ghost use Rattle.run_spec.specs.RunFile.{roundsGiven, readFile};
+ghost use Rattle.run_listing.specs.Held.{endIn};
+ghost use Rattle.run_listing.specs.Heights.{Found};
 ghost use Rattle.run_state.specs.Memory.{Memory, memoryBefore, memoryAfter, withPositions};
-ghost use Rattle.run_state.specs.State.{agreedBefore, PlayerOf, MemoryOf};
+ghost use Rattle.run_state.specs.State.{agreedBefore, Level, PlayerOf, MemoryOf};
 ghost use Rattle.run_round.specs.Played.{Played};
 ghost use Rattle.run_round.specs.Agrees.{HoldsAll, Agrees};
 ghost use Rattle.run_round.specs.Inner.{stageOf, lineOf, Kept};
@@ -13,6 +18,7 @@ ghost use Rattle.texts.specs.Texts.{bytesOf};
 use frame_slots::PlantedBytes;
 use frame_slots::PlantedLengths;
 use ring_play::Stage;
+use run_listing::Ends;
 use run_state::Player;
 use terms::Family;
 use terms::Lists;
@@ -36,9 +42,21 @@ fn stage_of(p: Player) -> Stage
     }
 }
 
+// The lowest and the highest position at the end of the pending round's phase. In a ring that has agreed all places hold one.
+fn ends_at(p: Player, positions: &Positions) -> Ends
+    ensures { λ r. ⌜ ((A : Entry) → isAgreed A ≡ p .agreed → Level A (now (positions .entry))
+        → Found receivers (endIn (p .n) (p .listeners) (p .struck) (now (positions .entry))) (r .low) (r .high)) ⌝ }
+{
+    if p.agreed {
+        return run_listing::ends_held(positions, p.struck, p.n, p.listeners);
+    }
+    run_listing::ends_of(positions, p.struck, p.n, p.listeners)
+}
+
 // The line of the pending round's phase, once it is played, if it ends its phase.
 fn line_of(p: Player, positions: &Positions) -> Text
-    ensures { λ r. ⌜ bytesOf r ≡ lineOf p (now (positions .entry)) ⌝ }
+    ensures { λ r. ⌜ ((A : Entry) → isAgreed A ≡ p .agreed → Level A (now (positions .entry))
+        → bytesOf r ≡ lineOf p (now (positions .entry))) ⌝ }
     ensures { λ r. ⌜ r .len ≤ 64 ⌝ }
 {
     let family = p.family;
@@ -46,20 +64,11 @@ fn line_of(p: Player, positions: &Positions) -> Text
         return texts::empty();
     }
     let phase = run_state::phase_of(family, p.given);
-    let n = p.n;
-    let m = p.listeners;
+    let ends = ends_at(p, positions);
     let struck = p.struck;
     match family {
-        Family::TwoRounds => run_listing::end_line(
-            phase,
-            positions,
-            n,
-            m,
-            p.before,
-            struck,
-            struck,
-        ),
-        Family::OneRound => run_listing::end_line(phase, positions, n, m, struck, 0, struck),
+        Family::TwoRounds => run_listing::end_line(phase, ends, p.before, struck),
+        Family::OneRound => run_listing::end_line(phase, ends, struck, 0),
     }
 }
 
@@ -90,11 +99,13 @@ fn play_ring(
     }
 }
 
-// The pending round of a ring that has agreed: every receiver holds the position on which it did, whatever is planted, so that nothing is left to settle. Answers the
-// line of the phase that the round ends, if it ends one.
+// The pending round of a ring that has agreed: every receiver holds the position on which it did, whatever is planted, so that nothing is
+// left to settle. Answers the line of the phase that the round ends, if it ends one.
 pub fn play_agreed(p: Player, positions: &Positions) -> Text
-    ensures { λ r. ⌜ ((a : List ℕ) (M : Memory) → readFile a .setup .begun ≡ true → readFile a .rounds .pending ≡ true → PlayerOf p (readFile a) → p .agreed ≡ true
-        → MemoryOf (readFile a) (withPositions M (now (positions .entry))) → Played (readFile a) r (withPositions M (now (positions .entry)))) ⌝ }
+    ensures { λ r. ⌜ ((a : List ℕ) (M : Memory) → readFile a .setup .begun ≡ true → readFile a .rounds .pending ≡ true
+        → PlayerOf p (readFile a) → p .agreed ≡ true
+        → MemoryOf (readFile a) (withPositions M (now (positions .entry)))
+        → Played (readFile a) r (withPositions M (now (positions .entry)))) ⌝ }
     ensures { λ r. ⌜ r .len ≤ 64 ⌝ }
 {
     line_of(p, positions)

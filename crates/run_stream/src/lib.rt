@@ -242,8 +242,9 @@ fn put(page: &mut [u8], len: usize, t: Text) -> usize
     len + count
 }
 
-// Takes the round records at the front of a piece, as many as stand there one after the other, of a ring that has agreed, as long as nothing is planted and the page has
-// room for a line. They change the player alone. Puts their lines after the first bytes of a page. How many it takes is free: one that is left is taken by `feed`.
+// Takes the round records at the front of a piece, as many as stand there one after the other, of a ring that has agreed, as long as nothing
+// is planted and the page has room for a line. They change the player alone. Puts their lines after the first bytes of a page. How many it
+// takes is free: one that is left is taken by `feed`.
 fn pass_rounds(
     p: Player,
     bytes: &[u8],
@@ -253,7 +254,8 @@ fn pass_rounds(
 ) -> FillResult
     requires { ⌜ from ≤ 4096 ⌝ }
     ensures { λ r. ⌜ (r .used ≤ length (now (bytes .entry))) × (r .len ≤ 4096) ⌝ }
-    ensures { λ r. ⌜ Follows p (now (bytes .entry)) (now (positions .entry)) (take from (now (page .entry))) (r .player) (r .used) (take (r .len) (now (page .exit))) ⌝ }
+    ensures { λ r. ⌜ Follows p (now (bytes .entry)) (now (positions .entry)) (take from (now (page .entry)))
+        (r .player) (r .used) (take (r .len) (now (page .exit))) ⌝ }
 {
     let mut player = p;
     let mut used: usize = 0;

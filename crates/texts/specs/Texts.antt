@@ -9,6 +9,10 @@ use Rattle.texts.specs.declared.Text.{Text}
 abbrev pub bytesOf : Text → List ℕ
 bytesOf t = take (t .len) (t .bytes)
 
+-- the first bytes of a line, as a text
+abbrev pub textIn : ℕ → List ℕ → Text
+textIn len bytes = record { len = len; bytes = bytes }
+
 -- r is the text t with s after it, at most k bytes
 pub record Longer (t : Text) (s : List ℕ) (k : ℕ) (r : Text) : Type 0 where
   pub text : bytesOf r ≡ bytesOf t ++ s

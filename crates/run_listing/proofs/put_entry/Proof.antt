@@ -13,12 +13,13 @@ use Rattle.run_listing.proofs.put_entry.Statement.{statement}
 use Rattle.run_listing.proofs.put_entry.Tie as tie
 
 returns : tie.Need-returns
-returns c = rw (c .before .before .enum-told .given .1) (put-fits 12 (omega arith) (omega arith) (c .put .ensures))
+returns c = rw (c .before .before .before .enum-told .given .1) (put-fits 12 (omega arith) (omega arith) (c .put-at .ensures))
 
 returns-2 : tie.Need-returns-2
 returns-2 c =
-    let v : SFits w32 (c .before .before .e .given .0 .0) = record { sfits = c .before .known-told .given .0 .1 } in
-    rw (c .before .before .e .given .1) (longer-as (ap (λ (z : ℤ). whole z ++ (32 ∷ [])) (toZ-ofZ v)) (omega arith) (c .put-position .ensures))
+    let k = c .before .before in
+    let v : SFits w32 (k .before .e .given .0 .0) = record { sfits = k .known-told .given .0 .1 } in
+    rw (k .before .e .given .1) (longer-as (ap (λ (z : ℤ). whole z ++ (32 ∷ [])) (toZ-ofZ v)) (omega arith) (c .put-position .ensures))
 
 pub put-entry-spec : {M : Type 1} → statement M
 put-entry-spec =

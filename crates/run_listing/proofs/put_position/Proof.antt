@@ -33,18 +33,21 @@ is c = height-read (c .before .fits .v) (c .height .ensures)
 
 returns : tie.Need-returns
 returns c =
-    let h = c .before .before .before .before in
-    let e = whole-below _ (h .before .fits .v) (is h) (c .before .before .before .if1 .taken) in
+    let w = c .before .before in
+    let t = w .before .before .before in
+    let h = t .before in
+    let e = whole-below _ (h .before .fits .v) (is h) (t .if1 .taken) in
     let x = 2147483648 - h .height .result in
-    let sign = put-fits 1 (omega arith) (omega arith) (c .before .put .ensures) in
-    let number = put-fits 11 (decimal-short x 32) (omega (arith, sign .room)) (c .put-number .ensures) in
+    let sign = put-fits 1 (omega arith) (omega arith) (w .put-at .ensures) in
+    let number = put-fits 11 (decimal-short x 32) (omega (arith, sign .room)) (c .put-number-at .ensures) in
     longer-as (ap (λ (l : List ℕ). l ++ (32 ∷ [])) e) (omega arith) (longer-then sign number)
 
 returns-2 : tie.Need-returns-2
 returns-2 c =
-    let h = c .before .before in
-    let e = whole-above _ (is h) (c .before .if1 .left) in
-    let number = put-fits 11 (decimal-short (h .height .result - 2147483648) 32) (omega arith) (c .put-number2 .ensures) in
+    let t = c .before .before in
+    let h = t .before in
+    let e = whole-above _ (is h) (t .if1 .left) in
+    let number = put-fits 11 (decimal-short (h .height .result - 2147483648) 32) (omega arith) (c .put-number-at2 .ensures) in
     longer-as (ap (λ (l : List ℕ). l ++ (32 ∷ [])) e) (omega arith) number
 
 pub put-position-spec : {M : Type 1} → statement M

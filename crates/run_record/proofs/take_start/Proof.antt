@@ -6,6 +6,7 @@ use denote.Ref.{now}
 use borrow.Author.Needs.{needs}
 use Rattle.run_spec.specs.RunFile.{start}
 use Rattle.run_listing.specs.Texts.{endLine}
+use Rattle.run_listing.proofs.Lines.{found-line}
 use Rattle.run_state.specs.Changes.{freshPlayer}
 use Rattle.run_record.proofs.Records.{judged-stopped, judged-taken, start-next}
 use Rattle.run_record.proofs.take_start.Statement.{statement}
@@ -22,7 +23,8 @@ returns c =
 
 returns-2 : tie.Need-returns-2
 returns-2 c =
-    let f = c .before .before in
+    let g = c .before in
+    let f = g .before .before in
     let l = f .before in
     let h = l .before in
     let d = h .before .before .before in
@@ -36,7 +38,7 @@ returns-2 c =
           rw (judged-taken (start K) F s e (t .if1 .left))
           (start-next s K begun (sym e ∙ t .if1 .left) (λ j b. h .store-heads .ensures j b ∙ d .first-positions .ensures j b)
           (f .fresh .ensures ∙ ap₂ (freshPlayer true K) (n .byte-at .ensures) (l .byte-at2 .ensures))
-          (text ∙ ap (λ (m : ℕ). endLine m 0 0 (h .store-heads .last .1 .0) 0 0 0) (n .byte-at .ensures))
+          (text ∙ found-line (n .byte-at .result) 0 0 0 0 0 (h .store-heads .last .1 .0) (g .ends-of .ensures) ∙ ap (λ (m : ℕ). endLine m 0 0 (h .store-heads .last .1 .0) 0 0 0) (n .byte-at .ensures))
           room),
       room,
     )
@@ -48,6 +50,7 @@ take-start-spec =
     (λ c κs. search needs)
     (λ c κs. search needs)
     returns
+    (λ c κs. search needs)
     (λ c κs. search needs)
     (λ c κs. search needs)
     (λ c κs. search needs)

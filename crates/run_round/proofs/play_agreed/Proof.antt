@@ -9,7 +9,7 @@ use Rattle.run_round.proofs.play_agreed.Tie as tie
 returns : tie.Need-returns
 returns c =
     let (text, room) = c .line-of .ensures in (
-      λ a M begun pending T agreed H. kept-played (taken a begun) begun pending T H refl (agreed-kept (taken a begun) begun pending T H refl agreed) text room,
+      λ a M begun pending T agreed H. kept-played (taken a begun) begun pending T H refl (agreed-kept (taken a begun) begun pending T H refl agreed) (text _ (T .agreed) (H .level begun)) room,
       room,
     )
 

@@ -3,24 +3,25 @@ use mathlib.Core.Path.{_≡_}
 use native.Mathlib.Omega.{arith}
 use native.Mathlib.Nat.{mod-lt}
 use lib.ListN.{length-set}
+use denote.Ref.{now}
 use borrow.Author.Needs.{needs}
-use Rattle.texts.proofs.Writing.{full, Spelt, spelt-none, spelt-more, spelt-all}
+use Rattle.texts.proofs.Writing.{Spelt, spelt-none, spelt-more, spelt-all}
 use Rattle.texts.proofs.put_digits.Statement.{statement}
 use Rattle.texts.proofs.put_digits.Tie as tie
 
 abbrev Inv-loop : tie.InvT-loop
-Inv-loop base k x after at bytes₀ rest₀ i₀ bytes rest i = Spelt base k x at bytes₀ bytes rest i
+Inv-loop line₀ at base k x after rest₀ i₀ line rest i = Spelt base k x at line₀ line rest i
 
 abbrev μ-loop : tie.MeasureT-loop
-μ-loop base k x after at bytes₀ rest₀ i₀ bytes rest i = i
+μ-loop line₀ at base k x after rest₀ i₀ line rest i = i
 
 loop-holds : tie.Need-loop-holds Inv-loop μ-loop
 loop-holds c =
     let s = c .before in
-    spelt-none _ _ _ _ _ (simp length-set (full (s .args .t) (s .good .0)))
+    spelt-none _ _ _ _ _ (simp length-set (s .pre .0))
 
 digit-requires : tie.Need-digit-requires Inv-loop μ-loop
-digit-requires c κs = let s = c .before .before .before in omega (arith, mod-lt (c .before .loop .rest) (s .pre .0))
+digit-requires c κs = let s = c .before .before .before in omega (arith, mod-lt (c .before .loop .rest) (s .pre .1))
 
 loop-again : tie.Need-loop-again Inv-loop μ-loop
 loop-again c = rw (c .digit .ensures) (spelt-more (search needs) (search needs) (c .before .before .loop .inv))
@@ -29,9 +30,8 @@ returns : tie.Need-returns Inv-loop μ-loop
 returns c =
     let s = c .before .before .before in
     let l = c .before .loop in
-    let long = full (s .args .t) (s .good .0) in
     let e : l .i ≡ 0 = omega arith in
-    record { text = spelt-all (s .args .t .bytes) (s .args .after) (omega arith) (rw e at (l .inv)); room = search needs }
+    record { text = spelt-all (now (s .args .line)) (s .args .after) (omega (arith, s .pre .0)) (rw e at (l .inv)); room = search needs }
 
 pub put-digits-spec : {M : Type 1} → statement M
 put-digits-spec =
@@ -50,6 +50,7 @@ put-digits-spec =
     (λ c. search needs)
     (λ c. search needs)
     loop-again
+    (λ c. search needs)
     (λ c. search needs)
     (λ c. search needs)
     returns)

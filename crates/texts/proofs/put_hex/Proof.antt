@@ -1,29 +1,10 @@
--- `texts::put_hex` meets its contract: the digits in base 16 are the hexadecimal digits.
-use native.Mathlib.Omega.{arith}
+-- `texts::put_hex` meets its contract: it is what is put behind the text's own bytes.
 use borrow.Author.Needs.{needs}
-use Rattle.texts.proofs.Digits.{spelled-hex}
-use Rattle.texts.proofs.Writing.{some-room, no-room, digits-put, digits-none}
 use Rattle.texts.proofs.put_hex.Statement.{statement}
 use Rattle.texts.proofs.put_hex.Tie as tie
 
-put-digits-requires : tie.Need-put-digits-requires
-put-digits-requires c κs =
-    let r = c .before in
-    let room = some-room (r .before .args .t .len) 9 (r .has-room .ensures) (c .if1 .taken) in
-    (omega arith, omega arith, omega (arith, room))
-
 returns : tie.Need-returns
-returns c =
-    let r = c .before .before in
-    let a = r .before .args in
-    let room = some-room (a .t .len) 9 (r .has-room .ensures) (c .before .if1 .taken) in
-    digits-put 16 8 (a .x) (a .after) (spelled-hex 8 (a .x)) room (c .put-digits .ensures)
-
-returns-2 : tie.Need-returns-2
-returns-2 c =
-    let r = c .before in
-    let a = r .before .args in
-    digits-none 16 8 (a .x) (a .after) (spelled-hex 8 (a .x)) (no-room (a .t .len) 9 (r .has-room .ensures) (c .if1 .left))
+returns c = c .put-hex-at .ensures
 
 pub put-hex-spec : {M : Type 1} → statement M
-put-hex-spec = tie.close (tie.spec (λ c κs. search needs) put-digits-requires returns returns-2)
+put-hex-spec = tie.close (tie.spec (λ c κs. search needs) returns)

@@ -1,35 +1,10 @@
--- `texts::put_number` meets its contract: as many digits as the number has are its decimal digits.
-use Prim.Native.Nat.{_+_}
-use native.Mathlib.Omega.{arith}
+-- `texts::put_number` meets its contract: it is what is put behind the text's own bytes.
 use borrow.Author.Needs.{needs}
-use Rattle.texts.proofs.Digits.{spelled-decimal}
-use Rattle.texts.proofs.Writing.{some-room, no-room, digits-put, digits-none}
 use Rattle.texts.proofs.put_number.Statement.{statement}
 use Rattle.texts.proofs.put_number.Tie as tie
 
-put-digits-requires : tie.Need-put-digits-requires
-put-digits-requires c κs =
-    let r = c .before in
-    let k = r .before .size-of .result in
-    let room = some-room (r .before .before .args .t .len) (k + 1) (r .has-room .ensures) (c .if1 .taken) in
-    (omega arith, omega arith, omega (arith, room))
-
 returns : tie.Need-returns
-returns c =
-    let r = c .before .before in
-    let n = r .before .size-of in
-    let a = r .before .before .args in
-    let room = some-room (a .t .len) (n .result + 1) (r .has-room .ensures) (c .before .if1 .taken) in
-    digits-put 10 (n .result) (a .x) (a .after) (spelled-decimal (a .x) (n .ensures .0)) room (c .put-digits .ensures)
-
-returns-2 : tie.Need-returns-2
-returns-2 c =
-    let r = c .before in
-    let n = r .before .size-of in
-    let a = r .before .before .args in
-    digits-none 10 (n .result) (a .x) (a .after) (spelled-decimal (a .x) (n .ensures .0))
-    (no-room (a .t .len) (n .result + 1) (r .has-room .ensures) (c .if1 .left))
+returns c = c .put-number-at .ensures
 
 pub put-number-spec : {M : Type 1} → statement M
-put-number-spec =
-    tie.close (tie.spec (λ c κs. search needs) (λ c. search needs) (λ c κs. search needs) put-digits-requires returns returns-2)
+put-number-spec = tie.close (tie.spec (λ c κs. search needs) returns)

@@ -5,19 +5,19 @@ use native.Mathlib.Omega.{arith}
 use lib.ListN.{length, take}
 use denote.Ref.{now}
 use borrow.Author.Needs.{needs}
-use Rattle.texts.proofs.Writing.{full, copied-behind}
+use Rattle.texts.proofs.Writing.{copied-behind}
 use Rattle.texts.proofs.put_within.Statement.{statement}
 use Rattle.texts.proofs.put_within.Tie as tie
 
 returns : tie.Need-returns
 returns c =
-    let s = c .before .before .before .before .before in
+    let u = c .before .before in
+    let s = u .before .before .before .before in
     let a = s .args in
-    let long = full (a .t) (s .good .0) in
     record {
-      text = ap (take (a .t .len + length (now (a .s)))) (c .before .put-bytes .ensures) ∙ copied-behind (a .t .bytes) (now (a .s)) (a .t .len) (omega arith);
+      text = ap (take (a .at + length (now (a .s)))) (u .put-bytes .ensures) ∙ copied-behind (now (a .line)) (now (a .s)) (a .at) (omega (arith, s .pre .0, s .pre .1));
       room = search needs;
     }
 
 pub put-within-spec : {M : Type 1} → statement M
-put-within-spec = tie.close (tie.spec (λ c. search needs) (λ c κs. search needs) (λ c. search needs) returns)
+put-within-spec = tie.close (tie.spec (λ c κs. search needs) (λ c. search needs) (λ c. search needs) returns)
