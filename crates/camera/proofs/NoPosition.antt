@@ -7,7 +7,7 @@ use native.Mathlib.Omega.{arith}
 use lib.IntN.{ℤ}
 use Rattle.steps.specs.Unscale.{Within}
 use Rattle.steps.proofs.Floor.{position-within}
-use Rattle.convergence.specs.Phases.{rounding}
+use Rattle.terms.specs.Positions.{rounding}
 use Rattle.settle_midpoint.specs.Call.{entriesGiven}
 use Rattle.terms.specs.declared.Family.{Family}
 use Rattle.settle_reach.specs.declared.Reached.{Reached}

@@ -15,11 +15,12 @@ use Rattle.terms.specs.declared.Entry.{Entry}
 use Rattle.terms.specs.declared.Entry.the-variants.{Position}
 use Rattle.terms.specs.declared.Family.{Family}
 use Rattle.terms.specs.declared.Family.the-variants.{TwoRounds, OneRound}
-use Rattle.convergence.specs.Counting.{bit, AtMost}
+use Rattle.terms.specs.Counting.{bit, AtMost}
 use Rattle.convergence.specs.Settling.{nulls, Rule, ruleOf, midpoint, enough, settled}
-use Rattle.convergence.specs.Phases.{End, startEnd, Faults, soundAt, lowest, highest, givenTo, entriesAt, after, rounding, endAfter}
+use Rattle.convergence.specs.Phases.{End, startEnd, Faults, soundAt, lowest, highest, givenTo, entriesAt, after, endAfter}
+use Rattle.terms.specs.Positions.{rounding}
 use Rattle.convergence.specs.Demand3.{KeptBetween, AcceptedSize, Halves, FewStruck, Converges}
-use Rattle.convergence.proofs.Sums.{sum-same, sum-none}
+use Rattle.terms.proofs.Sums.{sum-same, sum-none}
 use Rattle.convergence.proofs.Support.{same-position}
 use Rattle.convergence.proofs.Kept.{low, high, Holds, kept-in, range, closer}
 use Rattle.convergence.proofs.OnePhase.{Between}

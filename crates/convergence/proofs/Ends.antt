@@ -15,10 +15,10 @@ use Rattle.terms.specs.Positions.{gap}
 use Rattle.terms.specs.declared.Entry.{Entry}
 use Rattle.terms.specs.declared.Entry.the-variants.{Null, Position}
 use Rattle.terms.proofs.Whole.{arithZ, leZ-fail, gap-lin, sum-lin, pos-lin}
-use Rattle.convergence.specs.Counting.{Each, bit, AtMost}
+use Rattle.terms.specs.Counting.{Each, bit, AtMost}
 use Rattle.convergence.specs.Phases.{End, lesser, greater, join, soundAt, lowest, highest, spread}
 use Rattle.convergence.specs.Demand3.{halved, HeldBetween, Demand3}
-use Rattle.convergence.proofs.Sums.{each-more, sums-le, sum-one}
+use Rattle.terms.proofs.Sums.{each-more, sums-le, sum-one}
 use Rattle.convergence.proofs.Support.{not-null, same-position}
 use Rattle.convergence.proofs.Halves.{halved-zero, halved-suc}
 

@@ -10,7 +10,7 @@ use lib.Signed.{leZ, _≤ℤ_, _<ℤ_, ≤ℤ-refl}
 use Rattle.terms.specs.Positions.{gap}
 use Rattle.terms.specs.declared.Entry.{Entry}
 use Rattle.terms.proofs.Whole.{arithZ, not-le, decLeZ, half-between, half-closer}
-use Rattle.convergence.specs.Counting.{sum, bit}
+use Rattle.terms.specs.Counting.{sum, bit}
 use Rattle.convergence.specs.Settling.{nulls, Rule, ordered, lowKept, highKept, middle, midpoint}
 use Rattle.convergence.proofs.Order.{passes, gt-fails, KeptRange, kept-counts}
 

@@ -1,5 +1,4 @@
 -- The proof of demand 3 for a ring played on what its links carry: `Demand3` has the theorem, and the modules before it its parts, in order.
-pub mod Sums
 pub mod Order
 pub mod Insertion
 pub mod Support

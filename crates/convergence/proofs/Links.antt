@@ -12,10 +12,10 @@ use lib.IntN.{ℤ, ℤ-discrete}
 use Rattle.terms.specs.Positions.{eqZ}
 use Rattle.terms.specs.declared.Entry.{Entry}
 use Rattle.terms.specs.declared.Entry.the-variants.{Null, Position}
-use Rattle.convergence.specs.Counting.{Each, sum, bit}
+use Rattle.terms.specs.Counting.{Each, sum, bit}
 use Rattle.convergence.specs.Trust.{Given, nothing, confessed, gave, is, supports, support, hasConfessed, Only, trusted}
 use Rattle.convergence.specs.Phases.{End, Faults, gives, listOf, givenTo}
-use Rattle.convergence.proofs.Sums.{sums-le, sum-one, bit-le}
+use Rattle.terms.proofs.Sums.{sums-le, sum-one, bit-le}
 use Rattle.convergence.proofs.Support.{same-position, not-null, is-same, is-other, trusted-is, trusted-only}
 use Rattle.convergence.proofs.OnePhase.{Fact, Facts, both, TwoFaced, Limits}
 

@@ -7,13 +7,13 @@ use Prim.Native.Nat.{ℕ}
 use lib.Dec.{eqb, lit≤}
 use lib.ListN.{getD}
 use lib.IntN.{ℤ, pos}
-use Rattle.terms.specs.Positions.{gap, half, floorDiv, eqZ}
+use Rattle.terms.specs.Positions.{gap, half, floorDiv, eqZ, rounding}
 use Rattle.terms.specs.declared.Entry.the-variants.{Null, Position}
 use Rattle.terms.specs.declared.Family.the-variants.{TwoRounds}
-use Rattle.convergence.specs.Counting.{sum}
+use Rattle.terms.specs.Counting.{sum}
 use Rattle.convergence.specs.Settling.{nulls, trim, insert, ordered, lowKept, highKept, middle, midpoint, enough, settled}
 use Rattle.convergence.specs.Trust.{nothing, confessed, support, confessions, seen, trusted}
-use Rattle.convergence.specs.Phases.{End, startEnd, Faults, listOf, givenTo, entriesAt, after, rounding, endAfter, lowest, highest, spread}
+use Rattle.convergence.specs.Phases.{End, startEnd, Faults, listOf, givenTo, entriesAt, after, endAfter, lowest, highest, spread}
 use Rattle.convergence.specs.Demand3.{FewStruck}
 
 pub strikes : ℕ → Faults

@@ -15,11 +15,11 @@ use Rattle.terms.specs.Positions.{gap}
 use Rattle.terms.specs.declared.Entry.{Entry}
 use Rattle.terms.specs.declared.Entry.the-variants.{Null, Position}
 use Rattle.terms.proofs.Whole.{arithZ, not-le, decLeZ, half-between, half-closer}
-use Rattle.convergence.specs.Counting.{Each, sum, bit, AtMost}
+use Rattle.terms.specs.Counting.{Each, sum, bit, AtMost}
 use Rattle.terms.specs.declared.Family.the-variants.{TwoRounds}
 use Rattle.convergence.specs.Settling.{isNull, nulls, trim, twoRounds}
 use Rattle.convergence.specs.Demand3.{AcceptedSize, Halves}
-use Rattle.convergence.proofs.Sums.{sums-le, sum-one, sum-none, bit-le}
+use Rattle.terms.proofs.Sums.{sums-le, sum-one, sum-none, bit-le}
 use Rattle.convergence.proofs.Order.{passes, gt-fails}
 use Rattle.convergence.proofs.Kept.{low, high, Holds, the-kept}
 

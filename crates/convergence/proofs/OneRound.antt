@@ -11,11 +11,11 @@ use lib.Signed.{leZ, _≤ℤ_, _<ℤ_}
 use Rattle.terms.specs.declared.Entry.{Entry}
 use Rattle.terms.specs.declared.Entry.the-variants.{Null, Position}
 use Rattle.terms.specs.declared.Family.the-variants.{OneRound}
-use Rattle.convergence.specs.Counting.{Each, sum, bit, AtMost}
+use Rattle.terms.specs.Counting.{Each, sum, bit, AtMost}
 use Rattle.convergence.specs.Settling.{isNull, nulls, oneRound}
 use Rattle.convergence.specs.Phases.{End, Faults, gives, heardFrom}
 use Rattle.convergence.specs.Demand3.{AcceptedSize}
-use Rattle.convergence.proofs.Sums.{sums-le, sum-one, bit-le}
+use Rattle.terms.proofs.Sums.{sums-le, sum-one, bit-le}
 use Rattle.convergence.proofs.Order.{passes}
 use Rattle.convergence.proofs.Kept.{low, high, Holds, the-kept}
 use Rattle.convergence.proofs.OnePhase.{Fact, Facts, Between, liar, liar-point, outside-point, not-both}

@@ -8,9 +8,10 @@ use Rattle.terms.specs.declared.Entry.{Entry}
 use Rattle.terms.specs.declared.Entry.the-variants.{Null, Position}
 use Rattle.terms.specs.declared.Family.{Family}
 use Rattle.terms.specs.declared.Family.the-variants.{TwoRounds, OneRound}
-use Rattle.convergence.specs.Counting.{Each}
+use Rattle.terms.specs.Counting.{Each}
 use Rattle.convergence.specs.Settling.{Rule, ruleOf, midpoint, enough, settled}
-use Rattle.convergence.specs.Phases.{End, Faults, gives, givenTo, entriesAt, after, rounding, endAfter}
+use Rattle.convergence.specs.Phases.{End, Faults, gives, givenTo, entriesAt, after, endAfter}
+use Rattle.terms.specs.Positions.{rounding}
 use Rattle.convergence.specs.Demand3.{QuietAgrees}
 use Rattle.convergence.proofs.Same.{nulls-same, midpoint-same, trusted-same}
 

@@ -7,12 +7,12 @@ use lib.Dec.{leb}
 use lib.IntN.{ℤ}
 use Rattle.terms.specs.declared.Entry.{Entry}
 use Rattle.terms.specs.declared.Entry.the-variants.{Null}
-use Rattle.convergence.specs.Counting.{Each, bit}
+use Rattle.terms.specs.Counting.{Each, bit}
 use Rattle.convergence.specs.Settling.{isNull, nulls, ordered, Rule, midpoint, enough, settled}
 use Rattle.convergence.specs.Trust.{Given, nothing, confessed, gave, is, supports, support, hasConfessed, confessions, saysOf, seen, trusted}
 use Rattle.convergence.specs.Phases.{End, lesser, greater, join, soundAt, lowest, highest, spread}
 use Rattle.convergence.specs.Demand3.{Demand3}
-use Rattle.convergence.proofs.Sums.{each-last, each-less, sum-same}
+use Rattle.terms.proofs.Sums.{each-last, each-less, sum-same}
 
 -- ---- entries
 

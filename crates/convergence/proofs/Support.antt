@@ -14,9 +14,9 @@ use Rattle.terms.specs.Positions.{isPosition, eqZ}
 use Rattle.terms.specs.declared.Entry.{Entry}
 use Rattle.terms.specs.declared.Entry.the-variants.{Null, Position}
 use Rattle.terms.proofs.Whole.{eqZ→eq, eqZ-refl, other}
-use Rattle.convergence.specs.Counting.{Each, bit}
+use Rattle.terms.specs.Counting.{Each, bit}
 use Rattle.convergence.specs.Trust.{Given, nothing, confessed, gave, is, supports, support, hasConfessed, Only, confessions, saysOf, Seen, none, one, many, pick, see, seeEntry, seen, choose, trusted}
-use Rattle.convergence.proofs.Sums.{each-more, sums-le, bit-yes, bit-no}
+use Rattle.terms.proofs.Sums.{each-more, sums-le, bit-yes, bit-no}
 
 -- an entry is one thing
 pub same-position : {x : Entry} {u w : ℤ} → x ≡ Position u → x ≡ Position w → w ≡ u

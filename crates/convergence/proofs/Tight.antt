@@ -12,14 +12,14 @@ use native.Mathlib.Nat.{le-refl}
 use lib.Dec.{eqb, leb, ltb, lit≤}
 use lib.ListN.{getD}
 use lib.IntN.{ℤ, pos}
-use Rattle.terms.specs.Positions.{gap, half, floorDiv, eqZ}
+use Rattle.terms.specs.Positions.{gap, half, floorDiv, eqZ, rounding}
 use Rattle.terms.specs.declared.Entry.{Entry}
 use Rattle.terms.specs.declared.Entry.the-variants.{Null, Position}
 use Rattle.terms.specs.declared.Family.the-variants.{TwoRounds}
-use Rattle.convergence.specs.Counting.{sum, AtMost}
+use Rattle.terms.specs.Counting.{sum, AtMost}
 use Rattle.convergence.specs.Settling.{nulls, trim, insert, ordered, lowKept, highKept, middle, midpoint, enough, settled}
 use Rattle.convergence.specs.Trust.{nothing, confessed, gave, support, confessions, seen, trusted}
-use Rattle.convergence.specs.Phases.{End, startEnd, Faults, listOf, givenTo, entriesAt, after, rounding, endAfter, lowest, highest, spread}
+use Rattle.convergence.specs.Phases.{End, startEnd, Faults, listOf, givenTo, entriesAt, after, endAfter, lowest, highest, spread}
 use Rattle.convergence.specs.Demand3.{halved, AcceptedSize, Halves, FewStruck}
 use Rattle.convergence.proofs.Demand3.{converges}
 

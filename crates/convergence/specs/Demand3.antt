@@ -9,7 +9,7 @@ use Rattle.terms.specs.declared.Entry.{Entry}
 use Rattle.terms.specs.declared.Entry.the-variants.{Null, Position}
 use Rattle.terms.specs.declared.Family.{Family}
 use Rattle.terms.specs.declared.Family.the-variants.{TwoRounds, OneRound}
-use Rattle.convergence.specs.Counting.{Each, AtMost}
+use Rattle.terms.specs.Counting.{Each, AtMost}
 use Rattle.convergence.specs.Phases.{End, Faults, endAfter, lowest, highest, spread}
 
 -- s divided by 2 to the power k, rounded up

@@ -1,5 +1,4 @@
 -- Document 01's rounds on what the links carry, without bytes, in its order. `Demand3` states the promise: open it first.
-pub mod Counting
 pub mod Settling
 pub mod Trust
 pub mod Phases

@@ -4,7 +4,7 @@ use Prim.Native.Nat.{ℕ, zero, suc, _+_, _%_}
 use lib.Dec.{ltb}
 use lib.IntN.{ℤ}
 use lib.Signed.{leZ}
-use Rattle.terms.specs.Positions.{gap}
+use Rattle.terms.specs.Positions.{gap, rounding}
 use Rattle.terms.specs.declared.Entry.{Entry}
 use Rattle.terms.specs.declared.Entry.the-variants.{Null, Position}
 use Rattle.terms.specs.declared.Family.{Family}
@@ -58,10 +58,6 @@ entriesAt OneRound n f e F i = heardFrom (F .confess) e F i
 -- The phase's end: each receiver that is not struck settles a position. r: how odd sums are rounded.
 unfoldable pub after : Family → ℕ → ℕ → ℕ → End → Faults → End
 after K r n f e F = record { struck = F .confess; at = λ i. settled r n (ruleOf K f) (entriesAt K n f e F i) }
-
--- how phase p rounds odd sums: 0, down, in odd phases, and 1, up, in even ones (document 02, A7)
-unfoldable pub rounding : ℕ → ℕ
-rounding p = (p + 1) % 2
 
 -- the end of phase p; end 0 is the start
 unfoldable pub endAfter : Family → ℕ → ℕ → (ℕ → ℤ) → (ℕ → Faults) → ℕ → End

@@ -7,7 +7,7 @@ use lib.IntN.{ℤ}
 use Rattle.terms.specs.Positions.{eqZ}
 use Rattle.terms.specs.declared.Entry.{Entry}
 use Rattle.terms.specs.declared.Entry.the-variants.{Null, Position}
-use Rattle.convergence.specs.Counting.{sum, bit}
+use Rattle.terms.specs.Counting.{sum, bit}
 
 -- what a link gave: nothing, a confession, or a list
 pub data Given : Type 0 where

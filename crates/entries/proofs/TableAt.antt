@@ -13,8 +13,8 @@ use Rattle.terms.specs.declared.Entry.the-variants.{Null, Position}
 use Rattle.marks.specs.Marks.{bitOf}
 use Rattle.marks.proofs.Marks.{bit-none}
 use Rattle.marks.proofs.Words.{bit-low, bit-high}
-use Rattle.convergence.specs.Counting.{Each}
-use Rattle.convergence.proofs.Sums.{each-more}
+use Rattle.terms.specs.Counting.{Each}
+use Rattle.terms.proofs.Sums.{each-more}
 use Rattle.entries.specs.Entries.{entryAt, zeros}
 use Rattle.entries.specs.Tables.{tableAt, mark, number, marksOf, numbersOf, tableOf}
 use Rattle.entries.proofs.Tables.{marks-below}

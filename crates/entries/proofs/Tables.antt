@@ -19,8 +19,8 @@ use Rattle.terms.specs.declared.Entry.the-variants.{Null, Position}
 use Rattle.terms.specs.declared.Table.{Table}
 use Rattle.entries.specs.Entries.{zeros}
 use Rattle.entries.specs.Tables.{mark, number, marksOf, numbersOf, tableOf}
-use Rattle.convergence.specs.Counting.{Each}
-use Rattle.convergence.proofs.Sums.{each-last, each-less}
+use Rattle.terms.specs.Counting.{Each}
+use Rattle.terms.proofs.Sums.{each-last, each-less}
 use Rattle.marks.proofs.Counts.{first-32}
 
 mark-le : (e : Entry) (x : ℕ) → mark e * x ≤ x

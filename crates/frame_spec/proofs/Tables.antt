@@ -20,8 +20,8 @@ use Rattle.marks.specs.Marks.{bitOf}
 use Rattle.entries.specs.Entries.{fits, entryAt, numbers}
 use Rattle.entries.specs.Tables.{tableAt, mark, number, marksOf, numbersOf, tableOf}
 use Rattle.entries.proofs.Entries.{numbers-length}
-use Rattle.convergence.specs.Counting.{Each}
-use Rattle.convergence.proofs.Sums.{each-more}
+use Rattle.terms.specs.Counting.{Each}
+use Rattle.terms.proofs.Sums.{each-more}
 use Rattle.frame_spec.specs.Proper.{ProperTable}
 use Rattle.frame_spec.proofs.Listing.{numbers-none, unmarked-zero}
 

@@ -17,7 +17,7 @@ use Rattle.fields.proofs.Bytes.{signed-low, signed-high}
 use Rattle.terms.specs.declared.Table.{Table}
 use Rattle.marks.proofs.Marks.{bit-none}
 use Rattle.entries.specs.Entries.{zeros}
-use Rattle.convergence.specs.Counting.{bit}
+use Rattle.terms.specs.Counting.{bit}
 use Rattle.head_spec.specs.declared.Row.{Row}
 use Rattle.head_spec.specs.declared.LastKept.{LastKept}
 use Rattle.head_spec.specs.declared.Seat.{Seat}

@@ -12,7 +12,7 @@ use lib.IntN.{ℤ, pos}
 use Rattle.fields.specs.Bytes.{wordOf}
 use Rattle.fields.proofs.Bytes.{word-back}
 use Rattle.terms.specs.declared.Table.{Table}
-use Rattle.convergence.specs.Counting.{bit}
+use Rattle.terms.specs.Counting.{bit}
 use Rattle.head_spec.specs.declared.Seat.{Seat}
 use Rattle.head_spec.specs.declared.Head.{Head}
 use Rattle.head_spec.specs.Record.{noLinks, opened}

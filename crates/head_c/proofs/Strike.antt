@@ -4,7 +4,7 @@ use mathlib.Core.Bool.{Bool, false, not, _&&_, and-false}
 use mathlib.Core.List.{List}
 use Prim.Native.Nat.{ℕ, _+_, _*_}
 use lib.ListN.{set, length-set}
-use Rattle.convergence.specs.Counting.{bit}
+use Rattle.terms.specs.Counting.{bit}
 use Rattle.marks.specs.Marks.{bitOf, withMark}
 use Rattle.head_spec.specs.declared.Offer.{Offer}
 use Rattle.head_window.specs.declared.Beside.{Beside}

@@ -16,7 +16,7 @@ use Rattle.terms.specs.declared.Family.the-variants.{TwoRounds, OneRound}
 use Rattle.fields.specs.Bytes.{signedOf, wordOf}
 use Rattle.marks.specs.Marks.{bitOf, withMark}
 use Rattle.entries.specs.Entries.{zeros}
-use Rattle.convergence.specs.Counting.{bit}
+use Rattle.terms.specs.Counting.{bit}
 use Rattle.frame_spec.specs.Said.{Meaning, refused, collected, listed, confessed}
 use Rattle.settle_midpoint.specs.declared.Kept.{Kept}
 use Rattle.head_spec.specs.declared.Row.{Row}

@@ -8,7 +8,7 @@ ghost use lib.ListN.{length, getD};
 ghost use Rattle.fields.specs.Bytes.{signedOf};
 ghost use Rattle.terms.specs.Positions.{eqZ};
 ghost use Rattle.entries.specs.Entries.{entryAt};
-ghost use Rattle.convergence.specs.Counting.{Each, bit};
+ghost use Rattle.terms.specs.Counting.{Each, bit};
 ghost use Rattle.convergence.specs.Settling.{twoRounds};
 ghost use Rattle.convergence.specs.Trust.{trusted};
 ghost use Rattle.settle_trust.specs.Received.{givenBy};

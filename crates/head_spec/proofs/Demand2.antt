@@ -9,10 +9,10 @@ use Rattle.terms.specs.declared.Family.{Family}
 use Rattle.terms.specs.declared.Family.the-variants.{TwoRounds, OneRound}
 use Rattle.terms.specs.Sizes.{roundsOf}
 use Rattle.entries.specs.Tables.{tableAt}
-use Rattle.convergence.specs.Counting.{Each}
+use Rattle.terms.specs.Counting.{Each}
 use Rattle.convergence.specs.Settling.{ruleOf}
 use Rattle.convergence.specs.Trust.{Given, trusted}
-use Rattle.convergence.specs.Phases.{rounding}
+use Rattle.terms.specs.Positions.{rounding}
 use Rattle.convergence.proofs.Same.{trusted-same}
 use Rattle.convergence.proofs.Support.{trusted-iff}
 use Rattle.settle_midpoint.specs.Answers.{settling}

@@ -15,7 +15,7 @@ use Rattle.terms.specs.Refusals.{unlessRefused}
 use Rattle.entries.specs.Tables.{tableAt}
 use Rattle.marks.proofs.Marks.{bit-none, with-same}
 use Rattle.marks.specs.Marks.{bitOf, withMark}
-use Rattle.convergence.specs.Counting.{Each}
+use Rattle.terms.specs.Counting.{Each}
 use Rattle.frame_spec.specs.Said.{Meaning, refused, collected, listed, confessed, said}
 use Rattle.terms.specs.declared.Family.{Family}
 use Rattle.head_spec.specs.declared.Seat.{Seat}

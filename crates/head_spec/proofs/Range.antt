@@ -22,10 +22,10 @@ use Rattle.terms.proofs.Whole.{arithZ, sum-lin, half-lin}
 use Rattle.marks.specs.Marks.{bitOf}
 use Rattle.entries.specs.Entries.{entryAt, fits}
 use Rattle.entries.specs.Tables.{tableAt}
-use Rattle.convergence.specs.Counting.{Each}
+use Rattle.terms.specs.Counting.{Each}
 use Rattle.convergence.specs.Settling.{place, insert, put, trim, ruleOf, ordered, lowKept, highKept, middle}
 use Rattle.convergence.specs.Trust.{nothing, confessed, gave, saysOf}
-use Rattle.convergence.proofs.Sums.{each-last, each-less}
+use Rattle.terms.proofs.Sums.{each-last, each-less}
 use Rattle.convergence.proofs.Support.{not-null, trusted-in-range}
 use Rattle.frame_spec.specs.Proper.{ProperTable}
 use Rattle.terms.proofs.Booleans.{and-both}

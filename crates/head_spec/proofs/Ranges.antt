@@ -9,7 +9,7 @@ use Rattle.terms.specs.Refusals as refusal
 use Rattle.terms.specs.Sizes.{isListener}
 use Rattle.terms.specs.declared.Entry.{Entry}
 use Rattle.convergence.specs.Settling.{nulls, ruleOf, midpoint, enough}
-use Rattle.convergence.specs.Phases.{rounding}
+use Rattle.terms.specs.Positions.{rounding}
 use Rattle.convergence.proofs.Demand3.{rounding-le, keeps-one}
 use Rattle.convergence.proofs.Kept.{in-kept}
 use Rattle.settle_midpoint.specs.Answers.{settling}

@@ -9,13 +9,12 @@ use lib.IntN.{ℤ}
 use Rattle.terms.specs.Refusals as refusal
 use Rattle.terms.specs.Refusals.{check}
 use Rattle.terms.specs.Sizes.{checkSize, roundsOf, endsWith, isPhase, isListener}
-use Rattle.terms.specs.Positions.{isPosition}
+use Rattle.terms.specs.Positions.{isPosition, rounding}
 use Rattle.terms.specs.declared.Entry.{Entry}
 use Rattle.terms.specs.declared.Family.{Family}
 use Rattle.terms.specs.declared.Table.{Table}
 use Rattle.marks.specs.Marks.{bitOf, withMark}
 use Rattle.convergence.specs.Settling.{ruleOf}
-use Rattle.convergence.specs.Phases.{rounding}
 use Rattle.settle_midpoint.specs.Answers.{settling}
 use Rattle.settle_midpoint.specs.declared.Kept.{Kept}
 use Rattle.settle_midpoint.specs.declared.Settled.{Settled}

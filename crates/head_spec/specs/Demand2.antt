@@ -12,10 +12,10 @@ use Rattle.terms.specs.declared.Entry.{Entry}
 use Rattle.terms.specs.declared.Family.{Family}
 use Rattle.terms.specs.declared.Family.the-variants.{TwoRounds, OneRound}
 use Rattle.entries.specs.Tables.{tableAt}
-use Rattle.convergence.specs.Counting.{Each}
+use Rattle.terms.specs.Counting.{Each}
 use Rattle.convergence.specs.Settling.{ruleOf}
 use Rattle.convergence.specs.Trust.{Given, hasConfessed, Only, trusted}
-use Rattle.convergence.specs.Phases.{rounding}
+use Rattle.terms.specs.Positions.{rounding}
 use Rattle.settle_midpoint.specs.Answers.{settling}
 use Rattle.settle_midpoint.specs.declared.Settled.{Settled}
 use Rattle.frame_spec.specs.Said.{Meaning, refused, collected, listed, confessed, said}

@@ -12,7 +12,7 @@ use Rattle.terms.specs.declared.Family.{Family}
 use Rattle.terms.specs.declared.Table.{Table}
 use Rattle.marks.specs.Marks.{bitOf}
 use Rattle.entries.specs.Tables.{tableAt}
-use Rattle.convergence.specs.Counting.{Each}
+use Rattle.terms.specs.Counting.{Each}
 use Rattle.convergence.specs.Demand3.{AcceptedSize}
 use Rattle.frame_spec.specs.Said.{collected}
 use Rattle.frame_spec.specs.Proper.{ProperTable, Proper}

@@ -10,7 +10,7 @@ use Rattle.terms.specs.Refusals.{check, leaves}
 use Rattle.terms.specs.declared.Entry.{Entry}
 use Rattle.terms.specs.declared.Entry.the-variants.{Null, Position}
 use Rattle.fields.specs.Bytes.{wordOf, put2, put4}
-use Rattle.convergence.specs.Counting.{bit}
+use Rattle.terms.specs.Counting.{bit}
 use Rattle.marks.specs.Marks.{bitOf, withMark}
 use Rattle.head_spec.specs.declared.Seat.{Seat}
 use Rattle.head_spec.specs.declared.Closed.{Closed}

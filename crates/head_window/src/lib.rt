@@ -2,7 +2,7 @@
 ghost use mathlib.Core.Path.{_≡_};
 ghost use mathlib.Core.Bool.{not, _&&_};
 ghost use Prim.Native.Nat.{_+_, _*_};
-ghost use Rattle.convergence.specs.Counting.{bit};
+ghost use Rattle.terms.specs.Counting.{bit};
 ghost use Rattle.marks.specs.Marks.{bitOf};
 ghost use Rattle.head_window.specs.Window.{withEvent, startedBeside, restartedBeside, closedBeside, adoptedBeside};
 ghost use Rattle.head_window.specs.Window.{three, isHeld, positionWord, statusBits, window, readRefusal, setRefusal, setBeside, isUp};

@@ -8,8 +8,8 @@ use native.Mathlib.Omega.{arith}
 use native.Mathlib.Decide.{decLe, le-ind}
 use native.Mathlib.Numerals.{add-one}
 use mir.Val.{boolByte}
-use Rattle.convergence.specs.Counting.{sum, bit}
-use Rattle.convergence.proofs.Sums.{sums-le, sum-one, bit-le}
+use Rattle.terms.specs.Counting.{sum, bit}
+use Rattle.terms.proofs.Sums.{sums-le, sum-one, bit-le}
 
 -- the number that the machine makes of a test
 pub byte-bit : (b : Bool) → boolByte b ≡ bit b

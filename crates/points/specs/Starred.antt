@@ -7,15 +7,14 @@ use native.Mathlib.Omega.{arith}
 use lib.Dec.{T}
 use lib.ListN.{getD}
 use lib.IntN.{ℤ, pos, negsuc}
-use Rattle.terms.specs.Positions.{floorDiv, half, eqZ}
+use Rattle.terms.specs.Positions.{floorDiv, half, eqZ, rounding}
 use Rattle.terms.specs.Sizes.{isCount, isLimit, sizeRefusal}
 use Rattle.terms.specs.declared.Entry.{Entry}
 use Rattle.terms.specs.declared.Entry.the-variants.{Null, Position}
 use Rattle.terms.specs.declared.Family.the-variants.{TwoRounds}
-use Rattle.convergence.specs.Counting.{sum}
+use Rattle.terms.specs.Counting.{sum}
 use Rattle.convergence.specs.Settling.{nulls, trim, twoRounds, insert, ordered, lowKept, highKept, middle, enough}
 use Rattle.convergence.specs.Trust.{Given, nothing, confessed, gave, support, confessions, seen, trusted}
-use Rattle.convergence.specs.Phases.{rounding}
 use Rattle.convergence.specs.Demand3.{Halves}
 use Rattle.settle_midpoint.specs.Answers.{settling, settledNumber, settledEntry}
 

@@ -11,7 +11,7 @@ use lib.IntN.{ℤ}
 use Rattle.terms.specs.Sizes.{endsWith}
 use Rattle.terms.specs.declared.Family.{Family}
 use Rattle.marks.specs.Marks.{bitOf}
-use Rattle.convergence.specs.Counting.{AtMost}
+use Rattle.terms.specs.Counting.{AtMost}
 use Rattle.frame_spec.specs.declared.Written.{Written}
 use Rattle.head_spec.specs.declared.Head.{Head}
 use Rattle.head_spec.specs.declared.Closed.{Closed}

@@ -16,7 +16,7 @@ use Rattle.terms.specs.Sizes.{roundsOf, endsWith}
 use Rattle.terms.specs.declared.Family.{Family}
 use Rattle.terms.specs.declared.Family.the-variants.{TwoRounds, OneRound}
 use Rattle.marks.specs.Marks.{bitOf}
-use Rattle.convergence.specs.Counting.{Each, bit}
+use Rattle.terms.specs.Counting.{Each, bit}
 use Rattle.convergence.specs.Phases.{lowest, highest}
 use Rattle.convergence.proofs.Same.{SameEnd, same-bounds, demand3-same}
 use Rattle.head_spec.specs.declared.Head.{Head}

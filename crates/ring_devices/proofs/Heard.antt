@@ -13,10 +13,10 @@ use Rattle.terms.specs.declared.Family.{Family}
 use Rattle.terms.specs.declared.Family.the-variants.{TwoRounds, OneRound}
 use Rattle.entries.specs.Tables.{tableAt}
 use Rattle.entries.proofs.Tables.{table-same}
-use Rattle.convergence.specs.Counting.{Each}
+use Rattle.terms.specs.Counting.{Each}
 use Rattle.convergence.specs.Settling.{ruleOf}
 use Rattle.convergence.specs.Trust.{trusted}
-use Rattle.convergence.specs.Phases.{rounding}
+use Rattle.terms.specs.Positions.{rounding}
 use Rattle.convergence.proofs.Same.{trusted-same}
 use Rattle.settle_midpoint.specs.Answers.{settling}
 use Rattle.settle_midpoint.specs.declared.Settled.{Settled}

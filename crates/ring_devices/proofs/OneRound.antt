@@ -12,7 +12,7 @@ use borrow.Author.Tests.{lt-ltb, le-ltb}
 use Rattle.terms.specs.Sizes.{endsWith}
 use Rattle.terms.specs.declared.Family.{Family}
 use Rattle.marks.specs.Marks.{bitOf}
-use Rattle.convergence.specs.Counting.{Each, AtMost}
+use Rattle.terms.specs.Counting.{Each, AtMost}
 use Rattle.convergence.specs.Settling.{ruleOf, enough}
 use Rattle.frame_spec.specs.Said.{listed, confessed}
 use Rattle.settle_midpoint.specs.declared.Settled.{Settled}

@@ -12,7 +12,7 @@ use Rattle.terms.specs.Positions.{isPosition}
 use Rattle.terms.specs.Sizes.{endsWith}
 use Rattle.terms.specs.declared.Family.{Family}
 use Rattle.marks.specs.Marks.{bitOf}
-use Rattle.convergence.specs.Counting.{Each, AtMost}
+use Rattle.terms.specs.Counting.{Each, AtMost}
 use Rattle.convergence.specs.Demand3.{AcceptedSize}
 use Rattle.frame_spec.specs.Said.{Meaning, refused, collected, listed, confessed}
 use Rattle.settle_midpoint.specs.declared.Kept.{Kept}

@@ -12,7 +12,7 @@ use Rattle.terms.specs.Sizes.{roundsOf}
 use Rattle.terms.specs.declared.Entry.{Entry}
 use Rattle.terms.specs.declared.Family.{Family}
 use Rattle.marks.specs.Marks.{bitOf}
-use Rattle.convergence.specs.Counting.{Each}
+use Rattle.terms.specs.Counting.{Each}
 use Rattle.convergence.specs.Phases.{lowest, highest, spread}
 use Rattle.convergence.specs.Demand3.{Halves, halved}
 use Rattle.head_spec.specs.declared.Head.{Head}

@@ -10,10 +10,10 @@ use lib.IntN.{ℤ, pos}
 use Rattle.terms.specs.declared.Entry.{Entry}
 use Rattle.terms.specs.declared.Table.{Table}
 use Rattle.marks.specs.Marks.{bitOf}
-use Rattle.convergence.specs.Counting.{Each}
+use Rattle.terms.specs.Counting.{Each}
 use Rattle.convergence.specs.Settling.{twoRounds, oneRound}
 use Rattle.convergence.specs.Trust.{Given, trusted}
-use Rattle.convergence.specs.Phases.{rounding}
+use Rattle.terms.specs.Positions.{rounding}
 use Rattle.frame_spec.specs.Said.{Meaning, collected, listed, confessed, said}
 use Rattle.frame_spec.specs.Written.{frameOf}
 use Rattle.frame_spec.specs.Proper.{Proper}

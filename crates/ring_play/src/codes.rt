@@ -7,7 +7,7 @@ ghost use lib.IntN.{pos};
 ghost use lib.ListN.{length, getD};
 ghost use Rattle.terms.specs.Positions.{eqZ};
 ghost use Rattle.marks.specs.Marks.{bitOf};
-ghost use Rattle.convergence.specs.Counting.{Each, sum, bit};
+ghost use Rattle.terms.specs.Counting.{Each, sum, bit};
 ghost use Rattle.convergence.specs.Settling.{twoRounds};
 ghost use Rattle.settle_trust.specs.Received.{givenBy};
 ghost use Rattle.settle_midpoint.specs.Orders.{OrderAfter};

@@ -6,7 +6,7 @@ ghost use Prim.Native.Nat.{_-_, _≤_, _<_};
 ghost use lib.ListN.{length, getD};
 ghost use lib.IntN.{pos};
 ghost use Rattle.marks.specs.Marks.{markedTo};
-ghost use Rattle.convergence.specs.Counting.{Each};
+ghost use Rattle.terms.specs.Counting.{Each};
 ghost use Rattle.frame_spec.specs.Said.{said};
 ghost use Rattle.frame_slots.specs.Slots.{plantedIn};
 ghost use Rattle.settle_trust.specs.Received.{givenBy};

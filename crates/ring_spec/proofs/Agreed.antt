@@ -15,7 +15,7 @@ use Rattle.terms.specs.declared.Entry.{Entry}
 use Rattle.terms.specs.declared.Entry.the-variants.{Null, Position}
 use Rattle.terms.specs.declared.Family.{Family}
 use Rattle.terms.proofs.Whole.{arithZ, eqZ→eq}
-use Rattle.convergence.specs.Counting.{Each}
+use Rattle.terms.specs.Counting.{Each}
 use Rattle.convergence.specs.Phases.{lowest, highest}
 use Rattle.convergence.specs.Demand3.{HeldBetween}
 use Rattle.ring_spec.specs.Rounds.{PhaseEnd, receivers, asEnd, endsAfter}

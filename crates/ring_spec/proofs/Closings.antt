@@ -11,7 +11,7 @@ use Rattle.terms.specs.declared.Family.{Family}
 use Rattle.terms.specs.declared.Family.the-variants.{TwoRounds, OneRound}
 use Rattle.marks.specs.Marks.{bitOf}
 use Rattle.convergence.specs.Settling.{nulls, ruleOf, ordered, midpoint, enough}
-use Rattle.convergence.specs.Phases.{rounding}
+use Rattle.terms.specs.Positions.{rounding}
 use Rattle.settle_midpoint.specs.Answers.{kept}
 use Rattle.head_spec.specs.declared.LastKept.{LastKept}
 use Rattle.head_spec.specs.declared.Head.{Head}

@@ -20,11 +20,11 @@ use Rattle.terms.specs.declared.Family.the-variants.{TwoRounds, OneRound}
 use Rattle.terms.specs.Sizes.{roundsOf, endsWith}
 use Rattle.marks.specs.Marks.{bitOf}
 use Rattle.marks.proofs.Marks.{bit-none}
-use Rattle.convergence.specs.Counting.{Each, bit, AtMost}
+use Rattle.terms.specs.Counting.{Each, bit, AtMost}
 use Rattle.convergence.specs.Settling.{ruleOf, enough}
 use Rattle.convergence.specs.Phases.{End, Faults, lowest, highest, startEnd, after, endAfter}
 use Rattle.convergence.specs.Demand3.{AcceptedSize, FewStruck}
-use Rattle.convergence.proofs.Sums.{sum-same, sum-none}
+use Rattle.terms.proofs.Sums.{sum-same, sum-none}
 use Rattle.convergence.proofs.Same.{SameEnd, same-bounds, demand3-same}
 use Rattle.convergence.proofs.Demand3.{size-large, few-struck, kept-between-in-ring, converges}
 use Rattle.convergence.proofs.Quiet.{quiet-agrees}

@@ -7,7 +7,7 @@ use native.Mathlib.Omega.{arith}
 use lib.IntN.{ℤ}
 use Rattle.terms.specs.declared.Family.{Family}
 use Rattle.marks.specs.Marks.{bitOf}
-use Rattle.convergence.specs.Counting.{Each}
+use Rattle.terms.specs.Counting.{Each}
 use Rattle.head_spec.specs.Calls.{Delivery, onLinks, hearAll}
 use Rattle.ring_spec.specs.Rounds.{Round, planted, Ring, openedAt, carried, closedAt, afterRound, ringAfter}
 

@@ -14,7 +14,7 @@ use Rattle.terms.specs.declared.Family.{Family}
 use Rattle.terms.specs.declared.Family.the-variants.{TwoRounds, OneRound}
 use Rattle.terms.specs.Sizes.{endsWith}
 use Rattle.marks.specs.Marks.{bitOf}
-use Rattle.convergence.specs.Counting.{Each}
+use Rattle.terms.specs.Counting.{Each}
 use Rattle.convergence.proofs.Same.{SameEnd, demand3-same}
 use Rattle.head_spec.specs.Calls.{hearAll, frameFor}
 use Rattle.head_spec.specs.declared.Head.{Head}

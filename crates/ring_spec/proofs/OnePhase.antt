@@ -18,11 +18,12 @@ use Rattle.terms.specs.Sizes.{endsWith, isListener}
 use Rattle.terms.proofs.Sizes.{member-not-listener}
 use Rattle.marks.specs.Marks.{bitOf}
 use Rattle.entries.specs.Tables.{tableAt}
-use Rattle.convergence.specs.Counting.{Each, AtMost}
+use Rattle.terms.specs.Counting.{Each, AtMost}
 use Rattle.convergence.specs.Settling.{nulls, ruleOf, ordered, midpoint, enough}
 use Rattle.convergence.specs.Trust.{Given, gave, hasConfessed, saysOf, trusted}
 use Rattle.convergence.specs.Trust as Trust
-use Rattle.convergence.specs.Phases.{End, Faults, gives, listOf, givenTo, entriesAt, after, rounding}
+use Rattle.convergence.specs.Phases.{End, Faults, gives, listOf, givenTo, entriesAt, after}
+use Rattle.terms.specs.Positions.{rounding}
 use Rattle.convergence.proofs.Ends.{number, AllHold}
 use Rattle.convergence.proofs.Same.{SameOf, nulls-same, ordered-same, midpoint-same, trusted-same-of, SameEnd}
 use Rattle.convergence.proofs.Demand3.{Limits, settled-is, few-nulls-in-phase}

@@ -10,7 +10,7 @@ use Rattle.terms.specs.declared.Entry.{Entry}
 use Rattle.terms.specs.declared.Family.{Family}
 use Rattle.marks.specs.Marks.{bitOf}
 use Rattle.entries.specs.Tables.{tableAt}
-use Rattle.convergence.specs.Counting.{Each}
+use Rattle.terms.specs.Counting.{Each}
 use Rattle.frame_spec.specs.Said.{Meaning, collected, listed, confessed, said}
 use Rattle.head_spec.specs.declared.Seat.{Seat}
 use Rattle.head_spec.specs.declared.Head.{Head}

@@ -12,8 +12,8 @@ use Rattle.terms.proofs.Booleans.{and-both}
 use Rattle.marks.specs.Marks.{bitOf}
 use Rattle.marks.proofs.Marks.{bit-none, bit-all}
 use Rattle.marks.proofs.Words.{bit-low, bit-high}
-use Rattle.convergence.specs.Counting.{bit, AtMost}
-use Rattle.convergence.proofs.Sums.{sum-same}
+use Rattle.terms.specs.Counting.{bit, AtMost}
+use Rattle.terms.proofs.Sums.{sum-same}
 use Rattle.ring_spec.specs.Rounds.{receivers, isOut, allListeners}
 
 -- i is a head's number or a listener's

@@ -15,7 +15,7 @@ use Rattle.terms.specs.declared.Family.{Family}
 use Rattle.terms.specs.Sizes.{endsWith}
 use Rattle.marks.specs.Marks.{bitOf}
 use Rattle.marks.proofs.Marks.{bit-none}
-use Rattle.convergence.specs.Counting.{Each, bit, AtMost}
+use Rattle.terms.specs.Counting.{Each, bit, AtMost}
 use Rattle.head_spec.specs.declared.Seat.{Seat}
 use Rattle.head_spec.specs.declared.Head.{Head}
 use Rattle.head_spec.specs.Seats.{mostCounted}

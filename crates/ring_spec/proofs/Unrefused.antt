@@ -13,7 +13,7 @@ use Rattle.terms.specs.declared.Family.{Family}
 use Rattle.terms.specs.Sizes.{endsWith, isListener}
 use Rattle.terms.specs.Positions.{isPosition}
 use Rattle.marks.specs.Marks.{bitOf}
-use Rattle.convergence.specs.Counting.{Each, AtMost}
+use Rattle.terms.specs.Counting.{Each, AtMost}
 use Rattle.convergence.specs.Demand3.{AcceptedSize}
 use Rattle.convergence.proofs.Ends.{AllHold, held-position}
 use Rattle.frame_spec.specs.Said.{said}

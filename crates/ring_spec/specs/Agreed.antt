@@ -10,7 +10,7 @@ use Rattle.terms.specs.Positions.{eqZ}
 use Rattle.terms.specs.declared.Entry.{Entry}
 use Rattle.terms.specs.declared.Entry.the-variants.{Null, Position}
 use Rattle.terms.specs.declared.Family.{Family}
-use Rattle.convergence.specs.Counting.{Each}
+use Rattle.terms.specs.Counting.{Each}
 use Rattle.convergence.specs.Phases.{End, lowest, highest}
 use Rattle.ring_spec.specs.Rounds.{Round, PhaseEnd, receivers, asEnd, endsAfter}
 use Rattle.ring_spec.specs.Converges.{noEnd, Within}

@@ -9,7 +9,7 @@ use Rattle.terms.specs.Positions.{isPosition}
 use Rattle.terms.specs.declared.Entry.{Entry}
 use Rattle.terms.specs.declared.Family.{Family}
 use Rattle.marks.specs.Marks.{bitOf}
-use Rattle.convergence.specs.Counting.{Each, AtMost}
+use Rattle.terms.specs.Counting.{Each, AtMost}
 use Rattle.convergence.specs.Phases.{End, lowest, highest}
 use Rattle.convergence.specs.Demand3.{KeptBetween, Demand3, AcceptedSize, Halves}
 use Rattle.head_spec.specs.declared.LastKept.{LastKept}

@@ -10,7 +10,7 @@ use Rattle.terms.specs.declared.Entry.{Entry}
 use Rattle.terms.specs.declared.Family.{Family}
 use Rattle.terms.specs.declared.Family.the-variants.{TwoRounds, OneRound}
 use Rattle.marks.specs.Marks.{bitOf}
-use Rattle.convergence.specs.Counting.{bit}
+use Rattle.terms.specs.Counting.{bit}
 use Rattle.convergence.specs.Phases.{End}
 use Rattle.head_spec.specs.Record.{noEntries, opened}
 use Rattle.head_spec.specs.Calls.{started, startedListener, restarted, hearAll, frameFor, close}

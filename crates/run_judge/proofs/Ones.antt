@@ -9,8 +9,8 @@ use lib.Dec.{eqb}
 use borrow.Author.Tests.{eqb-true, eqb-false}
 use Rattle.marks.specs.Marks.{bitOf}
 use Rattle.marks.proofs.Marks.{bit-zero, bit-suc}
-use Rattle.convergence.specs.Counting.{sum, bit}
-use Rattle.convergence.proofs.Sums.{sum-same}
+use Rattle.terms.specs.Counting.{sum, bit}
+use Rattle.terms.proofs.Sums.{sum-same}
 
 -- a sum from its other end
 sum-first : (n : ℕ) (g : ℕ → ℕ) → sum (suc n) g ≡ g 0 + sum n (λ k. g (suc k))

@@ -16,7 +16,7 @@ use Rattle.terms.specs.declared.Entry.{Entry}
 use Rattle.terms.specs.declared.Family.{Family}
 use Rattle.marks.specs.Marks.{bitOf}
 use Rattle.marks.proofs.Marks.{bit-none}
-use Rattle.convergence.specs.Counting.{Each}
+use Rattle.terms.specs.Counting.{Each}
 use Rattle.convergence.specs.Phases.{apart, spread}
 use Rattle.ring_spec.specs.Rounds.{PhaseEnd, receivers, isReceiver, isOut, asEnd, allListeners, firstHeads, firstEnd}
 use Rattle.ring_spec.proofs.Receivers.{first-out, first-out-as}

@@ -19,9 +19,9 @@ use Rattle.terms.specs.declared.Entry.{Entry}
 use Rattle.terms.specs.declared.Entry.the-variants.{Null, Position}
 use Rattle.terms.proofs.Machine.{read}
 use Rattle.marks.specs.Marks.{bitOf}
-use Rattle.convergence.specs.Counting.{Each}
+use Rattle.terms.specs.Counting.{Each}
 use Rattle.convergence.specs.Phases.{End, join, soundAt, lowest, highest}
-use Rattle.convergence.proofs.Sums.{each-last, each-less}
+use Rattle.terms.proofs.Sums.{each-last, each-less}
 use Rattle.ring_spec.specs.Rounds.{receivers, isReceiver, isOut}
 use Rattle.run_listing.specs.Held.{endIn}
 use Rattle.run_listing.specs.Heights.{outward, Found}

@@ -4,7 +4,7 @@ ghost use mathlib.Core.Bool.{not};
 ghost use Prim.Native.Nat.{_+_, _%_, _<_, _≤_};
 ghost use lib.ListN.{getD, length};
 ghost use lib.IntN.{ℤ, pos};
-ghost use Rattle.convergence.specs.Counting.{Each};
+ghost use Rattle.terms.specs.Counting.{Each};
 ghost use Rattle.convergence.specs.Phases.{join, apart};
 ghost use Rattle.ring_spec.specs.Rounds.{receivers, isOut};
 ghost use Rattle.run_listing.specs.Held.{endIn};

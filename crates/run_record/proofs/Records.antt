@@ -12,7 +12,7 @@ use Rattle.terms.specs.Refusals as refusal
 use Rattle.terms.specs.Sizes.{isCount}
 use Rattle.terms.specs.declared.Entry.{Entry}
 use Rattle.terms.specs.declared.Family.{Family}
-use Rattle.convergence.specs.Counting.{Each}
+use Rattle.terms.specs.Counting.{Each}
 use Rattle.terms.proofs.Booleans.{and-both}
 use Rattle.head_spec.proofs.Proper.{both-passed}
 use Rattle.ring_spec.specs.Rounds.{Round, Ring, ringAfter, endsAfter, mostRounds}

@@ -11,7 +11,7 @@ use Rattle.terms.specs.Sizes.{endsWith}
 use Rattle.terms.specs.declared.Entry.{Entry}
 use Rattle.terms.specs.declared.Entry.the-variants.{Null, Position}
 use Rattle.terms.specs.declared.Family.{Family}
-use Rattle.convergence.specs.Counting.{Each}
+use Rattle.terms.specs.Counting.{Each}
 use Rattle.head_spec.specs.declared.Head.{Head}
 use Rattle.ring_spec.specs.Rounds.{Round, PhaseEnd, phaseEnd, receivers, asEnd, withEnd, ringAfter, endsAfter}
 use Rattle.ring_spec.specs.Agreed.{agreedOn, heldByAll, firstHeld}

@@ -10,7 +10,7 @@ use lib.IntN.{ℤ, pos}
 use Rattle.terms.specs.Sizes.{endsWith}
 use Rattle.terms.specs.declared.Entry.{Entry}
 use Rattle.terms.specs.declared.Entry.the-variants.{Null, Position}
-use Rattle.convergence.specs.Counting.{Each}
+use Rattle.terms.specs.Counting.{Each}
 use Rattle.head_spec.specs.declared.Head.{Head}
 use Rattle.ring_spec.specs.Rounds.{PhaseEnd, phaseEnd, receivers, asEnd, endsPhase, afterRound, ringAfter}
 use Rattle.ring_spec.specs.Agreed.{common, heldByAll, isAgreed}

@@ -18,7 +18,7 @@ use Rattle.terms.specs.Sizes.{endsWith}
 use Rattle.marks.specs.Marks.{bitOf}
 use Rattle.marks.proofs.Marks.{bit-none}
 use Rattle.convergence.specs.Phases.{lowest, highest, spread}
-use Rattle.convergence.specs.Counting.{Each}
+use Rattle.terms.specs.Counting.{Each}
 use Rattle.convergence.specs.Demand3.{HeldBetween, Demand3, Halves}
 use Rattle.head_spec.specs.declared.Head.{Head}
 use Rattle.ring_spec.specs.Rounds.{Round, Ring, roundThen, afterRound, PhaseEnd, phaseEnd, receivers, isReceiver, isOut, asEnd, withEnd, ringAfter, endsAfter}

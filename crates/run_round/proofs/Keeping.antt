@@ -16,10 +16,10 @@ use Rattle.terms.specs.declared.Family.the-variants.{TwoRounds, OneRound}
 use Rattle.terms.specs.Sizes.{roundsOf, endsWith}
 use Rattle.marks.specs.Marks.{bitOf}
 use Rattle.entries.specs.Tables.{tableAt, tableOf}
-use Rattle.convergence.specs.Counting.{Each, AtMost}
+use Rattle.terms.specs.Counting.{Each, AtMost}
 use Rattle.convergence.specs.Settling.{Rule, ruleOf, midpoint, enough}
 use Rattle.convergence.specs.Trust.{Given, trusted}
-use Rattle.convergence.specs.Phases.{rounding}
+use Rattle.terms.specs.Positions.{rounding}
 use Rattle.convergence.proofs.Same.{nulls-same, midpoint-same, trusted-same}
 use Rattle.frame_spec.specs.Said.{collected, listed, confessed}
 use Rattle.settle_midpoint.specs.Answers.{settling}

@@ -15,7 +15,7 @@ use Rattle.terms.specs.declared.Family.the-variants.{TwoRounds, OneRound}
 use Rattle.marks.specs.Marks.{bitOf}
 use Rattle.marks.proofs.Words.{word-low, word-high}
 use Rattle.entries.specs.Tables.{tableOf}
-use Rattle.convergence.specs.Counting.{AtMost}
+use Rattle.terms.specs.Counting.{AtMost}
 use Rattle.head_spec.specs.declared.Head.{Head}
 use Rattle.ring_spec.specs.Rounds.{Round, lost, Ring, phaseOf, endsPhase, mostRounds, PhaseEnd, phaseEnd}
 use Rattle.ring_spec.specs.Agreed.{isAgreed}

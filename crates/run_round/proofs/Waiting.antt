@@ -6,7 +6,7 @@ use Prim.Native.Nat.{_+_}
 use lib.ListN.{length}
 use native.Mathlib.Omega.{arith}
 use Rattle.terms.specs.Sizes.{endsWith}
-use Rattle.convergence.specs.Counting.{bit}
+use Rattle.terms.specs.Counting.{bit}
 use Rattle.ring_spec.specs.Rounds.{endsPhase}
 use Rattle.ring_spec.proofs.Counts.{next-ends}
 use Rattle.ring_spec.proofs.Demand3.{Playable, playable}

@@ -8,7 +8,7 @@ use lib.IntN.{ℤ, pos}
 use Rattle.terms.specs.Sizes.{endsWith}
 use Rattle.terms.specs.declared.Entry.{Entry}
 use Rattle.marks.specs.Marks.{bitOf}
-use Rattle.convergence.specs.Counting.{Each}
+use Rattle.terms.specs.Counting.{Each}
 use Rattle.ring_spec.specs.Rounds.{Ring, lost, receivers, isReceiver, phaseOf, endsPhase, phaseEnd, afterRound}
 use Rattle.run_spec.specs.RunFile.{File}
 use Rattle.run_listing.specs.Texts.{endLine}

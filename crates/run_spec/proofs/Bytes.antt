@@ -15,7 +15,7 @@ use Rattle.terms.specs.Refusals as refusal
 use Rattle.terms.specs.Sizes.{isCount}
 use Rattle.terms.specs.declared.Family.{Family}
 use Rattle.terms.proofs.Booleans.{and-both}
-use Rattle.convergence.specs.Counting.{bit}
+use Rattle.terms.specs.Counting.{bit}
 use Rattle.head_spec.proofs.Proper.{both-passed}
 use Rattle.ring_spec.specs.Rounds.{Plant, Round}
 use Rattle.run_spec.specs.RunFile.{File, unread, Rounds, roundsGiven, listenersFault, RecordKind, start, round, plant, listeners, strikes, other, lengthIn, kindIn, isAllowed, isFirst, isBare, headCountIn, listenerCountIn, lastPair, thenPlayed, recordFault, withRecord, stopped, judged, withPart, readOn, step, feed, readFile, recordsOf, accepted}

@@ -5,14 +5,14 @@ use mathlib.Core.Path.{_≡_, refl}
 use mathlib.Core.List.{List, [], _∷_}
 use Prim.Native.Nat.{ℕ}
 use Rattle.terms.specs.Sizes.{isCount, isLimit}
-use Rattle.terms.specs.Positions.{isPosition, floorDiv, half, gap, eqZ}
+use Rattle.terms.specs.Positions.{isPosition, floorDiv, half, gap, eqZ, rounding}
 use Rattle.fields.specs.Bytes.{signedOf, wordOf}
 use Rattle.marks.specs.Marks.{bitOf, marksBelow, withMark}
 use Rattle.entries.specs.Entries.{entryAt, entriesFit, zeros, numbers}
-use Rattle.convergence.specs.Counting.{sum}
+use Rattle.terms.specs.Counting.{sum}
 use Rattle.convergence.specs.Settling.{nulls, trim, insert, ordered, lowKept, highKept, middle, midpoint, enough}
 use Rattle.convergence.specs.Trust.{support, confessions, seen, trusted}
-use Rattle.convergence.specs.Phases.{rounding, lowest, highest, spread}
+use Rattle.convergence.specs.Phases.{lowest, highest, spread}
 use Rattle.frame_check.specs.Check.{checkFrame}
 use Rattle.frame_spec.specs.Said.{refusalOf, tableIn, said}
 use Rattle.frame_spec.specs.Written.{entryBytes}

@@ -20,8 +20,8 @@ use Rattle.terms.specs.Positions.{isPosition}
 use Rattle.marks.specs.Marks.{bitOf, marksBelow}
 use Rattle.marks.proofs.Marks.{bit-above}
 use Rattle.marks.proofs.Words.{bit-low, word-low, word-high}
-use Rattle.convergence.specs.Counting.{Each, bit, AtMost}
-use Rattle.convergence.proofs.Sums.{each-more, sum-same}
+use Rattle.terms.specs.Counting.{Each, bit, AtMost}
+use Rattle.terms.proofs.Sums.{each-more, sum-same}
 use Rattle.terms.proofs.Booleans.{and-both}
 use Rattle.head_spec.proofs.Proper.{Sized, both-passed, sized-by}
 use Rattle.ring_spec.specs.Rounds.{Plant, Round, isReceiver, mostRounds}

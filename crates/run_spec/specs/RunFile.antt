@@ -13,7 +13,7 @@ use Rattle.terms.specs.declared.Family.the-variants.{TwoRounds, OneRound}
 use Rattle.terms.specs.Positions.{isPosition}
 use Rattle.fields.specs.Bytes.{isEmpty, at2, at4, signedAt}
 use Rattle.marks.specs.Marks.{bitOf, marksBelow}
-use Rattle.convergence.specs.Counting.{sum, bit}
+use Rattle.terms.specs.Counting.{sum, bit}
 use Rattle.ring_spec.specs.Rounds.{Plant, Round, Ring, isReceiver, endsPhase, mostRounds, PhaseEnd, ringAfter, endsAfter}
 use Rattle.run_spec.specs.declared.Pair.{Pair}
 

@@ -12,7 +12,7 @@ use borrow.Author.Tests.{eq-eqb, ltb-true}
 use Rattle.terms.specs.declared.Family.{Family}
 use Rattle.marks.specs.Marks.{bitOf}
 use Rattle.marks.proofs.Marks.{bit-above, shift-none}
-use Rattle.convergence.specs.Counting.{bit}
+use Rattle.terms.specs.Counting.{bit}
 use Rattle.head_spec.specs.Seats.{mostCounted}
 use Rattle.ring_spec.specs.Rounds.{Round, receivers, endsPhase, endsSince}
 use Rattle.ring_spec.specs.Converges.{countAfter}

@@ -10,7 +10,7 @@ use borrow.Author.Needs.{needs}
 use borrow.Author.Tests.{ne-eqb}
 use Rattle.terms.specs.declared.Family.{Family}
 use Rattle.terms.specs.declared.Family.the-variants.{TwoRounds, OneRound}
-use Rattle.convergence.specs.Counting.{bit}
+use Rattle.terms.specs.Counting.{bit}
 use Rattle.ring_spec.specs.Rounds.{Round, Plant, mostRounds, endsPhase, afterRound, ringAfter, endsAfter}
 use Rattle.ring_spec.specs.Agreed.{agreedOn, isAgreed}
 use Rattle.run_spec.specs.RunFile.{File, Setup, unread, roundsGiven, RecordKind, start, round, plant, listeners, strikes, allowedWhen, isFirst, isBare, isAllowed, headCountIn, limitIn, struckIn, roundFault, listenerCountIn, listenersIn, strikesFault, lastPair, plantFault, recordFault, thenPlayed, withRecord, stopped, withPart, feed, readFile, ringFrom, endsFrom}

@@ -6,7 +6,7 @@ use Prim.Native.Nat.{ℕ, zero, suc, _+_, min}
 use lib.ListN.{length, getD, set}
 use Rattle.terms.specs.declared.Family.{Family}
 use Rattle.marks.specs.Marks.{bitOf}
-use Rattle.convergence.specs.Counting.{Each}
+use Rattle.terms.specs.Counting.{Each}
 use Rattle.head_spec.specs.Seats.{mostCounted}
 use Rattle.ring_spec.specs.Rounds.{Round, receivers, endsPhase}
 use Rattle.ring_spec.specs.Converges.{countAfter}

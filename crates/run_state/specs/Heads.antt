@@ -8,7 +8,7 @@ use lib.ListN.{getD}
 use lib.IntN.{ℤ, pos}
 use Rattle.terms.specs.declared.Entry.{Entry}
 use Rattle.marks.specs.Marks.{bitOf}
-use Rattle.convergence.specs.Counting.{Each}
+use Rattle.terms.specs.Counting.{Each}
 use Rattle.ring_spec.specs.Rounds.{Ring, receivers, isReceiver}
 use Rattle.ring_play.specs.Memory.{rowIn}
 use Rattle.run_state.specs.Memory.{Memory}

@@ -7,7 +7,7 @@ use lib.ListN.{length, getD}
 use lib.IntN.{ℤ, pos}
 use Rattle.terms.specs.declared.Entry.{Entry}
 use Rattle.terms.specs.declared.Entry.the-variants.{Position}
-use Rattle.convergence.specs.Counting.{Each}
+use Rattle.terms.specs.Counting.{Each}
 use Rattle.ring_spec.specs.Rounds.{Ring, planted, receivers}
 use Rattle.ring_spec.specs.Agreed.{agreedOn, isAgreed}
 use Rattle.run_spec.specs.RunFile.{File, roundsGiven, lastPair, ringFrom, endsFrom}

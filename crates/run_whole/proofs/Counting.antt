@@ -6,7 +6,7 @@ use Prim.Native.Nat.{ℕ}
 use lib.Dec.{eqb}
 use lib.ListN.{getD}
 use Rattle.marks.specs.Marks.{bitOf}
-use Rattle.convergence.specs.Counting.{Each}
+use Rattle.terms.specs.Counting.{Each}
 use Rattle.ring_spec.specs.Rounds.{receivers, isReceiver}
 use Rattle.ring_spec.proofs.Since.{ring-counts}
 use Rattle.run_spec.specs.RunFile.{readFile, ending, roundsPlayed, ringFrom}

@@ -10,7 +10,7 @@ use lib.Seq.{take-add, take-take, take-at, drop-at, take-length, length-take-le,
 use lib.IntN.{ℤ, pos}
 use Rattle.terms.specs.declared.Entry.{Entry}
 use Rattle.terms.specs.declared.Family.{Family}
-use Rattle.convergence.specs.Counting.{Each}
+use Rattle.terms.specs.Counting.{Each}
 use Rattle.ring_spec.specs.Rounds.{Round, PhaseEnd, receivers, isReceiver, isOut, allListeners, endsAfter}
 use Rattle.ring_spec.proofs.Receivers.{first-out-as}
 use Rattle.run_whole.specs.Buffers.{row}

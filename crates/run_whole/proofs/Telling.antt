@@ -10,7 +10,7 @@ use lib.Seq.{take-at, take-length, drop-append-add, drop-drop, drop-set-lt, getD
 use lib.IntN.{ℤ, pos}
 use borrow.Author.Tests.{leb-true, eq-eqb, ne-eqb}
 use Rattle.terms.specs.declared.Entry.{Entry}
-use Rattle.convergence.specs.Counting.{Each}
+use Rattle.terms.specs.Counting.{Each}
 use Rattle.terms.proofs.Booleans.{and-both}
 use Rattle.ring_spec.specs.Rounds.{Ring, PhaseEnd, receivers, isOut}
 use Rattle.texts.specs.declared.Text.{Text}

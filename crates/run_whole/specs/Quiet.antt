@@ -8,7 +8,7 @@ use lib.ListN.{getD}
 use lib.IntN.{pos}
 use Rattle.terms.specs.declared.Family.the-variants.{TwoRounds}
 use Rattle.marks.specs.Marks.{bitOf}
-use Rattle.convergence.specs.Counting.{Each}
+use Rattle.terms.specs.Counting.{Each}
 use Rattle.ring_spec.specs.Rounds.{PhaseEnd, receivers, isReceiver}
 use Rattle.run_spec.specs.RunFile.{readFile, endsPlayed}
 use Rattle.run_whole.specs.declared.PlayResult.{PlayResult}

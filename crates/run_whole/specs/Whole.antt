@@ -8,7 +8,7 @@ use lib.IntN.{ℤ, pos}
 use Rattle.terms.specs.Refusals as refusal
 use Rattle.terms.specs.declared.Entry.{Entry}
 use Rattle.marks.specs.Marks.{bitOf}
-use Rattle.convergence.specs.Counting.{Each}
+use Rattle.terms.specs.Counting.{Each}
 use Rattle.convergence.specs.Phases.{End}
 use Rattle.convergence.specs.Demand3.{Demand3, Halves}
 use Rattle.run_listing.specs.Held.{endIn}

@@ -10,14 +10,13 @@ use lib.Signed.{leZ}
 use Rattle.terms.specs.Refusals as refusal
 use Rattle.terms.specs.Refusals.{check}
 use Rattle.terms.specs.Sizes.{checkSize, isPhase}
-use Rattle.terms.specs.Positions.{isPosition, eqZ}
+use Rattle.terms.specs.Positions.{isPosition, eqZ, rounding}
 use Rattle.terms.specs.declared.Entry.{Entry}
 use Rattle.terms.specs.declared.Entry.the-variants.{Null, Position}
 use Rattle.terms.specs.declared.Family.the-variants.{TwoRounds}
 use Rattle.fields.specs.Bytes.{signedAt}
 use Rattle.marks.specs.Marks.{bitOf, marksBelow}
 use Rattle.convergence.specs.Settling.{twoRounds, enough, settled}
-use Rattle.convergence.specs.Phases.{rounding}
 use Rattle.convergence.specs.Demand3.{HeldBetween}
 use Rattle.settle_midpoint.specs.declared.Settled.{Settled}
 use Rattle.settle_midpoint.specs.declared.Settled.the-variants.{Refused, New}

@@ -12,7 +12,7 @@ use borrow.Author.Tests.{le-leb, lt-leb}
 use Rattle.terms.specs.Refusals as refusal
 use Rattle.terms.specs.Positions.{half}
 use Rattle.terms.specs.declared.Entry.{Entry}
-use Rattle.convergence.specs.Counting.{Each}
+use Rattle.terms.specs.Counting.{Each}
 use Rattle.convergence.specs.Settling.{Rule, nulls, ordered, lowKept, highKept, middle, enough}
 use Rattle.convergence.proofs.Order.{length-ordered}
 use Rattle.convergence.proofs.Same.{ordered-same}

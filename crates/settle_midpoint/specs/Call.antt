@@ -12,7 +12,7 @@ use Rattle.terms.specs.declared.Family.{Family}
 use Rattle.marks.specs.Marks.{marksBelow}
 use Rattle.entries.specs.Entries.{entryAt, entriesFit, numbers}
 use Rattle.convergence.specs.Settling.{ruleOf}
-use Rattle.convergence.specs.Phases.{rounding}
+use Rattle.terms.specs.Positions.{rounding}
 use Rattle.settle_midpoint.specs.declared.Settled.{Settled}
 use Rattle.settle_midpoint.specs.Answers.{settling}
 

@@ -17,9 +17,9 @@ use Rattle.terms.proofs.Whole.{eqZ→eq, eqZ-refl}
 use Rattle.marks.specs.Marks.{bitOf}
 use Rattle.entries.specs.Entries.{entryAt}
 use Rattle.marks.proofs.Marks.{bit-none}
-use Rattle.convergence.specs.Counting.{sum, bit}
+use Rattle.terms.specs.Counting.{sum, bit}
 use Rattle.convergence.specs.Trust.{is, choose}
-use Rattle.convergence.proofs.Sums.{sums-le}
+use Rattle.terms.proofs.Sums.{sums-le}
 use Rattle.convergence.proofs.Support.{same-position, not-null, is-same, is-other}
 use Rattle.convergence.proofs.Links.{is-le}
 use Rattle.settle_trust.specs.Cells.{columnOf, cellFor, standsIn, decided}

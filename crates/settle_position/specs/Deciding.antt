@@ -8,7 +8,7 @@ use lib.ListN.{getD}
 use Rattle.terms.specs.declared.Entry.{Entry}
 use Rattle.terms.specs.declared.Entry.the-variants.{Null}
 use Rattle.marks.specs.Marks.{bitOf}
-use Rattle.convergence.specs.Counting.{Each}
+use Rattle.terms.specs.Counting.{Each}
 use Rattle.entries.specs.Entries.{entryAt}
 use Rattle.settle_trust.specs.Cells.{columnOf, cellFor, decided}
 use Rattle.settle_position.specs.declared.Deciding.{Deciding}

@@ -10,14 +10,13 @@ use lib.IntN.{ℤ, pos}
 use Rattle.terms.specs.Refusals as refusal
 use Rattle.terms.specs.Refusals.{check}
 use Rattle.terms.specs.Sizes.{isPhase, checkSize}
-use Rattle.terms.specs.Positions.{isPosition}
+use Rattle.terms.specs.Positions.{isPosition, rounding}
 use Rattle.terms.specs.declared.Entry.the-variants.{Position}
-use Rattle.convergence.specs.Counting.{Each}
+use Rattle.terms.specs.Counting.{Each}
 use Rattle.fields.specs.Bytes.{signedAt}
 use Rattle.marks.specs.Marks.{bitOf, marksBelow}
 use Rattle.entries.specs.Entries.{fits}
 use Rattle.convergence.specs.Settling.{enough, ruleOf}
-use Rattle.convergence.specs.Phases.{rounding}
 use Rattle.settle_midpoint.specs.Call.{entriesGiven, listRefusal, midpointCall}
 use Rattle.settle_midpoint.specs.Answers.{settledEntry}
 use Rattle.terms.specs.declared.Family.{Family}

@@ -23,9 +23,9 @@ use Rattle.marks.specs.Marks.{bitOf}
 use Rattle.entries.specs.Entries.{entryAt}
 use Rattle.entries.specs.Tables.{mark, number}
 use Rattle.fields.proofs.Bytes.{toZ-signed, ofZ-word}
-use Rattle.convergence.specs.Counting.{Each, sum, bit}
+use Rattle.terms.specs.Counting.{Each, sum, bit}
 use Rattle.convergence.specs.Trust.{is}
-use Rattle.convergence.proofs.Sums.{sum-same}
+use Rattle.terms.proofs.Sums.{sum-same}
 use Rattle.convergence.proofs.Support.{same-position}
 use Rattle.settle_trust.specs.Cells.{cellFor, cellEntry, CellOf, HoldsEach, equalTo}
 use Rattle.settle_trust.proofs.Tests.{same-test}

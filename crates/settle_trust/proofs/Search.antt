@@ -17,7 +17,7 @@ use Rattle.terms.specs.declared.Entry.{Entry}
 use Rattle.terms.specs.declared.Entry.the-variants.{Null, Position}
 use Rattle.terms.proofs.Whole.{eqZ→eq, eqZ-refl}
 use Rattle.fields.specs.Bytes.{wordOf}
-use Rattle.convergence.specs.Counting.{sum, bit}
+use Rattle.terms.specs.Counting.{sum, bit}
 use Rattle.convergence.specs.Trust.{is, Seen, none, one, many, pick, see, seeEntry, seen, choose}
 use Rattle.convergence.proofs.Links.{is-le}
 use Rattle.settle_trust.specs.Cells.{CellOf, HoldsEach, equalTo, isAnother, standsIn}

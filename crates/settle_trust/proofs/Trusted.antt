@@ -11,10 +11,10 @@ use borrow.Author.Tests.{eq-eqb, ne-eqb}
 use Rattle.terms.specs.declared.Entry.{Entry}
 use Rattle.terms.specs.declared.Entry.the-variants.{Null}
 use Rattle.marks.specs.Marks.{bitOf, markedTo}
-use Rattle.convergence.specs.Counting.{Each, sum, bit}
+use Rattle.terms.specs.Counting.{Each, sum, bit}
 use Rattle.convergence.specs.Trust.{Given, nothing, confessed, gave, is, supports, support, hasConfessed, confessions, saysOf, none, seen, choose, trusted}
 use Rattle.marks.proofs.Marks.{bit-above}
-use Rattle.convergence.proofs.Sums.{each-last, each-less, sums-le, sum-same}
+use Rattle.terms.proofs.Sums.{each-last, each-less, sums-le, sum-same}
 use Rattle.settle_trust.specs.declared.Links.{Links}
 use Rattle.settle_trust.specs.Received.{givenBy}
 use Rattle.settle_trust.specs.Cells.{marksTo, columnOf, standsIn, agreed, decided}

@@ -9,7 +9,7 @@ use lib.IntN.{ℤ, ℤ-discrete}
 use borrow.Author.Tests.{leb-true, le-leb, lt-leb}
 use Rattle.terms.specs.declared.Entry.{Entry}
 use Rattle.terms.specs.declared.Entry.the-variants.{Null, Position}
-use Rattle.convergence.specs.Counting.{sum}
+use Rattle.terms.specs.Counting.{sum}
 use Rattle.convergence.specs.Trust.{is, choose}
 use Rattle.convergence.proofs.Support.{same-position, not-null, is-other}
 use Rattle.convergence.proofs.Links.{is-le}

@@ -5,7 +5,7 @@ use Prim.Native.Nat.{ℕ, _+_, _*_, _≤_}
 use lib.IntN.{ℤ}
 use Rattle.terms.specs.declared.Entry.{Entry}
 use Rattle.terms.specs.declared.Entry.the-variants.{Position}
-use Rattle.convergence.specs.Counting.{sum}
+use Rattle.terms.specs.Counting.{sum}
 use Rattle.convergence.specs.Trust.{is}
 use Rattle.settle_trust.specs.declared.Vote.{Vote}
 use Rattle.settle_trust.specs.Cells.{cellEntry, CellOf}

@@ -16,8 +16,8 @@ use mir.Facts.{toZ-ofZ, toZ-pos, sfits-widen}
 use mir.ValLaws.{sfits-le}
 use Rattle.terms.specs.Positions.{floorDiv, half}
 use Rattle.terms.proofs.Whole.{plus, minus, arithZ, sum-lin, pos-lin, half-lin}
-use Rattle.convergence.specs.Counting.{bit}
-use Rattle.convergence.proofs.Sums.{bit-le}
+use Rattle.terms.specs.Counting.{bit}
+use Rattle.terms.proofs.Sums.{bit-le}
 use Rattle.terms.proofs.Machine.{read, fits-as, read-as, turned-is, negative-is, natural-is}
 
 -- a number of 32 bits, cast to 64

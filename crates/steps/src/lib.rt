@@ -1,10 +1,9 @@
 // Positions in whole steps: which numbers are positions, half a sum, the size of a ring, the step scale.
 ghost use mathlib.Core.Path.{_≡_};
 ghost use lib.IntN.{_+ℤ_};
-ghost use Rattle.terms.specs.Positions.{isPosition, half};
+ghost use Rattle.terms.specs.Positions.{isPosition, half, rounding};
 ghost use Rattle.terms.specs.Sizes.{isLimit, limitNumber, sizeRefusal, isPhase};
-ghost use Rattle.convergence.specs.Counting.{bit};
-ghost use Rattle.convergence.specs.Phases.{rounding};
+ghost use Rattle.terms.specs.Counting.{bit};
 use terms::Family;
 use terms::refusal;
 

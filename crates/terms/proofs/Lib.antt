@@ -4,3 +4,4 @@ pub mod Booleans
 pub mod Checks
 pub mod Sizes
 pub mod Refusals
+pub mod Sums

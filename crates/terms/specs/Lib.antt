@@ -2,3 +2,4 @@
 pub mod Refusals
 pub mod Sizes
 pub mod Positions
+pub mod Counting

@@ -1,6 +1,6 @@
 -- Document 01, positions: whole steps with a sign. In ℤ `pos n` is n and `negsuc n` is -(n + 1).
 use mathlib.Core.Bool.{Bool, false, _&&_}
-use Prim.Native.Nat.{ℕ, _/_}
+use Prim.Native.Nat.{ℕ, _/_, _+_, _%_}
 use lib.Dec.{eqb}
 use lib.IntN.{ℤ, pos, negsuc, natAbs, _+ℤ_, _-ℤ_}
 use lib.Signed.{leZ}
@@ -17,6 +17,10 @@ floorDiv (negsuc n) d = negsuc (n / d)
 -- half of z; an odd z is rounded down if r is 0, and up if r is 1 (document 01 has r = 0 throughout; document 02, A7, goes by the phase)
 unfoldable pub half : ℕ → ℤ → ℤ
 half r z = floorDiv (z +ℤ pos r) 2
+
+-- how phase p rounds odd sums: 0, down, in odd phases, and 1, up, in even ones (document 02, A7)
+unfoldable pub rounding : ℕ → ℕ
+rounding p = (p + 1) % 2
 
 -- how far b lies above a, if it does
 unfoldable pub gap : ℤ → ℤ → ℕ

@@ -6,7 +6,7 @@ use lib.IntN.{ℤ}
 use borrow.Author.Needs.{needs}
 use Rattle.terms.specs.declared.Family.the-variants.{TwoRounds, OneRound}
 use Rattle.entries.specs.Tables.{tableAt}
-use Rattle.convergence.specs.Phases.{rounding}
+use Rattle.terms.specs.Positions.{rounding}
 use Rattle.convergence.specs.Settling.{ruleOf}
 use Rattle.convergence.specs.Trust.{trusted}
 use Rattle.settle_midpoint.specs.Answers.{settling}

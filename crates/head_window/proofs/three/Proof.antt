@@ -1,6 +1,6 @@
 -- A bit is at most 1, so each product and sum fits a byte.
 use native.Mathlib.Omega.{arith}
-use Rattle.convergence.proofs.Sums.{bit-le}
+use Rattle.terms.proofs.Sums.{bit-le}
 use Rattle.marks.proofs.Counts.{byte-bit}
 use borrow.Author.Needs.{needs}
 use Rattle.head_window.proofs.three.Statement.{statement}

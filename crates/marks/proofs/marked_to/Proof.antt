@@ -4,8 +4,8 @@ use Prim.Native.Nat.{ℕ, _≤_, _-_}
 use native.Mathlib.Omega.{arith}
 use borrow.Author.Needs.{needs}
 use Rattle.marks.specs.Marks.{bitOf, markedTo}
-use Rattle.convergence.specs.Counting.{sum, bit}
-use Rattle.convergence.proofs.Sums.{bit-le}
+use Rattle.terms.specs.Counting.{sum, bit}
+use Rattle.terms.proofs.Sums.{bit-le}
 use Rattle.marks.proofs.Counts.{byte-bit, sum-next, bits-le}
 use Rattle.marks.proofs.marked_to.Statement.{statement}
 use Rattle.marks.proofs.marked_to.Tie as tie

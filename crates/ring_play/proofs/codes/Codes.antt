@@ -18,7 +18,7 @@ use Rattle.terms.specs.declared.Entry.the-variants.{Null, Position}
 use Rattle.terms.proofs.Whole.{eqZ→eq, eqZ-refl}
 use Rattle.marks.specs.Marks.{bitOf}
 use Rattle.entries.specs.Entries.{entryAt}
-use Rattle.convergence.specs.Counting.{bit}
+use Rattle.terms.specs.Counting.{bit}
 use Rattle.convergence.specs.Trust.{Given, nothing, confessed, gave, is, saysOf}
 use Rattle.marks.proofs.Counts.{byte-bit}
 use Rattle.settle_trust.proofs.Tests.{same-test}

@@ -11,9 +11,9 @@ use Rattle.terms.specs.Positions.{eqZ}
 use Rattle.terms.specs.declared.Entry.{Entry}
 use Rattle.marks.specs.Marks.{bitOf}
 use Rattle.entries.specs.Entries.{entryAt}
-use Rattle.convergence.specs.Counting.{sum, bit}
+use Rattle.terms.specs.Counting.{sum, bit}
 use Rattle.convergence.specs.Trust.{Given, nothing, confessed, gave}
-use Rattle.convergence.proofs.Sums.{sums-le, sum-one, bit-le}
+use Rattle.terms.proofs.Sums.{sums-le, sum-one, bit-le}
 use Rattle.settle_trust.specs.declared.Links.{Links}
 use Rattle.settle_trust.specs.Received.{givenBy}
 use Rattle.ring_play.specs.Inner.Codes.{codeAt, holds}

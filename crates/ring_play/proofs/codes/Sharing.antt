@@ -8,9 +8,9 @@ use native.Mathlib.Omega.{arith}
 use lib.IntN.{ℤ, pos}
 use lib.ListN.{getD}
 use Rattle.marks.specs.Marks.{bitOf, markedTo}
-use Rattle.convergence.specs.Counting.{Each, bit}
+use Rattle.terms.specs.Counting.{Each, bit}
 use Rattle.convergence.specs.Trust.{Given, is, support, hasConfessed, confessions, saysOf}
-use Rattle.convergence.proofs.Sums.{sums-le, sum-same}
+use Rattle.terms.proofs.Sums.{sums-le, sum-same}
 use Rattle.settle_trust.specs.declared.Links.{Links}
 use Rattle.settle_trust.specs.Received.{givenBy}
 use Rattle.settle_trust.proofs.Received.{confessed-given}

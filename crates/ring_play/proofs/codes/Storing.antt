@@ -7,7 +7,7 @@ use native.Mathlib.Omega.{arith}
 use lib.ListN.{length, getD, set}
 use lib.Seq.{getD-set-same, getD-set-other}
 use borrow.Author.Count.{below-more}
-use Rattle.convergence.specs.Counting.{Each}
+use Rattle.terms.specs.Counting.{Each}
 
 module _ {A : Type 0} (d : A) (l : List A) (j : ℕ) (v : A) where
   pub each-set : (P : ℕ → A → Type 0) → j < length l → Each j (λ i. P i (getD l i d)) → P j v → Each (j + 1) (λ i. P i (getD (set l j v) i d))

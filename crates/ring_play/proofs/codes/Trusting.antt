@@ -14,9 +14,9 @@ use borrow.Author.Tests.{le-leb, lt-leb}
 use Rattle.terms.specs.declared.Entry.{Entry}
 use Rattle.terms.specs.declared.Entry.the-variants.{Null, Position}
 use Rattle.terms.proofs.Whole.{other}
-use Rattle.convergence.specs.Counting.{Each, sum, bit}
+use Rattle.terms.specs.Counting.{Each, sum, bit}
 use Rattle.convergence.specs.Trust.{Given, nothing, is, supports, support, hasConfessed, confessions, saysOf, trusted}
-use Rattle.convergence.proofs.Sums.{sums-le, sum-same, sum-none}
+use Rattle.terms.proofs.Sums.{sums-le, sum-same, sum-none}
 use Rattle.convergence.proofs.Support.{trusted-is, trusted-only, is-other}
 use Rattle.convergence.proofs.Links.{supports-le}
 use Rattle.settle_trust.proofs.Search.{}

@@ -11,7 +11,7 @@ use lib.Dec.{eqb}
 use lib.IntN.{ℤ, ℤ-discrete}
 use borrow.Author.Tests.{eq-eqb, ne-eqb}
 use Rattle.terms.specs.Positions.{eqZ}
-use Rattle.convergence.specs.Counting.{bit}
+use Rattle.terms.specs.Counting.{bit}
 use Rattle.ring_play.specs.Inner.Votes.{Voted, Leads}
 use Rattle.ring_play.proofs.codes.Codes.{eqZ-yes, eqZ-no}
 

@@ -21,7 +21,7 @@ use Rattle.frame_spec.proofs.ReadsBack.{reads-back}
 use Rattle.head_spec.specs.Record.{heardEntry}
 use Rattle.ring_play.specs.declared.Stage.{Stage}
 use Rattle.convergence.specs.Settling.{oneRound}
-use Rattle.convergence.specs.Phases.{rounding}
+use Rattle.terms.specs.Positions.{rounding}
 use Rattle.settle_midpoint.specs.Answers.{settling}
 use Rattle.settle_midpoint.specs.declared.Settled.{Settled}
 use Rattle.settle_midpoint.proofs.Middle.{settling-same}

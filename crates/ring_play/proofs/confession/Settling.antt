@@ -7,12 +7,11 @@ use native.Mathlib.Omega.{arith}
 use lib.Dec.{ltb}
 use lib.IntN.{ℤ}
 use borrow.Author.Tests.{lt-ltb}
-use Rattle.terms.specs.Positions.{isPosition}
+use Rattle.terms.specs.Positions.{isPosition, rounding}
 use Rattle.terms.specs.declared.Entry.the-variants.{Position}
 use Rattle.marks.specs.Marks.{bitOf}
 use Rattle.convergence.specs.Settling.{twoRounds}
 use Rattle.convergence.specs.Trust.{Given, nothing, saysOf, trusted}
-use Rattle.convergence.specs.Phases.{rounding}
 use Rattle.convergence.proofs.Support.{not-null}
 use Rattle.settle_midpoint.specs.Answers.{settling}
 use Rattle.settle_midpoint.specs.declared.Settled.{Settled}

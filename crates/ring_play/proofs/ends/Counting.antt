@@ -16,8 +16,8 @@ use Rattle.terms.specs.declared.Entry.{Entry}
 use Rattle.terms.specs.declared.Entry.the-variants.{Null, Position}
 use Rattle.marks.specs.Marks.{bitOf}
 use Rattle.marks.proofs.Counts.{byte-bit, sum-next}
-use Rattle.convergence.specs.Counting.{sum}
-use Rattle.convergence.proofs.Sums.{bit-le}
+use Rattle.terms.specs.Counting.{sum}
+use Rattle.terms.proofs.Sums.{bit-le}
 use Rattle.ring_play.specs.declared.Stage.{Stage}
 use Rattle.ring_play.specs.declared.ends.Counts.{Counts}
 use Rattle.ring_play.specs.Inner.Collection.{heardOf}

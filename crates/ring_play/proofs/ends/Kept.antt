@@ -15,9 +15,9 @@ use Rattle.terms.specs.Positions.{half}
 use Rattle.terms.specs.declared.Entry.{Entry}
 use Rattle.terms.specs.declared.Entry.the-variants.{Null, Position}
 use Rattle.terms.proofs.Whole.{arithZ, not-le, decLeZ}
-use Rattle.convergence.specs.Counting.{Each, sum, bit}
+use Rattle.terms.specs.Counting.{Each, sum, bit}
 use Rattle.convergence.specs.Settling.{isNull, nulls, ordered, lowKept, highKept, middle, enough, oneRound}
-use Rattle.convergence.proofs.Sums.{bit-le, bit-yes, sum-one, sums-le}
+use Rattle.terms.proofs.Sums.{bit-le, bit-yes, sum-one, sums-le}
 use Rattle.convergence.proofs.Order.{passes, gt-fails, KeptRange, kept-counts, length-ordered, in-order, in-order-at}
 use Rattle.settle_midpoint.specs.Answers.{settling}
 use Rattle.ring_play.specs.declared.ends.Counts.{Counts}

@@ -7,16 +7,15 @@ use Prim.Native.Nat.{ℕ, _+_, _-_, _≤_, _<_}
 use native.Mathlib.Omega.{arith}
 use lib.ListN.{length, getD, List·getD-append}
 use lib.IntN.{ℤ, pos, _+ℤ_}
-use Rattle.terms.specs.Positions.{half}
+use Rattle.terms.specs.Positions.{half, rounding}
 use Rattle.terms.specs.declared.Entry.{Entry}
 use Rattle.terms.specs.declared.Entry.the-variants.{Null}
 use Rattle.terms.specs.declared.Table.{Table}
 use Rattle.marks.specs.Marks.{bitOf}
 use Rattle.entries.specs.Tables.{tableAt, tableOf}
 use Rattle.entries.proofs.TableAt.{table-at}
-use Rattle.convergence.specs.Counting.{Each}
+use Rattle.terms.specs.Counting.{Each}
 use Rattle.convergence.specs.Settling.{ordered}
-use Rattle.convergence.specs.Phases.{rounding}
 use Rattle.convergence.proofs.Order.{passes, length-ordered}
 use Rattle.settle_midpoint.specs.Orders.{padded, orderOf}
 use Rattle.settle_midpoint.specs.declared.Order.{Order}

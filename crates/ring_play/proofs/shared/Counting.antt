@@ -14,9 +14,9 @@ use Rattle.entries.specs.Tables.{tableAt}
 use Rattle.marks.specs.Marks.{bitOf, withMark}
 use Rattle.marks.proofs.Marks.{bit-none, with-same, with-other}
 use Rattle.marks.proofs.Counts.{sum-next}
-use Rattle.convergence.specs.Counting.{Each, sum, bit}
+use Rattle.terms.specs.Counting.{Each, sum, bit}
 use Rattle.convergence.specs.Trust.{nothing, confessed, gave, hasConfessed}
-use Rattle.convergence.proofs.Sums.{sums-le, sum-one, bit-le}
+use Rattle.terms.proofs.Sums.{sums-le, sum-one, bit-le}
 use Rattle.frame_spec.specs.Said.{said}
 use Rattle.ring_play.specs.Inner.Codes.{codeAt, holds, Tallied}
 use Rattle.ring_play.proofs.codes.Codes.{code-entry, holds-le}

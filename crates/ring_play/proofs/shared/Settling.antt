@@ -9,10 +9,10 @@ use lib.IntN.{ℤ, pos}
 use borrow.Author.Tests.{lt-ltb}
 use Rattle.terms.specs.declared.Entry.{Entry}
 use Rattle.marks.specs.Marks.{bitOf}
-use Rattle.convergence.specs.Counting.{Each}
+use Rattle.terms.specs.Counting.{Each}
 use Rattle.convergence.specs.Settling.{twoRounds}
 use Rattle.convergence.specs.Trust.{Given, trusted}
-use Rattle.convergence.specs.Phases.{rounding}
+use Rattle.terms.specs.Positions.{rounding}
 use Rattle.convergence.proofs.Same.{trusted-same}
 use Rattle.frame_spec.specs.Said.{said}
 use Rattle.settle_midpoint.specs.Answers.{settling}

@@ -11,9 +11,9 @@ use borrow.Author.Tests.{lt-ltb}
 use Rattle.terms.specs.Positions.{isPosition}
 use Rattle.terms.specs.declared.Entry.the-variants.{Position}
 use Rattle.marks.specs.Marks.{bitOf, markedTo}
-use Rattle.convergence.specs.Counting.{Each, sum, bit}
+use Rattle.terms.specs.Counting.{Each, sum, bit}
 use Rattle.convergence.specs.Trust.{Given, hasConfessed, confessions, saysOf, trusted}
-use Rattle.convergence.proofs.Sums.{sums-le, sum-same}
+use Rattle.terms.proofs.Sums.{sums-le, sum-same}
 use Rattle.convergence.proofs.Support.{not-null}
 use Rattle.frame_spec.specs.Said.{Meaning, refused, collected, listed, confessed, said}
 use Rattle.frame_spec.proofs.OneMeaning.{said-proper}

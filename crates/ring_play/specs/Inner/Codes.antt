@@ -10,7 +10,7 @@ use Rattle.terms.specs.Positions.{eqZ}
 use Rattle.terms.specs.declared.Entry.{Entry}
 use Rattle.terms.specs.declared.Entry.the-variants.{Null, Position}
 use Rattle.marks.specs.Marks.{bitOf}
-use Rattle.convergence.specs.Counting.{Each, bit}
+use Rattle.terms.specs.Counting.{Each, bit}
 use Rattle.convergence.specs.Trust.{Given, nothing, confessed, gave}
 
 -- the code of a null entry: a number that is no position

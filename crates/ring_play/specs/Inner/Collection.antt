@@ -16,7 +16,7 @@ use Rattle.frame_spec.specs.Said.{said}
 use Rattle.head_spec.specs.Record.{heardEntry}
 use Rattle.ring_play.specs.declared.Stage.{Stage}
 use Rattle.convergence.specs.Settling.{oneRound}
-use Rattle.convergence.specs.Phases.{rounding}
+use Rattle.terms.specs.Positions.{rounding}
 use Rattle.settle_midpoint.specs.Answers.{settling}
 use Rattle.ring_play.specs.Memory.{heads, positionOf}
 

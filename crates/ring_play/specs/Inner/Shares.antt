@@ -6,7 +6,7 @@ use mathlib.Core.List.{List}
 use Prim.Native.Nat.{ℕ, _+_, _-_, _≤_, _<_}
 use lib.IntN.{ℤ, pos}
 use lib.ListN.{getD}
-use Rattle.convergence.specs.Counting.{Each, sum}
+use Rattle.terms.specs.Counting.{Each, sum}
 use Rattle.convergence.specs.Trust.{Given, support, hasConfessed, confessions}
 use Rattle.ring_play.specs.Inner.Codes.{noCode, holds}
 

@@ -7,10 +7,10 @@ use lib.ListN.{getD}
 use lib.IntN.{ℤ, pos}
 use Rattle.terms.specs.declared.Entry.{Entry}
 use Rattle.marks.specs.Marks.{bitOf, withMark, markedTo}
-use Rattle.convergence.specs.Counting.{Each, sum}
+use Rattle.terms.specs.Counting.{Each, sum}
 use Rattle.convergence.specs.Settling.{twoRounds}
 use Rattle.convergence.specs.Trust.{Given, hasConfessed, confessions}
-use Rattle.convergence.specs.Phases.{rounding}
+use Rattle.terms.specs.Positions.{rounding}
 use Rattle.frame_spec.specs.Said.{said}
 use Rattle.settle_midpoint.specs.Answers.{settling}
 use Rattle.ring_play.specs.Inner.Codes.{entryOf, entryTaken, holds}

@@ -13,8 +13,8 @@ use lib.Dec.{eqb}
 use lib.IntN.{ℤ, pos}
 use lib.ListN.{length, getD, length-set}
 use lib.Seq.{getD-set-other}
-use Rattle.convergence.specs.Counting.{Each, bit}
-use Rattle.convergence.proofs.Sums.{bit-le}
+use Rattle.terms.specs.Counting.{Each, bit}
+use Rattle.terms.proofs.Sums.{bit-le}
 use Rattle.settle_position.specs.Reference.{sameNumber}
 use Rattle.marks.proofs.Counts.{byte-bit}
 use Rattle.settle_trust.proofs.Cells.{same-bits, each-stored}

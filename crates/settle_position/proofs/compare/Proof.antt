@@ -8,8 +8,8 @@ use denote.Ref.{now}
 use borrow.Author.Needs.{needs}
 use lib.Dec.{eqb}
 use lib.ListN.{length, getD, getD-replicate}
-use Rattle.convergence.specs.Counting.{Each, sum, bit}
-use Rattle.convergence.proofs.Sums.{bit-le}
+use Rattle.terms.specs.Counting.{Each, sum, bit}
+use Rattle.terms.proofs.Sums.{bit-le}
 use Rattle.settle_position.specs.Reference.{isApart, agrees, alikeTo, apartFrom, agreeing}
 use Rattle.marks.proofs.Counts.{byte-bit, sum-next, bits-le}
 use Rattle.settle_position.proofs.Reference.{agree-more, agree-skip}

@@ -7,8 +7,8 @@ use denote.Ref.{now}
 use borrow.Author.Needs.{needs}
 use lib.Dec.{eqb}
 use lib.ListN.{getD}
-use Rattle.convergence.specs.Counting.{sum, bit}
-use Rattle.convergence.proofs.Sums.{bit-le}
+use Rattle.terms.specs.Counting.{sum, bit}
+use Rattle.terms.proofs.Sums.{bit-le}
 use Rattle.settle_trust.specs.Cells.{equalTo}
 use Rattle.marks.proofs.Counts.{byte-bit, sum-next, bits-le}
 use Rattle.settle_trust.proofs.equal_to.Statement.{statement}

@@ -6,8 +6,8 @@ use native.Mathlib.Decide.{ℕ-discrete}
 use native.Mathlib.Omega.{arith}
 use borrow.Author.Tests.{eq-eqb, ne-eqb}
 use lib.Dec.{eqb}
-use Rattle.convergence.specs.Counting.{bit}
-use Rattle.convergence.specs.Phases.{rounding}
+use Rattle.terms.specs.Counting.{bit}
+use Rattle.terms.specs.Positions.{rounding}
 use Rattle.steps.proofs.rounds_up.Statement.{statement}
 use Rattle.steps.proofs.rounds_up.Tie as tie
 

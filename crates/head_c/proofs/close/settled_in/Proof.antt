@@ -7,7 +7,7 @@ use denote.Ref.{now}
 use Rattle.terms.specs.declared.Family.the-variants.{TwoRounds, OneRound}
 use Rattle.terms.specs.declared.Table.{Table}
 use Rattle.entries.specs.Tables.{tableAt}
-use Rattle.convergence.specs.Phases.{rounding}
+use Rattle.terms.specs.Positions.{rounding}
 use Rattle.convergence.specs.Settling.{ruleOf}
 use Rattle.convergence.specs.Trust.{trusted}
 use Rattle.settle_midpoint.specs.Answers.{settling}

@@ -13,8 +13,8 @@ use lib.ListN.{length, getD, length-set}
 use lib.Seq.{getD-set-other}
 use Rattle.terms.specs.Positions.{eqZ}
 use Rattle.fields.specs.Bytes.{signedOf}
-use Rattle.convergence.specs.Counting.{Each, bit}
-use Rattle.convergence.proofs.Sums.{bit-le}
+use Rattle.terms.specs.Counting.{Each, bit}
+use Rattle.terms.proofs.Sums.{bit-le}
 use Rattle.marks.proofs.Counts.{byte-bit}
 use Rattle.settle_trust.proofs.Cells.{each-stored}
 use Rattle.head_c.proofs.Rows.{same-word}

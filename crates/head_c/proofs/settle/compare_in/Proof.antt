@@ -11,8 +11,8 @@ use lib.Dec.{eqb}
 use lib.ListN.{length, getD, getD-replicate}
 use Rattle.terms.specs.Positions.{eqZ}
 use Rattle.fields.specs.Bytes.{signedOf}
-use Rattle.convergence.specs.Counting.{Each, sum, bit}
-use Rattle.convergence.proofs.Sums.{bit-le}
+use Rattle.terms.specs.Counting.{Each, sum, bit}
+use Rattle.terms.proofs.Sums.{bit-le}
 use Rattle.settle_position.specs.Reference.{isApart, agrees, alikeTo, apartFrom, agreeing}
 use Rattle.settle_position.proofs.Reference.{agree-more, agree-skip}
 use Rattle.marks.proofs.Counts.{byte-bit, sum-next, bits-le}

@@ -1,6 +1,6 @@
 -- The line as a number.
 use mathlib.Core.Path.{ap, _∙_}
-use Rattle.convergence.specs.Counting.{bit}
+use Rattle.terms.specs.Counting.{bit}
 use Rattle.marks.proofs.Counts.{byte-bit}
 use Rattle.head_window.specs.Window.{isUp}
 use borrow.Author.Needs.{needs}

@@ -9,7 +9,7 @@ use borrow.Author.Needs.{needs}
 use borrow.Author.Tests.{not-false}
 use borrow.Author.Count.{below-more}
 use Rattle.marks.specs.Marks.{bitOf}
-use Rattle.convergence.specs.Counting.{Each}
+use Rattle.terms.specs.Counting.{Each}
 use Rattle.ring_play.proofs.codes.are_alone.Statement.{statement}
 use Rattle.ring_play.proofs.codes.are_alone.Tie as tie
 

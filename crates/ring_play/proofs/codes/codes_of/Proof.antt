@@ -8,7 +8,7 @@ use denote.Ref.{now}
 use lib.IntN.{ℤ, pos}
 use lib.ListN.{length, getD, length-set}
 use borrow.Author.Needs.{needs}
-use Rattle.convergence.specs.Counting.{Each}
+use Rattle.terms.specs.Counting.{Each}
 use Rattle.marks.specs.Marks.{bitOf}
 use Rattle.ring_play.specs.Inner.Codes.{noCode, codeAt}
 use Rattle.ring_play.proofs.codes.Storing.{each-set}

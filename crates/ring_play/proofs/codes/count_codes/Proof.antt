@@ -9,7 +9,7 @@ use lib.IntN.{ℤ, pos}
 use lib.ListN.{length, getD, length-set}
 use borrow.Author.Needs.{needs}
 use Rattle.terms.specs.Positions.{eqZ}
-use Rattle.convergence.specs.Counting.{Each, bit}
+use Rattle.terms.specs.Counting.{Each, bit}
 use Rattle.marks.specs.Marks.{bitOf}
 use Rattle.ring_play.specs.Inner.Codes.{noCode, codeAt}
 use Rattle.ring_play.proofs.codes.Codes.{added-bit}

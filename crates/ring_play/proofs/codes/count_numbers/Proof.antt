@@ -7,7 +7,7 @@ use lib.IntN.{pos}
 use lib.ListN.{length, getD, length-set}
 use borrow.Author.Needs.{needs}
 use Rattle.terms.specs.Positions.{eqZ}
-use Rattle.convergence.specs.Counting.{Each, bit}
+use Rattle.terms.specs.Counting.{Each, bit}
 use Rattle.ring_play.specs.Inner.Codes.{codeAt}
 use Rattle.ring_play.proofs.codes.Codes.{added-bit, code-marked}
 use Rattle.ring_play.proofs.codes.Storing.{each-set, later-set}

@@ -10,7 +10,7 @@ use lib.ListN.{length, getD, length-set}
 use borrow.Author.Needs.{needs}
 use borrow.Author.Count.{below-more}
 use Rattle.marks.specs.Marks.{bitOf}
-use Rattle.convergence.specs.Counting.{Each}
+use Rattle.terms.specs.Counting.{Each}
 use Rattle.ring_play.specs.Inner.Codes.{noCode}
 use Rattle.ring_play.proofs.codes.Storing.{each-set, later-set}
 use Rattle.ring_play.proofs.codes.drop_confessed.Statement.{statement}

@@ -9,7 +9,7 @@ use lib.Dec.{leb}
 use lib.IntN.{ℤ, pos}
 use lib.ListN.{length, getD, length-set}
 use borrow.Author.Needs.{needs}
-use Rattle.convergence.specs.Counting.{Each}
+use Rattle.terms.specs.Counting.{Each}
 use Rattle.ring_play.specs.Inner.Codes.{noCode}
 use Rattle.ring_play.proofs.codes.Storing.{each-set}
 use Rattle.ring_play.proofs.codes.pick.Statement.{statement}

@@ -7,7 +7,7 @@ use denote.Ref.{now}
 use lib.IntN.{pos}
 use lib.ListN.{length, getD}
 use borrow.Author.Needs.{needs}
-use Rattle.convergence.specs.Counting.{Each, sum}
+use Rattle.terms.specs.Counting.{Each, sum}
 use Rattle.ring_play.proofs.codes.Lists.{counted, tally-given, tally-skipped}
 use Rattle.ring_play.proofs.codes.tally_all.Statement.{statement}
 use Rattle.ring_play.proofs.codes.tally_all.Tie as tie

@@ -7,7 +7,7 @@ use denote.Ref.{now}
 use lib.IntN.{pos}
 use lib.ListN.{length, getD, length-set}
 use borrow.Author.Needs.{needs}
-use Rattle.convergence.specs.Counting.{Each}
+use Rattle.terms.specs.Counting.{Each}
 use Rattle.ring_play.specs.Inner.Votes.{Voted}
 use Rattle.ring_play.proofs.codes.Storing.{each-set-both, later-set}
 use Rattle.ring_play.proofs.codes.Votes.{voted}

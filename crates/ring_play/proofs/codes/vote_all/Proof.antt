@@ -7,7 +7,7 @@ use denote.Ref.{now}
 use lib.IntN.{pos}
 use lib.ListN.{length, getD}
 use borrow.Author.Needs.{needs}
-use Rattle.convergence.specs.Counting.{Each, sum}
+use Rattle.terms.specs.Counting.{Each, sum}
 use Rattle.ring_play.specs.Inner.Votes.{Leads}
 use Rattle.ring_play.proofs.codes.Votes.{leads-none}
 use Rattle.ring_play.proofs.codes.Lists.{counted, vote-given, vote-skipped}

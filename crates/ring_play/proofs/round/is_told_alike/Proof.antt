@@ -9,7 +9,7 @@ use borrow.Author.Count.{below-more}
 use borrow.Author.Tests.{not-true, not-false}
 use Rattle.marks.specs.Marks.{bitOf}
 use Rattle.marks.proofs.Marks.{bit-none}
-use Rattle.convergence.specs.Counting.{Each}
+use Rattle.terms.specs.Counting.{Each}
 use Rattle.frame_slots.specs.Slots.{plantedIn}
 use Rattle.ring_play.proofs.round.is_told_alike.Statement.{statement}
 use Rattle.ring_play.proofs.round.is_told_alike.Tie as tie

@@ -8,7 +8,7 @@ use lib.IntN.{pos}
 use lib.ListN.{getD}
 use borrow.Author.Needs.{needs}
 use borrow.Author.Count.{below-more}
-use Rattle.convergence.specs.Counting.{Each}
+use Rattle.terms.specs.Counting.{Each}
 use Rattle.ring_play.proofs.codes.Codes.{bits-same}
 use Rattle.ring_play.proofs.shared.is_same_front.Statement.{statement}
 use Rattle.ring_play.proofs.shared.is_same_front.Tie as tie

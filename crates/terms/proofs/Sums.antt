@@ -7,7 +7,7 @@ use native.Mathlib.Omega.{arith}
 use native.Mathlib.Decide.{decLt}
 use native.Mathlib.Nat.{le-refl}
 use lib.Dec.{T}
-use Rattle.convergence.specs.Counting.{Each, sum, bit}
+use Rattle.terms.specs.Counting.{Each, sum, bit}
 
 -- ---- a statement for each index
 
