@@ -1,4 +1,4 @@
--- An answer as C gets it: 0 or the refusal's number, and beside it the result in memory that the caller lends, which a refusal leaves as it was.
+-- An answer as C gets it: 0 or the refusal's number, and the result in memory that the caller lends, which a refusal leaves as it was.
 use mathlib.Core.List.{List, [], _∷_}
 use mathlib.Core.Path.{_≡_}
 use Prim.Native.Nat.{ℕ}
@@ -18,7 +18,7 @@ use Rattle.steps.specs.declared.scale.Unscaled.{Unscaled}
 use Rattle.steps.specs.declared.scale.Unscaled.the-variants as unscale
 use Rattle.steps.specs.Unscale.{Answers}
 
--- of the midpoint, beside its number: the new position or what stood there
+-- of the midpoint: the new position, or what was there (P40)
 abbrev pub settledOr : Settled → ℤ → ℤ
 settledOr (Refused c) old = old
 settledOr (New k) old = k .position
@@ -28,7 +28,7 @@ abbrev pub keptOr : Settled → List ℤ → List ℤ
 keptOr (Refused c) old = old
 keptOr (New k) old = k .low ∷ k .high ∷ pos (k .trim) ∷ k .position ∷ []
 
--- of limits: the number, and the lowest and the highest new position, or what stood there
+-- of limits: the number, and the lowest and the highest new position, or what was there
 abbrev pub rangedNumber : Ranged → ℕ
 rangedNumber (limits.Refused c) = c
 rangedNumber (limits.Range low high) = 0
@@ -44,7 +44,7 @@ pub record RangeLent (n f p m : ℕ) (s : List ℕ) (r : ℕ) (old new : List �
   pub number : r ≡ rangedNumber answer
   pub lent : new ≡ rangedOr answer old
 
--- of the scale: the number, and the nanometres or what stood there
+-- of the scale: the number, and the nanometres or what was there
 abbrev pub scaledNumber : Scaled → ℕ
 scaledNumber (scale.Refused c) = c
 scaledNumber (scale.Nanometres x) = 0
@@ -53,11 +53,11 @@ abbrev pub scaledOr : Scaled → ℤ → ℤ
 scaledOr (scale.Refused c) old = old
 scaledOr (scale.Nanometres x) old = x
 
--- -2^31 stands for none; it is no position, so it cannot be mistaken for one
+-- -2^31 is none; it is no position, so it cannot be mistaken for one (Q17, Q100)
 abbrev pub noStep : ℤ
 noStep = negsuc 2_147_483_647
 
--- of an open entry: the number, and the position for it, `noStep` or what stood there
+-- of an open entry: the number, and the position for it, `noStep` or what was there
 abbrev pub reachedNumber : Reached → ℕ
 reachedNumber (reach.Refused c) = c
 reachedNumber reach.None = 0
@@ -75,7 +75,7 @@ pub record PositionLent (K : Family) (n f p j m : ℕ) (s : List ℕ) (x : ℤ) 
   pub number : r ≡ reachedNumber answer
   pub lent : new ≡ reachedOr answer old
 
--- of a reading: the number, and the step, `noStep` or what stood there
+-- of a reading: the number, and the step, `noStep` or what was there
 abbrev pub stepNumber : Unscaled → ℕ
 stepNumber (unscale.Refused c) = c
 stepNumber unscale.None = 0

@@ -1,4 +1,5 @@
--- Document 01's rounds on what the links carry, without bytes, in its order. `Demand3` states the promise: open it first.
+-- Document 01's rounds on what the links carry, without bytes, in the order in which they are read. `Demand3`, the last, states the
+-- promise.
 pub mod Settling
 pub mod Trust
 pub mod Phases

@@ -1,4 +1,6 @@
--- Document 01, "Strikes" and the two rounds, for a whole ring: from one phase end to the next.
+-- Document 01, "Strikes" and the two rounds, for a whole ring: from one phase end to the next. In the field's terms: the mobile Byzantine
+-- fault model of Garay. Struck is faulty, healed is cured and aware of it, healthy is healthy; sound is fault-free in the phase's last
+-- round; a position is a state. Document 004 calls each of the two rounds a phase.
 use mathlib.Core.Bool.{Bool, true, false, not, cond}
 use Prim.Native.Nat.{ℕ, zero, suc, _+_, _%_}
 use lib.Dec.{ltb}
@@ -12,33 +14,35 @@ use Rattle.terms.specs.declared.Family.the-variants.{TwoRounds, OneRound}
 use Rattle.convergence.specs.Settling.{ruleOf, settled}
 use Rattle.convergence.specs.Trust.{Given, confessed, gave, trusted}
 
--- A phase end: the receivers struck in its last round, whose memory is lost, and the position that each other one holds. A receiver is sound
--- there if it is not struck. Receivers 0 .. n - 1 are the heads; the others are listeners (document 02, A6).
+-- A phase end: the receivers struck in its last round, whose memory is lost, and the position that each other one holds. A receiver is
+-- sound there if it is not struck. Receivers 0 .. n - 1 are the heads; the others are listeners (document 02, A6).
 pub record End : Type 0 where
   pub struck : ℕ → Bool
   pub at : ℕ → Entry
 
--- At the start the heads are sound, with the positions of the start record; a receiver that is no head counts as struck, since it holds no position yet.
+-- At the start the heads are sound, with the positions of the start record; a receiver that is no head counts as struck, since it holds no
+-- position yet (Q58).
 unfoldable pub startEnd : ℕ → (ℕ → ℤ) → End
 startEnd n v = record { struck = λ j. not (ltb j n); at = λ j. Position (v j) }
 
--- A phase's strikes, and what the struck heads send: anything, something else to each receiver, or nothing (a null entry, `nothing`). A listener sends
--- nothing: of it only `confess` matters. The one round of a phase of one round counts as its confession round: its strikes are `confess`, and what the struck
--- heads send in it is `told` (document 02, A9).
+-- A phase's strikes, and what the struck heads send, which is the adversary's choice: anything, something else to each receiver, or nothing
+-- (a null entry, `nothing`). A listener sends nothing: of it only `confess` matters. The one round of a phase of one round counts as its
+-- confession round: its strikes are `confess`, and what the struck heads send in it is `told` (document 02, A9).
 pub record Faults : Type 0 where
   pub collect : ℕ → Bool  -- struck in the collection round
   pub told : ℕ → ℕ → Entry  -- what such a sender then gives a receiver
   pub confess : ℕ → Bool  -- struck in the confession round
   pub replied : ℕ → ℕ → Given
 
--- What a link gives, by whether its head is struck in this round, and whether it was in the round before: a struck head what it likes; one that is
--- healed, struck in the round before only, that it is; a healthy one, struck in neither, what it has to say.
+-- What a link gives, by whether its head is struck in this round, and whether it was in the round before: a struck head what it likes; one
+-- that is healed, struck in the round before only, that it is; a healthy one, struck in neither, what it has to say.
 abbrev pub gives : {A : Type 0} → Bool → Bool → A → A → A → A
 gives true before likes healed says = likes
 gives false true likes healed says = healed
 gives false false likes healed says = says
 
--- A round in which heads send positions, and in which these are struck: what link k gives receiver i. A healthy head sends its position, a healed one silence.
+-- A round in which heads send positions, and in which these are struck: what link k gives receiver i. A healthy head sends its position, a
+-- healed one silence (Q80).
 abbrev pub heardFrom : (ℕ → Bool) → End → Faults → ℕ → ℕ → Entry
 heardFrom struck e F i k = gives (struck k) (e .struck k) (F .told k i) Null (e .at k)
 
@@ -96,5 +100,6 @@ apart Null b = 0
 apart (Position a) Null = 0
 apart (Position a) (Position b) = gap a b
 
+-- the spread of the sound ones, the diameter of their positions (P75)
 unfoldable pub spread : ℕ → End → ℕ
 spread n e = apart (lowest n e) (highest n e)

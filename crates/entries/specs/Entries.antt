@@ -13,12 +13,12 @@ use Rattle.marks.specs.Marks.{bitOf}
 unfoldable pub entryAt : ℕ → List ℤ → ℕ → Entry
 entryAt m E j = cond (bitOf m j) (Entry.Position (getD E j (pos 0))) Entry.Null
 
--- a number that may stand in a list: a position if it is marked, and else 0
+-- whether a number fits in a list: a position if it is marked, and else 0 (P15)
 abbrev pub fits : Bool → ℤ → Bool
 fits true v = isPosition v
 fits false v = eqZ v (pos 0)
 
--- whether the first n numbers of the bytes s may stand in a list with the mark word m
+-- whether the first n numbers of the bytes s fit in a list with the mark word m
 unfoldable pub entriesFit : ℕ → List ℕ → ℕ → Bool
 entriesFit m s zero = true
 entriesFit m s (suc j) = entriesFit m s j && fits (bitOf m j) (signedAt s (4 * j))

@@ -28,6 +28,6 @@ unfoldable pub numbersOf : ℕ → (ℕ → Entry) → List ℤ
 numbersOf zero E = zeros
 numbersOf (suc n) E = set (numbersOf n E) n (number (E n))
 
--- entries 0 .. n - 1 of E as a table
+-- entries 0 .. n - 1 of E as a table (D4)
 abbrev pub tableOf : ℕ → (ℕ → Entry) → Table
 tableOf n E = record { marks = marksOf n E; entries = numbersOf n E }

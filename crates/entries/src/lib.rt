@@ -35,14 +35,14 @@ fn word_in(whole: bool, s: &[u8], at: usize) -> u32
     fields::word_at(s, at)
 }
 
-// Whether a word may stand in a list.
+// Whether a word fits in a list.
 fn word_fits(mark: bool, x: u32) -> bool
     ensures { λ r. ⌜ r ≡ fits mark (signedOf x) ⌝ }
 {
     if mark { is_position_word(x) } else { x == 0 }
 }
 
-// Whether the first n entries of a list may stand there, one by one.
+// Whether the first n entries fit in a list, one by one.
 fn each_fits(m: u32, s: &[u8], n: u8) -> bool
     ensures { λ r. ⌜ r ≡ entriesFit m (now (s .entry)) n ⌝ }
 {
@@ -75,7 +75,7 @@ fn all_fit(s: &[u8], n: u8) -> bool
     fit
 }
 
-// Whether the first n entries of a list may stand there.
+// Whether the first n entries fit in a list.
 pub fn entries_fit(m: u32, s: &[u8], n: u8) -> bool
     ensures { λ r. ⌜ r ≡ entriesFit m (now (s .entry)) n ⌝ }
 {

@@ -11,7 +11,7 @@ abbrev pub isEmpty : List ℕ → Bool
 isEmpty [] = true
 isEmpty (x ∷ s) = false
 
--- two bytes from place i on
+-- two bytes from place i on (D1)
 abbrev pub at2 : List ℕ → ℕ → ℕ
 at2 s i = getD s i 0 + 256 * getD s (i + 1) 0
 

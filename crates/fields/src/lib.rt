@@ -1,4 +1,5 @@
-// Fields of a slice of bytes, read: little-endian numbers, with a sign and without. A byte past the end reads as 0.
+// Fields of a slice of bytes, read and written: little-endian numbers, with a sign and without. A byte past the end reads as 0, and
+// past the end nothing is written.
 ghost use mathlib.Core.Path.{_≡_};
 ghost use Prim.Native.Nat.{_+_, _*_, _≤_, _<_};
 ghost use lib.ListN.{length, getD, drop, set};

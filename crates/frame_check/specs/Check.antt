@@ -1,5 +1,5 @@
--- Document 01, "Frames": two bytes length (of the whole frame), two bytes kind, one byte sender, two bytes phase, then the rest; and the frame check,
--- which looks at length, kind and a list's own count alone.
+-- Document 01, "Frames": two bytes length (of the whole frame), two bytes kind, one byte sender, two bytes phase, then the rest; and the
+-- frame check, which looks at length, kind and a list's own count alone.
 use mathlib.Core.Bool.{Bool, true, false, cond}
 use mathlib.Core.List.{List, []}
 use Prim.Native.Nat.{ℕ, _+_, _*_}
@@ -16,6 +16,7 @@ pub data Kind : Type 0 where
   confession : Kind
   unknown : Kind
 
+-- P05
 abbrev pub kindOf : ℕ → Kind
 kindOf k =
     cond (eqb k 1) position (cond (eqb k 2) silence (cond (eqb k 3) list (cond (eqb k 4) confession unknown)))
@@ -27,7 +28,7 @@ isKnown list = true
 isKnown confession = true
 isKnown unknown = false
 
--- the length of a frame, by its kind and, of a list, its count
+-- the length of a frame, by its kind and, of a list, its count (P04)
 abbrev pub lengthOf : Kind → ℕ → ℕ
 lengthOf position count = 11
 lengthOf silence count = 7
@@ -48,11 +49,11 @@ senderField s = getD s 4 0
 abbrev pub phaseField : List ℕ → ℕ
 phaseField s = at2 s 5
 
--- the first byte of the rest: of a list its count
+-- the first byte of the rest: of a list its count (P03)
 abbrev pub countField : List ℕ → ℕ
 countField s = getD s 7 0
 
--- 6, 7, 8, before the checks that follow
+-- 6, 7, 8, before the checks that follow (P01, P02, P06, P08)
 unfoldable pub checkFrame : List ℕ → ℕ → ℕ
 checkFrame s more =
     check (leb 4 (length s)) refusal.stated-length
@@ -64,6 +65,6 @@ checkFrame s more =
 abbrev pub frameRefusal : List ℕ → ℕ
 frameRefusal s = checkFrame s 0
 
--- what follows the common fields; of a refused frame nothing
+-- what follows the common fields; of a refused frame nothing (P07)
 unfoldable pub restOf : List ℕ → List ℕ
 restOf s = cond (eqb (frameRefusal s) 0) (drop 7 s) []

@@ -24,7 +24,8 @@ fn is_known(kind: u16) -> bool
     }
 }
 
-// The length of a frame of a known kind, with the count that a list has. Tests in a row, and no table of jumps, since the kind is not foreseen.
+// The length of a frame of a known kind, with the count that a list has. Tests in a row, and no table of jumps, since the kind is not
+// foreseen.
 fn length_of(kind: u16, count: u8) -> usize
     requires { ⌜ isKnown (kindOf kind) ≡ true ⌝ }
     ensures { λ r. ⌜ r ≡ lengthOf (kindOf kind) count ⌝ }

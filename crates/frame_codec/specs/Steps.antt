@@ -1,4 +1,5 @@
--- Reading, cut into the steps of the code: what the checks from one on give, and what a frame says after them. The kind is the one read of the frame.
+-- Reading, cut into the steps of the code: what the checks from one on give, and what a frame says after them. The kind is the one read of
+-- the frame.
 use Prim.Native.Nat.{ℕ}
 use mathlib.Core.List.{List}
 use lib.Dec.{eqb}

@@ -1,4 +1,4 @@
-// Frames read: what a frame says to a head.
+// Frames, read and written: what a frame says to a head, and the frame that says it, put into a lent buffer.
 ghost use mathlib.Core.Path.{_≡_};
 ghost use Rattle.frame_check.specs.Check.{kindOf, position, list};
 ghost use Rattle.frame_spec.specs.Said.{roundOf, restField, entriesIn, said, saidOf, tableIn, meant};

@@ -1,1 +1,2 @@
+-- Planted frames in lent memory: a slot and a length for each link.
 pub mod Slots

@@ -1,4 +1,5 @@
--- What a frame says on link k, to a head of a ring of n heads in phase p and round r (0 collection, 1 confession). Nothing else of the head matters.
+-- What a frame says on link k, to a head of a ring of n heads in phase p and round r (0 collection, 1 confession). Nothing else of the head
+-- matters.
 use mathlib.Core.Bool.{Bool, true, _&&_}
 use mathlib.Core.List.{List}
 use Prim.Native.Nat.{ℕ}
@@ -40,7 +41,7 @@ marksIn t = at4 t 1
 abbrev pub entriesIn : List ℕ → List ℕ
 entriesIn t = drop 5 t
 
--- 10, of the rest t: list count n, and no mark at n or above
+-- 10, of the rest t: list count n, and no mark at n or above (P14)
 abbrev pub countFits : Kind → ℕ → List ℕ → Bool
 countFits position n t = true
 countFits silence n t = true
@@ -48,7 +49,7 @@ countFits list n t = eqb (countIn t) n && marksBelow (marksIn t) n
 countFits confession n t = true
 countFits unknown n t = true
 
--- 11, of the rest t: entries in range, and 0 where null; the position of a collection frame is an entry
+-- 11, of the rest t: entries in range, and 0 where null; the position of a collection frame is an entry (P10, P15)
 abbrev pub rangeFits : Kind → ℕ → List ℕ → Bool
 rangeFits position n t = isPosition (numberIn t)
 rangeFits silence n t = true
@@ -56,7 +57,7 @@ rangeFits list n t = entriesFit (marksIn t) (entriesIn t) n
 rangeFits confession n t = true
 rangeFits unknown n t = true
 
--- 6, 7, 8, 22, 9, 23, 10, 11
+-- 6, 7, 8, 22, 9, 23, 10, 11 (P13, P17, Q78)
 unfoldable pub refusalOf : ℕ → ℕ → ℕ → ℕ → List ℕ → ℕ
 refusalOf n p r k s =
     checkFrame s
@@ -88,8 +89,9 @@ meaning unknown n t = refused refusal.kind
 unfoldable pub said : ℕ → ℕ → ℕ → ℕ → List ℕ → Meaning
 said n p r k s = unlessRefused refused (refusalOf n p r k s) (meaning (kindField s) n (restField s))
 
--- ---- as the code has it: an enum, and beside it the table of a list
+-- ---- as the code has it: an enum, and apart from it the table of a list
 
+-- D16d
 abbrev pub saidOf : Meaning → Said
 saidOf (refused c) = Said.Refused c
 saidOf (collected e) = Said.Collection e

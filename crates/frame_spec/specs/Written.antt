@@ -45,7 +45,7 @@ frameOf n k p confessed = confessionFrame k p
 abbrev pub fitsIn : List ℕ → List ℕ → Bool
 fitsIn frame buffer = leb (length frame) (length buffer)
 
--- the frame's length, or 24
+-- the frame's length, or 24 (P19)
 unfoldable pub written : List ℕ → List ℕ → Written
 written frame buffer = cond (fitsIn frame buffer) (Written.Length (length frame)) (Written.Refused refusal.buffer)
 

@@ -1,6 +1,6 @@
--- A head as C keeps it: a block of 1,116 words, one for each number. Every block is a record, whatever it holds (`headOf`), and a record is put into
--- a block (`withHead`). Hearing changes a few words alone (`heardIn`). Words 16 to 23 are no part of a record. Words 16 to 22 are what
--- stands beside the head; each call leaves the others as they were.
+-- A head as C keeps it: a block of 1,116 words, one for each number. Every block is a record, whatever it holds (`headOf`), and a record is
+-- put into a block (`withHead`). Hearing changes a few words alone (`heardIn`). Words 16 to 23 are no part of a record. Words 16 to 22 are
+-- events, mask and offer; each call leaves the others as they were.
 use mathlib.Core.Path.{_≡_}
 use mathlib.Core.Bool.{Bool, not, cond}
 use mathlib.Core.List.{List, [], _∷_, _++_}
@@ -85,6 +85,7 @@ seatOf w =
       since = getD w place.since 0 % 256;
     }
 
+-- D11
 unfoldable pub headOf : List ℕ → Head
 headOf w =
     record {
@@ -133,20 +134,22 @@ withHead h w =
 unfoldable pub withAnswer : List ℕ → Answer → List ℕ
 withAnswer w a = leaves (a .refusal) (withHead (a .head) w) w
 
--- ---- what stands beside the head (document 02, A5)
+-- ---- events and mask (document 02, A5)
 
+-- Q22
 abbrev pub besideOf : List ℕ → Beside
 besideOf w = record { events = getD w place.events 0; mask = getD w place.mask 0 }
 
 abbrev pub withBeside : Beside → List ℕ → List ℕ
 withBeside b w = set (set w place.events (b .events)) place.mask (b .mask)
 
--- ---- the offer beside it (document 02, A8). If word 18 is 0 none stands, and words 19 to 22 are not looked at.
+-- ---- the offer (document 02, A8). If word 18 is 0 there is none, and words 19 to 22 are not looked at.
 
 abbrev pub offerIn : ℕ → ℤ → ℤ → ℕ → ℤ → Offer
 offerIn zero low high trim middle = Offer.Nothing
 offerIn (suc x) low high trim middle = Offer.Standing (record { low = low; high = high; trim = trim; position = middle })
 
+-- Q69
 unfoldable pub offerOf : List ℕ → Offer
 offerOf w =
     offerIn (getD w place.offered 0) (signedOf (getD w place.offer-low 0)) (signedOf (getD w place.offer-high 0)) (getD w place.offer-trim 0 % 256)
@@ -162,7 +165,8 @@ withOffer (Offer.Standing k) w =
 abbrev pub withoutOffer : ℕ → List ℕ → List ℕ
 withoutOffer c w = leaves c (withOffer Offer.Nothing w) w
 
--- after a closing that answers c, with the record h: the record is put into the block if it ended a collection round; a position is only offered
+-- after a closing that answers c, with the record h: the record is put into the block if it ended a collection round; a position is only
+-- offered
 abbrev pub withClosing : Closed → Head → List ℕ → List ℕ
 withClosing (Closed.Refused c) h w = w
 withClosing Closed.Listed h w = withHead h w
@@ -191,8 +195,8 @@ changed w k confessed = marked place.confessed k (heardOn k w)
 unfoldable pub heardIn : List ℕ → ℕ → Meaning → List ℕ
 heardIn w k m = cond (ltb k 32) (changed w k m) w
 
--- What hearing bytes s on link k answers and leaves in a block: only those words are changed, and none if it is refused; and so the record that the
--- block is hears the bytes.
+-- What hearing bytes s on link k answers and leaves in a block: only those words are changed, and none if it is refused; and so the record
+-- that the block is hears the bytes.
 pub record Hears (w : List ℕ) (k : ℕ) (s : List ℕ) (r : ℕ) (w′ : List ℕ) : Type 0 where
   pub refusal : r ≡ hear (headOf w) k s .refusal
   pub block : w′ ≡ leaves r (heardIn w k (saidTo (headOf w .seat) k s)) w
@@ -206,8 +210,8 @@ heardEach w [] = w
 heardEach w (d ∷ D) =
     heardEach (leaves (hear (headOf w) (d .link) (d .bytes) .refusal) (heardIn w (d .link) (saidTo (headOf w .seat) (d .link) (d .bytes))) w) D
 
--- What hearing the batch s answers and leaves: in the block, in the buffer of answers a, which becomes a′, and in the count c, which becomes c′. If it is
--- refused, nothing is changed.
+-- What hearing the batch s answers and leaves: in the block, in the buffer of answers a, which becomes a′, and in the count c, which
+-- becomes c′. If it is refused, nothing is changed.
 pub record HearsBatch (w s a : List ℕ) (c r : ℕ) (w′ a′ : List ℕ) (c′ : ℕ) : Type 0 where
   pub refusal : r ≡ batchRefusal s (length a)
   pub block : w′ ≡ leaves r (heardEach w (entriesOf s)) w

@@ -1,5 +1,5 @@
--- Document 02, A5 and A8: which calls change what stands beside a head. Events and mask: a start, a restart, a closing, an adoption and a write to the window. The
--- offer: a start, a restart, an accepted frame, a closing and an adoption. Nothing else changes them.
+-- Document 02, A5 and A8: which calls change what is outside the record. Events and mask: a start, a restart, a closing, an adoption and a
+-- write to the window. The offer: a start, a restart, an accepted frame, a closing and an adoption. Nothing else changes them.
 use mathlib.Core.Path.{_≡_}
 use mathlib.Core.Logic.{_≢_}
 use mathlib.Core.List.{List}
@@ -43,7 +43,7 @@ numberAfter w closes = closedNumber (close (headOf w) .closed)
 numberAfter w adopts = adopt (headOf w) (offerOf w) .refusal
 numberAfter w (sets at x) = setRefusal at
 
--- what stands beside the head after it
+-- events and mask after it
 abbrev pub besideAfter : List ℕ → Call → Beside
 besideAfter w (starts K n f i v) = startedBeside (start (headOf w) K n f i v .refusal) (besideOf w)
 besideAfter w (restarts K n f i p r) = restartedBeside (restart (headOf w) K n f i p r .refusal) (besideOf w)
@@ -85,14 +85,14 @@ offerAfter w closes = offered (close (headOf w) .closed) (offerOf w)
 offerAfter w adopts = lapsed (numberAfter w adopts) (offerOf w)
 offerAfter w (sets at x) = offerOf w
 
--- the theorem: of any block, after any call, what stands beside the head is this; and the offer, if the record is a proper one: its links have words in the block,
--- and what it offers fits its words
+-- the theorem: of any block, after any call, events and mask are these; and the offer, if the record is a proper one: its links have words
+-- in the block, and what it offers fits its words (Q27, Q66)
 abbrev pub OnlyTheseChange : Type 0
 OnlyTheseChange =
     (w : List ℕ) (c : Call) → IsBlock w
     → (besideOf (blockAfter w c) ≡ besideAfter w c) × (ProperHead (headOf w) → offerOf (blockAfter w c) ≡ offerAfter w c)
 
--- demand 1 of these calls: one that is refused changes nothing but what stands beside the head, and that only if it is refused 25
+-- demand 1 of these calls: one that is refused changes nothing but the events, and those only if it is refused 25 (Q25)
 abbrev pub RefusedLeaves : Type 0
 RefusedLeaves =
     (w : List ℕ) (c : Call) → numberAfter w c ≢ 0

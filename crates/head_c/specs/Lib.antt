@@ -1,4 +1,4 @@
--- A head as C keeps it: where its numbers stand in a block, which record a block is, and what each call leaves in it.
+-- A head as C keeps it: the places of its numbers in a block, which record a block is, and what each call leaves in it.
 pub mod Places
 pub mod Blocks
 pub mod Steps

@@ -1,6 +1,7 @@
--- The blocks that C's calls make: an accepted start or restart makes one, of whatever block there was, and any call on it makes another, refused or not. Each
--- is a record that calls by value can reach (`MadeReachable`), so all that head_spec says of those holds of C's heads: its Demand2 and its Ranges. What stands
--- in words 18 to 22 is an offer in the sense of `Offering` (`MadeOffers`), so closing and adopting are the old closing (`MadeCloses`; document 02, A8).
+-- The blocks that C's calls make: an accepted start or restart makes one, of whatever block there was, and any call on it makes another,
+-- refused or not. Each is a record that calls by value can reach (`MadeReachable`), so all that head_spec says of those holds of C's heads:
+-- its Demand2 and its Ranges. Words 18 to 22 are an offer in the sense of `Offering` (`MadeOffers`), so closing and adopting are the old
+-- closing (`MadeCloses`; document 02, A8).
 use mathlib.Core.Path.{_≡_}
 use mathlib.Core.List.{List}
 use Prim.Native.Nat.{ℕ}
@@ -44,10 +45,11 @@ pub data Made : List ℕ → Type 0 where
   opens : (w : List ℕ) (c : Call) → IsBlock w → Opens c → numberAfter w c ≡ 0 → Made (blockAfter w c)
   calls : (w : List ℕ) (c : Call) → IsBlock w → Bytes c → Made w → Made (blockAfter w c)
 
+-- D11
 abbrev pub MadeReachable : Type 0
 MadeReachable = (w : List ℕ) → Made w → Reachable (headOf w)
 
--- the record of such a block and the offer beside it are those that calls by value make; x: what its phase ends passed on last
+-- the record of such a block and its offer are those that calls by value make; x: what its phase ends passed on last
 abbrev pub MadeOffers : Type 0
 MadeOffers = (w : List ℕ) → Made w → (x : LastKept) × Offering (headOf w) (offerOf w) x
 
@@ -59,6 +61,7 @@ pub record ClosesTwice (w : List ℕ) (k : Kept) : Type 0 where
   pub beside : besideOf (blockAfter (blockAfter w closes) adopts) ≡ withEvent phaseOver (besideOf w)
   pub offer : offerOf (blockAfter (blockAfter w closes) adopts) ≡ Offer.Nothing
 
+-- Q68
 abbrev pub MadeCloses : Type 0
 MadeCloses =
     (w : List ℕ) (k : Kept) → Made w → IsBlock w → IsBlock (blockAfter w closes) → close (headOf w) .closed ≡ Closed.Settled k → ClosesTwice w k

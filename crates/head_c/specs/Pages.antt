@@ -1,4 +1,4 @@
--- What C reads of heads (document 02, A14): a reading as a number and floats, and the readings of heads whose blocks stand side by side.
+-- What C reads of heads (document 02, A14): a reading as a number and floats, and the readings of heads whose blocks follow one another.
 use mathlib.Core.Bool.{cond}
 use mathlib.Core.List.{List, [], _∷_}
 use Prim.Native.Nat.{ℕ, _*_, _/_}
@@ -29,7 +29,7 @@ floatsOr (Reading.Range k) old = k .lowest ∷ k .highest ∷ k .midpoint ∷ []
 abbrev pub blockAt : List ℕ → ℕ → List ℕ
 blockAt w k = take 1116 (drop (1116 * k) w)
 
--- its reading; a head whose block is not there in full has none
+-- its reading; a head whose block is not there in full has none (Q103)
 unfoldable pub readingAt : List ℕ → ℕ → Reading
 readingAt w k = cond (ltb k (length w / 1116)) (headReading (headOf (blockAt w k))) Reading.Unknown
 
@@ -37,7 +37,7 @@ readingAt w k = cond (ltb k (length w / 1116)) (headReading (headOf (blockAt w k
 unfoldable pub readingsOf : List ℕ → List Reading
 readingsOf w = upTo 32 (readingAt w)
 
--- of a block that C's calls made: unknown while nothing was adopted since its start or restart, else a point or a range of what was adopted last, x; what
--- is offered beside it does not show
+-- of a block that C's calls made: unknown while nothing was adopted since its start or restart, else a point or a range of what was adopted
+-- last, x; an offer does not show
 abbrev pub MadeReads : Type 0
 MadeReads = (w : List ℕ) → Made w → (x : LastKept) × (Offering (headOf w) (offerOf w) x × ReadsAdopted x (headReading (headOf w)))

@@ -1,4 +1,4 @@
--- Where each number of a head stands in its block of 1,116 words. src/place.rt has the same table for the code.
+-- The place of each number of a head in its block of 1,116 words. src/place.rt has the same table for the code.
 use Prim.Native.Nat.{ℕ}
 
 -- ---- the seat
@@ -55,7 +55,7 @@ family = 14
 abbrev pub since : ℕ
 since = 15
 
--- ---- what C keeps beside a head: pending events and mask (document 02, A5), and an offer (A8); 23 is room for more
+-- ---- what C keeps outside the record: pending events and mask (document 02, A5), and an offer (A8); 23 is room for more
 
 abbrev pub events : ℕ
 events = 16
@@ -63,7 +63,7 @@ events = 16
 abbrev pub mask : ℕ
 mask = 17
 
--- whether an offer stands; its lowest and highest kept entry, its trim and its position
+-- whether there is an offer; its lowest and highest kept entry, its trim and its position
 abbrev pub offered : ℕ
 offered = 18
 

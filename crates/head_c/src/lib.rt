@@ -1,6 +1,6 @@
-// A head as C keeps it: a block of words, which each call changes in place. Each call changes the record that the block is as the call by value
-// changes it; specs/Blocks.antt says which record a block is. A refusal gives its number and leaves the block, and what else is lent, as it was;
-// but a closing refused 25 leaves its event beside the head (specs/Events.antt).
+// A head as C keeps it: a block of words, which each call changes in place. Each call changes the record that the block is as the call by
+// value changes it; specs/Blocks.antt says which record a block is. A refusal gives its number and leaves the block, and what else is lent,
+// as it was; but a closing refused 25 sets its event (specs/Events.antt).
 ghost use mathlib.Core.Path.{_≡_};
 ghost use lib.ListN.{length};
 ghost use Rattle.head_spec.specs.Calls.{start, restart, startListener, restartListener, writeAnswer, writeBuffer, close, adopt};
@@ -92,7 +92,8 @@ pub extern "C" fn focus_listener_restart(
     restart_listener_in(h, Family::TwoRounds, n, f, number, phase, round)
 }
 
-// The same in a ring of one round (document 02, A9), with 18 in place of 2; a restart there is in round 0. All other calls serve both families.
+// The same in a ring of one round (document 02, A9), with 18 in place of 2; a restart there is in round 0. All other calls serve both
+// families.
 
 // Starts the head with a position, in phase 1: 0, or 1, 18, 3, 4.
 #[no_mangle]
@@ -158,8 +159,8 @@ pub extern "C" fn focus_head_hear(h: &mut Block, link: u32, frame: &[u8]) -> u8
     hear(h, link, frame)
 }
 
-// Hears a round's frames, each behind its link byte, in order, going on past a refused one: 0, or 15, 24. The front of `answers` gets a number for each
-// frame, and `count` how many there are.
+// Hears a round's frames, each behind its link byte, in order, going on past a refused one: 0, or 15, 24. The front of `answers` gets a
+// number for each frame, and `count` how many there are.
 #[no_mangle]
 pub extern "C" fn focus_head_hear_batch(
     h: &mut Block,
@@ -212,7 +213,7 @@ pub extern "C" fn focus_head_adopt(h: &mut Block) -> u8
     }
 }
 
-// What is offered, where it was lent: the lowest kept entry, the highest, the trim and the position. 1, or 0 if no offer stands.
+// What is offered, where it was lent: the lowest kept entry, the highest, the trim and the position. 1, or 0 if there is no offer.
 #[no_mangle]
 pub extern "C" fn focus_head_offer(h: &Block, kept: &mut [i32; 4]) -> u8
     ensures { λ r. ⌜ (r ≡ offerNumber (offerOf (now (h .entry)))) × (now (kept .exit) ≡ offerOr (offerOf (now (h .entry))) (now (kept .entry))) ⌝ }

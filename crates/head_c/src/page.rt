@@ -34,7 +34,7 @@ pub extern "C" fn focus_head_reading(h: &Block, floats: &mut [f32; 3]) -> u8
     }
 }
 
-// The reading of head k of those whose blocks stand side by side; unknown if its block is not there in full.
+// The reading of head k of those whose blocks follow one another; unknown if its block is not there in full.
 fn reading_at(blocks: &[u32], k: usize) -> Reading
     ensures { λ r. ⌜ r ≡ readingAt (now (blocks .entry)) k ⌝ }
 {
@@ -61,7 +61,7 @@ fn readings_in(blocks: &[u32]) -> Readings
     out
 }
 
-// The page of n heads whose blocks stand side by side, at the front of the buffer, and its length: 0, or 1, 24.
+// The page of n heads whose blocks follow one another, at the front of the buffer, and its length: 0, or 1, 24.
 #[no_mangle]
 pub extern "C" fn focus_host_page(
     blocks: &[u32],

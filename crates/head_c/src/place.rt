@@ -1,4 +1,4 @@
-// Where each number of a head stands in its block. specs/Places.antt has the same table.
+// The place of each number of a head in its block. specs/Places.antt has the same table.
 
 // Of the seat.
 pub const N: usize = 0;
@@ -33,7 +33,7 @@ pub const FAMILY: usize = 14; // 0 for a ring of two rounds, and every other num
 
 pub const SINCE: usize = 15; // phase ends since the start or restart
 
-// What C keeps beside a head: pending events and mask, and an offer; 23 is room for more.
+// What C keeps outside the record: pending events and mask, and an offer; 23 is room for more.
 pub const EVENTS: usize = 16;
 
 pub const MASK: usize = 17;

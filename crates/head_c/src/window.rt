@@ -1,5 +1,5 @@
-// The head as a register window of sixteen bytes, on a bus of the camera's own. Only writing changes the block, and that only beside the head. Refusal 26 is
-// not checked here: the window goes on after the last phase end.
+// The head as a register window of sixteen bytes, on a bus of the camera's own. Only writing changes the block, and of it events and mask
+// alone. Refusal 26 is not checked here: the window goes on after the last phase end.
 ghost use mathlib.Core.Path.{_≡_};
 ghost use Rattle.terms.specs.Counting.{bit};
 ghost use Rattle.head_window.specs.Window.{window, readRefusal, byteRead, setRefusal, isUp};

@@ -47,7 +47,7 @@ startAs K listens h n f i e rest = answer (checkMember K listens n f i rest) (op
 unfoldable pub restartAs : Family → Bool → Head → ℕ → ℕ → ℕ → ℕ → ℕ → Answer
 restartAs K listens h n f i p r = answer (checkMember K listens n f i (check (isTime K p r) refusal.phase 0)) (restarted K n f i p r) h
 
--- what a head has to say, as the code has it: a list stands beside this
+-- what a head has to say, as the code has it: the table of a list is the record's
 abbrev pub saidBy : ℕ → Seat → Said
 saidBy zero s = Said.Collection (cond (s .healed) Entry.Null (s .position))
 saidBy (suc r) s = cond (s .healed) Said.Confession Said.List

@@ -1,5 +1,5 @@
-// The calls on a head's or a listener's record, by value, other than hearing: start, restart, write, close, adopt. Each promise is one equation with a
-// definition of record's specs/Calls.antt; a refusal gives its number and leaves the record as it was.
+// The calls on the record of a head or a listener, by value: start, restart, write, close, adopt. (head_hear has hearing.) Each
+// promise is one equation with a definition of head_spec's specs/Calls.antt; a refusal gives its number and leaves the record as it was.
 ghost use mathlib.Core.Path.{_≡_};
 ghost use mathlib.Core.Bool.{true};
 ghost use Prim.Native.Nat.{_+_, min};
@@ -309,7 +309,7 @@ pub fn restart_listener(
     restart_as(family, true, h, n, f, number, phase, round)
 }
 
-// What a head has to say; a list stands beside this.
+// What a head has to say; the table of a list is the record's.
 fn spoken(seat: Seat) -> Said
     ensures { λ r. ⌜ r ≡ saidBy (seat .round) seat ⌝ }
 {
@@ -343,8 +343,8 @@ pub fn write(h: Head, buffer: &mut [u8]) -> Written
     frame_codec::write(spoken(seat), list, seat.n, seat.number, seat.phase, buffer)
 }
 
-// ---- Closing a round, on a record by value. The promise is one equation with a definition of record's specs/Calls.antt; a refusal gives its number and leaves the
-// record as it was.
+// ---- Closing a round, on a record by value. The promise is one equation with a definition of head_spec's specs/Calls.antt; a refusal
+// gives its number and leaves the record as it was.
 
 // The lists received, without their marks, as settling takes them.
 fn laid_out(lists: [Row; 32]) -> Lists
@@ -362,7 +362,7 @@ fn laid_out(lists: [Row; 32]) -> Lists
     out
 }
 
-// The collection round is closed: the list stands.
+// The collection round is closed: the list is kept for the confession round.
 fn closed_collection(h: Head) -> Head
     ensures { λ r. ⌜ r ≡ closedCollection h ⌝ }
 {
@@ -447,7 +447,7 @@ pub fn close(h: Head) -> Closing
     close_last(h)
 }
 
-// ---- The offer beside a head (document 02, A8).
+// ---- The offer (document 02, A8), which the host keeps with the record.
 
 // Adopts what is offered, and ends the phase: 0, or 27, 26.
 pub fn adopt(h: Head, offer: Offer) -> Answer

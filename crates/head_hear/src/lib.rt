@@ -1,5 +1,5 @@
-// Hearing, on a head's record by value: one frame, and a round's frames in one call. Each promise is an equation with a definition of head_spec's
-// specs/Calls.antt or specs/Batch.antt; a refusal gives its number and leaves the record, and what else is lent, as it was.
+// Hearing, on a head's record by value: one frame, and a round's frames in one call. Each promise is an equation with a definition of
+// head_spec's specs/Calls.antt or specs/Batch.antt; a refusal gives its number and leaves the record, and what else is lent, as it was.
 ghost use mathlib.Core.Bool.{true};
 ghost use mathlib.Core.List.{_++_};
 ghost use mathlib.Core.Path.{_≡_};
@@ -148,7 +148,7 @@ pub fn entry_size(s: &[u8]) -> usize
     len + 1
 }
 
-// How a batch is cut: 0, or 15 or 24 with room for so many answers; and how many whole entries there are at its front.
+// How a batch is cut: 0, or 15, or 24 if there is too little room for answers; and how many whole entries there are at its front.
 pub struct Cuts {
     pub refusal: u8,
     pub entries: usize,
@@ -228,8 +228,8 @@ fn hear_entries(h: Head, batch: &[u8], answers: &mut [u8]) -> Head
     next
 }
 
-// Hears a round's frames, each behind its link byte, in order, going on past a refused one: 0, or 15, 24. The front of `answers` gets a number for each
-// frame, and `count` how many there are.
+// Hears a round's frames, each behind its link byte, in order, going on past a refused one: 0, or 15, 24. The front of `answers` gets a
+// number for each frame, and `count` how many there are.
 pub fn hear_batch(h: Head, batch: &[u8], answers: &mut [u8], count: &mut usize) -> Answer
     ensures { λ r. ⌜ (r ≡ hearBatch h (now (batch .entry)) (length (now (answers .entry))))
         × (now (answers .exit) ≡ batchAnswers h (now (batch .entry)) (now (answers .entry)))

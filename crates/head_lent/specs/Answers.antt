@@ -38,7 +38,7 @@ abbrev pub rangeNumber : LastKept → ℕ
 rangeNumber LastKept.Nothing = 0
 rangeNumber (LastKept.Range k) = 1
 
--- 1 if an offer stands
+-- 1 if there is an offer
 abbrev pub offerNumber : Offer → ℕ
 offerNumber Offer.Nothing = 0
 offerNumber (Offer.Standing k) = 1

@@ -1,5 +1,6 @@
-// The calls on a head's record that its owner keeps and lends: each changes that record itself, or reads it. Each is a thin form of a call by value, and
-// its promise is that call's definition (record's specs/Calls.antt). A refusal gives its number and leaves the record, and what else is lent, as it was.
+// The calls on a head's record that its owner keeps and lends: each changes that record itself, or reads it. Each is a thin form of a call
+// by value, and its promise is that call's definition (head_spec's specs/Calls.antt). A refusal gives its number and leaves the record, and
+// what else is lent, as it was.
 ghost use mathlib.Core.Path.{_≡_};
 ghost use lib.ListN.{length};
 ghost use Rattle.head_spec.specs.Batch.{hearBatch, batchAnswers, batchCount};
@@ -74,8 +75,8 @@ pub fn hear(h: &mut Head, link: u32, frame: &[u8]) -> u8
     out.refusal
 }
 
-// Hears a round's frames, each behind its link byte, in order, going on past a refused one: 0, or 15, 24. The front of `answers` gets a number for each
-// frame, and `count` how many there are.
+// Hears a round's frames, each behind its link byte, in order, going on past a refused one: 0, or 15, 24. The front of `answers` gets a
+// number for each frame, and `count` how many there are.
 pub fn hear_batch(h: &mut Head, batch: &[u8], answers: &mut [u8], count: &mut usize) -> u8
     ensures { λ r. ⌜ (r ≡ hearBatch (now (h .entry)) (now (batch .entry)) (length (now (answers .entry))) .refusal)
         × (now (h .exit) ≡ hearBatch (now (h .entry)) (now (batch .entry)) (length (now (answers .entry))) .head)
@@ -87,8 +88,8 @@ pub fn hear_batch(h: &mut Head, batch: &[u8], answers: &mut [u8], count: &mut us
     out.refusal
 }
 
-// Closes the round, or refuses 26, 25: it ends a collection round, and answers the position of a phase's last round, which is the offer that stands beside the record
-// then. `head_calls::offered` and `head_calls::lapsed` say what becomes of an offer.
+// Closes the round, or refuses 26, 25: it ends a collection round, and answers the position of a phase's last round, which is then the
+// offer. `head_calls::offered` and `head_calls::lapsed` say what becomes of an offer.
 pub fn close(h: &mut Head) -> Closed
     ensures { λ r. ⌜ (r ≡ close (now (h .entry)) .closed) × (now (h .exit) ≡ close (now (h .entry)) .head) ⌝ }
 {

@@ -1,5 +1,5 @@
--- A round's frames in one call (document 02, A1): the input is cut into entries, each a link byte and then a frame as long as its own length field says; the
--- frames are heard in order. The call checks 15, then 24; nothing of it is heard if it is refused.
+-- A round's frames in one call (document 02, A1): the input is cut into entries, each a link byte and then a frame as long as its own
+-- length field says; the frames are heard in order. The call checks 15, then 24; nothing of it is heard if it is refused.
 use mathlib.Core.Bool.{Bool, true, false, cond, _&&_}
 use mathlib.Core.List.{List, [], _∷_, _++_}
 use Prim.Native.Nat.{ℕ, zero, suc, _+_}
@@ -14,11 +14,11 @@ use Rattle.head_spec.specs.Calls.{answer, Delivery, hearEach, answersTo}
 
 -- ---- the input, cut into entries
 
--- the length field of the first entry's frame, behind its link byte; a byte past the end reads as 0
+-- the length field of the first entry's frame, behind its link byte; a byte past the end reads as 0 (Q01)
 abbrev pub frameLength : List ℕ → ℕ
 frameLength s = at2 s 1
 
--- whether the first entry is whole; if its length field is missing, the frame runs past the end
+-- whether the first entry is whole; if its length field is missing, the frame runs past the end (Q02)
 abbrev pub isWhole : List ℕ → Bool
 isWhole s = leb 4 (frameLength s) && leb (1 + frameLength s) (length s)
 
@@ -49,8 +49,9 @@ entriesOf s = cutInto (length s) s
 abbrev pub isBatch : List ℕ → Bool
 isBatch s = isCutInto (length s) s
 
--- ---- the call, with room for so many answers
+-- ---- the call; room: for how many answers there is room
 
+-- Q03, Q04, Q05
 unfoldable pub batchRefusal : List ℕ → ℕ → ℕ
 batchRefusal s room = check (isBatch s) refusal.batch-entry (check (leb (length (entriesOf s)) room) refusal.buffer 0)
 
@@ -58,11 +59,12 @@ batchRefusal s room = check (isBatch s) refusal.batch-entry (check (leb (length 
 unfoldable pub hearBatch : Head → List ℕ → ℕ → Answer
 hearBatch h s room = answer (batchRefusal s room) (hearEach h (entriesOf s)) h
 
--- the lent buffer after it: a byte for each frame, 0 or the number that hearing it alone would answer at that point; the bytes behind them as they were
+-- the lent buffer after it: a byte for each frame, 0 or the number that hearing it alone would answer at that point; the bytes behind them
+-- as they were (Q07, Q08)
 unfoldable pub batchAnswers : Head → List ℕ → List ℕ → List ℕ
 batchAnswers h s buffer =
     leaves (batchRefusal s (length buffer)) (answersTo h (entriesOf s) ++ drop (length (entriesOf s)) buffer) buffer
 
--- the lent count after it: how many frames there were
+-- the lent count after it: how many frames there were (Q06)
 unfoldable pub batchCount : List ℕ → ℕ → ℕ → ℕ
 batchCount s room old = leaves (batchRefusal s room) (length (entriesOf s)) old

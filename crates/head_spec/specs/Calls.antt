@@ -1,5 +1,6 @@
--- What each call answers and what it makes of the record. A refusal gives its number and leaves the record as it was. K is the family of the ring: a phase of one
--- round (document 02, A9) has round 0 alone, in which heads send positions, as in collection, and which ends the phase, as confession does.
+-- What each call answers and what it makes of the record. A refusal gives its number and leaves the record as it was. K is the family of
+-- the ring: a phase of one round (document 02, A9) has round 0 alone, in which heads send positions, as in collection, and which ends the
+-- phase, as confession does.
 use mathlib.Core.Bool.{Bool, true, false, not, cond, _&&_}
 use mathlib.Core.List.{List, [], _∷_}
 use Prim.Native.Nat.{ℕ, zero, suc}
@@ -40,9 +41,11 @@ answer (suc c) new old = record { refusal = suc c; head = old }
 
 -- ---- a start gives n, f, number and position, and opens phase 1; checks 1, 2 (in a ring of one round 18), 3, 4
 
+-- P34, Q76
 unfoldable pub startRefusal : Family → ℕ → ℕ → ℕ → ℤ → ℕ
 startRefusal K n f i v = checkSize K n f (check (ltb i n) refusal.head-number (check (isPosition v) refusal.position 0))
 
+-- P37
 unfoldable pub started : Family → ℕ → ℕ → ℕ → ℤ → Head
 started K n f i v = opened (firstSeat K n f i v) noEntries
 
@@ -51,10 +54,11 @@ start h K n f i v = answer (startRefusal K n f i v) (started K n f i v) h
 
 -- ---- a restart gives phase and round in place of the position; checks 1, 2 or 18, 3, 5. The head is healed, with no position
 
--- a phase and a round that there are
+-- a phase and a round that there are (P35)
 abbrev pub isTime : Family → ℕ → ℕ → Bool
 isTime K p r = isPhase p && ltb r (roundsOf K)
 
+-- P34, Q76
 unfoldable pub restartRefusal : Family → ℕ → ℕ → ℕ → ℕ → ℕ → ℕ
 restartRefusal K n f i p r = checkSize K n f (check (ltb i n) refusal.head-number (check (isTime K p r) refusal.phase 0))
 
@@ -64,18 +68,21 @@ restarted K n f i p r = opened (healedSeat K n f i p r) noEntries
 unfoldable pub restart : Head → Family → ℕ → ℕ → ℕ → ℕ → ℕ → Answer
 restart h K n f i p r = answer (restartRefusal K n f i p r) (restarted K n f i p r) h
 
--- ---- a listener (document 02, A6) is a record with a number from 32 to 47. Its start gives no position; checks 1, 2 or 18, 3. Its restart checks 1, 2 or 18,
--- 3, 5 and makes the record that a head's makes. It hears and closes as a head does.
+-- ---- a listener (document 02, A6) is a record with a number from 32 to 47. Its start gives no position; checks 1, 2 or 18, 3. Its restart
+-- checks 1, 2 or 18, 3, 5 and makes the record that a head's makes. It hears and closes as a head does.
 
+-- Q31, Q32
 unfoldable pub startListenerRefusal : Family → ℕ → ℕ → ℕ → ℕ
 startListenerRefusal K n f i = checkSize K n f (check (isListener i) refusal.head-number 0)
 
+-- Q34
 unfoldable pub startedListener : Family → ℕ → ℕ → ℕ → Head
 startedListener K n f i = opened (listenerSeat K n f i) noEntries
 
 unfoldable pub startListener : Head → Family → ℕ → ℕ → ℕ → Answer
 startListener h K n f i = answer (startListenerRefusal K n f i) (startedListener K n f i) h
 
+-- Q33
 unfoldable pub restartListenerRefusal : Family → ℕ → ℕ → ℕ → ℕ → ℕ → ℕ
 restartListenerRefusal K n f i p r = checkSize K n f (check (isListener i) refusal.head-number (check (isTime K p r) refusal.phase 0))
 
@@ -91,6 +98,7 @@ saidTo x k s = said (x .n) (x .phase) (x .round) k s
 abbrev pub refusalTo : Seat → ℕ → List ℕ → ℕ
 refusalTo x k s = refusalOf (x .n) (x .phase) (x .round) k s
 
+-- P09, P12, P16, Q35
 unfoldable pub hearRefusal : Head → ℕ → List ℕ → ℕ
 hearRefusal h k s =
     check (not (h .seat .ended)) refusal.ended
@@ -113,12 +121,14 @@ withConfession g k = record { confessed = withMark (g .confessed) k; listed = g 
 abbrev pub withList : Links → ℕ → Table → Links
 withList g k t = record { confessed = g .confessed; listed = withMark (g .listed) k; marks = set (g .marks) k (t .marks) }
 
+-- D16d
 abbrev pub taken : Head → ℕ → Meaning → Head
 taken h k (refused c) = h
 taken h k (collected e) = hold h k (withEntry (h .list) k e) (h .links) (h .lists)
 taken h k (listed t) = hold h k (h .list) (withList (h .links) k t) (set (h .lists) k (record { entries = t .entries }))
 taken h k confessed = hold h k (h .list) (withConfession (h .links) k) (h .lists)
 
+-- P11
 unfoldable pub hear : Head → ℕ → List ℕ → Answer
 hear h k s = answer (hearRefusal h k s) (taken h k (saidTo (h .seat) k s)) h
 
@@ -127,7 +137,8 @@ pub record Delivery : Type 0 where
   pub link : ℕ
   pub bytes : List ℕ
 
--- deliveries on any links, one after the other, going on past a refused one: the record after them, and what hearing each answers at that point
+-- deliveries on any links, one after the other, going on past a refused one: the record after them, and what hearing each answers at that
+-- point
 unfoldable pub hearEach : Head → List Delivery → Head
 hearEach h [] = h
 hearEach h (d ∷ D) = hearEach (hear h (d .link) (d .bytes) .head) D
@@ -148,6 +159,7 @@ hearAll h g n = hearEach h (onLinks g 0 n)
 -- ---- writing; checks 26, 17 (a listener sends nothing), 24
 
 -- what a head has to say: in round 0 its position, or silence if it is healed; in confession its list, or a confession if it is healed
+-- (P18)
 abbrev pub spokenIn : ℕ → Head → Meaning
 spokenIn zero h = collected (cond (h .seat .healed) Entry.Null (h .seat .position))
 spokenIn (suc r) h = cond (h .seat .healed) confessed (listed (h .list))
@@ -158,6 +170,7 @@ spoken h = spokenIn (h .seat .round) h
 abbrev pub frameFor : Head → List ℕ
 frameFor h = frameOf (h .seat .n) (h .seat .number) (h .seat .phase) (spoken h)
 
+-- P20, Q36
 unfoldable pub writeAnswer : Head → List ℕ → Written
 writeAnswer h buffer =
     cond (h .seat .ended) (Written.Refused refusal.ended)
@@ -166,13 +179,13 @@ writeAnswer h buffer =
 unfoldable pub writeBuffer : Head → List ℕ → List ℕ
 writeBuffer h buffer = cond (h .seat .ended) buffer (cond (isListener (h .seat .number)) buffer (buffered (frameFor h) buffer))
 
--- ---- the end of a round, as document 01 has it: after a collection round the list stands; the last round of a phase settles a position, and the phase ends
+-- ---- the end of a round: a collection round leaves the list; the last round of a phase settles a position, and the phase ends
 
--- the collection round is closed: the list stands
+-- the collection round is closed: the list is kept for the confession round
 unfoldable pub closedCollection : Head → Head
 closedCollection h = opened (confessionSeat (h .seat)) (h .list)
 
--- the phase has ended and settled k: the position, with the kept range and the trim
+-- the phase has ended and settled k: the position, with the kept range and the trim (P30)
 unfoldable pub closedPhase : Head → Kept → Head
 closedPhase h k = opened (nextSeat (h .seat) k) noEntries
 
@@ -183,11 +196,12 @@ closing c h = record { closed = c; head = h }
 abbrev pub settlingOf : Head → Settled
 settlingOf h = settling (rounding (h .seat .phase)) (h .seat .n) (ruleOf (h .seat .family) (h .seat .f)) (entriesBy (h .seat .family) h)
 
+-- P32
 abbrev pub endSettled : Settled → Head → Closing
 endSettled (settled.Refused c) h = closing (Closed.Refused c) h
 endSettled (settled.New k) h = closing (Closed.Settled k) (closedPhase h k)
 
--- last: the round is the last of its phase
+-- last: the round is the last of its phase (P29, P31)
 abbrev pub endIn : Bool → Head → Closing
 endIn false h = closing Closed.Listed (closedCollection h)
 endIn true h = endSettled (settlingOf h) h
@@ -198,21 +212,26 @@ isLastRound s = endsWith (s .family) (s .round)
 unfoldable pub endRound : Head → Closing
 endRound h = cond (h .seat .ended) (closing (Closed.Refused refusal.ended) h) (endIn (isLastRound (h .seat)) h)
 
--- ---- closing; checks 26, 25. It ends a collection round; in the last round of a phase it only offers the position, and the record stays as it is (document 02, A8)
+-- ---- closing; checks 26, 25. It ends a collection round; in the last round of a phase it only offers the position, and the record stays
+-- as it is (document 02, A8)
 
+-- Q69
 abbrev pub offerSettled : Settled → Head → Closing
 offerSettled (settled.Refused c) h = closing (Closed.Refused c) h
 offerSettled (settled.New k) h = closing (Closed.Settled k) h
 
+-- Q64
 abbrev pub closeIn : Bool → Head → Closing
 closeIn false h = closing Closed.Listed (closedCollection h)
 closeIn true h = offerSettled (settlingOf h) h
 
+-- Q65
 unfoldable pub close : Head → Closing
 close h = cond (h .seat .ended) (closing (Closed.Refused refusal.ended) h) (closeIn (isLastRound (h .seat)) h)
 
--- ---- adopting; checks 27, 26. What stands beside the head as an offer becomes its position, and the phase ends
+-- ---- adopting; checks 27, 26. What is offered becomes the head's position, and the phase ends
 
+-- Q67
 abbrev pub adoptRefusal : Head → Offer → ℕ
 adoptRefusal h Offer.Nothing = refusal.no-offer
 adoptRefusal h (Offer.Standing k) = check (not (h .seat .ended)) refusal.ended 0
@@ -221,5 +240,6 @@ abbrev pub adopted : Head → Offer → Head
 adopted h Offer.Nothing = h
 adopted h (Offer.Standing k) = closedPhase h k
 
+-- Q68
 unfoldable pub adopt : Head → Offer → Answer
 adopt h o = answer (adoptRefusal h o) (adopted h o) h

@@ -27,7 +27,8 @@ use Rattle.head_spec.specs.Record.{heardEntry, givenOf}
 use Rattle.head_spec.specs.Calls.{startRefusal, started, restartRefusal, restarted, startListenerRefusal, startedListener, restartListenerRefusal, saidTo, hear, Delivery, hearEach, spoken, frameFor, writeAnswer, writeBuffer, endSettled, endRound, offerSettled, isLastRound, close}
 use Rattle.head_spec.specs.Proper.{ProperHead}
 
--- The records that calls can reach: started or restarted, as a head or as a listener, and then heard on and their rounds ended, with any arguments, whatever is refused on the way.
+-- The records that calls can reach: started or restarted, as a head or as a listener, and then heard on and their rounds ended, with any
+-- arguments, whatever is refused on the way.
 pub data Reachable : Head → Type 0 where
   starts : (K : Family) (n f i : ℕ) (v : ℤ) → startRefusal K n f i v ≡ 0 → Reachable (started K n f i v)
   restarts : (K : Family) (n f i p r : ℕ) → restartRefusal K n f i p r ≡ 0 → Reachable (restarted K n f i p r)
@@ -39,8 +40,8 @@ pub data Reachable : Head → Type 0 where
 abbrev pub EveryProper : Type 0
 EveryProper = (h : Head) → Reachable h → ProperHead h
 
--- ---- "A frame written for a head's state reads back as what that head had to say": to every head of the same ring in the same phase and round, on
--- the link of its number. A listener has nothing to say to anyone.
+-- ---- "A frame written for a head's state reads back as what that head had to say": to every head of the same ring in the same phase and
+-- round, on the link of its number. A listener has nothing to say to anyone.
 
 abbrev pub ReadsBack : Type 0
 ReadsBack =
@@ -69,12 +70,14 @@ orElse (collected e) next = collected e
 orElse (listed t) next = listed t
 orElse confessed next = confessed
 
--- "Each link gives its first acceptable frame of a round, or nothing": what link k says in a round, of all that is delivered; `refused 0` is nothing
+-- "Each link gives its first acceptable frame of a round, or nothing": what link k says in a round, of all that is delivered; `refused 0`
+-- is nothing
 unfoldable pub firstSaid : Seat → ℕ → List Delivery → Meaning
 firstSaid x k [] = refused 0
 firstSaid x k (d ∷ D) = cond (eqb (d .link) k) (orElse (saidTo x k (d .bytes)) (firstSaid x k D)) (firstSaid x k D)
 
--- the entries from which a phase end settles, by what each link said in its last round: those that are trusted, or in a ring of one round those that were said
+-- the entries from which a phase end settles, by what each link said in its last round: those that are trusted, or in a ring of one round
+-- those that were said
 abbrev pub entriesFrom : Family → Seat → List Delivery → ℕ → Entry
 entriesFrom TwoRounds x D = trusted (x .n) (x .f) (λ k. givenOf (firstSaid x k D))
 entriesFrom OneRound x D = λ k. heardEntry (firstSaid x k D)
@@ -96,7 +99,7 @@ pub record FollowsCC (h : Head) (D : List Delivery) : Type 0 where
 abbrev pub AlgorithmCC : Type 0
 AlgorithmCC = (h : Head) → Reachable h → h .heard ≡ 0 → h .seat .ended ≡ false → (D : List Delivery) → FollowsCC h D
 
--- "Trusted entry j is u if exactly one position has support n - f or more and link j has not confessed": of n links, link k having given G k
+-- "Trusted entry j is u if exactly one position has support n - f or more and link j has not confessed": link k of n gave G k
 abbrev pub TrustsOnly : Type 0
 TrustsOnly =
     (n f : ℕ) (G : ℕ → Given) (j : ℕ) (u : ℤ) → (trusted n f G j ≡ Entry.Position u) ↔ (Only n f G j u × (hasConfessed (G j) ≡ false))

@@ -1,4 +1,5 @@
--- The offer beside a head (document 02, A8): which call makes it, which ends it, and what it is worth while it stands. proofs/Offers.antt proves it.
+-- The offer (document 02, A8), which is kept outside the record: which call makes it, which ends it, and what it is worth while it stands.
+-- proofs/Offers.antt proves it.
 use mathlib.Core.Path.{_≡_}
 use mathlib.Core.List.{List, [], _∷_}
 use Prim.Native.Nat.{ℕ}
@@ -18,16 +19,16 @@ use Rattle.head_spec.specs.Ranges.{Passed}
 
 -- ---- the offer after a call; c is the number that the call answers
 
--- a start, a restart, an accepted frame and an adoption end it; a refused one leaves it standing
+-- a start, a restart, an accepted frame and an adoption end it; a refused one leaves it standing (Q66)
 abbrev pub lapsed : ℕ → Offer → Offer
 lapsed c o = leaves c Offer.Nothing o
 
--- frames heard one after the other, with these answers
+-- frames heard one after the other, with these answers (Q09)
 unfoldable pub lapsedBy : List ℕ → Offer → Offer
 lapsedBy [] o = o
 lapsedBy (c ∷ cs) o = lapsedBy cs (lapsed c o)
 
--- closing the last round of a phase makes it; any other closing leaves it as it is
+-- closing the last round of a phase makes it; any other closing leaves it as it is (Q65, Q66)
 abbrev pub offered : Closed → Offer → Offer
 offered (Closed.Refused c) o = o
 offered Closed.Listed o = o
@@ -40,12 +41,13 @@ thenAdopt (Closed.Refused c) h = closing (Closed.Refused c) h
 thenAdopt Closed.Listed h = closing Closed.Listed h
 thenAdopt (Closed.Settled k) h = closing (Closed.Settled k) (adopt h (Offer.Standing k) .head)
 
+-- Q68
 abbrev pub OfferThenAdopt : Type 0
 OfferThenAdopt = (h : Head) → thenAdopt (close h .closed) (close h .head) ≡ endRound h
 
 -- ---- and whatever is refused between the two calls
 
--- a record that calls can reach, the offer beside it, and what its phase ends passed on last (document 02, A2)
+-- a record that calls can reach, its offer, and what its phase ends passed on last (document 02, A2)
 pub data Offering : Head → Offer → LastKept → Type 0 where
   starts : (K : Family) (n f i : ℕ) (v : ℤ) → startRefusal K n f i v ≡ 0 → Offering (started K n f i v) Offer.Nothing LastKept.Nothing
   restarts : (K : Family) (n f i p r : ℕ) → restartRefusal K n f i p r ≡ 0 → Offering (restarted K n f i p r) Offer.Nothing LastKept.Nothing
@@ -57,7 +59,7 @@ pub data Offering : Head → Offer → LastKept → Type 0 where
   adopts : {h : Head} {k : Kept} {x : LastKept} → Offering h (Offer.Standing k) x
       → Offering (adopt h (Offer.Standing k) .head) Offer.Nothing (LastKept.Range k)
 
--- an offer that stands is what the round would settle now, and adopting it ends the phase with it
+-- an offer that stands is what the round would settle now, and adopting it ends the phase with it (Q67)
 abbrev pub OfferHolds : Type 0
 OfferHolds =
     (h : Head) (k : Kept) (x : LastKept) → Offering h (Offer.Standing k) x

@@ -42,7 +42,8 @@ abbrev pub ProperLast : ℕ → LastKept → Type 0
 ProperLast f LastKept.Nothing = Unit {0}
 ProperLast f (LastKept.Range k) = ProperKept f k
 
--- The position is null or in range. A head in round 0 that is not healed holds one; in a confession round it may have none, and a listener may have none in either.
+-- The position is null or in range. A head in round 0 that is not healed holds one; in a confession round it may have none, and a listener
+-- may have none in either.
 pub record ProperSeat (s : Seat) : Type 0 where
   pub size : Sized (s .family) (s .n) (s .f)
   pub number : isListener (s .number) ≡ false → s .number < s .n

@@ -1,5 +1,5 @@
--- Which kept range a head holds (document 02, A2): the one that its last phase end since the start or restart passed on, as that closing answered it, or
--- none. proofs/Ranges.antt proves it.
+-- Which kept range a head holds (document 02, A2): the one that its last phase end since the start or restart passed on, as that closing
+-- answered it, or none. proofs/Ranges.antt proves it.
 use mathlib.Core.Path.{_≡_}
 use mathlib.Core.Bool.{true}
 use mathlib.Core.List.{List}
@@ -16,7 +16,7 @@ use Rattle.head_spec.specs.declared.Head.{Head}
 use Rattle.head_spec.specs.declared.Closed.{Closed}
 use Rattle.head_spec.specs.Calls.{startRefusal, started, restartRefusal, restarted, startListenerRefusal, startedListener, restartListenerRefusal, hear, endRound}
 
--- what was passed on last, after a round's end that answered c; before it x was
+-- what was passed on last, after a round's end that answered c; before it x was (Q10)
 abbrev pub passing : Closed → LastKept → LastKept
 passing (Closed.Refused c) x = x
 passing Closed.Listed x = x
@@ -31,6 +31,7 @@ pub data Passed : Head → LastKept → Type 0 where
   hears : {h : Head} {x : LastKept} (k : ℕ) (s : List ℕ) → AllBytes s → Passed h x → Passed (hear h k s .head) x
   ends : {h : Head} {x : LastKept} → Passed h x → Passed (endRound h .head) (passing (endRound h .closed) x)
 
+-- Q11
 abbrev pub HoldsPassed : Type 0
 HoldsPassed = (h : Head) (x : LastKept) → Passed h x → h .seat .last ≡ x
 

@@ -1,4 +1,4 @@
--- The head's record as it stands when a round opens, and how what it received is read.
+-- The head's record as a round opens, and how what it received is read.
 use mathlib.Core.List.{List, map}
 use Prim.Native.Nat.{ℕ}
 use lib.ListN.{replicate}
@@ -29,7 +29,7 @@ noLinks = record { confessed = 0; listed = 0; marks = replicate 32 0 }
 unfoldable pub noLists : List Row
 noLists = replicate 32 (record { entries = zeros })
 
--- The record with nothing heard, in this seat and with this list. Start, restart and closing make a record here and nowhere else.
+-- The record with nothing heard, in this seat and with this list. Start, restart and closing make a record here and nowhere else (P30).
 abbrev pub opened : Seat → Table → Head
 opened s t = record { seat = s; heard = 0; list = t; links = noLinks; lists = noLists }
 
@@ -52,14 +52,14 @@ entriesBy OneRound h = tableAt (h .list)
 
 -- ---- what a frame that was heard amounts to
 
--- in a round in which positions are sent: the entry that was said, null if no position was
+-- in a round in which positions are sent: the entry that was said, null if no position was (D16d)
 abbrev pub heardEntry : Meaning → Entry
 heardEntry (refused c) = Entry.Null
 heardEntry (collected e) = e
 heardEntry (listed t) = Entry.Null
 heardEntry confessed = Entry.Null
 
--- in a confession round: what the link gave
+-- in a confession round: what the link gave (D16d)
 abbrev pub givenOf : Meaning → Given
 givenOf (refused c) = Trust.nothing
 givenOf (collected e) = Trust.nothing

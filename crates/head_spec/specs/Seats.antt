@@ -1,4 +1,4 @@
--- The seats that calls make: where a head stands after a start, a restart and the closing of each round. Calls make a seat here and nowhere else.
+-- The seats that calls make: by a start, a restart and the closing of each round. Calls make a seat here and nowhere else.
 use mathlib.Core.Bool.{Bool, true, false, cond}
 use Prim.Native.Nat.{ℕ, zero, suc, _+_, min}
 use lib.Dec.{leb}
@@ -10,7 +10,7 @@ use Rattle.settle_midpoint.specs.declared.Kept.{Kept}
 use Rattle.head_spec.specs.declared.LastKept.{LastKept}
 use Rattle.head_spec.specs.declared.Seat.{Seat}
 
--- the family that a plain number says: 0 is a ring of two rounds
+-- the family that a plain number says: 0 is a ring of two rounds (Q75)
 abbrev pub familyIn : ℕ → Family
 familyIn zero = TwoRounds
 familyIn (suc b) = OneRound
@@ -32,7 +32,7 @@ firstSeat K n f i v =
       since = 0;
     }
 
--- a listener's start: phase 1 opens, and it holds no position before its first phase end (document 02, A6)
+-- a listener's start: phase 1 opens, and it holds no position before its first phase end (document 02, A6; Q34)
 abbrev pub listenerSeat : Family → ℕ → ℕ → ℕ → Seat
 listenerSeat K n f i =
     record {
@@ -49,7 +49,7 @@ listenerSeat K n f i =
       since = 0;
     }
 
--- a restart, in round r of phase p: the head is healed, with no position and no kept range (document 02, A2)
+-- a restart, in round r of phase p: the head is healed, with no position and no kept range (document 02, A2; Q11)
 abbrev pub healedSeat : Family → ℕ → ℕ → ℕ → ℕ → ℕ → Seat
 healedSeat K n f i p r =
     record {
@@ -66,7 +66,7 @@ healedSeat K n f i p r =
       since = 0;
     }
 
--- the collection round is closed
+-- the collection round is closed (P39)
 abbrev pub confessionSeat : Seat → Seat
 confessionSeat s =
     record {
@@ -83,15 +83,15 @@ confessionSeat s =
       since = s .since;
     }
 
--- phase ends are counted up to here, where the count rests (document 02, A10)
+-- phase ends are counted up to here, where the count rests (document 02, A10; Q89)
 abbrev pub mostCounted : ℕ
 mostCounted = 255
 
 abbrev pub isLast : Seat → Bool
 isLast s = leb 65535 (s .phase)
 
--- the phase has ended and settled k, and one phase end more is counted; after phase 65,535 phase and round stay, and the head has ended (so bit 2 of its window stays:
--- document 02, A5)
+-- the phase has ended and settled k, and one phase end more is counted; after phase 65,535 phase and round stay, and the head has ended (so
+-- bit 2 of its window stays: document 02, A5; P33, P39, Q77, Q89)
 abbrev pub nextSeat : Seat → Kept → Seat
 nextSeat s k =
     record {

@@ -17,13 +17,14 @@ pub enum LastKept {
     Range(Kept),
 }
 
-// What stands beside a head between the two calls that end a phase (document 02, A8): what closing offered, with its kept range, or nothing.
+// What closing offered, with its kept range, until it is adopted or lapses (document 02, A8), or nothing. It is kept outside the record.
 pub enum Offer {
     Nothing,
     Standing(Kept),
 }
 
-// Where a head stands: its ring, its number, the phase and round, the position that it holds, and how many phase ends it has passed.
+// A head's place in its ring: the ring, its number, the phase and round, the position that it holds, and how many phase ends it has passed.
+// Healed is the field's cured.
 pub struct Seat {
     pub family: Family,
     pub n: u8,

@@ -1,5 +1,5 @@
--- Document 02, A5: the head as a register window of sixteen bytes, and what stands beside the head: pending events and a mask. Of both only the three low bits
--- count: 0 phase end, 1 refusal 25, 2 strike over.
+-- Document 02, A5: the head as a register window of sixteen bytes, and what it keeps outside the record: pending events and a mask. Of both
+-- only the three low bits count: 0 phase end, 1 refusal 25, 2 strike over.
 use mathlib.Core.Bool.{Bool, true, false, not, cond, _&&_, _||_}
 use mathlib.Core.List.{List, [], _∷_}
 use Prim.Native.Nat.{ℕ, zero, suc, _+_, _*_}
@@ -37,21 +37,21 @@ withEvent k b = record { events = withMark (b .events) k; mask = b .mask }
 
 -- ---- which call changes them; c is the number that it answers
 
--- a start clears both
+-- a start clears both (Q21)
 abbrev pub startedBeside : ℕ → Beside → Beside
 startedBeside c b = leaves c (record { events = 0; mask = 0 }) b
 
--- a restart sets strike over
+-- a restart sets strike over (Q27)
 abbrev pub restartedBeside : ℕ → Beside → Beside
 restartedBeside c b = leaves c (withEvent strikeOver b) b
 
--- a closing that is refused 25 sets that event: the one exception from demand 1; an offer sets none
+-- a closing that is refused 25 sets that event: the one exception from demand 1; an offer sets none (Q25)
 abbrev pub closedBeside : Closed → Beside → Beside
 closedBeside (Closed.Refused c) b = cond (eqb c refusal.trusted) (withEvent tooFew b) b
 closedBeside Closed.Listed b = b
 closedBeside (Closed.Settled k) b = b
 
--- an adoption ends a phase (document 02, A8)
+-- an adoption ends a phase (document 02, A8; Q26)
 abbrev pub adoptedBeside : ℕ → Beside → Beside
 adoptedBeside c b = leaves c (withEvent phaseOver b) b
 
@@ -66,12 +66,14 @@ abbrev pub positionWord : Entry → ℕ
 positionWord Null = 0
 positionWord (Position v) = wordOf v
 
--- byte 3: position held, healed in this round, confession round. After the last phase end no round is open in which it was healed.
+-- byte 3: position held, healed in this round, confession round. After the last phase end no round is open in which it was healed (Q23,
+-- Q24).
 abbrev pub statusBits : Seat → ℕ → Bool
 statusBits s zero = isHeld (s .position)
 statusBits s (suc zero) = s .healed && not (s .ended)
 statusBits s (suc (suc k)) = not (eqb (s .round) 0)
 
+-- Q30
 unfoldable pub window : Seat → Beside → List ℕ
 window s b =
     s .n ∷ s .f ∷ s .number ∷ three (statusBits s)
@@ -79,19 +81,21 @@ window s b =
 
 -- ---- reading a byte: 16 past byte 15
 
+-- Q18
 abbrev pub readRefusal : ℕ → ℕ
 readRefusal at = check (ltb at 16) refusal.register 0
 
--- the byte, or what stood where it is to go
+-- the byte, or what was where it is to go
 abbrev pub byteRead : Seat → Beside → ℕ → ℕ → ℕ
 byteRead s b at old = leaves (readRefusal at) (getD (window s b) at 0) old
 
 -- ---- writing a byte: 16 but for bytes 10 and 11
 
+-- Q19
 abbrev pub setRefusal : ℕ → ℕ
 setRefusal at = check (eqb at 10 || eqb at 11) refusal.register 0
 
--- byte 10 clears the events written as one; byte 11 sets the mask to its low three bits
+-- byte 10 clears the events written as one; byte 11 sets the mask to its low three bits (Q19)
 abbrev pub setBeside : ℕ → ℕ → Beside → Beside
 setBeside at x b =
     cond (eqb at 10) (record { events = three (λ k. bitOf (b .events) k && not (bitOf x k)); mask = b .mask })
@@ -99,5 +103,6 @@ setBeside at x b =
 
 -- ---- the interrupt line is up exactly when a pending event is in the mask
 
+-- Q28
 unfoldable pub isUp : Beside → Bool
 isUp b = not (eqb (three (λ k. bitOf (b .events) k && bitOf (b .mask) k)) 0)

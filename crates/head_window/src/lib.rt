@@ -1,4 +1,4 @@
-// The head as a register window of sixteen bytes, and what stands beside a head: pending events and a mask.
+// The head as a register window of sixteen bytes, and what it keeps outside the record: pending events and a mask.
 ghost use mathlib.Core.Path.{_≡_};
 ghost use mathlib.Core.Bool.{not, _&&_};
 ghost use Prim.Native.Nat.{_+_, _*_};

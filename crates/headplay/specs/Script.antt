@@ -1,4 +1,4 @@
--- What a record of a script does to the head's record and the offer beside it, and the number that the call answers. src/main.rt has the records.
+-- What a record of a script does to the head's record and its offer, and the number that the call answers. src/main.rt has the records.
 use mathlib.Core.Bool.{cond, _&&_}
 use mathlib.Core.List.{List}
 use Prim.Native.Nat.{ℕ, zero, suc}
@@ -35,7 +35,7 @@ opening c s h =
     (cond (eqb c 2) (startListener h (familyAt s) (at4 s 3) (at4 s 7) (at4 s 11))
     (restartListener h (familyAt s) (at4 s 3) (at4 s 7) (at4 s 11) (at4 s 15) (at4 s 19))))
 
--- frames heard in one call, with room for so many answers
+-- frames heard in one call, with room for this many answers
 unfoldable pub batched : Head → List ℕ → ℕ → Offer → Outcome
 batched h b room o = record {
   number = hearBatch h b room .refusal;
@@ -76,6 +76,6 @@ playedUpTo zero s x = x
 playedUpTo (suc m) s x =
     cond (eqb (recordSize s) 0) x (playedUpTo m (drop (recordSize s) s) (turn (take (recordSize s) s) (x .head) (x .offer)))
 
--- no script has more records than bytes; at first the head is head 0 of a ring of one, at 0
+-- no script has more records than bytes; at first the head is head 0 of a ring of one, at 0 (D11)
 abbrev pub played : List ℕ → Outcome
 played s = playedUpTo (length s) s (record { number = 0; head = started TwoRounds 1 0 0 (pos 0); offer = Offer.Nothing })

@@ -1,15 +1,18 @@
-// headplay: one head's shift. A host in Rattle keeps one head's record and the offer beside it, and lends the record to each call: a script of calls from standard input, a line for
-// each call to standard output. At first the head is head 0 of a ring of one, at 0.
+// headplay: one head's shift. A host in Rattle keeps one head's record and its offer, and lends the record to each call: a script of calls
+// from standard input, a line for each call to standard output. At first the head is head 0 of a ring of one, at 0.
 //
-// A script is at most 65,536 bytes of records. A record: 2 bytes length (of the whole record), 1 byte call, the arguments; numbers of 4 bytes but for a room, which is 1 byte,
-// all little-endian; a byte that is missing reads as 0, and bytes left over are not looked at. The calls:
+// A script is at most 65,536 bytes of records. A record: 2 bytes length (of the whole record), 1 byte call, the arguments; numbers of 4
+// bytes but for a room, which is 1 byte, all little-endian; a byte that is missing reads as 0, and bytes left over are not looked at. The
+// calls:
 //     0 start: n, f, number, position           3 restart_listener: n, f, number, phase, round      6 write: room
 //     1 restart: n, f, number, phase, round     4 hear: link, then the frame                        7 close
 //     2 start_listener: n, f, number            5 hear_batch: room for answers, then the batch      8 adopt
-// Any other number is a look at the record. Of calls 0 to 3, byte 23 is the family: 0, or missing, if phases have two rounds, else one (document 02, A9).
+// Any other number is a look at the record. Of calls 0 to 3, byte 23 is the family: 0, or missing, if phases have two rounds, else one
+// (document 02, A9).
 //
-// A line: the call's name and what it gave (a frame or the answers to a batch in hexadecimal, `listed`, or the lowest and highest kept, the trim and the position), a colon, the call's
-// number, then what the host holds: phase, round, position or `none`, and the offer or `none`. The last line is `end`, or `cut` if the script ends inside a record.
+// A line: the call's name and what it gave (a frame or the answers to a batch in hexadecimal, `listed`, or the lowest and highest kept, the
+// trim and the position), a colon, the call's number, then what the host holds: phase, round, position or `none`, and the offer or `none`.
+// The last line is `end`, or `cut` if the script ends inside a record.
 ghost use mathlib.Core.Path.{_≡_};
 ghost use mathlib.Core.List.{List};
 ghost use Prim.Native.Nat.{ℕ};
@@ -35,7 +38,8 @@ use terms::Entry;
 use terms::Family;
 use terms::Table;
 
-// ---- The record, lent: each function puts it into a local, lends that to the call, and gives back what the call answers and the record that it left.
+// ---- The record, lent: each function puts it into a local, lends that to the call, and gives back what the call answers and the record
+// that it left.
 
 fn start(h: Head, family: Family, n: u32, f: u32, number: u32, position: i32) -> Answer
     ensures { λ r. ⌜ r ≡ start h family n f number position ⌝ }

@@ -1,5 +1,5 @@
--- A head's line from whole numbers alone, with no float in it: the digits of `bitsOf` (crates/reading/specs/Bits.antt). proofs/FromNumbers.antt proves that it is
--- the line of the head's reading.
+-- A head's line from whole numbers alone, with no float in it: the digits of `bitsOf` (crates/reading/specs/Bits.antt).
+-- proofs/FromNumbers.antt proves that it is the line of the head's reading.
 use mathlib.Core.Path.{_≡_}
 use mathlib.Core.Bool.{cond, _&&_}
 use mathlib.Core.List.{List}

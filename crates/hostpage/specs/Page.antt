@@ -1,5 +1,5 @@
--- A14, the host page: for each head a line with its number, then `unknown`, `point` or `range`, then none, one or three floats, each as its bits in eight
--- lower-case hexadecimal digits, parted by single spaces. Bytes are ASCII.
+-- A14, the host page: for each head a line with its number, then `unknown`, `point` or `range`, then none, one or three floats, each as its
+-- bits in eight lower-case hexadecimal digits, parted by single spaces. Bytes are ASCII.
 use mathlib.Core.Bool.{cond}
 use mathlib.Core.List.{List, [], _∷_, _++_}
 use Prim.Native.Nat.{ℕ, zero, suc}
@@ -41,20 +41,21 @@ readingText Reading.Unknown = ended unknown
 readingText (Reading.Point x) = spaced point (ended (floatText x))
 readingText (Reading.Range k) = rangeText k
 
+-- Q105
 unfoldable pub lineOf : ℕ → Reading → List ℕ
 lineOf head r = spaced (decimal head) (readingText r)
 
 -- ---- the page
 
--- the lines of heads 0 to n - 1
+-- the lines of heads 0 to n - 1 (Q103)
 unfoldable pub pageOf : ℕ → List Reading → List ℕ
 pageOf zero rs = []
 pageOf (suc k) rs = pageOf k rs ++ lineOf k (getD rs k Reading.Unknown)
 
--- 1, then 24, else the page's length
+-- 1, then 24, else the page's length (Q103)
 unfoldable pub pageAnswer : ℕ → List Reading → List ℕ → Written
 pageAnswer n rs buffer = cond (isCount n) (written (pageOf n rs) buffer) (Written.Refused refusal.head-count)
 
--- the page at the front, and the bytes after it as they were; a refusal leaves all as it was
+-- the page at the front, and the bytes after it as they were; a refusal leaves all as it was (Q104)
 unfoldable pub pageIn : ℕ → List Reading → List ℕ → List ℕ
 pageIn n rs buffer = cond (isCount n) (buffered (pageOf n rs) buffer) buffer

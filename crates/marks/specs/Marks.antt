@@ -1,4 +1,4 @@
--- Mark words: bit j stands for entry j, or for head j.
+-- Mark words: bit j is for entry j, or for head j.
 use mathlib.Core.Bool.{Bool, not, cond, _&&_}
 use Prim.Native.Nat.{ℕ, _+_, _/_, _%_, _^_}
 use lib.Dec.{eqb, ltb}

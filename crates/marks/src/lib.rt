@@ -17,7 +17,7 @@ pub fn marked_wide(m: u64, j: usize) -> bool
     if j < 64 { (m >> j) % 2 == 1 } else { false }
 }
 
-// Whether no mark stands at n or above.
+// Whether there is no mark at n or above.
 pub fn marks_below(m: u32, n: usize) -> bool
     ensures { λ r. ⌜ r ≡ marksBelow m n ⌝ }
 {

@@ -18,7 +18,8 @@ use Rattle.convergence.specs.Trust.{Given, nothing, confessed, gave, support, c
 use Rattle.convergence.specs.Demand3.{Halves}
 use Rattle.settle_midpoint.specs.Answers.{settling, settledNumber, settledEntry}
 
--- n heads, struck limit f, and what the rules answer. Document 01's points count as phase 1 (document 02, A7); beside each odd sum is the same point in phase 2.
+-- n heads, struck limit f, and what the rules answer. Document 01's points count as phase 1 (document 02, A7); beside each odd sum is the
+-- same point in phase 2.
 pub data Point : Type 0 where
   taken : ℕ → ℕ → Point
   refused : ℕ → ℕ → ℕ → Point  -- with the number

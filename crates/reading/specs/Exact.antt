@@ -1,4 +1,5 @@
--- Whole numbers and halves as floats, with no rounding in the definition. A `Float` is `fin s m e`, the number m * 2 ^ e, negative where s is true (lib.Ieee).
+-- Whole numbers and halves as floats, with no rounding in the definition. A `Float` is `fin s m e`, the number m * 2 ^ e, negative where s
+-- is true (lib.Ieee).
 use mathlib.Core.Bool.{true, false}
 use Prim.Native.Nat.{ℕ, suc}
 use lib.IntN.{ℤ, pos, negsuc}

@@ -13,7 +13,7 @@ use Rattle.head_spec.specs.Offers.{Offering}
 use Rattle.reading.specs.declared.Reading.{Reading}
 use Rattle.reading.specs.Readings.{keptReading, readingOf, headReading}
 
--- Of any record. A frame does not change the reading, and an offer does not show in it.
+-- Of any record. A frame does not change the reading, and an offer does not show in it (Q101).
 pub record FollowsAdoption : Type 0 where
   pub started : (K : Family) (n f i : ℕ) (v : ℤ) → headReading (started K n f i v) ≡ Reading.Unknown
   pub restarted : (K : Family) (n f i p r : ℕ) → headReading (restarted K n f i p r) ≡ Reading.Unknown
@@ -23,8 +23,8 @@ pub record FollowsAdoption : Type 0 where
   pub adopted : (h : Head) (k : Kept) → adopt h (Offer.Standing k) .refusal ≡ 0 → headReading (adopt h (Offer.Standing k) .head) ≡ readingOf (LastKept.Range k)
   pub refused : (h : Head) (o : Offer) (c : ℕ) → adopt h o .refusal ≡ suc c → headReading (adopt h o .head) ≡ headReading h
 
--- Of a record that calls can reach, with the offer o beside it: while nothing was adopted since the start or restart, it is unknown; else it is a point or a
--- range, of what was adopted last.
+-- Of a record that calls can reach, with the offer o: while nothing was adopted since the start or restart, it is unknown; else it is a
+-- point or a range, of what was adopted last.
 abbrev pub ReadsAdopted : LastKept → Reading → Type 0
 ReadsAdopted LastKept.Nothing r = r ≡ Reading.Unknown
 ReadsAdopted (LastKept.Range k) r = r ≡ keptReading (k .low) (k .high)

@@ -1,5 +1,5 @@
--- A14: a reading is unknown before the first phase end since the start or restart, a point where the two kept entries are equal, and otherwise a range: the
--- lowest, the highest and their midpoint, which is not rounded to a step.
+-- A14: a reading is unknown before the first phase end since the start or restart, a point where the two kept entries are equal, and
+-- otherwise a range: the lowest, the highest and their midpoint, which is not rounded to a step.
 use mathlib.Core.Bool.{cond, _&&_}
 use lib.IntN.{ℤ, _+ℤ_}
 use Rattle.terms.specs.Positions.{isPosition, eqZ}
@@ -13,7 +13,7 @@ use Rattle.reading.specs.Exact.{exact}
 unfoldable pub rangeOf : ℤ → ℤ → KeptRange
 rangeOf low high = record { lowest = exact 0 low; highest = exact 0 high; midpoint = exact 1 (low +ℤ high) }
 
--- of two kept entries
+-- of two kept entries (Q102)
 abbrev pub keptReading : ℤ → ℤ → Reading
 keptReading low high = cond (eqZ low high) (Reading.Point (exact 0 low)) (Reading.Range (rangeOf low high))
 
@@ -26,6 +26,6 @@ abbrev pub readingOf : LastKept → Reading
 readingOf LastKept.Nothing = Reading.Unknown
 readingOf (LastKept.Range k) = readingBetween (k .low) (k .high)
 
--- of a head
+-- of a head (Q101)
 abbrev pub headReading : Head → Reading
 headReading h = readingOf (h .seat .last)

@@ -60,7 +60,8 @@ fn reading_between(lowest: i32, highest: i32) -> Reading
     }
 }
 
-// The reading of what a head holds of its last phase end: unknown if it holds nothing, a point if the two kept entries are equal, otherwise a range.
+// The reading of what a head holds of its last phase end: unknown if it holds nothing, a point if the two kept entries are equal, otherwise
+// a range.
 pub fn reading_of(last: LastKept) -> Reading
     ensures { λ r. ⌜ r ≡ readingOf last ⌝ }
 {

@@ -1,5 +1,5 @@
-// rigplay: a run file from standard input, its listing to standard output. It does what run_program tells it: each turn it makes the one system call that is asked
-// for, and says what that did.
+// rigplay: a run file from standard input, its listing to standard output. It does what run_program tells it: each turn it makes the one
+// system call that is asked for, and says what that did.
 use frame_slots::PlantedBytes;
 use frame_slots::PlantedLengths;
 use libc::STDIN_FILENO;

@@ -1,5 +1,5 @@
--- A round played on the heads' memory, which a player keeps apart from the records: the positions at the last phase end, and after a collection round
--- the list of each head. Each definition says what the head records would hear and make of it.
+-- A round played on the heads' memory, which a player keeps apart from the records: the positions at the last phase end, and after a
+-- collection round the list of each head. Each definition says what the head records would hear and make of it.
 use mathlib.Core.Path.{_≡_}
 use mathlib.Core.Bool.{Bool, true, not, cond, _&&_}
 use mathlib.Core.List.{List, []}
@@ -62,7 +62,7 @@ ToldAlike s plant i m = (k : ℕ) → k < heads s → bitOf (s .struck) k ≡ tr
 abbrev pub sends : Stage → List ℤ → ℕ → Meaning
 sends s positions k = collected (cond (bitOf (s .before) k) Entry.Null (Entry.Position (getD positions k (pos 0))))
 
--- what each head sends is what a frame can say: a position is in range
+-- what each head sends is what a frame can say: a position is in range (D12)
 abbrev pub InRange : Stage → List ℤ → Type 0
 InRange s positions = Each (heads s) (λ k. Proper (heads s) (sends s positions k))
 
@@ -80,7 +80,7 @@ rowIn marks lists k = record { marks = getD marks k 0; entries = getD lists k []
 abbrev pub replies : Stage → List ℕ → List (List ℤ) → ℕ → Meaning
 replies s marks lists k = cond (bitOf (s .before) k) confessed (listed (rowIn marks lists k))
 
--- what each head sends is what a frame can say: the entries of a list are positions if they are marked, and else 0
+-- what each head sends is what a frame can say: the entries of a list are positions if they are marked, and else 0 (D12)
 abbrev pub Sayable : Stage → List ℕ → List (List ℤ) → Type 0
 Sayable s marks lists = Each (heads s) (λ k. Proper (heads s) (replies s marks lists k))
 
@@ -89,7 +89,7 @@ unfoldable pub givenEntry : Stage → List ℕ → List (List ℤ) → (ℕ → 
 givenEntry s marks lists plant i k =
     givenOf (said (heads s) (s .phase) 1 k (carries s plant i k (replies s marks lists k)))
 
--- a refusal leaves no position: 0 stands for none, and no ring within its limits comes to it
+-- a refusal leaves no position: 0 is none, and no ring within its limits comes to it (P65)
 abbrev pub positionOf : Settled → ℤ
 positionOf (Refused c) = pos 0
 positionOf (New k) = k .position

@@ -1,4 +1,5 @@
-// What all receivers of a confession round share: the lists that every head hears are compared once, and each receiver adds what it alone was told.
+// What all receivers of a confession round share: the lists that every head hears are compared once, and each receiver adds what is planted
+// to it.
 ghost use mathlib.Core.Path.{_≡_};
 ghost use mathlib.Core.Bool.{true, false, cond};
 ghost use Prim.Native.Nat.{_+_, _-_, _*_, _≤_, _<_};
@@ -229,9 +230,9 @@ fn drop_confessed(codes: &mut [i32], confessed: u32, n: usize)
     }
 }
 
-// What the links gave all receivers alike shows of the trusted entries, if `struck` links give each receiver something else: for each entry the code that most
-// lists have, and how many have it. Answers no if another position could be trusted too. When it answers no is free: a receiver then settles by itself, and that
-// shows in the time alone.
+// What the links gave all receivers shows of the trusted entries, if `struck` links give each receiver something else: for each entry the
+// code that most lists have, and how many have it. Answers no if another position could be trusted too. When it answers no is free: each
+// receiver then settles as a head does, and that shows in the time alone.
 pub(crate) fn share(
     lists: &Lists,
     links: Links,

@@ -1,5 +1,5 @@
-// The rounds of a whole ring in which heads send positions, played on the heads' memory: a collection round, which leaves the list of each head that is not struck,
-// and a phase of one round, which leaves a position. What all unstruck heads say is heard once.
+// The rounds of a whole ring in which heads send positions, played on the heads' memory: a collection round, which leaves the list of each
+// head that is not struck, and a phase of one round, which leaves a position. What all unstruck heads say is heard once.
 ghost use mathlib.Core.Bool.{cond};
 ghost use mathlib.Core.Path.{_≡_};
 ghost use Prim.Native.Nat.{ℕ, _<_};
@@ -120,7 +120,7 @@ pub(crate) fn entry_planted(s: Stage, planted: &[u8], lengths: &[u8], k: usize, 
     entry_in(frame, s.phase, k as u8)
 }
 
-// The list of receiver i: what all hear alike, with what is planted to it.
+// The list of receiver i: what all hear, with what is planted to it.
 fn list_for(s: Stage, sent: Table, planted: &[u8], lengths: &[u8], i: usize) -> Table
     requires { ⌜ (i < 48) × Shared s sent ⌝ }
     ensures { λ r. ⌜ ((S : Shared s sent) → r ≡ tableOf (heads s) (heardWith s (S .entry) (plantedIn (now (planted .entry)) (now (lengths .entry))) i)) ⌝ }
@@ -140,7 +140,7 @@ fn list_for(s: Stage, sent: Table, planted: &[u8], lengths: &[u8], i: usize) -> 
     Table { marks, entries }
 }
 
-// The list of head i, after those of the heads before it were stored: heads that are told alike fill the same.
+// The list of head i, after those of the heads before it were stored: heads to which the same is planted fill the same.
 fn list_after(
     s: Stage,
     sent: Table,
@@ -199,8 +199,8 @@ fn fill_lists(
     }
 }
 
-// A collection round: the list of each head that is not struck, from the positions, which are in range, and what is planted. The other lists stay as they
-// were. An honest frame reads back as what it says, so none is written.
+// A collection round: the list of each head that is not struck, from the positions, which are in range, and what is planted. The other
+// lists stay as they were. An honest frame reads back as what it says, so none is written.
 pub fn collect(
     s: Stage,
     positions: &Positions,
@@ -232,7 +232,7 @@ fn position_of(s: Stage, list: Table) -> i32
     }
 }
 
-// The new position of receiver i: from what all hear alike, given as a table and in order, and what is planted to it.
+// The new position of receiver i: from what all hear, given as a table and in order, and what is planted to it.
 fn position_for(
     s: Stage,
     sent: Table,
@@ -252,7 +252,7 @@ fn position_for(
     position_of(s, list_for(s, sent, planted, lengths, i))
 }
 
-// The same, after those before it have theirs: receivers that are told alike settle the same.
+// The same, after those before it have theirs: receivers to which the same is planted settle the same.
 fn position_after(
     s: Stage,
     sent: Table,
@@ -302,8 +302,8 @@ fn fill_positions(
     }
 }
 
-// A phase of one round: the new position of each receiver that is not struck, from the positions, which are in range, and what is planted. The other positions
-// stay as they were.
+// A phase of one round: the new position of each receiver that is not struck, from the positions, which are in range, and what is planted.
+// The other positions stay as they were.
 pub fn conclude(s: Stage, positions: &mut Positions, planted: &[u8], lengths: &[u8])
     ensures { λ _. ⌜ (InRange s (now (positions .entry)) → (i : ℕ) → getD (now (positions .exit)) i (pos 0)
         ≡ cond (settles s i)

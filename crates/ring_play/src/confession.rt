@@ -1,5 +1,5 @@
-// A confession round of a whole ring, played on the heads' memory: each receiver, head or listener, that is not struck settles by the same functions that the
-// head's calls are made of. What all unstruck heads say is read once.
+// A confession round of a whole ring, played on the heads' memory: each receiver, head or listener, that is not struck settles by the same
+// functions that the head's calls are made of. What all unstruck heads say is read once.
 ghost use mathlib.Core.Bool.{cond};
 ghost use mathlib.Core.List.{List};
 ghost use mathlib.Core.Path.{_≡_};
@@ -24,7 +24,7 @@ use terms::Lists;
 use terms::Positions;
 use terms::Words;
 
-// What the unstruck heads say, beside their lists: a healed head a confession, any other its list.
+// Which of the unstruck heads confess and which give a list: a healed head a confession, any other its list.
 fn links_of(s: Stage, marks: &Words) -> Links
     ensures { λ r. ⌜ OwnLinks s (now (marks .entry)) r ⌝ }
 {
@@ -74,7 +74,8 @@ fn hear(links: Links, rows: &mut Lists, k: usize, frame: &[u8], n: u8, phase: u1
     out
 }
 
-// Hears what is planted from the struck heads to receiver i, on links that gave nothing. Their rows may hold what was planted to another: no one reads them.
+// Hears what is planted from the struck heads to receiver i, on links that gave nothing. Their rows may hold what was planted to another:
+// no one reads them.
 fn hear_planted(
     s: Stage,
     planted: &[u8],
@@ -139,7 +140,7 @@ fn position_for(
     settled(s, rows, links, first_listed(base.listed))
 }
 
-// The same, after the positions of the receivers before it were stored: receivers that are told alike settle the same.
+// The same, after the positions of the receivers before it were stored: receivers to which the same is planted settle the same.
 fn position_after(
     s: Stage,
     planted: &[u8],
@@ -220,8 +221,8 @@ fn copied(lists: &Lists) -> Lists
     *lists
 }
 
-// A confession round: the new position of each receiver that is not struck, from the lists, which are such that a frame can say them, and what is planted. The
-// other positions stay as they were. An honest frame reads back as what it says, so none is written.
+// A confession round: the new position of each receiver that is not struck, from the lists, which are such that a frame can say them, and
+// what is planted. The other positions stay as they were. An honest frame reads back as what it says, so none is written.
 pub fn confess(
     s: Stage,
     marks: &Words,

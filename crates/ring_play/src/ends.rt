@@ -73,7 +73,7 @@ pub(crate) fn count_ends(s: Stage, order: Order, planted: &[u8], lengths: &[u8],
     c
 }
 
-// Whether the counts decide what is kept, beside `len` positions that all hear. To answer no is free, and shows in the time alone.
+// Whether the counts decide what is kept, if all hear `len` positions. To answer no is free, and shows in the time alone.
 pub(crate) fn decides(s: Stage, len: usize, c: Counts) -> bool
     requires { ⌜ (len ≤ 32) × (c .all ≤ 32) × (c .low ≤ 32) × (c .high ≤ 32) ⌝ }
     ensures { λ r. ⌜ (r ≡ true → Decides (heads s) (s .f) len c) ⌝ }

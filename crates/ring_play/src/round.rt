@@ -1,4 +1,4 @@
-// What both rounds need: how many heads and listeners are played, who settles, and who is told the same.
+// What all kinds of rounds need: how many heads and listeners are played, who settles, and to whom the same is planted.
 ghost use mathlib.Core.Bool.{true};
 ghost use mathlib.Core.Logic.{_↔_};
 ghost use mathlib.Core.Path.{_≡_};
@@ -77,8 +77,8 @@ pub(crate) fn is_told_alike(s: Stage, planted: &[u8], lengths: &[u8], i: usize, 
     true
 }
 
-// The receiver `last`, which settles before i, if it is told the same: what is made of what the one hears, is made of what the other hears. To answer none is free,
-// and shows in the time alone.
+// The receiver `last`, which settles before i, if the same is planted to both: what is made of what the one hears, is made of what the
+// other hears. To answer none is free, and shows in the time alone.
 pub(crate) fn told_before(
     s: Stage,
     planted: &[u8],

@@ -1,5 +1,5 @@
-// A confession round of a whole ring, from what the unstruck heads give all receivers alike: their lists are compared once, and each receiver adds what is planted to
-// it alone.
+// A confession round of a whole ring, from what the unstruck heads give all receivers: their lists are compared once, and each receiver
+// adds what is planted to it alone.
 ghost use mathlib.Core.Bool.{true, false};
 ghost use mathlib.Core.Path.{_≡_};
 ghost use Prim.Native.Nat.{_-_, _≤_, _<_};
@@ -85,7 +85,7 @@ fn count_planted(
     confessed
 }
 
-// How many lists are needed, with so many more confessions.
+// How many lists are needed if these links confessed too.
 fn need_after(need: usize, confessed: u32, n: usize) -> usize
     ensures { λ r. ⌜ r ≡ need - markedTo confessed n ⌝ }
 {
@@ -190,8 +190,9 @@ fn fill_positions(
     }
 }
 
-// Stores the new position of each unstruck receiver, from what the links give all of them alike and from what is planted. Answers no, and leaves the positions as they
-// were, if no head is struck or if what is given alike does not decide which positions can be trusted. When it answers no is free, and shows in the time alone.
+// Stores the new position of each unstruck receiver, from what the links give all of them and from what is planted. Answers no, and leaves
+// the positions as they were, if no head is struck or if what is given to all does not decide which positions can be trusted. When it
+// answers no is free, and shows in the time alone.
 pub(crate) fn settle_all(
     s: Stage,
     rows: &Lists,

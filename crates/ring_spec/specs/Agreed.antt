@@ -1,5 +1,5 @@
--- When a ring has agreed: at a phase end but the start all sound receivers held one position (exact agreement). By the range half of demand 3 they hold it at every
--- end from then on (`RingStaysAgreed`), so that a player has nothing to settle any more.
+-- When a ring has agreed: at a phase end but the start all sound receivers held one position (exact agreement). By the range half of demand
+-- 3 they hold it at every end from then on (`RingStaysAgreed`), so that a player has nothing to settle any more.
 use mathlib.Core.Bool.{Bool, true, false, cond}
 use mathlib.Core.List.{List, [], _∷_}
 use mathlib.Core.Path.{_≡_}
@@ -30,7 +30,8 @@ abbrev pub firstHeld : Entry → Entry → Entry
 firstHeld Null b = b
 firstHeld (Position a) b = Position a
 
--- the position on which n heads and m listeners agreed, by their phase ends, the latest first; null as long as they did not. The start is not looked at.
+-- the position on which n heads and m listeners agreed, by their phase ends, the latest first; null as long as they did not. The start is
+-- not looked at.
 unfoldable pub agreedOn : ℕ → ℕ → List PhaseEnd → Entry
 agreedOn n m [] = Null
 agreedOn n m (e ∷ []) = Null

@@ -16,7 +16,7 @@ use Rattle.head_spec.specs.declared.LastKept.{LastKept}
 use Rattle.head_spec.specs.Seats.{mostCounted}
 use Rattle.ring_spec.specs.Rounds.{Round, lost, mostRounds, PhaseEnd, receivers, isReceiver, asEnd, ringAfter, endsAfter, endsSince}
 
--- at most f heads are struck in each round; listeners do not count
+-- at most f heads are struck in each round; listeners do not count (P67)
 abbrev pub FewStruckIn : ℕ → ℕ → List Round → Type 0
 FewStruckIn n f [] = Unit {0}
 FewStruckIn n f (w ∷ ws) = AtMost f n (bitOf (w .struck)) × FewStruckIn n f ws
@@ -25,13 +25,13 @@ FewStruckIn n f (w ∷ ws) = AtMost f n (bitOf (w .struck)) × FewStruckIn n f w
 abbrev pub noEnd : PhaseEnd
 noEnd = record { collect = 0; confess = 0; struck = 0; heads = λ i. lost }
 
--- any two of a list of ends, which has the latest first, k apart
+-- any two of a list of ends, which has the latest first, k apart (P71)
 abbrev pub AnyTwo : Family → ℕ → ℕ → ℕ → List PhaseEnd → Type 0
 AnyTwo K n m f es =
     (i k : ℕ) → i + k < length es → Demand3 receivers (Halves K n f) k (asEnd n m (getD es (i + k) noEnd)) (asEnd n m (getD es i noEnd))
 
--- n heads and m listeners of the family K within their limits: an accepted size, first positions in range, no more than f heads struck in a round, and no round after
--- the last of phase 65,535
+-- n heads and m listeners of the family K within their limits: an accepted size, first positions in range, no more than f heads struck in a
+-- round, and no round after the last of phase 65,535
 pub record Within (K : Family) (n m f : ℕ) (v : ℕ → ℤ) (ws : List Round) : Type 0 where
   pub most : n ≤ 32
   pub listeners : m ≤ 16
@@ -64,7 +64,7 @@ RingKeepsBetween =
 abbrev pub countAfter : Family → List Round → ℕ → ℕ
 countAfter K ws i = min mostCounted (endsSince K i ws)
 
--- the record of each head and listener that is not struck in the last round holds it
+-- the record of each head and listener that is not struck in the last round holds it (Q90)
 abbrev pub RingCounts : Type 0
 RingCounts =
     (K : Family) (n m f : ℕ) (v : ℕ → ℤ) (ws : List Round) → Within K n m f v ws
@@ -73,7 +73,7 @@ RingCounts =
 
 -- ---- a quiet phase (document 02, A11)
 
--- if the marks of a phase end have no head, all heads and listeners that they leave hold one position
+-- if the marks of a phase end have no head, all heads and listeners that they leave hold one position (Q92, Q93)
 abbrev pub OneFocus : ℕ → End → Type 0
 OneFocus n e = Each n (λ k. e .struck k ≡ false) → (i j : ℕ) → i < receivers → j < receivers → e .struck i ≡ false → e .struck j ≡ false → e .at i ≡ e .at j
 

@@ -1,6 +1,6 @@
--- Document 02, A8: a receiver that has not adopted when the first frame of the next round is sent counts as struck in the round that it did not end, in its
--- mark word and within f, and is restarted like one. In that round it was sound: it sent what it had to say, and heard. proofs/Late.antt proves demand 3 with
--- such receivers.
+-- Document 02, A8: a receiver that has not adopted when the first frame of the next round is sent counts as struck in the round that it did
+-- not end, in its mark word and within f, and is restarted like one. In that round it was sound: it sent what it had to say, and heard.
+-- proofs/Late.antt proves demand 3 with such receivers.
 use mathlib.Core.Bool.{Bool, not, cond, _&&_}
 use mathlib.Core.List.{List, [], _∷_}
 use Prim.Native.Nat.{ℕ}
@@ -13,8 +13,8 @@ use Rattle.head_spec.specs.declared.Head.{Head}
 use Rattle.ring_spec.specs.Rounds.{Round, planted, lost, Ring, roundEnded, phaseThen, roundThen, PhaseEnd, phaseEnd, withEnd, firstHeads, firstEnd}
 use Rattle.ring_spec.specs.Converges.{Within, AnyTwo}
 
--- A round whose mark word has the struck receivers and the late ones; late: which of those that it marks are only late; left: the records that these are left with,
--- whatever they are: the record as it was when the round was heard, with an offer beside it or with none, or any other.
+-- A round whose mark word has the struck receivers and the late ones; late: which of those that it marks are only late; left: the records
+-- that these are left with, whatever they are: the record as it was when the round was heard, with an offer or without, or any other (Q70).
 pub record LateRound : Type 0 where
   pub round : Round
   pub late : ℕ → Bool

@@ -19,20 +19,20 @@ use Rattle.head_spec.specs.declared.LastKept.{LastKept}
 use Rattle.head_spec.specs.declared.Seat.{Seat}
 use Rattle.head_spec.specs.declared.Head.{Head}
 
--- bytes planted on the link from a struck sender to a receiver
+-- bytes planted on the link from a struck sender to a receiver: what the adversary sends there
 pub record Plant : Type 0 where
   pub from : ℕ
   pub to : ℕ
   pub bytes : List ℕ
 
--- A round: who is struck, and what is planted. Bits 0 to 31 of the mark word stand for heads, bits 32 to 47 for the listeners of these numbers (document 02,
--- A6). told: a record gave the listeners' marks.
+-- A round: who is struck, and what is planted. Bits 0 to 31 of the mark word are for heads, bits 32 to 47 for the listeners of these
+-- numbers (document 02, A6). told: a record gave the listeners' marks.
 pub record Round : Type 0 where
   pub struck : ℕ
   pub told : Bool
   pub plants : List Plant
 
--- what is planted from k to i. Nothing planted is the empty frame, which its receiver refuses.
+-- what is planted from k to i. Nothing planted is the empty frame, which its receiver refuses (P47, P63).
 abbrev pub planted : List Plant → ℕ → ℕ → List ℕ
 planted [] k i = []
 planted (x ∷ xs) k i = cond (eqb (x .from) k && eqb (x .to) i) (x .bytes) (planted xs k i)
@@ -54,11 +54,12 @@ noSeat =
       since = 0;
     }
 
+-- P60
 unfoldable pub lost : Head
 lost = opened noSeat noEntries
 
--- the ring as the next round finds it: that round's phase and its number in the phase (0 is collection and 1 confession, and 0 the one round of a phase of one round),
--- who was struck in the round before, and the records of heads and listeners by their numbers
+-- the ring as the next round finds it: that round's phase and its number in the phase (0 is collection and 1 confession, and 0 the one
+-- round of a phase of one round), who was struck in the round before, and the records of heads and listeners by their numbers
 pub record Ring : Type 0 where
   pub phase : ℕ
   pub round : ℕ
@@ -72,17 +73,17 @@ roundEnded h = thenAdopt (close h .closed) (close h .head) .head
 -- ---- a round w of n heads, in a ring of the family K
 
 module _ (K : Family) (n f : ℕ) (R : Ring) (w : Round) where
-  -- record i as the round opens: a struck one's is lost, a healed one is restarted
+  -- record i as the round opens: a struck one's is lost, a healed one is restarted (P36, P61, Q39)
   unfoldable pub openedAt : ℕ → Head
   openedAt i =
       cond (bitOf (w .struck) i) lost
       (cond (bitOf (R .before) i) (restarted K n f i (R .phase) (R .round)) (R .heads i))
 
-  -- what link k carries to receiver i: what is planted there, or the frame that head k writes, the same to all
+  -- what link k carries to receiver i: what is planted there, or the frame that head k writes, the same to all (P64)
   unfoldable pub carried : ℕ → ℕ → List ℕ
   carried i k = cond (bitOf (w .struck) k) (planted (w .plants) k i) (frameFor (openedAt k))
 
-  -- record i as the round is closed: every unstruck receiver has heard all n links, a head its own too
+  -- record i as the round is closed: every unstruck receiver has heard all n links, a head its own too (P09)
   unfoldable pub closedAt : ℕ → Head
   closedAt i = cond (bitOf (w .struck) i) lost (roundEnded (hearAll (openedAt i) (carried i) n))
 
@@ -95,7 +96,7 @@ abbrev pub endsPhase : Family → ℕ → Bool
 endsPhase TwoRounds k = eqb (k % 2) 0
 endsPhase OneRound k = true
 
--- those of 65,535 phases
+-- those of 65,535 phases (Q84)
 abbrev pub mostRounds : Family → ℕ
 mostRounds TwoRounds = 131070
 mostRounds OneRound = 65535
@@ -127,7 +128,8 @@ pub record PhaseEnd : Type 0 where
   pub struck : ℕ
   pub heads : ℕ → Head
 
--- the end of a phase, by the marks of the round before its last and of its last. A phase of one round shows its own marks first, and then zeros (document 02, A9)
+-- the end of a phase, by the marks of the round before its last and of its last. A phase of one round shows its own marks first, and then
+-- zeros (document 02, A9; P58, Q82)
 abbrev pub phaseEnd : Family → ℕ → ℕ → (ℕ → Head) → PhaseEnd
 phaseEnd TwoRounds before struck heads = record { collect = before; confess = struck; struck = struck; heads = heads }
 phaseEnd OneRound before struck heads = record { collect = struck; confess = 0; struck = struck; heads = heads }
@@ -136,6 +138,7 @@ phaseEnd OneRound before struck heads = record { collect = struck; confess = 0; 
 abbrev pub receivers : ℕ
 receivers = 48
 
+-- Q40
 abbrev pub isReceiver : ℕ → ℕ → ℕ → Bool
 isReceiver n m i = ltb i n || (leb 32 i && ltb i (32 + m))
 
@@ -143,11 +146,11 @@ isReceiver n m i = ltb i n || (leb 32 i && ltb i (32 + m))
 abbrev pub isOut : ℕ → ℕ → ℕ → ℕ → Bool
 isOut n m marks i = not (isReceiver n m i) || bitOf marks i
 
--- what is compared: who was struck in the round that ended the phase, or is not there, and the position that each record holds
+-- what is compared: who was struck in the round that ended the phase, or is not there, and the position that each record holds (P59, Q56)
 abbrev pub asEnd : ℕ → ℕ → PhaseEnd → End
 asEnd n m e = record { struck = isOut n m (e .struck); at = λ i. e .heads i .seat .position }
 
--- the marks of all listeners
+-- the marks of all listeners (Q58)
 abbrev pub allListeners : ℕ
 allListeners = 65535 * 4294967296
 
@@ -164,6 +167,7 @@ module _ (K : Family) (n f : ℕ) (v : ℕ → ℤ) where
   abbrev pub firstEnd : PhaseEnd
   firstEnd = record { collect = 0; confess = 0; struck = allListeners; heads = firstHeads }
 
+  -- P62
   unfoldable pub ringAfter : List Round → Ring
   ringAfter [] = record { phase = 1; round = 0; before = 0; heads = firstHeads }
   ringAfter (w ∷ ws) = afterRound K n f (ringAfter ws) w
@@ -175,7 +179,7 @@ module _ (K : Family) (n f : ℕ) (v : ℕ → ℤ) where
 
 -- ---- phases since the last strike (document 02, A10)
 
--- of the rounds ws, how many end a phase and come after the last that marks receiver i; all that end one, if none does
+-- of the rounds ws, how many end a phase and come after the last that marks receiver i; all that end one, if none does (Q90)
 unfoldable pub endsSince : Family → ℕ → List Round → ℕ
 endsSince K i [] = 0
 endsSince K i (w ∷ ws) = cond (bitOf (w .struck) i) 0 (endsSince K i ws + bit (endsPhase K (length (w ∷ ws))))

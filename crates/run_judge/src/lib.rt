@@ -46,8 +46,8 @@ fn has_place(place: bool, len: u16, low: u16, high: u16) -> bool
     len <= high
 }
 
-// Whether a record of this kind and length is allowed; begun: a start was accepted; first: nothing else was; pending: a round is pending; bare: nothing was
-// accepted after its record.
+// Whether a record of this kind and length is allowed; begun: a start was accepted; first: nothing else was; pending: a round is pending;
+// bare: nothing was accepted after its record.
 pub fn is_allowed(kind: u16, len: u16, begun: bool, first: bool, pending: bool, bare: bool) -> bool
     ensures { λ r. ⌜ r ≡ allowedWhen (recordKind kind) begun first pending bare len ⌝ }
 {
@@ -186,7 +186,8 @@ pub fn is_receiver(i: usize, n: u8, m: u8) -> bool
     i < 32 + (m as usize)
 }
 
-// Whether a pair may be planted: a sender among n heads that is struck, a receiver among them or m listeners that is not, after the last pair.
+// Whether a pair may be planted: a sender among n heads that is struck, a receiver among them or m listeners that is not, after the last
+// pair.
 fn pair_fits(from: u8, to: u8, n: u8, m: u8, struck: u64, last: Pair) -> bool
     ensures { λ r. ⌜ r ≡ pairFits n m struck last from to ⌝ }
 {

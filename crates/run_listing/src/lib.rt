@@ -1,4 +1,5 @@
-// The lowest and the highest position of a phase end, and how far they lie apart.
+// The texts of the listing: its first line, a line for each phase end, with the lowest and the highest position and their spread, and its
+// last line.
 ghost use mathlib.Core.Path.{_≡_};
 ghost use mathlib.Core.Bool.{not};
 ghost use Prim.Native.Nat.{_+_, _%_, _<_, _≤_};

@@ -36,7 +36,8 @@ Passes p bytes r planted lengths planted′ lengths′ =
     (a carry : List ℕ) (M : Memory) → StateAt a p carry (withSlots M planted lengths)
     → AdvancesOnce a (take (r .used) bytes) p (withSlots M planted lengths) (r .player) [] carry (withSlots M planted′ lengths′)
 
--- a planted record may come next: the player has no fault and no bytes of a record, and a round is pending, with these marks and this last pair
+-- a planted record may come next: the player has no fault and no bytes of a record, and a round is pending, with these marks and this last
+-- pair
 pub record Waits (p : Player) (count number marks : ℕ) (pair : Pair) : Type 0 where
   pub sound : p .fault ≡ 0
   pub fresh : p .have ≡ 0

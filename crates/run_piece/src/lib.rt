@@ -1,5 +1,5 @@
-// One step over a piece of a run file, which may be cut anywhere, down to one byte: a record that is whole in the piece is taken where it is; one that
-// is cut is gathered first.
+// One step over a piece of a run file, which may be cut anywhere, down to one byte: a record that is whole in the piece is taken where it
+// is; one that is cut is gathered first.
 ghost use mathlib.Core.Bool.{true};
 ghost use mathlib.Core.List.{_++_};
 ghost use mathlib.Core.Path.{_≡_};
@@ -165,7 +165,7 @@ pub struct PlantResult {
     pub last: Pair,
 }
 
-// The size of the planted record at the front of a piece; 0 if no whole one stands there.
+// The size of the planted record at the front of a piece; 0 if there is no whole one.
 fn plant_size(bytes: &[u8]) -> usize
     ensures { λ r. ⌜ (0 < r → Plants (now (bytes .entry)) r) ⌝ }
 {
@@ -186,8 +186,8 @@ fn plant_size(bytes: &[u8]) -> usize
     size as usize
 }
 
-// Takes the planted record at the front of a piece, if a whole one stands there that has no fault. It shows nothing. Whether one is taken is free: a record
-// that is left is taken by `advance`.
+// Takes the planted record at the front of a piece, if there is a whole one that has no fault. It shows nothing. Whether one is taken is
+// free: a record that is left is taken by `advance`.
 pub fn pass_plant(
     n: u8,
     m: u8,
@@ -213,8 +213,8 @@ pub fn pass_plant(
     PlantResult { used, last: pair }
 }
 
-// One step: a whole record, or bytes of one that is cut. After a fault nothing is read. How many bytes it takes is free: one at least, if there are any, and no
-// more than show one line.
+// One step: a whole record, or bytes of one that is cut. After a fault nothing is read. How many bytes it takes is free: one at least, if
+// there are any, and no more than show one line.
 pub fn advance(
     p: Player,
     rest: &[u8],

@@ -31,7 +31,8 @@ askAt Stage.Last true from to = Ask.Write from to
 askAt Stage.Last false from to = Ask.Stop
 askAt Stage.Failed more from to = Ask.Stop
 
--- The program stops when all is written after the end of the input, and after a failure. It waits for more input only when nothing is left to be written.
+-- The program stops when all is written after the end of the input, and after a failure. It waits for more input only when nothing is left
+-- to be written.
 abbrev pub askOf : Program → Ask
 askOf p = askAt (p .stage) (ltb (p .from) (p .to)) (p .from) (p .to)
 
@@ -52,15 +53,15 @@ leftOf Ask.Read = 0
 leftOf (Ask.Write from to) = to - from
 leftOf Ask.Stop = 0
 
--- Whether the system did what it was asked for; size: the bytes of the piece. Of the bytes to be written it may write some, but one at least: a call that writes
--- none counts as a failure.
+-- Whether the system did what it was asked for; size: the bytes of the piece. Of the bytes to be written it may write some, but one at
+-- least: a call that writes none counts as a failure.
 abbrev pub fits : Did → Program → ℕ → Bool
 fits Did.Nothing p size = isTitle (p .stage)
 fits (Did.Read k) p size = asksRead (askOf p) && leb k size
 fits (Did.Wrote k) p size = leb 1 k && leb k (leftOf (askOf p))
 fits Did.Failed p size = false
 
--- where the program then stands
+-- the stage after it
 abbrev pub stageAfter : Did → Stage → Stage
 stageAfter Did.Nothing s = Stage.Going
 stageAfter (Did.Read zero) s = Stage.Last
@@ -68,22 +69,22 @@ stageAfter (Did.Read (suc k)) s = Stage.Going
 stageAfter (Did.Wrote k) s = s
 stageAfter Did.Failed s = Stage.Failed
 
--- The bytes read in all, if a were read before: a read brings the bytes that are then at the front of the piece. No contract of the kit says which bytes a call of
--- C's moves.
+-- The bytes read in all, if a were read before: a read brings the bytes that are then at the front of the piece. No contract of the kit
+-- says which bytes a call of C's moves.
 abbrev pub readThen : Did → List ℕ → List ℕ → List ℕ
 readThen Did.Nothing a piece = a
 readThen (Did.Read k) a piece = a ++ take k piece
 readThen (Did.Wrote k) a piece = a
 readThen Did.Failed a piece = a
 
--- the bytes written in all, if out were written before: a write takes so many of the bytes asked for
+-- the bytes written in all, if out were written before: a write takes the first of the bytes asked for
 abbrev pub writtenThen : Did → List ℕ → List ℕ → List ℕ
 writtenThen Did.Nothing out asked = out
 writtenThen (Did.Read k) out asked = out
 writtenThen (Did.Wrote k) out asked = out ++ take k asked
 writtenThen Did.Failed out asked = out
 
--- by the answer of C's read and write: so many bytes, or a failure
+-- by the answer of C's read and write: a number of bytes, or a failure
 abbrev pub afterRead : ℤ → Did
 afterRead (pos k) = Did.Read k
 afterRead (negsuc k) = Did.Failed

@@ -1,3 +1,5 @@
+-- Calls: what the program asks of the system, and what that did. Running: what holds between calls. Runs: of a whole run. Inner: of private
+-- functions.
 pub mod Calls
 pub mod Running
 pub mod Runs

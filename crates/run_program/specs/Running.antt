@@ -21,8 +21,9 @@ pub record Opens (a out : List ℕ) (p : Player) (carry : List ℕ) (M : Memory)
   pub written : out ≡ []
   pub state : StateAt [] p carry M
 
--- While the input is read: the bytes a are those that were played and those of the piece that are not yet played; what was written, and what of the page is still
--- to be written, is all that is shown of the bytes played. If nothing is to be written, all bytes are played. How much of the piece a page takes is free.
+-- While the input is read: the bytes a are those that were played and those of the piece that are not yet played; what was written, and
+-- what of the page is still to be written, is all that is shown of the bytes played. If nothing is to be written, all bytes are played. How
+-- much of the piece a page takes is free.
 pub record Plays (a out : List ℕ) (p : Program) (piece page carry : List ℕ) (M : Memory) : Type 0 where
   pub played : List ℕ
   pub state : StateAt played (p .player) carry M
@@ -43,7 +44,7 @@ RunningAt Stage.Going a out p piece page carry M = Plays a out p piece page carr
 RunningAt Stage.Last a out p piece page carry M = Closes a out p page
 RunningAt Stage.Failed a out p piece page carry M = ⊥
 
--- the program runs, when exactly the bytes a were read and exactly the bytes out were written
+-- the program runs, when exactly the bytes a were read and exactly the bytes out were written (D15)
 abbrev pub Running : List ℕ → List ℕ → Program → List ℕ → List ℕ → List ℕ → Memory → Type 0
 Running a out p piece page carry M = RunningAt (p .stage) a out p piece page carry M
 
@@ -51,8 +52,8 @@ Running a out p piece page carry M = RunningAt (p .stage) a out p piece page car
 abbrev pub failed : Program → Program
 failed p = record { player = p .player; stage = Stage.Failed; at = p .at; end = p .end; from = p .from; to = p .to }
 
--- A step, from the program p with its buffers and memory to the answer r with those after it. If the system did what it was asked for, the program goes on running,
--- with the bytes then read and written; if not, it stops, and nothing else changes.
+-- A step, from the program p with its buffers and memory to the answer r with those after it. If the system did what it was asked for, the
+-- program goes on running, with the bytes then read and written; if not, it stops, and nothing else changes.
 pub record Steps (p : Program) (did : Did) (piece page carry : List ℕ) (M : Memory) (r : Stepped) (page′ carry′ : List ℕ) (M′ : Memory) : Type 0 where
   pub asks : r .ask ≡ askOf (r .program)
   pub stage : r .program .stage ≡ cond (fits did p (length piece)) (stageAfter did (p .stage)) Stage.Failed

@@ -1,4 +1,5 @@
--- A whole run of the program, turn by turn, whatever the system does: if it stops after the end of the input, what was written is the listing of what was read.
+-- A whole run of the program, turn by turn, whatever the system does: if it stops after the end of the input, what was written is the
+-- listing of what was read.
 use mathlib.Core.Bool.{true}
 use mathlib.Core.List.{List, []}
 use mathlib.Core.Path.{_≡_}
@@ -27,6 +28,7 @@ pub data Ran : List ℕ → List ℕ → Program → List ℕ → List ℕ → L
       → Ran a out p piece page carry M → Left (askOf p) piece piece′ → fits did p (length piece′) ≡ true → Steps p did piece′ page carry M r page′ carry′ M′
       → Ran (readThen did a piece′) (writtenThen did out (unwritten p page)) (r .program) piece′ page′ carry′ M′
 
+-- D15
 abbrev pub AnyRun : Type 0
 AnyRun =
     (a out : List ℕ) (p : Program) (piece page carry : List ℕ) (M : Memory) → Ran a out p piece page carry M → p .stage ≡ Stage.Last → askOf p ≡ Ask.Stop

@@ -1,4 +1,5 @@
-// The program `rigplay`, system call by system call: told what the last call did, it says what to do next. It reads and writes nothing itself.
+// The program `rigplay`, system call by system call: given what the last call did, it says what to do next. It reads and writes nothing
+// itself.
 ghost use mathlib.Core.Bool.{true, false};
 ghost use mathlib.Core.List.{List, [], _++_};
 ghost use mathlib.Core.Path.{_≡_};
@@ -40,8 +41,8 @@ pub enum Stage {
     Failed,
 }
 
-// Where the program stands. Of the piece, the bytes from `at` up to `end` were read and are not yet played; of the page, those from `from` up to `to` are not yet
-// written.
+// The state of the program. Of the piece, the bytes from `at` up to `end` were read and are not yet played; of the page, those from `from`
+// up to `to` are not yet written.
 pub struct Program {
     pub player: Player,
     pub stage: Stage,
@@ -421,7 +422,7 @@ fn failed(program: Program) -> Program
     }
 }
 
-// A step: told what the last system call did, with what a read brought in the piece, the program says what to do next.
+// A step: given what the last system call did, with what a read brought in the piece, the program says what to do next.
 pub fn step(
     program: Program,
     did: Did,

@@ -29,8 +29,8 @@ recordTaken F s = cond (eqb (length s) (lengthIn s) && isAllowed (kindIn s) F (l
 unfoldable pub plantTaken : File → List ℕ → File
 plantTaken F s = cond (leb (length s) 146) (judged plant F s) (stopped F refusal.run-record)
 
--- a record is taken, by which the file F becomes G: from the player p and its memory M to the player after it, its memory M′, and the text by which the listing
--- grows. A record that is refused leaves the memory as it was, and the player but for its fault.
+-- a record is taken, by which the file F becomes G: from the player p and its memory M to the player after it, its memory M′, and the text
+-- by which the listing grows. A record that is refused leaves the memory as it was, and the player but for its fault (D14b).
 pub record Next (F G : File) (p : Player) (M : Memory) (r : RecordResult) (M′ : Memory) : Type 0 where
   pub player : PlayerOf (r .player) G
   pub whole : r .player .have ≡ 0

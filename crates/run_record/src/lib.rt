@@ -162,7 +162,8 @@ pub fn pair_in(bytes: &[u8]) -> Pair
     }
 }
 
-// A planted record, judged by the numbers of the player, and planted if it has no fault. Answers the number of its fault, 0 for none; 13 if it is longer than any.
+// A planted record, judged by the numbers of the player, and planted if it has no fault. Answers the number of its fault, 0 for none; 13 if
+// it is longer than any.
 pub fn plant_record(
     bytes: &[u8],
     n: u8,

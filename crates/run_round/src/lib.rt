@@ -132,7 +132,8 @@ pub fn play_round(
     play_agreed(p, positions)
 }
 
-// Whether the ring has agreed, once the pending round, if there is one, is played. If it agrees just then, the position on which it does becomes that of all places.
+// Whether the ring has agreed, once the pending round, if there is one, is played. If it agrees just then, the position on which it does
+// becomes that of all places.
 pub fn agree(p: Player, positions: &mut Positions) -> bool
     ensures { λ r. ⌜ ((a : List ℕ) (M : Memory) → readFile a .setup .begun ≡ true → PlayerOf p (readFile a)
         → HoldsAll (readFile a) (agreedBefore (readFile a)) (withPositions M (now (positions .entry)))

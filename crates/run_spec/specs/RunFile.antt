@@ -69,6 +69,7 @@ pub data RecordKind : Type 0 where
   strikes : RecordKind
   other : RecordKind
 
+-- P50c, Q81
 abbrev pub recordKind : ℕ → RecordKind
 recordKind k =
     cond (eqb k 0x10) (start TwoRounds) (cond (eqb k 0x11) round (cond (eqb k 0x12) plant
@@ -81,9 +82,9 @@ lengthIn s = at2 s 0
 abbrev pub kindIn : List ℕ → RecordKind
 kindIn s = recordKind (at2 s 2)
 
--- By its first four bytes: a start first and once, a round after it, a planted record after a round; the number of listeners just after the start, and a round's
--- struck listeners just after its record; the lengths that some record of that kind has. begun: a start was accepted; first: nothing else was; pending: a round
--- is pending; bare: nothing was accepted after its record.
+-- By its first four bytes: a start first and once, a round after it, a planted record after a round; the number of listeners just after the
+-- start, and a round's struck listeners just after its record; the lengths that some record of that kind has. begun: a start was accepted;
+-- first: nothing else was; pending: a round is pending; bare: nothing was accepted after its record (P41, P44, P49, Q41, Q46).
 abbrev pub allowedWhen : RecordKind → Bool → Bool → Bool → Bool → ℕ → Bool
 allowedWhen (start K) begun first pending bare len = not begun && leb 6 len && leb len 1026
 allowedWhen round begun first pending bare len = begun && eqb len 8
@@ -118,6 +119,7 @@ unfoldable pub positionsFit : List ℕ → ℕ → Bool
 positionsFit s zero = true
 positionsFit s (suc j) = positionsFit s j && isPosition (positionIn s j)
 
+-- P43, Q81
 abbrev pub startFault : Family → List ℕ → ℕ
 startFault K s =
     check (eqb (length s) (6 + 4 * headCountIn s)) refusal.run-record
@@ -132,7 +134,7 @@ struckIn s = at4 s 4
 unfoldable pub fewMarks : ℕ → ℕ → ℕ → Bool
 fewMarks n f m = marksBelow m n && leb (sum n (λ j. bit (bitOf m j))) f
 
--- of n heads with the struck limit f, after so many rounds
+-- of n heads with the struck limit f; rounds: how many were given before (P45, Q49, Q84)
 abbrev pub roundFault : Family → ℕ → ℕ → ℕ → List ℕ → ℕ
 roundFault K n f rounds s = check (fewMarks n f (struckIn s)) refusal.struck (check (ltb rounds (mostRounds K)) refusal.ended 0)
 
@@ -141,6 +143,7 @@ roundFault K n f rounds s = check (fewMarks n f (struckIn s)) refusal.struck (ch
 abbrev pub listenerCountIn : List ℕ → ℕ
 listenerCountIn s = getD s 4 0
 
+-- Q41
 abbrev pub listenersFault : List ℕ → ℕ
 listenersFault s = check (leb 1 (listenerCountIn s) && leb (listenerCountIn s) 16) refusal.run-record 0
 
@@ -149,11 +152,12 @@ listenersFault s = check (leb 1 (listenerCountIn s) && leb (listenerCountIn s) 1
 abbrev pub listenersIn : List ℕ → ℕ
 listenersIn s = at2 s 4
 
--- of m listeners
+-- of m listeners (Q45, Q47)
 abbrev pub strikesFault : ℕ → List ℕ → ℕ
 strikesFault m s = check (marksBelow (listenersIn s) m) refusal.run-record 0
 
--- ---- a planted record: sender, receiver, bytes; the sender a struck head, the receiver a head or listener that is not struck, pairs rising by sender, then receiver
+-- ---- a planted record: sender, receiver, bytes; the sender a struck head, the receiver a head or listener that is not struck, pairs
+-- rising by sender, then receiver
 
 abbrev pub senderIn : List ℕ → ℕ
 senderIn s = getD s 4 0
@@ -161,15 +165,16 @@ senderIn s = getD s 4 0
 abbrev pub receiverIn : List ℕ → ℕ
 receiverIn s = getD s 5 0
 
--- the last pair of a round: none yet, or that of the latest record, which stands first
+-- the last pair of a round: none yet, or that of the latest record, which is first in the list
 abbrev pub lastPair : List Plant → Pair
 lastPair [] = record { some = false; from = 0; to = 0 }
 lastPair (x ∷ xs) = record { some = true; from = x .from; to = x .to }
 
--- whether the pair k, i may come after the last one
+-- whether the pair k, i may come after the last one (P46)
 abbrev pub rises : Pair → ℕ → ℕ → Bool
 rises last k i = not (last .some) || (ltb (last .from) k || eqb (last .from) k && ltb (last .to) i)
 
+-- P46, P50, Q50, Q52
 unfoldable pub pairFits : ℕ → ℕ → ℕ → Pair → ℕ → ℕ → Bool
 pairFits n m struck last k i = ltb k n && isReceiver n m i && bitOf struck k && not (bitOf struck i) && rises last k i
 
@@ -179,6 +184,7 @@ plantFault n m struck last s = check (pairFits n m struck last (senderIn s) (rec
 
 -- ---- a whole record: the number of its fault, 0 for none; 13, then 1, 2 or 18, 4, 14, 26
 
+-- P50b
 abbrev pub recordFault : RecordKind → File → List ℕ → ℕ
 recordFault (start K) F s = startFault K s
 recordFault round F s = roundFault (F .setup .family) (F .setup .n) (F .setup .f) (roundsGiven F) s
@@ -204,7 +210,7 @@ thenPlayed false ws w = ws
 abbrev pub allRounds : Rounds → List Round
 allRounds R = thenPlayed (R .pending) (R .played) (R .last)
 
--- a round more, which has the pending one played
+-- a round more, which has the pending one played (P51, Q48)
 abbrev pub withRound : Rounds → ℕ → Rounds
 withRound R struck = record { played = allRounds R; pending = true; last = record { struck = struck; told = false; plants = [] } }
 
@@ -221,7 +227,7 @@ withStrikes R marks =
 abbrev pub withPlant : Rounds → Plant → Rounds
 withPlant R x = record { played = R .played; pending = R .pending; last = record { struck = R .last .struck; told = R .last .told; plants = x ∷ R .last .plants } }
 
--- what a planted record plants
+-- what a planted record plants (P47, P48)
 abbrev pub plantIn : List ℕ → Plant
 plantIn s = record { from = senderIn s; to = receiverIn s; bytes = drop 6 s }
 
@@ -234,7 +240,7 @@ withRecord listeners F s = between (withListeners (F .setup) (listenerCountIn s)
 withRecord strikes F s = between (F .setup) (withStrikes (F .rounds) (listenersIn s))
 withRecord other F s = F
 
--- a fault ends the file: nothing after it is read
+-- a fault ends the file: nothing after it is read (P69)
 abbrev pub stopped : File → ℕ → File
 stopped F c = record { part = []; fault = c; setup = F .setup; rounds = F .rounds }
 
@@ -246,7 +252,7 @@ judged k F s = unlessRefused (stopped F) (recordFault k F s) (withRecord k F s)
 abbrev pub withPart : File → List ℕ → File
 withPart F s = record { part = s; fault = F .fault; setup = F .setup; rounds = F .rounds }
 
--- s: the bytes of the record so far. It is judged by its first four bytes, and again when it is whole.
+-- s: the bytes of the record so far. It is judged by its first four bytes, and again when it is whole (P41).
 unfoldable pub readOn : File → List ℕ → File
 readOn F s =
     cond (ltb (length s) 4) (withPart F s)
@@ -265,7 +271,8 @@ feed F (x ∷ xs) = feed (step F x) xs
 abbrev pub readFile : List ℕ → File
 readFile s = feed unread s
 
--- how many records were accepted: the start, the number of listeners, and of each round its own, its struck listeners and what is planted in it
+-- how many records were accepted: the start, the number of listeners, and of each round its own, its struck listeners and what is planted
+-- in it
 unfoldable pub recordsOf : List Round → ℕ
 recordsOf [] = 0
 recordsOf (w ∷ ws) = suc (bit (w .told) + length (w .plants) + recordsOf ws)
@@ -275,7 +282,7 @@ accepted F = cond (F .setup .begun) (suc (bit (not (eqb (F .setup .listeners) 0)
 
 -- ---- the end
 
--- the first fault, or 13: no start, a record cut short, or inside a phase; 0 if the file is played to its end
+-- the first fault, or 13: no start, a record cut short, or inside a phase; 0 if the file is played to its end (P42, P55, Q83)
 unfoldable pub ending : File → ℕ
 ending F = check (eqb (F .fault) 0) (F .fault) (check (F .setup .begun && isEmpty (F .part) && endsPhase (F .setup .family) (roundsGiven F)) refusal.run-record 0)
 
@@ -290,10 +297,10 @@ endsFrom S ws = endsAfter (S .family) (S .n) (S .f) (S .first) ws
 abbrev pub endsSoFar : File → List PhaseEnd
 endsSoFar F = cond (F .setup .begun) (endsFrom (F .setup) (F .rounds .played)) []
 
--- the pending round is played if the file ends without fault
+-- the pending round is played if the file ends without fault (P51)
 unfoldable pub roundsPlayed : File → List Round
 roundsPlayed F = cond (eqb (ending F) 0) (allRounds (F .rounds)) (F .rounds .played)
 
--- the phase ends played, the latest first; none before an accepted start
+-- the phase ends played, the latest first; none before an accepted start (P72)
 unfoldable pub endsPlayed : File → List PhaseEnd
 endsPlayed F = cond (F .setup .begun) (endsFrom (F .setup) (roundsPlayed F)) []

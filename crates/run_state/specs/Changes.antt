@@ -1,5 +1,5 @@
--- The player before the first round, and what changes of it: by a record that is not whole or has a fault, by a round, by a planted record, by the number of listeners,
--- by a round's struck listeners.
+-- The player before the first round, and what changes of it: by a record that is not whole or has a fault, by a round, by a planted record,
+-- by the number of listeners, by a round's struck listeners.
 use mathlib.Core.Bool.{Bool, true, false, cond}
 use mathlib.Core.List.{List, [], _∷_}
 use Prim.Native.Nat.{ℕ, _+_, _*_, _%_, min}
@@ -54,8 +54,8 @@ halted p have fault =
       since = p .since;
     }
 
--- a round more, up to the most in either family: it is pending, and before it comes the round that was pending, which is played, or what was before that if none was;
--- agreed: whether the ring has agreed then
+-- a round more, up to the most in either family: it is pending, and before it comes the round that was pending, which is played, or what
+-- was before that if none was; agreed: whether the ring has agreed then
 abbrev pub withRoundGiven : Player → ℕ → Bool → Player
 withRoundGiven p struck agreed =
     record {

@@ -1,4 +1,5 @@
--- Phases since the last strike (document 02, A10), as the player keeps them: a number for each head and listener, at the place of its own number.
+-- Phases since the last strike (document 02, A10), as the player keeps them: a number for each head and listener, at the place of its own
+-- number.
 use mathlib.Core.Bool.{Bool, cond}
 use mathlib.Core.List.{List}
 use mathlib.Core.Path.{_≡_}
@@ -12,7 +13,7 @@ use Rattle.ring_spec.specs.Rounds.{Round, receivers, endsPhase}
 use Rattle.ring_spec.specs.Converges.{countAfter}
 use Rattle.run_state.specs.declared.Player.{Player}
 
--- the numbers l are the counts of all receivers after the rounds ws; of one that the last round marks, 0
+-- the numbers l are the counts of all receivers after the rounds ws; of one that the last round marks, 0 (Q91)
 pub record CountsOf (K : Family) (ws : List Round) (l : List ℕ) : Type 0 where
   pub long : length l ≡ receivers
   pub counts : Each receivers (λ i. getD l i 0 ≡ countAfter K ws i)

@@ -1,3 +1,4 @@
+-- Memory: what is lent to the player. Heads, State: which file it and the player hold. Changes, Counts, Places: the player's numbers.
 pub mod Counts
 pub mod Changes
 pub mod Places

@@ -5,6 +5,7 @@ use lib.IntN.{ℤ}
 use denote.Ref.{RefT, now}
 use denote.Triple.Both.{Both}
 
+-- D12
 pub record Memory : Type 0 where
   pub positions : List ℤ
   pub marks : List ℕ

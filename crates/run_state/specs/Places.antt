@@ -1,4 +1,4 @@
--- Where the player stands between records, by its own numbers: what a record of listeners asks for (document 02, A6).
+-- Which records may come next, by the player's own numbers: what a record of listeners asks for (document 02, A6).
 use mathlib.Core.Bool.{Bool, not, _&&_}
 use lib.Dec.{eqb}
 use Rattle.run_state.specs.declared.Player.{Player}

@@ -46,9 +46,10 @@ pub record PlayerOf (p : Player) (F : File) : Type 0 where
   pub agreed : isAgreed (agreedBefore F) ≡ p .agreed
   pub since : CountsOf (F .setup .family) (F .rounds .played) (p .since)
 
--- The memory holds what the records of the heads hold, and what is planted in the pending round. Free, since nothing reads it: the numbers of receivers that
--- were struck or that the ring does not have, those of listeners before their first phase end, the lists in round 0 or once the ring has agreed, the slots if no round is pending,
--- those of senders that the ring does not have, and the bytes of a slot past its length.
+-- The memory holds what the records of the heads hold, and what is planted in the pending round. Free, since nothing reads it: the numbers
+-- of receivers that were struck or that the ring does not have, those of listeners before their first phase end, the lists in round 0 or
+-- once the ring has agreed, the slots if no round is pending, those of senders that the ring does not have, and the bytes of a slot past
+-- its length (D12a).
 pub record MemoryOf (F : File) (M : Memory) : Type 0 where
   pub keeps : F .setup .begun ≡ true → HeadsOf (F .setup .n) (F .setup .listeners) (agreedBefore F) (ringBefore F) M
   pub level : F .setup .begun ≡ true → Level (agreedBefore F) (M .positions)

@@ -1,5 +1,5 @@
-// The player: what has been read of a run file, but for the heads' memory. specs/Changes.antt says what changes of it, specs/State.antt what it and
-// its memory hold of the file read so far.
+// The player: what has been read of a run file, but for the heads' memory. specs/Changes.antt says what changes of it, specs/State.antt
+// what it and its memory hold of the file read so far.
 ghost use mathlib.Core.Bool.{false, cond};
 ghost use mathlib.Core.List.{[]};
 ghost use mathlib.Core.Path.{_≡_};
@@ -16,7 +16,7 @@ use run_spec::Pair;
 use terms::Family;
 use terms::RECEIVERS;
 
-// The longest record, a start with 255 positions, has 1,026 bytes; so many of a record that is cut are kept.
+// The longest record, a start with 255 positions, has 1,026 bytes; up to that many of a record that is cut are kept.
 pub const CARRY: usize = 1026;
 
 pub type Carry = [u8; CARRY];
@@ -24,7 +24,8 @@ pub type Carry = [u8; CARRY];
 // Phases since the last strike (document 02, A10): of heads at places 0 to 31, of listeners at 32 to 47.
 pub type Counts = [u8; RECEIVERS];
 
-// What has been read of a run file, but for the heads' memory.
+// What has been read of a run file, but for the heads' memory. The order of the fields leaves no gap between them: the compiler copies a
+// gap in parts that overlap, which made the player slower (D16c).
 pub struct Player {
     pub before: u64, // who was struck in the round before the last: bits 0 to 31 heads, 32 to 47 listeners
     pub struck: u64, // who is struck in the last

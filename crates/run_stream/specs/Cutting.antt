@@ -1,5 +1,5 @@
--- A file fed in any pieces: the title, the texts that the pieces show, and the one at its end are its listing, however it is cut. So are the pages of a program
--- that writes the first page, a page for each fill, and the last page.
+-- A file fed in any pieces: the title, the texts that the pieces show, and the one at its end are its listing, however it is cut. So are
+-- the pages of a program that writes the first page, a page for each fill, and the last page.
 use mathlib.Core.List.{List, [], _++_}
 use mathlib.Core.Path.{_≡_}
 use Prim.Native.Nat.{ℕ}

@@ -1,5 +1,5 @@
--- The end of the file: the text at the end makes the listing whole, the memory stands for the ring that the rounds played leave, and the positions then held keep
--- demand 3 with every phase end in it.
+-- The end of the file: the text at the end makes the listing whole, the memory represents the ring that the rounds played leave, and the
+-- positions then held keep demand 3 with every phase end in it.
 use mathlib.Core.Bool.{true}
 use mathlib.Core.List.{List, _++_}
 use mathlib.Core.Path.{_≡_}
@@ -20,14 +20,16 @@ use Rattle.run_stream.specs.declared.FinishResult.{FinishResult}
 abbrev pub ringAtEnd : File → Ring
 ringAtEnd F = ringFrom (F .setup) (roundsPlayed F)
 
--- the file ends after a, and the text that is left is shown: from the memory M to the memory M′, which is the same if no round was left to play
+-- the file ends after a, and the text that is left is shown: from the memory M to the memory M′, which is the same if no round was left to
+-- play
 pub record Ends (a : List ℕ) (M : Memory) (text : List ℕ) (M′ : Memory) : Type 0 where
   pub shows : listing a ≡ shown (readFile a) ++ text
   pub held : readFile a .setup .begun ≡ true → HeadsOf (readFile a .setup .n) (readFile a .setup .listeners) (agreedBefore (readFile a)) (ringAtEnd (readFile a)) M′
   pub unplayed : roundsPlayed (readFile a) ≡ readFile a .rounds .played → M′ ≡ M
   pub demand3 : ConvergedIn (readFile a) (roundsPlayed (readFile a)) (M′ .positions)
 
--- and how it ends, with the text in two: the line of the last phase end, if the end plays one, and the last line; and the counts (document 02, A10)
+-- and how it ends, with the text in two: the line of the last phase end, if the end plays one, and the last line; and the counts (document
+-- 02, A10)
 pub record EndsWith (a : List ℕ) (M : Memory) (r : FinishResult) (M′ : Memory) : Type 0 where
   pub number : r .number ≡ ending (readFile a)
   pub ends : Ends a M (bytesOf (r .line) ++ bytesOf (r .verdict)) M′

@@ -16,8 +16,8 @@ use Rattle.run_piece.specs.Advances.{Advances}
 unfoldable pub endingOf : Player → ℕ
 endingOf p = check (eqb (p .fault) 0) (p .fault) (check (p .begun && eqb (p .have) 0 && endsPhase (p .family) (p .given)) refusal.run-record 0)
 
--- after bytes b by which a player p₀ became p and which show a text, so many of these bytes are read too: the player is q then, and all of the text is text′. The
--- memory is as it was.
+-- after bytes b by which a player p₀ became p and which show a text, so many of these bytes are read too: the player is q then, and all of
+-- the text is text′. The memory is as it was.
 pub record Follows (p : Player) (bytes : List ℕ) (positions : List ℤ) (text : List ℕ) (q : Player) (used : ℕ) (text′ : List ℕ) : Type 0 where
   pub after : (a b carry : List ℕ) (p₀ : Player) (M₀ M : Memory) → Advances a b p₀ M₀ p text carry (withPositions M positions)
       → Advances a (b ++ take used bytes) p₀ M₀ q text′ carry (withPositions M positions)

@@ -1,3 +1,4 @@
+-- Ends: the end of the file. Cutting: a file fed in any pieces. Pages: how much a page takes. Inner: of private functions.
 pub mod Ends
 pub mod Cutting
 pub mod Inner

@@ -4,7 +4,7 @@ use Prim.Native.Nat.{ℕ, _≤_, _<_}
 use lib.ListN.{length}
 use Rattle.run_stream.specs.declared.FillResult.{FillResult}
 
--- of these bytes: all of them, or so many that the page has no room for another line, which has 64 bytes at most
+-- of these bytes: all of them, or as many as leave the page no room for another line, which has 64 bytes at most
 pub record Fills (bytes : List ℕ) (r : FillResult) : Type 0 where
   pub within : r .used ≤ length bytes
   pub some : 0 < length bytes → 0 < r .used

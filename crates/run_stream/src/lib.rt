@@ -32,7 +32,8 @@ pub const PAGE: usize = 4096;
 
 pub type Page = [u8; PAGE];
 
-// How the file ends, the last line of a phase, if its end plays one, the last line of all, and the counts when all rounds that are played are played.
+// How the file ends, the last line of a phase, if its end plays one, the last line of all, and the counts when all rounds that are played
+// are played.
 pub struct FinishResult {
     pub number: u8,
     pub line: Text,
@@ -40,7 +41,7 @@ pub struct FinishResult {
     pub since: Counts,
 }
 
-// Planted records passed, the last with this pair, in so many bytes.
+// Planted records passed: the last one's pair, and the bytes of all.
 fn passed(p: Player, last: Pair, used: usize) -> PassResult
     ensures { λ r. ⌜ r ≡ record { player = withPairPlanted p last; used = used } ⌝ }
 {
@@ -63,7 +64,7 @@ fn awaits_plants(p: Player) -> bool
     p.pending
 }
 
-// Takes the planted records at the front of a piece, as many as stand there one after the other. They show nothing.
+// Takes the planted records at the front of a piece, as many as follow one another there. They show nothing.
 fn pass_plants(
     p: Player,
     bytes: &[u8],
@@ -126,7 +127,8 @@ fn step(
     )
 }
 
-// Takes bytes up to the first that show a line, or all of them. How many it takes is free: one at least, if there are any, and no more than show one line.
+// Takes bytes up to the first that show a line, or all of them. How many it takes is free: one at least, if there are any, and no more than
+// show one line.
 pub fn feed(
     p: Player,
     bytes: &[u8],
@@ -214,8 +216,8 @@ pub fn finish(
     }
 }
 
-// ---- A page of a listing: as many lines as fit into a buffer that the caller writes out. So a program that plays a run file reads, fills pages and writes them, and
-// nothing else.
+// ---- A page of a listing: as many lines as fit into a buffer that the caller writes out. So a program that plays a run file reads, fills
+// pages and writes them, and nothing else.
 
 // What comes of a piece: the player after it, how many of its bytes were taken, and how many bytes of the page are filled.
 pub struct FillResult {
@@ -242,9 +244,9 @@ fn put(page: &mut [u8], len: usize, t: Text) -> usize
     len + count
 }
 
-// Takes the round records at the front of a piece, as many as stand there one after the other, of a ring that has agreed, as long as nothing
-// is planted and the page has room for a line. They change the player alone. Puts their lines after the first bytes of a page. How many it
-// takes is free: one that is left is taken by `feed`.
+// Takes the round records at the front of a piece, as many as stand there one after the other, of a ring that has agreed, as long as
+// nothing is planted and the page has room for a line. They change the player alone. Puts their lines after the first bytes of a page. How
+// many it takes is free: one that is left is taken by `feed`.
 fn pass_rounds(
     p: Player,
     bytes: &[u8],
@@ -280,7 +282,8 @@ fn pass_rounds(
     }
 }
 
-// Takes bytes of a piece as long as the page has room for a line. How many it takes when the page is full is free. What the page holds after its first `len` bytes is free.
+// Takes bytes of a piece as long as the page has room for a line. How many it takes when the page is full is free. What the page holds
+// after its first `len` bytes is free.
 pub fn fill(
     p: Player,
     bytes: &[u8],

@@ -1,4 +1,5 @@
--- The buffers that a whole file is played into: its listing, and a row of 48 numbers, one for each head and listener, and a mark word for each phase end.
+-- The buffers that a whole file is played into: its listing, and a row of 48 numbers, one for each head and listener, and a mark word for
+-- each phase end.
 use mathlib.Core.Bool.{Bool, cond, _&&_}
 use mathlib.Core.List.{List}
 use Prim.Native.Nat.{ℕ, _+_, _*_, _/_, min}
@@ -22,7 +23,8 @@ lent out ends words = record { out = now (out .entry); ends = now (ends .entry);
 abbrev pub left : Lent (List ℕ) → Lent (List ℤ) → Lent (List ℕ) → Buffers
 left out ends words = record { out = now (out .exit); ends = now (ends .exit); words = now (words .exit) }
 
--- how many bytes a phase takes at least, by the kind of the first record: a round record takes 8, and in a ring of one round a phase has one
+-- how many bytes a phase takes at least, by the kind of the first record: a round record takes 8, and in a ring of one round a phase has
+-- one
 abbrev pub phaseBytes : List ℕ → ℕ
 phaseBytes file = cond (eqb (at2 file 2) 0x14) 8 16
 
@@ -34,7 +36,7 @@ endsByBytes file = length file / phaseBytes file + 1
 abbrev pub allEnds : ℕ
 allEnds = 65536
 
--- how many a file can have at most, by both
+-- how many a file can have at most, by both (D14c)
 abbrev pub mostEnds : List ℕ → ℕ
 mostEnds file = min allEnds (endsByBytes file)
 

@@ -1,5 +1,5 @@
--- Document 02, A11, in the request's own words, of the rows that `play` wrote. It follows from the stronger `Whole.quiet`, for which the last round is enough, in
--- rings of both families.
+-- Document 02, A11, in the request's own words, of the rows that `play` wrote. It follows from the stronger `Whole.quiet`, for which the
+-- last round is enough, in rings of both families.
 use mathlib.Core.Bool.{true, false}
 use mathlib.Core.List.{List}
 use mathlib.Core.Path.{_≡_}
@@ -22,7 +22,8 @@ pub record InNeither (n m : ℕ) (x : PhaseEnd) (i : ℕ) : Type 0 where
   pub collect : bitOf (x .collect) i ≡ false
   pub confess : bitOf (x .confess) i ≡ false
 
--- if both rounds passed without a strike on any head, all heads, and all listeners struck in neither round, stand at one and the same position
+-- if both rounds passed without a strike on any head, all heads, and all listeners struck in neither round, hold one and the same position
+-- (Q92, Q93)
 abbrev pub QuietPhase : Type 0
 QuietPhase =
     (s : List ℕ) (r : PlayResult) (B B′ : Buffers) → Whole s r B B′ → let S = readFile s .setup in S .family ≡ TwoRounds

@@ -28,8 +28,8 @@ endNumber es e = getD es (length es - 1 - e) noEnd
 abbrev pub isSound : ℕ → ℕ → ℕ → ℕ → Bool
 isSound n m word i = isReceiver n m i && not (bitOf word i)
 
--- A row and a mark word hold a phase end of n heads and m listeners: the word is that of the round that ended it, and at the start that of all listeners, which hold
--- no position yet; the row has for each sound receiver the position that its record holds, and 0 elsewhere.
+-- A row and a mark word hold a phase end of n heads and m listeners: the word is that of the round that ended it, and at the start that of
+-- all listeners, which hold no position yet; the row has for each sound receiver the position that its record holds, and 0 elsewhere.
 pub record HoldsEnd (n m : ℕ) (x : PhaseEnd) (row : List ℤ) (word : ℕ) : Type 0 where
   pub marks : word ≡ x .struck
   pub held : Each receivers (λ i. isSound n m (x .struck) i ≡ true → x .heads i .seat .position ≡ Entry.Position (getD row i (pos 0)))
@@ -39,10 +39,11 @@ pub record HoldsEnd (n m : ℕ) (x : PhaseEnd) (row : List ℤ) (word : ℕ) : T
 abbrev pub endAt : ℕ → ℕ → Buffers → ℕ → End
 endAt n m B e = endIn n m (getD (B .words) e 0) (row e (B .ends))
 
--- the file s is played: how it ends; its listing, with what stands behind it as it was; its phase ends, with what stands behind them as it was; and any two of
--- these, k phases apart, keep demand 3: of the heads alone (m = 0), as the order has it, and with the first m listeners, all of them too (document 02, A6). The
--- counts are those of the phases since the last strike (A10), and the record of each head and listener that is not struck in the last round played holds its count.
--- quiet: if the word of a phase end, the start apart, has no head, its row has one number for all that are sound (A11; specs/Quiet.antt has the request's sentence).
+-- the file s is played: how it ends; its listing, with the bytes behind it as they were; its phase ends, with what is behind them as it
+-- was; and any two of these, k phases apart, keep demand 3: of the heads alone (m = 0), as the order has it, and with the first m
+-- listeners, all of them too (document 02, A6). The counts are those of the phases since the last strike (A10), and the record of each head
+-- and listener that is not struck in the last round played holds its count. quiet: if the word of a phase end, the start apart, has no
+-- head, its row has one number for all that are sound (A11; specs/Quiet.antt has the request's sentence; D14).
 pub record Whole (s : List ℕ) (r : PlayResult) (B B′ : Buffers) : Type 0 where
   pub number : r .number ≡ ending (readFile s)
   pub len : r .len ≡ length (listing s)
@@ -66,8 +67,8 @@ abbrev pub Plays : Bool → List ℕ → PlayResult → Buffers → Buffers → 
 Plays true s r B B′ = Whole s r B B′
 Plays false s r B B′ = (r ≡ record { number = refusal.buffer; len = 0; ends = 0; since = replicate receivers 0 }) × (B′ ≡ B)
 
--- the same from C, which lends room for the rest: how many bytes the listing has, how many phase ends were played, and the counts. If a buffer is too short, 24,
--- and all that is lent is as it was.
+-- the same from C, which lends room for the rest: how many bytes the listing has, how many phase ends were played, and the counts. If a
+-- buffer is too short, 24, and all that is lent is as it was.
 abbrev pub PlaysInto : Bool → List ℕ → ℕ → ℕ → ℕ → ℕ → ℕ → List ℕ → List ℕ → Buffers → Buffers → Type 0
 PlaysInto true s number len len′ ends ends′ since since′ B B′ = Whole s (record { number = number; len = len′; ends = ends′; since = since′ }) B B′
 PlaysInto false s number len len′ ends ends′ since since′ B B′ =

@@ -1,5 +1,5 @@
-// A whole run file in memory, played: its listing, and for each phase end the positions of the sound heads and listeners and the mark word of those struck. What a
-// caller sees of the file is one promise, about what these buffers hold.
+// A whole run file in memory, played: its listing, and for each phase end the positions of the sound heads and listeners and the mark word
+// of those struck. What a caller sees of the file is one promise, about what these buffers hold.
 ghost use mathlib.Core.Bool.{true};
 ghost use mathlib.Core.List.{List};
 ghost use mathlib.Core.Path.{_≡_};
@@ -21,8 +21,8 @@ use terms::Words;
 use terms::refusal;
 use texts::Text;
 
-// How the file ends, or 24 if a buffer is too short; how many bytes the listing has; how many phase ends were played, the start among them; and of each head and
-// listener the phases since its last strike.
+// How the file ends, or 24 if a buffer is too short; how many bytes the listing has; how many phase ends were played, the start among them;
+// and of each head and listener the phases since its last strike.
 pub struct PlayResult {
     pub number: u8,
     pub len: usize,
@@ -301,8 +301,8 @@ fn run(
     )
 }
 
-// Plays a whole file: its listing at the front of out, and for each phase end a row of ends and a word of words. Refused 24 if one of the three is too
-// short for the most phase ends that a file of this length and kind can have.
+// Plays a whole file: its listing at the front of out, and for each phase end a row of ends and a word of words. Refused 24 if one of the
+// three is too short for the most phase ends that a file of this length and kind can have.
 pub fn play(file: &[u8], out: &mut [u8], ends: &mut [i32], words: &mut [u64]) -> PlayResult
     ensures { λ r. ⌜ Plays (hasRoom (now (file .entry)) (length (now (out .entry))) (length (now (ends .entry))) (length (now (words .entry))))
         (now (file .entry)) r (lent out ends words) (left out ends words) ⌝ }
@@ -337,8 +337,8 @@ pub fn play(file: &[u8], out: &mut [u8], ends: &mut [i32], words: &mut [u64]) ->
     )
 }
 
-// The same from C: the number of the file's first fault, 0 if it is played to its end, or 24; the counts, the length of the listing and the number of phase ends are
-// put where the caller lends room.
+// The same from C: the number of the file's first fault, 0 if it is played to its end, or 24; the counts, the length of the listing and the
+// number of phase ends are put where the caller lends room.
 #[no_mangle]
 pub extern "C" fn focus_play(
     file: &[u8],

@@ -1,4 +1,5 @@
--- The limits call: n, f, the phase, a mark word, and 8 bytes for each entry, lowest then highest. Checks 1, 2, 5, 8 (entries not 8n bytes), 10, 19, 25.
+-- The limits call: n, f, the phase, a mark word, and 8 bytes for each entry, lowest then highest. Checks 1, 2, 5, 8 (entries not 8n bytes),
+-- 10, 19, 25.
 use mathlib.Core.Path.{_≡_}
 use mathlib.Core.Bool.{Bool, true, false, cond, _&&_}
 use mathlib.Core.List.{List}
@@ -39,17 +40,17 @@ lowests = limitAt 0
 abbrev pub highests : ℕ → List ℕ → ℕ → Entry
 highests = limitAt 4
 
--- numbers that may stand as a lowest and a highest: positions in order if the entry is marked, and else 0
+-- whether numbers fit as a lowest and a highest: positions in order if the entry is marked, and else 0
 abbrev pub fits : Bool → ℤ → ℤ → Bool
 fits true a b = isPosition a && (isPosition b && leZ a b)
 fits false a b = eqZ a (pos 0) && eqZ b (pos 0)
 
--- whether the limits of entries 0 .. n - 1 may stand so
+-- whether the limits of entries 0 .. n - 1 fit
 unfoldable pub limitsFit : ℕ → List ℕ → ℕ → Bool
 limitsFit m s zero = true
 limitsFit m s (suc j) = limitsFit m s j && fits (bitOf m j) (limitOf 0 s j) (limitOf 4 s j)
 
--- 1, 2, 5, 8, 10, 19, before the checks that follow
+-- 1, 2, 5, 8, 10, 19, before the checks that follow (Q94)
 unfoldable pub checkLimits : ℕ → ℕ → ℕ → ℕ → List ℕ → ℕ → ℕ
 checkLimits n f p m s rest =
     checkSize TwoRounds n f
@@ -72,13 +73,13 @@ pub data Answers (n f p m : ℕ) (s : List ℕ) : Ranged → Type 0 where
 abbrev pub OneAnswer : Type 0
 OneAnswer = (n f p m : ℕ) (s : List ℕ) (a b : Ranged) → Answers n f p m s a → Answers n f p m s b → a ≡ b
 
--- "refusal 25 in the same case": where limits are refused 25, each choice within them has too few entries too
+-- "refusal 25 in the same case": where limits are refused 25, each choice within them has too few entries too (Q95)
 abbrev pub TooFewAlike : Type 0
 TooFewAlike =
     (n f p m : ℕ) (s : List ℕ) → Answers n f p m s (Ranged.Refused refusal.trusted)
     → (E : ℕ → Entry) → Choice n (lowests m s) (highests m s) E → settled (rounding p) n (twoRounds f) E ≡ Null
 
--- and only there: limits that pass the checks before 25 are refused 25 if each choice has too few
+-- and only there: limits that pass the checks before 25 are refused 25 if each choice has too few (Q95)
 abbrev pub TooFewOnly : Type 0
 TooFewOnly =
     (n f p m : ℕ) (s : List ℕ) → checkLimits n f p m s 0 ≡ 0
@@ -92,7 +93,7 @@ MidpointsWithin =
     → (m′ : ℕ) (s′ : List ℕ) → midpoint-call.listRefusal TwoRounds n f p m′ s′ ≡ 0 → Choice n (lowests m s) (highests m s) (midpoint-call.entriesGiven n m′ s′)
     → HeldBetween (Position low) (Position high) (settledEntry (midpoint-call.midpointCall TwoRounds n f p m′ s′))
 
--- ---- as the code works it out: the lowest positions and the highest are settled, each by themselves
+-- ---- as the code works it out: the lowest positions are settled, and then the highest
 
 abbrev pub rangedOf : Settled → Settled → Ranged
 rangedOf (Refused c) h = Ranged.Refused c

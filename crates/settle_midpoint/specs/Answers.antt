@@ -12,7 +12,7 @@ use Rattle.convergence.specs.Settling.{Rule, nulls, ordered, lowKept, highKept,
 use Rattle.settle_midpoint.specs.declared.Kept.{Kept}
 use Rattle.settle_midpoint.specs.declared.Settled.{Settled}
 
--- t dropped from each end of the positions l, which are in order
+-- t dropped from each end of the positions l, which are in order (Q12, D8)
 abbrev pub kept : ℕ → ℕ → List ℤ → Kept
 kept r t l = record { low = lowKept t l; high = highKept t l; trim = t; position = middle r t l }
 
@@ -26,7 +26,7 @@ abbrev pub settledEntry : Settled → Entry
 settledEntry (Settled.Refused c) = Null
 settledEntry (Settled.New k) = Position (k .position)
 
--- from n entries, by the rule R: r says how an odd sum is rounded
+-- from n entries, by the rule R: r says how an odd sum is rounded (P27)
 unfoldable pub settling : ℕ → ℕ → Rule → (ℕ → Entry) → Settled
 settling r n R E =
     cond (enough n R E) (Settled.New (kept r (R .trim (nulls n E)) (ordered n E))) (Settled.Refused refusal.trusted)

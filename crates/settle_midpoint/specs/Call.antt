@@ -1,5 +1,5 @@
--- The midpoint call: the family (document 02, A9), n, f, the phase (A7), and a list's marks and entries. Checks 1, 2 (18 in a ring of one round), 5, 8 (entries
--- not 4n bytes), 10, 11, 25.
+-- The midpoint call: the family (document 02, A9), n, f, the phase (A7), and a list's marks and entries. Checks 1, 2 (18 in a ring of one
+-- round), 5, 8 (entries not 4n bytes), 10, 11, 25.
 use mathlib.Core.List.{List}
 use Prim.Native.Nat.{ℕ, _*_}
 use lib.Dec.{eqb}
@@ -20,7 +20,7 @@ use Rattle.settle_midpoint.specs.Answers.{settling}
 abbrev pub entriesGiven : ℕ → ℕ → List ℕ → ℕ → Entry
 entriesGiven n m s = entryAt m (numbers s n)
 
--- all but 25, which settling gives
+-- all but 25, which settling gives (P40b, Q62)
 unfoldable pub listRefusal : Family → ℕ → ℕ → ℕ → ℕ → List ℕ → ℕ
 listRefusal K n f p m s =
     checkSize K n f
@@ -29,6 +29,6 @@ listRefusal K n f p m s =
     (check (marksBelow m n) refusal.marks
     (check (entriesFit m s n) refusal.entry 0))))
 
--- rounded as in phase p
+-- rounded as in phase p (Q87)
 unfoldable pub midpointCall : Family → ℕ → ℕ → ℕ → ℕ → List ℕ → Settled
 midpointCall K n f p m s = unlessRefused Settled.Refused (listRefusal K n f p m s) (settling (rounding p) n (ruleOf K f) (entriesGiven n m s))

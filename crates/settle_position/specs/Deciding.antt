@@ -14,8 +14,8 @@ use Rattle.settle_trust.specs.Cells.{columnOf, cellFor, decided}
 use Rattle.settle_position.specs.declared.Deciding.{Deciding}
 use Rattle.settle_position.specs.Reference.{Decides, Lacks}
 
--- The entries E, one by one: null if the link confessed; what the reference list shows if it decides; null if it lacks a position; else what the lists and their marks
--- decide. From 32 on they are null. The reference is a list of numbers, with its marks in d.
+-- The entries E, one by one: null if the link confessed; what the reference list shows if it decides; null if it lacks a position; else
+-- what the lists and their marks decide. From 32 on they are null. The reference is a list of numbers, with its marks in d (D16).
 pub record Prepared (E : ℕ → Entry) (lists : List (List ℤ)) (marks : List ℕ) (reference : List ℤ) (same : List ℕ) (d : Deciding) : Type 0 where
   pub healed : (j : ℕ) → bitOf (d .confessed) j ≡ true → E j ≡ Null
   pub shown : Each 32 (λ j. bitOf (d .confessed) j ≡ false → let e = entryAt (d .word) reference j in

@@ -1,5 +1,5 @@
--- How the search for the trusted entries goes by the list of one link, the reference, before it counts a column. Nothing here is needed to read what
--- `settle_by` and `settle` promise.
+-- How the search for the trusted entries goes by the list of one link, the reference, before it counts a column. Nothing here is needed to
+-- read what `settle_by` and `settle` promise.
 use mathlib.Core.Path.{_≡_}
 use mathlib.Core.Bool.{Bool, not, _&&_}
 use mathlib.Core.List.{List, []}
@@ -33,17 +33,19 @@ apartFrom n marks reference = sum n (λ k. bit (isApart (getD marks k 0) (getD m
 abbrev pub agreeing : ℕ → List ℕ → List (List ℤ) → ℕ → ℕ → ℕ
 agreeing n marks lists reference j = sum n (λ k. bit (agrees marks lists reference j k))
 
+-- D16
 pub record Compares (n : ℕ) (marks : List ℕ) (lists : List (List ℤ)) (reference : ℕ) (r : Comparison) : Type 0 where
   pub alike : r .alike ≡ alikeTo n marks reference
   pub apart : r .apart ≡ apartFrom n marks reference
   pub same : Each 32 (λ j. getD (r .same) j 0 ≡ agreeing n marks lists reference j)
 
--- The cell x of the reference decides. Where it is null, only lists with other marks hold a position. Where it is not, enough lists agree with it, and those that
--- may hold another position are too few.
+-- The cell x of the reference decides. Where it is null, only lists with other marks hold a position. Where it is not, enough lists agree
+-- with it, and those that may hold another position are too few.
 abbrev pub Decides : ℕ → ℕ → ℕ → ℕ → ℕ → Type 0
 Decides zero need alike apart same = apart < need
 Decides (suc w) need alike apart same = (need ≤ same) × (alike + apart < same + need)
 
--- The cell x of the reference is a position, and no position is decided on: those that may hold it are too few, and so are those that may hold another.
+-- The cell x of the reference is a position, and no position is decided on: those that may hold it are too few, and so are those that may
+-- hold another.
 abbrev pub Lacks : ℕ → ℕ → ℕ → ℕ → ℕ → Type 0
 Lacks x need alike apart same = (0 < x) × (same + apart < need) × (alike + apart < same + need)

@@ -21,16 +21,17 @@ use terms::Lists;
 use terms::Numbers;
 use terms::Words;
 
-// How n lists stand to the list of one link, the reference: how many have its mark word, how many another one that is not 0, and for each entry how many of the
-// first have its number.
+// How n lists compare with the list of one link, the reference: how many have its mark word, how many another one that is not 0, and for
+// each entry how many of the first have its number.
 pub struct Comparison {
     pub alike: u8,
     pub apart: u8,
     pub same: Words,
 }
 
-// What deciding an entry looks at beside the lists, their marks, the reference list, and how many lists agree with it: worked out once when a round is closed. How
-// many lists there are to search, how many have to agree, who confessed, the marks of the reference, how many lists have these, and how many have others.
+// What deciding an entry looks at besides the lists, their marks, the reference list, and how many lists agree with it: worked out once
+// when a round is closed. How many lists there are to search, how many have to agree, who confessed, the marks of the reference, how many
+// lists have these, and how many have others.
 pub struct Deciding {
     pub count: u8,
     pub need: u8,
@@ -62,7 +63,7 @@ pub fn is_apart(m: u32, word: u32) -> bool
     m != 0
 }
 
-// How the lists of the first n links stand to that of the reference.
+// How the lists of the first n links compare with that of the reference.
 fn compare(lists: &Lists, marks: &Words, n: usize, reference: usize) -> Comparison
     requires { ⌜ (n ≤ 32) × (reference < 32) ⌝ }
     ensures { λ r. ⌜ Compares n (now (marks .entry)) (now (lists .entry)) reference r ⌝ }
@@ -97,7 +98,8 @@ pub fn decides(x: u64, need: u8, alike: u8, apart: u8, same: u32) -> bool
     alike as u64 + (apart as u64) < same as u64 + need as u64
 }
 
-// Whether there is no trusted position, by the cell x of the reference's list: the lists that may hold it are too few, and so are those that may hold another.
+// Whether there is no trusted position, by the cell x of the reference's list: the lists that may hold it are too few, and so are those
+// that may hold another.
 pub fn lacks(x: u64, need: u8, alike: u8, apart: u8, same: u32) -> bool
     ensures { λ r. ⌜ (r ≡ true → Lacks x need alike apart same) ⌝ }
 {
@@ -143,8 +145,8 @@ fn cell_by(
     )
 }
 
-// What deciding looks at, with the list of the link `reference` (of 32) as reference: if most lists are like it, it decides nearly all entries. It goes to the two
-// lent arrays and the answer.
+// What deciding looks at, with the list of the link `reference` (of 32) as reference: if most lists are like it, it decides nearly all
+// entries. It goes to the two lent arrays and the answer.
 pub fn prepare(
     lists: &Lists,
     links: Links,
@@ -173,8 +175,9 @@ pub fn prepare(
     }
 }
 
-// Document 02, A3: decides entry j, and puts it in its place in the order at once; answers how many positions there are then. Called from entry 0 up, with 32
-// zeros and none counted at first: after entry j the order holds exactly the positions trusted among entries 0 to j, lowest first, equal ones each time.
+// Document 02, A3: decides entry j, and puts it in its place in the order at once; answers how many positions there are then. Called from
+// entry 0 up, with 32 zeros and none counted at first: after entry j the order holds exactly the positions trusted among entries 0 to j,
+// lowest first, equal ones each time.
 pub fn decide_entry(
     lists: &Lists,
     marks: &Words,

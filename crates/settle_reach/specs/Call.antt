@@ -1,5 +1,5 @@
--- The reach call: the family, n, f, the phase, the open entry's number, a list's marks and entries, and the wanted position. Checks 1, 2 (18 in a one-round
--- ring), 5, 3, 8 (entries not 4n bytes), 10, 11, 25.
+-- The reach call: the family, n, f, the phase, the open entry's number, a list's marks and entries, and the wanted position. Checks 1, 2
+-- (18 in a one-round ring), 5, 3, 8 (entries not 4n bytes), 10, 11, 25.
 use mathlib.Core.Path.{_≡_}
 use mathlib.Core.Bool.{Bool, true, false, _&&_, _||_}
 use mathlib.Core.List.{List}
@@ -23,12 +23,12 @@ use Rattle.terms.specs.declared.Family.{Family}
 use Rattle.settle_reach.specs.declared.Reached.{Reached}
 use Rattle.settle_reach.specs.Reach.{opened, Brings, Found}
 
--- whether the first n numbers of the bytes s may stand in a list with the mark word m; the open entry j may be any, whatever its mark
+-- whether the first n numbers of the bytes s fit in a list with the mark word m; the open entry j may be any, whatever its mark (Q97)
 unfoldable pub othersFit : ℕ → ℕ → List ℕ → ℕ → Bool
 othersFit j m s zero = true
 othersFit j m s (suc k) = othersFit j m s k && (eqb k j || fits (bitOf m k) (signedAt s (4 * k)))
 
--- 1, 2 or 18, 5, 3, 8, 10, 11, before the checks that follow
+-- 1, 2 or 18, 5, 3, 8, 10, 11, before the checks that follow (Q96)
 unfoldable pub checkReach : Family → ℕ → ℕ → ℕ → ℕ → ℕ → List ℕ → ℕ → ℕ
 checkReach K n f p j m s rest =
     checkSize K n f
@@ -38,7 +38,7 @@ checkReach K n f p j m s rest =
     (check (marksBelow m n) refusal.marks
     (check (othersFit j m s n) refusal.entry rest)))))
 
--- and then 25: "the open entry is not null when nulls are counted"
+-- and then 25: "the open entry is not null when nulls are counted" (Q98)
 unfoldable pub reachRefusal : Family → ℕ → ℕ → ℕ → ℕ → ℕ → List ℕ → ℕ
 reachRefusal K n f p j m s =
     checkReach K n f p j m s (check (enough n (ruleOf K f) (opened (entriesGiven n m s) j (pos 0))) refusal.trusted 0)
@@ -52,7 +52,7 @@ pub data Answers (K : Family) (n f p j m : ℕ) (s : List ℕ) (x : ℤ) : Reach
 abbrev pub OneAnswer : Type 0
 OneAnswer = (K : Family) (n f p j m : ℕ) (s : List ℕ) (x : ℤ) (a b : Reached) → Answers K n f p j m s x a → Answers K n f p j m s x b → a ≡ b
 
--- a wanted position that is out of range is never refused for that, and none brings it
+-- a wanted position that is out of range is never refused for that, and none brings it (Q96, Q100)
 abbrev pub OutOfRange : Type 0
 OutOfRange = (K : Family) (n f p j m : ℕ) (s : List ℕ) (x : ℤ) → reachRefusal K n f p j m s ≡ 0 → isPosition x ≡ false → Answers K n f p j m s x Reached.None
 

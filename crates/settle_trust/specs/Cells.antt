@@ -1,5 +1,5 @@
--- How the search for a trusted entry holds what the links gave: a mark word for each list, and each entry of a column as one number, 0 for null.
--- Nothing here is needed to read what `support`, `trusted_entry` and `trusted_table` promise.
+-- How the search for a trusted entry holds what the links gave: a mark word for each list, and each entry of a column as one number, 0 for
+-- null. Nothing here is needed to read what `support`, `trusted_entry` and `trusted_table` promise.
 use mathlib.Core.Path.{_≡_}
 use mathlib.Core.Bool.{Bool, true, false, not, _&&_}
 use mathlib.Core.List.{List, []}
@@ -57,15 +57,15 @@ HoldsEach n cells E = Each n (λ k. CellOf (getD cells k 0) (E k))
 abbrev pub equalTo : ℕ → List ℕ → ℕ → ℕ
 equalTo n cells x = sum n (λ k. bit (eqb (getD cells k 0) x))
 
--- a cell that is not null, not the one found, and stands in `need` lists or more
+-- a cell that is not null, not the one found, and is in `need` lists or more
 abbrev pub isAnother : ℕ → ℕ → List ℕ → ℕ → ℕ → Bool
 isAnother n need cells found x = not (eqb x 0) && (not (eqb x found) && leb need (equalTo n cells x))
 
--- whether u stands `need` times or more among the first n entries
+-- whether u is `need` times or more among the first n entries
 abbrev pub standsIn : ℕ → ℕ → (ℕ → Entry) → ℤ → Bool
 standsIn n need E u = leb need (sum n (λ k. is u (E k)))
 
--- the positions among the first n entries that stand there so often
+-- the positions that are so often among the first n entries
 abbrev pub agreed : ℕ → ℕ → (ℕ → Entry) → Seen
 agreed n need E = seen (standsIn n need E) n E
 

@@ -9,7 +9,7 @@ use Rattle.entries.specs.Entries.{entryAt}
 use Rattle.convergence.specs.Trust.{Given, nothing, confessed, gave}
 use Rattle.settle_trust.specs.declared.Links.{Links}
 
--- what link k gave: a confession if it is so marked, else a list if it is so marked, else nothing
+-- what link k gave: a confession if it is so marked, else a list if it is so marked, else nothing (D5)
 unfoldable pub givenBy : Links → List (List ℤ) → ℕ → Given
 givenBy g lists k =
     cond (bitOf (g .confessed) k) confessed

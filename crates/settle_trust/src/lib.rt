@@ -1,4 +1,5 @@
-// What the links gave in a confession round, as the search for the trusted entries holds it: mark words, and each entry as one number.
+// Support and trusted entries, from what the links gave in a confession round. The search holds mark words, and each entry as one number,
+// its cell.
 ghost use mathlib.Core.Path.{_≡_};
 ghost use Prim.Native.Nat.{_+_, _-_, _≤_, _<_, min, ℕ};
 ghost use lib.ListN.{length};
@@ -16,7 +17,7 @@ use terms::Numbers;
 use terms::Table;
 use terms::Words;
 
-// Which links confessed, which gave a list, and the mark words of the lists, which stand beside this.
+// Which links confessed, which gave a list, and the mark words of the lists, whose numbers are apart.
 pub struct Links {
     pub confessed: u32,
     pub listed: u32,
@@ -136,7 +137,7 @@ fn equal_to(cells: &[u64; 32], n: usize, x: u64) -> usize
     c
 }
 
-// Whether the cell x is another than the one found, and stands in `need` lists or more.
+// Whether the cell x is another than the one found, and is in `need` lists or more.
 fn is_another(cells: &[u64; 32], n: usize, need: usize, found: u64, x: u64) -> bool
     requires { ⌜ n ≤ 32 ⌝ }
     ensures { λ r. ⌜ r ≡ isAnother n need (now (cells .entry)) found x ⌝ }
@@ -207,7 +208,7 @@ fn voted(cells: &[u64; 32], n: usize) -> Vote
     v
 }
 
-// The cell of the only position that stands in `need` lists or more; 0 if there is none, or several. What stands in so many lists stands in an early
+// The cell of the only position that is in `need` lists or more; 0 if there is none, or several. What is in `need` lists is in an early
 // one, so the search ends if fewer than `need` are left.
 fn searched(cells: &[u64; 32], n: usize, need: usize) -> u64
     requires { ⌜ (n ≤ 32) × (0 < need) ⌝ }

@@ -20,7 +20,7 @@ isScale a d = inScale a && inScale d && leb d a
 unfoldable pub nanometres : ℤ → ℕ → ℕ → ℤ
 nanometres v a d = floorDiv (v *ℤ pos a) d
 
--- 12, then 4
+-- 12, then 4 (P40c)
 unfoldable pub scaleRefusal : ℤ → ℕ → ℕ → ℕ
 scaleRefusal v a d = check (isScale a d) refusal.scale (check (isPosition v) refusal.position 0)
 

@@ -22,13 +22,14 @@ ReadsAs a d x v = (isPosition v ≡ true) × (nanometres v a d ≡ x)
 abbrev pub OnlyOne : ℤ → ℕ → ℕ → ℤ → Type 0
 OnlyOne x a d v = (w : ℤ) → nanometres w a d ≡ x → w ≡ v
 
--- what is answered for the reading x: 12 if a and d make no scale; else the step in range whose reading it is, or none if no step in range reads so
+-- what is answered for the reading x: 12 if a and d make no scale; else the step in range whose reading it is, or none if no step in range
+-- reads so (Q15)
 pub data Answers (x : ℤ) (a d : ℕ) : Unscaled → Type 0 where
   refused : isScale a d ≡ false → Answers x a d (Unscaled.Refused refusal.scale)
   step : isScale a d ≡ true → (v : ℤ) → ReadsAs a d x v → Answers x a d (Unscaled.Step v)
   none : isScale a d ≡ true → ((v : ℤ) → ReadsAs a d x v → ⊥) → Answers x a d Unscaled.None
 
--- one answer at most: the numerator is at least the denominator, so no two steps read alike
+-- one answer at most: the numerator is at least the denominator, so no two steps have one reading (Q16)
 abbrev pub OneAnswer : Type 0
 OneAnswer = (x : ℤ) (a d : ℕ) (s t : Unscaled) → Answers x a d s → Answers x a d t → s ≡ t
 

@@ -57,7 +57,8 @@ fn limit_number(family: Family) -> u8
     }
 }
 
-// Whether a ring of n heads with the struck limit f is taken: 0, or 1 for the head count, or for the limit 2, and 18 in a ring of one round.
+// Whether a ring of n heads with the struck limit f is taken: 0, or 1 for the head count, or for the limit 2, and 18 in a ring of one
+// round.
 pub fn size_refusal(family: Family, n: u32, f: u32) -> u8
     ensures { λ r. ⌜ r ≡ sizeRefusal family n f ⌝ }
 {

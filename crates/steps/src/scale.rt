@@ -63,7 +63,8 @@ pub fn scale(steps: i32, numerator: u32, denominator: u32) -> Scaled
     Scaled::Refused(refusal::SCALE)
 }
 
-// The only number of steps that can read so: the lowest that reads so or more, which is reading times denominator, divided by numerator, rounded up.
+// The only number of steps that can read so: the lowest that reads so or more, which is reading times denominator, divided by numerator,
+// rounded up.
 fn candidate(reading: i64, numerator: u32, denominator: u32) -> i64
     requires { ⌜ Within 1_000_000_000_000 reading × (isScale numerator denominator ≡ true) ⌝ }
     ensures { λ r. ⌜ OnlyOne reading numerator denominator r ⌝ }

@@ -14,7 +14,8 @@ unfoldable pub floorDiv : ℤ → ℕ → ℤ
 floorDiv (pos n) d = pos (n / d)
 floorDiv (negsuc n) d = negsuc (n / d)
 
--- half of z; an odd z is rounded down if r is 0, and up if r is 1 (document 01 has r = 0 throughout; document 02, A7, goes by the phase)
+-- half of z; an odd z is rounded down if r is 0, and up if r is 1 (document 01 has r = 0 throughout; document 02, A7, goes by the phase;
+-- D3, D6)
 unfoldable pub half : ℕ → ℤ → ℤ
 half r z = floorDiv (z +ℤ pos r) 2
 

@@ -2,12 +2,12 @@
 use mathlib.Core.Bool.{Bool, true, false}
 use Prim.Native.Nat.{ℕ, zero, suc}
 
--- The first check that fails gives its number; 0 stands for none.
+-- The first check that fails gives its number; 0 is none (D2).
 abbrev pub check : Bool → ℕ → ℕ → ℕ
 check true number rest = rest
 check false number rest = number
 
--- what a call answers: by `refused`, its number if that is a refusal's
+-- what a call answers if its checks gave this number: x if that is 0, and else the number, as `refused` puts it
 abbrev pub unlessRefused : {A : Type 0} → (ℕ → A) → ℕ → A → A
 unlessRefused refused zero x = x
 unlessRefused refused (suc number) x = refused (suc number)
@@ -65,8 +65,8 @@ entry = 11
 abbrev pub scale : ℕ
 scale = 12
 
--- run record cut short, of wrong length, of unknown kind or out of order, a planted pair against its rule or with a number n or more, or file
--- ended before a start or inside a phase
+-- run record cut short, of wrong length, of unknown kind or out of order, a planted pair against its rule or with a number n or more, or
+-- file ended before a start or inside a phase
 abbrev pub run-record : ℕ
 run-record = 13
 
@@ -86,7 +86,7 @@ register = 16
 abbrev pub listener : ℕ
 listener = 17
 
--- n below 4f + 1, in a ring of one round; where 2 stands in others (document 02, A9)
+-- n below 4f + 1, in a ring of one round, in place of 2 (document 02, A9)
 abbrev pub one-round-limit : ℕ
 one-round-limit = 18
 

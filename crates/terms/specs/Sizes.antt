@@ -11,12 +11,12 @@ use Rattle.terms.specs.declared.Family.the-variants.{TwoRounds, OneRound
 unfoldable pub isCount : ℕ → Bool
 isCount n = leb 1 n && leb n 32
 
--- struck limit f, with 2n at least 7f + 2; in a ring of one round with n at least 4f + 1 (document 02, A9)
+-- struck limit f, with 2n at least 7f + 2; in a ring of one round with n at least 4f + 1 (document 02, A9; P38)
 unfoldable pub isLimit : Family → ℕ → ℕ → Bool
 isLimit TwoRounds n f = leb (7 * f + 2) (2 * n)
 isLimit OneRound n f = leb (4 * f + 1) n
 
--- its refusal: 2; in a ring of one round 18
+-- its refusal: 2; in a ring of one round 18 (Q76)
 abbrev pub limitNumber : Family → ℕ
 limitNumber TwoRounds = refusal.struck-limit
 limitNumber OneRound = refusal.one-round-limit
@@ -25,7 +25,7 @@ limitNumber OneRound = refusal.one-round-limit
 abbrev pub isPhase : ℕ → Bool
 isPhase p = leb 1 p && leb p 65535
 
--- listeners are numbered 32 to 47 (document 02, A6)
+-- listeners, which receive and decide but send nothing, are numbered 32 to 47 (document 02, A6)
 unfoldable pub isListener : ℕ → Bool
 isListener i = leb 32 i && leb i 47
 
@@ -37,6 +37,7 @@ abbrev pub sizeRefusal : Family → ℕ → ℕ → ℕ
 sizeRefusal K n f = checkSize K n f 0
 
 -- how many rounds a phase has; they are numbered from 0: 0 is collection and 1 confession, and the one round of a phase of one round is 0
+-- (Q74)
 abbrev pub roundsOf : Family → ℕ
 roundsOf TwoRounds = 2
 roundsOf OneRound = 1

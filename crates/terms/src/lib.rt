@@ -41,7 +41,7 @@ pub enum Family {
     OneRound,
 }
 
-// An entry is either null or a position; zero steps is a position.
+// An entry is either null (no value) or a position (the value of a node, in the field's terms); zero steps is a position.
 pub enum Entry {
     Null,
     Position(i32),

@@ -1,4 +1,4 @@
-// The numbers of the refusals, with the words of document 01. 0 stands for none. specs/Refusals.antt has the same table.
+// The numbers of the refusals, with the words of document 01. 0 is none. specs/Refusals.antt has the same table.
 
 // From the input.
 pub const HEAD_COUNT: u8 = 1; // head count

@@ -15,11 +15,11 @@ unfoldable pub size : ℕ → ℕ → ℕ
 size zero x = 1
 size (suc k) x = cond (ltb x 10) 1 (suc (size k (x / 10)))
 
--- without padding, of a number below 10 ^ 10
+-- without padding, of a number below 10 ^ 10 (P57)
 unfoldable pub decimal : ℕ → List ℕ
 decimal x = digits (size 9 x) x
 
--- with a minus sign if it is below zero
+-- with a minus sign if it is below zero (P57)
 abbrev pub whole : ℤ → List ℕ
 whole (pos x) = decimal x
 whole (negsuc x) = 45 ∷ decimal (suc x)

@@ -1,4 +1,5 @@
--- A receiver that settles before another and is told the same. What both make of what they hear is the same, so it need not be made twice.
+-- A receiver that settles before another, if the same is planted to both. What both make of what they hear is the same, so it need not be
+-- made twice.
 use mathlib.Core.Path.{_≡_}
 use mathlib.Core.Bool.{true}
 use mathlib.Core.List.{List}
@@ -13,7 +14,7 @@ abbrev pub SettlesBefore : Stage → ℕ → Before → Type 0
 SettlesBefore s i None = Unit {0}
 SettlesBefore s i (As m) = (m < i) × (settles s m ≡ true)
 
--- and is told the same
+-- and the same is planted to it
 abbrev pub AsBefore : Stage → (ℕ → ℕ → List ℕ) → ℕ → Before → Type 0
 AsBefore s plant i None = Unit {0}
 AsBefore s plant i (As m) = (m < i) × (settles s m ≡ true) × ToldAlike s plant i m

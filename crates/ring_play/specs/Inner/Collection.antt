@@ -32,7 +32,7 @@ isPositionFrame p k s = eqb (length s) 11 && (eqb (lengthField s) 11 && (eqb (at
 unfoldable pub heardOf : Stage → List ℕ → ℕ → Entry
 heardOf s bytes k = heardEntry (said (heads s) (s .phase) 0 k bytes)
 
--- what all hear alike: of the unstruck heads what they sent, of the struck ones nothing
+-- what all hear: of the unstruck heads what they sent, of the struck ones nothing
 unfoldable pub sentBy : Stage → List ℤ → ℕ → Entry
 sentBy s positions k = cond (bitOf (s .struck) k) Entry.Null (ownEntry s positions k)
 

@@ -45,7 +45,7 @@ pub record RowsKept (g : Links) (rows rows′ : List (List ℤ)) : Type 0 where
   pub long : length rows′ ≡ 32
   pub gives : givenBy g rows′ ≡ givenBy g rows
 
--- what the unstruck heads give, to all receivers alike
+-- what the unstruck heads give to all receivers
 unfoldable pub givenAlike : Stage → List ℕ → List (List ℤ) → ℕ → Given
 givenAlike s marks lists k = cond (hears s k) (givenOf (replied s marks lists k)) nothing
 

@@ -37,8 +37,8 @@ pub record EndsCounted (n : ℕ) (E : ℕ → Entry) (lowest highest : ℤ) (c :
   pub low : c .low ≡ sum n (λ k. tested (λ u. leZ u lowest) (E k))
   pub high : c .high ≡ sum n (λ k. tested (λ u. leZ highest u) (E k))
 
--- Of n entries len are positions that all hear. No end has more than f planted ones, each planted one is at an end, and the nulls are few enough. Then of the
--- positions that all hear f, less those planted at an end, are dropped there.
+-- Of n entries len are positions that all hear. No end has more than f planted ones, each planted one is at an end, and the nulls are few
+-- enough. Then of the positions that all hear f, less those planted at an end, are dropped there.
 pub record Decides (n f len : ℕ) (c : Counts) : Type 0 where
   pub some : 2 * f < len
   pub few-low : c .low ≤ f

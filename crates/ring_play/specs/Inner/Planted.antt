@@ -1,4 +1,4 @@
--- What a receiver settles in a confession round, from what the links give all unstruck receivers alike and what is planted to it.
+-- What a receiver settles in a confession round, from what the links give all unstruck receivers and what is planted to it.
 use mathlib.Core.Path.{_≡_}
 use mathlib.Core.Bool.{Bool, true, false, cond, _&&_}
 use mathlib.Core.List.{List}
@@ -22,7 +22,7 @@ use Rattle.ring_play.specs.Memory.{heads, settles, positionOf}
 abbrev pub isStruck : Stage → ℕ → Bool
 isStruck s k = ltb k (heads s) && bitOf (s .struck) k
 
--- what link k gives receiver i: what is planted, or what it gives all alike
+-- what link k gives receiver i: what is planted, or what it gives all
 unfoldable pub givenOrPlanted : Stage → (ℕ → Given) → (ℕ → ℕ → List ℕ) → ℕ → ℕ → Given
 givenOrPlanted s G plant i k = cond (isStruck s k) (givenOf (said (heads s) (s .phase) 1 k (plant k i))) (G k)
 
@@ -30,7 +30,7 @@ givenOrPlanted s G plant i k = cond (isStruck s k) (givenOf (said (heads s) (s .
 unfoldable pub positionSettled : Stage → (ℕ → Given) → ℤ
 positionSettled s G = positionOf (settling (rounding (s .phase)) (heads s) (twoRounds (s .f)) (trusted (heads s) (s .f) G))
 
--- G is what unstruck heads can give all alike: nothing comes from struck heads, and lists hold positions in range
+-- G is what unstruck heads can give all: nothing comes from struck heads, and lists hold positions in range
 pub record Alike (s : Stage) (G : ℕ → Given) : Type 0 where
   pub untold : (k : ℕ) → isStruck s k ≡ true → G k ≡ nothing
   pub ranged : Each (heads s) (λ k. Each (heads s) (λ j. (u : ℤ) → saysOf j (G k) ≡ Position u → isPosition u ≡ true))

@@ -10,8 +10,9 @@ use Rattle.terms.specs.Counting.{Each, sum}
 use Rattle.convergence.specs.Trust.{Given, support, hasConfessed, confessions}
 use Rattle.ring_play.specs.Inner.Codes.{noCode, holds}
 
--- G: what the links give all receivers; p: how many links give each receiver something else. For each entry of a link that has not confessed, so many lists have
--- its code, and no other position can be trusted, whatever those p links give. Even if they all confess, some lists have to agree.
+-- G: what the links give all receivers; p: how many links give each receiver something else. For each entry of a link that has not
+-- confessed, so many lists have its code, and no other position can be trusted, whatever those p links give. Even if they all confess, some
+-- lists have to agree (D16b).
 pub record Shares (n f p : ℕ) (G : ℕ → Given) (codes : List ℤ) (same : List ℕ) : Type 0 where
   pub small : n ≤ 32
   pub enough : p < n - f - confessions n G

@@ -37,7 +37,7 @@ pub record Told (s : Stage) (plant : ℕ → ℕ → List ℕ) (i : ℕ) (codes 
       ≡ getD same j 0 + sum (heads s) (λ k. cond (bitOf (s .struck) k) (holds j (getD codes j (pos 0)) (plantedGiven s plant i k)) 0))
   pub confesses : (k : ℕ) → bitOf confessed k ≡ cond (isStruck s k) (hasConfessed (plantedGiven s plant i k)) false
 
--- what is given all alike shows these codes and counts, and so many lists are needed
+-- what is given to all shows these codes and counts; need: how many lists are needed
 pub record SharedBy (s : Stage) (need : ℕ) (codes : List ℤ) (counts : List ℕ) : Type 0 where
   pub given : ℕ → Given
   pub shares : Shares (heads s) (s .f) (markedTo (s .struck) (heads s)) given codes counts
@@ -51,7 +51,7 @@ settledBy s E = positionOf (settling (rounding (s .phase)) (heads s) (twoRounds 
 abbrev pub settledAt : Stage → List ℤ → ℤ
 settledAt s codes = settledBy s (λ j. entryOf (getD codes j (pos 0)))
 
--- how many lists a receiver needs to which so many more confessed
+-- how many lists a receiver needs if these links confessed to it too
 abbrev pub neededHere : Stage → ℕ → ℕ → ℕ
 neededHere s need confesses = need - markedTo confesses (heads s)
 
