@@ -49,8 +49,8 @@ keeps-one OneRound n f size E few = one.keeps-one n f size E few
 -- a phase within its limits
 pub record Limits (K : Family) (n f : ℕ) (F : Faults) (e : End) : Type 0 where
   pub size : AcceptedSize K n f
-  pub few-c : AtMost f n (F .collect)
-  pub few-d : AtMost f n (F .confess)
+  pub few-c : AtMost f n (F .struckInCollection)
+  pub few-d : AtMost f n (F .struckInConfession)
   pub few-p : AtMost f n (e .struck)
 
 -- the positions of before
@@ -59,23 +59,23 @@ before e j = number (e .at j)
 
 module _ (n f : ℕ) (e : End) (F : Faults) (H : AllHold n e) where
   -- the limits of a phase of two rounds
-  limits-two : Limits TwoRounds n f F e → two.Limits n f (F .collect) (F .confess) (e .struck)
+  limits-two : Limits TwoRounds n f F e → two.Limits n f (F .struckInCollection) (F .struckInConfession) (e .struck)
   limits-two L = record { size = L .size; few-c = L .few-c; few-d = L .few-d; few-p = L .few-p }
 
   -- what each receiver settles from, in either family
   phase-holds : (K : Family) → Limits K n f F e → (m M : ℤ) → Between n (e .struck) (before e) m M → (i : ℕ) → Holds n (ruleOf K f) m M (entriesAt K n f e F i)
   unfolding entriesAt
   phase-holds TwoRounds L m M B i =
-      two.holds n f (F .collect) (F .confess) (e .struck) (before e) (limits-two L) _ (links.facts n f e F (before e) (limits-two L) H i) m M B
+      two.holds n f (F .struckInCollection) (F .struckInConfession) (e .struck) (before e) (limits-two L) _ (links.facts n f e F (before e) (limits-two L) H i) m M B
   phase-holds OneRound L m M B i =
-      one.holds n f (F .confess) (e .struck) (before e) (L .size) (L .few-d) (L .few-p) _ (one.facts n e F (before e) H i) m M B
+      one.holds n f (F .struckInConfession) (e .struck) (before e) (L .size) (L .few-d) (L .few-p) _ (one.facts n e F (before e) H i) m M B
 
   phase-few : (K : Family) → Limits K n f F e → (i : ℕ) → nulls n (entriesAt K n f e F i) ≤ ruleOf K f .most
   unfolding entriesAt
   phase-few TwoRounds L i =
-      two.few-nulls n f (F .collect) (F .confess) (e .struck) (before e) (limits-two L) _ (links.facts n f e F (before e) (limits-two L) H i)
+      two.few-nulls n f (F .struckInCollection) (F .struckInConfession) (e .struck) (before e) (limits-two L) _ (links.facts n f e F (before e) (limits-two L) H i)
   phase-few OneRound L i =
-      one.few-nulls n f (F .confess) (e .struck) (before e) (L .size) (L .few-d) (L .few-p) _ (one.facts n e F (before e) H i)
+      one.few-nulls n f (F .struckInConfession) (e .struck) (before e) (L .size) (L .few-d) (L .few-p) _ (one.facts n e F (before e) H i)
 
   -- and the kept ranges of any two of them meet
   phase-meets : (K : Family) → Limits K n f F e → Halves K n f → (i i′ : ℕ)
@@ -84,10 +84,10 @@ module _ (n f : ℕ) (e : End) (F : Faults) (H : AllHold n e) where
   phase-meets TwoRounds L q i i′ =
       let M = limits-two L in
       let known = links.facts n f e F (before e) M H in
-      two.no-gap n f (F .collect) (F .confess) (e .struck) (before e) M _ _ (known i) (known i′) (links.two-faced n f e F (before e) M H i i′) q
+      two.no-gap n f (F .struckInCollection) (F .struckInConfession) (e .struck) (before e) M _ _ (known i) (known i′) (links.two-faced n f e F (before e) M H i i′) q
   phase-meets OneRound L q i i′ =
       let known = one.facts n e F (before e) H in
-      one.no-gap n f (F .confess) (e .struck) (before e) (L .size) (L .few-d) (L .few-p) _ _ (known i) (known i′)
+      one.no-gap n f (F .struckInConfession) (e .struck) (before e) (L .size) (L .few-d) (L .few-p) _ _ (known i) (known i′)
 
 module _ (K : Family) (n f : ℕ) (e : End) (F : Faults) (L : Limits K n f F e) where
   -- the entries of receiver i, and the rule by which it settles
@@ -106,7 +106,7 @@ module _ (K : Family) (n f : ℕ) (e : End) (F : Faults) (L : Limits K n f F e) 
 
     settles : (r : ℕ) (a : ℤ) → soundAt (after K r n f e F) i ≡ Position a → a ≡ midpoint r n rule (table i)
     unfolding after
-    settles r a s = same-position (settled-is r n rule (table i) few-nulls-in-phase) (sound-holds (F .confess i) (settled r n rule (table i)) a s)
+    settles r a s = same-position (settled-is r n rule (table i) few-nulls-in-phase) (sound-holds (F .struckInConfession i) (settled r n rule (table i)) a s)
 
   module _ (m M : ℤ) (I : Inside n e m M) where
     holds-inside : AllHold n e

@@ -63,7 +63,7 @@ face-point j u w true true l g g′ h = omega (arith, supports-le j u g, support
 
 -- ---- the sums; v: the positions of the heads that were sound at the phase's start
 
-module _ (n f : ℕ) (e : End) (F : Faults) (v : ℕ → ℤ) (L : Limits n f (F .collect) (F .confess) (e .struck))
+module _ (n f : ℕ) (e : End) (F : Faults) (v : ℕ → ℤ) (L : Limits n f (F .struckInCollection) (F .struckInConfession) (e .struck))
     (H : Each n (λ j. e .struck j ≡ false → e .at j ≡ Position (v j))) where
   module _ (i : ℕ) where
     -- u stands in every list for head j
@@ -73,8 +73,8 @@ module _ (n f : ℕ) (e : End) (F : Faults) (v : ℕ → ℤ) (L : Limits n f (F
         omega (
           arith,
           sum-one n,
-          sums-le n ((λ k. 1) ∷ []) ((λ k. supports j u (givenTo e F i k)) ∷ (λ k. bit (F .confess k)) ∷ [])
-              (λ k l. omega (arith, own-point j u (F .collect k) (F .confess k) (listOf e F k) (F .replied k i) (h k))),
+          sums-le n ((λ k. 1) ∷ []) ((λ k. supports j u (givenTo e F i k)) ∷ (λ k. bit (F .struckInConfession k)) ∷ [])
+              (λ k l. omega (arith, own-point j u (F .struckInCollection k) (F .struckInConfession k) (listOf e F k) (F .replied k i) (h k))),
         )
 
     -- u stands in no list for head j
@@ -83,8 +83,8 @@ module _ (n f : ℕ) (e : End) (F : Faults) (v : ℕ → ℤ) (L : Limits n f (F
     unheard j u h =
         omega (
           arith,
-          sums-le n ((λ k. supports j u (givenTo e F i k)) ∷ []) ((λ k. bit (F .collect k)) ∷ (λ k. bit (F .confess k)) ∷ [])
-              (λ k l. omega (arith, other-point j u (F .collect k) (F .confess k) (listOf e F k) (F .replied k i) (h k))),
+          sums-le n ((λ k. supports j u (givenTo e F i k)) ∷ []) ((λ k. bit (F .struckInCollection k)) ∷ (λ k. bit (F .struckInConfession k)) ∷ [])
+              (λ k l. omega (arith, other-point j u (F .struckInCollection k) (F .struckInConfession k) (listOf e F k) (F .replied k i) (h k))),
         )
 
     only-agreed : (j : ℕ) (u : ℤ) → ((k : ℕ) → listOf e F k j ≡ Position u) → Only n f (givenTo e F i) j u
@@ -97,26 +97,26 @@ module _ (n f : ℕ) (e : End) (F : Faults) (v : ℕ → ℤ) (L : Limits n f (F
     -- ---- what is known of the trusted entry of head j
 
     module _ (j : ℕ) (l : j < n) where
-      healthy : F .collect j ≡ false → e .struck j ≡ false → (k : ℕ) → listOf e F k j ≡ Position (v j)
+      healthy : F .struckInCollection j ≡ false → e .struck j ≡ false → (k : ℕ) → listOf e F k j ≡ Position (v j)
       unfolding listOf
       healthy qc qp k = rw (qc, qp) (H j l qp)
 
-      healed : F .collect j ≡ false → e .struck j ≡ true → (k : ℕ) → listOf e F k j ≡ Null
+      healed : F .struckInCollection j ≡ false → e .struck j ≡ true → (k : ℕ) → listOf e F k j ≡ Null
       unfolding listOf
       healed qc qp k = rw (qc, qp)
 
-      unconfessed : F .collect j ≡ false → F .confess j ≡ false → hasConfessed (givenTo e F i j) ≡ false
+      unconfessed : F .struckInCollection j ≡ false → F .struckInConfession j ≡ false → hasConfessed (givenTo e F i j) ≡ false
       unfolding givenTo
       unconfessed qc qd = rw (qc, qd)
 
-      confesses : F .collect j ≡ true → F .confess j ≡ false → hasConfessed (givenTo e F i j) ≡ true
+      confesses : F .struckInCollection j ≡ true → F .struckInConfession j ≡ false → hasConfessed (givenTo e F i j) ≡ true
       unfolding givenTo
       confesses qc qd = rw (qc, qd)
 
-      same-trusted : (u : ℤ) → F .collect j ≡ false → e .struck j ≡ false → trusted n f (givenTo e F i) j ≡ Position u → u ≡ v j
+      same-trusted : (u : ℤ) → F .struckInCollection j ≡ false → e .struck j ≡ false → trusted n f (givenTo e F i) j ≡ Position u → u ≡ v j
       same-trusted u qc qp q = sym (trusted-only n f (givenTo e F i) j u q .0 .alone (v j) (only-agreed j (v j) (healthy qc qp) .reaches))
 
-      fact-of : (c d p : Bool) (x : Entry) → F .collect j ≡ c → F .confess j ≡ d → e .struck j ≡ p → trusted n f (givenTo e F i) j ≡ x → Fact c d p (v j) x
+      fact-of : (c d p : Bool) (x : Entry) → F .struckInCollection j ≡ c → F .struckInConfession j ≡ d → e .struck j ≡ p → trusted n f (givenTo e F i) j ≡ x → Fact c d p (v j) x
       fact-of false false false Null qc qd qp q =
           not-null q (trusted-is n f (givenTo e F i) j (v j) (only-agreed j (v j) (healthy qc qp)) (unconfessed qc qd))
       fact-of false false false (Position u) qc qd qp q = same-trusted u qc qp q
@@ -129,12 +129,12 @@ module _ (n f : ℕ) (e : End) (F : Faults) (v : ℕ → ℤ) (L : Limits n f (F
       fact-of true false p (Position u) qc qd qp q = true≢false (sym (confesses qc qd) ∙ trusted-only n f (givenTo e F i) j u q .1)
       fact-of true true p x qc qd qp q = tt
 
-    pub facts : Facts n (F .collect) (F .confess) (e .struck) v (trusted n f (givenTo e F i))
-    facts j l = fact-of j l (F .collect j) (F .confess j) (e .struck j) (trusted n f (givenTo e F i) j) refl refl refl refl
+    pub facts : Facts n (F .struckInCollection) (F .struckInConfession) (e .struck) v (trusted n f (givenTo e F i))
+    facts j l = fact-of j l (F .struckInCollection j) (F .struckInConfession j) (e .struck j) (trusted n f (givenTo e F i) j) refl refl refl refl
 
   -- two receivers trust two positions for one head only if n and the heads struck in both rounds are at most 4f
   pub two-faced : (i i′ : ℕ)
-      → Each n (λ j. TwoFaced (trusted n f (givenTo e F i) j) (trusted n f (givenTo e F i′) j) → n + sum n (λ k. both (F .collect k) (F .confess k)) ≤ 4 * f)
+      → Each n (λ j. TwoFaced (trusted n f (givenTo e F i) j) (trusted n f (givenTo e F i′) j) → n + sum n (λ k. both (F .struckInCollection k) (F .struckInConfession k)) ≤ 4 * f)
   unfolding support givenTo
   two-faced i i′ j l t =
       omega (
@@ -142,7 +142,7 @@ module _ (n f : ℕ) (e : End) (F : Faults) (v : ℕ → ℤ) (L : Limits n f (F
         sum-one n,
         trusted-only n f (givenTo e F i) j (t .0) (t .2) .0 .reaches,
         trusted-only n f (givenTo e F i′) j (t .1) (t .3) .0 .reaches,
-        sums-le n ((λ k. supports j (t .0) (givenTo e F i k)) ∷ (λ k. supports j (t .1) (givenTo e F i′ k)) ∷ (λ k. both (F .collect k) (F .confess k)) ∷ [])
-            ((λ k. 1) ∷ (λ k. bit (F .collect k)) ∷ (λ k. bit (F .confess k)) ∷ [])
-            (λ k m. omega (arith, face-point j (t .0) (t .1) (F .collect k) (F .confess k) (listOf e F k) (F .replied k i) (F .replied k i′) (t .4))),
+        sums-le n ((λ k. supports j (t .0) (givenTo e F i k)) ∷ (λ k. supports j (t .1) (givenTo e F i′ k)) ∷ (λ k. both (F .struckInCollection k) (F .struckInConfession k)) ∷ [])
+            ((λ k. 1) ∷ (λ k. bit (F .struckInCollection k)) ∷ (λ k. bit (F .struckInConfession k)) ∷ [])
+            (λ k m. omega (arith, face-point j (t .0) (t .1) (F .struckInCollection k) (F .struckInConfession k) (listOf e F k) (F .replied k i) (F .replied k i′) (t .4))),
       )

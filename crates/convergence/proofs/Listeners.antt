@@ -19,9 +19,9 @@ use Rattle.convergence.specs.Demand3.{FewStruck}
 pub strikes : ℕ → Faults
 strikes p =
     record {
-      collect = λ j. false;
-      told = λ k i. Null;
-      confess = λ j. eqb j 4 || eqb j 6;
+      struckInCollection = λ j. false;
+      sent = λ k i. Null;
+      struckInConfession = λ j. eqb j 4 || eqb j 6;
       replied = λ k i. cond (eqb i 5) confessed nothing;
     }
 

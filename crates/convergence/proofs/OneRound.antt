@@ -105,11 +105,11 @@ module _ (n f : ℕ) (d p : ℕ → Bool) (v : ℕ → ℤ) (size : AcceptedSize
 
 -- ---- what a receiver hears
 
-fact-point : (d p : Bool) (v : ℤ) (told x : Entry) → (p ≡ false → x ≡ Position v) → Fact d d p v (gives d p told Null x)
-fact-point true p v told x h = tt
-fact-point false true v told x h = tt
-fact-point false false v told x h = rw (h refl) refl
+fact-point : (d p : Bool) (v : ℤ) (sent x : Entry) → (p ≡ false → x ≡ Position v) → Fact d d p v (gives d p sent Null x)
+fact-point true p v sent x h = tt
+fact-point false true v sent x h = tt
+fact-point false false v sent x h = rw (h refl) refl
 
 pub facts : (n : ℕ) (e : End) (F : Faults) (v : ℕ → ℤ) → Each n (λ j. e .struck j ≡ false → e .at j ≡ Position (v j))
-    → (i : ℕ) → Facts n (F .confess) (F .confess) (e .struck) v (heardFrom (F .confess) e F i)
-facts n e F v H i j l = fact-point (F .confess j) (e .struck j) (v j) (F .told j i) (e .at j) (H j l)
+    → (i : ℕ) → Facts n (F .struckInConfession) (F .struckInConfession) (e .struck) v (heardFrom (F .struckInConfession) e F i)
+facts n e F v H i j l = fact-point (F .struckInConfession j) (e .struck j) (v j) (F .sent j i) (e .at j) (H j l)

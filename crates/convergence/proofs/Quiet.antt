@@ -24,10 +24,10 @@ alike : {A : Type 0} (b : Bool) (x y healed says : A) → gives false b x healed
 alike true x y healed says = refl
 alike false x y healed says = refl
 
-module _ (n f : ℕ) (e : End) (F : Faults) (quiet : Each n (λ j. F .confess j ≡ false)) (i j : ℕ) where
+module _ (n f : ℕ) (e : End) (F : Faults) (quiet : Each n (λ j. F .struckInConfession j ≡ false)) (i j : ℕ) where
   given-same : Each n (λ k. givenTo e F i k ≡ givenTo e F j k)
   unfolding givenTo
-  given-same k l = rw (quiet k l) (alike (F .collect k) _ _ _ _)
+  given-same k l = rw (quiet k l) (alike (F .struckInCollection k) _ _ _ _)
 
   entries-same : (K : Family) → Each n (λ k. entriesAt K n f e F i k ≡ entriesAt K n f e F j k)
   unfolding entriesAt

@@ -31,9 +31,9 @@ halving-points = omega arith
 echo : End → Faults → (ℕ → ℕ → Bool) → Faults
 echo e F confesses =
     record {
-      collect = F .collect;
-      told = F .told;
-      confess = F .confess;
+      struckInCollection = F .struckInCollection;
+      sent = F .sent;
+      struckInConfession = F .struckInConfession;
       replied = λ k i. cond (confesses k i) confessed (gave (listOf e F i));
     }
 
@@ -50,12 +50,12 @@ healed = record { struck = λ j. ltb j 2; at = λ j. getD (Null ∷ Null ∷ kno
 pub apiece : Faults
 apiece =
     echo healed
-    (record { collect = λ j. leb 2 j && ltb j 4; told = λ k i. Null; confess = λ j. leb 4 j && ltb j 6; replied = λ k i. nothing })
+    (record { struckInCollection = λ j. leb 2 j && ltb j 4; sent = λ k i. Null; struckInConfession = λ j. leb 4 j && ltb j 6; replied = λ k i. nothing })
     (λ k i. eqb (k + 2) i)
 
 pub record EightTwo : Type 0 where
   pub accepted : AcceptedSize TwoRounds 8 2
-  pub few : AtMost 2 8 (healed .struck) × AtMost 2 8 (apiece .collect) × AtMost 2 8 (apiece .confess)
+  pub few : AtMost 2 8 (healed .struck) × AtMost 2 8 (apiece .struckInCollection) × AtMost 2 8 (apiece .struckInConfession)
   pub at-six : ordered 8 (trusted 8 2 (givenTo healed apiece 6)) ≡ pos 0 ∷ pos 0 ∷ pos 2 ∷ []
   pub at-seven : ordered 8 (trusted 8 2 (givenTo healed apiece 7)) ≡ pos 0 ∷ pos 2 ∷ pos 2 ∷ []
   pub spread-before : spread 8 healed ≡ 2
@@ -84,9 +84,9 @@ module _ (f x a s : ℕ) where
   telling : Faults
   telling =
       record {
-        collect = λ j. ltb j f;
-        told = λ k i. Position (shown i);
-        confess = λ j. ltb j x || leb f j && ltb j (2 * f - x);
+        struckInCollection = λ j. ltb j f;
+        sent = λ k i. Position (shown i);
+        struckInConfession = λ j. ltb j x || leb f j && ltb j (2 * f - x);
         replied = λ k i. nothing;
       }
 
@@ -98,7 +98,7 @@ module _ (f x a s : ℕ) where
   -- with n heads the size is accepted and below the bound, at most f heads are struck in each round, and the spread stays 2
   abbrev Stays : ℕ → Type 0
   Stays n =
-      AcceptedSize TwoRounds n f × (Halves TwoRounds n f → ⊥) × AtMost f n (lying n .collect) × AtMost f n (lying n .confess) × (spread n (startEnd n holding) ≡ 2)
+      AcceptedSize TwoRounds n f × (Halves TwoRounds n f → ⊥) × AtMost f n (lying n .struckInCollection) × AtMost f n (lying n .struckInConfession) × (spread n (startEnd n holding) ≡ 2)
       × (spread n (after TwoRounds 0 n f (startEnd n holding) (lying n)) ≡ 2)
 
 stay : Stays 2 0 1 6 8 × Stays 4 0 1 11 15 × Stays 5 1 2 14 19 × Stays 6 0 1 16 22 × Stays 7 1 2 19 26 × Stays 8 0 1 21 29 × Stays 8 2 3 22 30

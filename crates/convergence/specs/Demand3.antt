@@ -47,11 +47,11 @@ pub record Demand3 (N : ℕ) (halves : Type 0) (k : ℕ) (e e′ : End) : Type 0
 
 -- no round strikes more than f heads (P67)
 abbrev pub FewStruck : ℕ → ℕ → (ℕ → Faults) → Type 0
-FewStruck n f F = (p : ℕ) → AtMost f n (F p .collect) × AtMost f n (F p .confess)
+FewStruck n f F = (p : ℕ) → AtMost f n (F p .struckInCollection) × AtMost f n (F p .struckInConfession)
 
 -- Receivers 0 .. N - 1, of which the first n send. At every accepted size, whatever the first positions, whichever heads each round
 -- strikes, at most f of them, and whatever these send to each receiver: any two phase ends, the start among them. A receiver from n on is a
--- listener; one that is struck, or does not exist, is marked in `confess`, and does not count in f.
+-- listener; one that is struck, or does not exist, is marked in `struckInConfession`, and does not count in f.
 abbrev pub Converges : Type 0
 Converges =
     (K : Family) (n f N : ℕ) → n ≤ N → AcceptedSize K n f → (v : ℕ → ℤ) (F : ℕ → Faults) → FewStruck n f F
@@ -63,5 +63,5 @@ Converges =
 -- position is in demand 3 (Q92).
 abbrev pub QuietAgrees : Type 0
 QuietAgrees =
-    (K : Family) (n f : ℕ) (v : ℕ → ℤ) (F : ℕ → Faults) (p : ℕ) → Each n (λ j. F (suc p) .confess j ≡ false)
+    (K : Family) (n f : ℕ) (v : ℕ → ℤ) (F : ℕ → Faults) (p : ℕ) → Each n (λ j. F (suc p) .struckInConfession j ≡ false)
     → (i j : ℕ) → endAfter K n f v F (suc p) .at i ≡ endAfter K n f v F (suc p) .at j

@@ -26,12 +26,12 @@ unfoldable pub startEnd : ℕ → (ℕ → ℤ) → End
 startEnd n v = record { struck = λ j. not (ltb j n); at = λ j. Position (v j) }
 
 -- A phase's strikes, and what the struck heads send, which is the adversary's choice: anything, something else to each receiver, or nothing
--- (a null entry, `nothing`). A listener sends nothing: of it only `confess` matters. The one round of a phase of one round counts as its
--- confession round: its strikes are `confess`, and what the struck heads send in it is `told` (document 02, A9).
+-- (a null entry, `nothing`). A listener sends nothing: of it only `struckInConfession` matters. The one round of a phase of one round counts as its
+-- confession round: its strikes are `struckInConfession`, and what the struck heads send in it is `sent` (document 02, A9).
 pub record Faults : Type 0 where
-  pub collect : ℕ → Bool  -- struck in the collection round
-  pub told : ℕ → ℕ → Entry  -- what such a sender then gives a receiver
-  pub confess : ℕ → Bool  -- struck in the confession round
+  pub struckInCollection : ℕ → Bool  -- struck in the collection round
+  pub sent : ℕ → ℕ → Entry  -- what such a sender then gives a receiver
+  pub struckInConfession : ℕ → Bool  -- struck in the confession round
   pub replied : ℕ → ℕ → Given
 
 -- What a link gives, by whether its head is struck in this round, and whether it was in the round before: a struck head what it likes; one
@@ -44,24 +44,24 @@ gives false false likes healed says = says
 -- A round in which heads send positions, and in which these are struck: what link k gives receiver i. A healthy head sends its position, a
 -- healed one silence (Q80).
 abbrev pub heardFrom : (ℕ → Bool) → End → Faults → ℕ → ℕ → Entry
-heardFrom struck e F i k = gives (struck k) (e .struck k) (F .told k i) Null (e .at k)
+heardFrom struck e F i k = gives (struck k) (e .struck k) (F .sent k i) Null (e .at k)
 
 -- Collection round: entry k of the list that receiver i fills.
 unfoldable pub listOf : End → Faults → ℕ → ℕ → Entry
-listOf e F i k = heardFrom (F .collect) e F i k
+listOf e F i k = heardFrom (F .struckInCollection) e F i k
 
 -- Confession round: what link k gives receiver i. A healed head sends a confession, any other unstruck head its list.
 unfoldable pub givenTo : End → Faults → ℕ → ℕ → Given
-givenTo e F i k = gives (F .confess k) (F .collect k) (F .replied k i) confessed (gave (listOf e F k))
+givenTo e F i k = gives (F .struckInConfession k) (F .struckInCollection k) (F .replied k i) confessed (gave (listOf e F k))
 
 -- the entries from which receiver i settles: in a phase of two rounds those that it trusts, in one of one round those that it hears
 unfoldable pub entriesAt : Family → ℕ → ℕ → End → Faults → ℕ → ℕ → Entry
 entriesAt TwoRounds n f e F i = trusted n f (givenTo e F i)
-entriesAt OneRound n f e F i = heardFrom (F .confess) e F i
+entriesAt OneRound n f e F i = heardFrom (F .struckInConfession) e F i
 
 -- The phase's end: each receiver that is not struck settles a position. r: how odd sums are rounded.
 unfoldable pub after : Family → ℕ → ℕ → ℕ → End → Faults → End
-after K r n f e F = record { struck = F .confess; at = λ i. settled r n (ruleOf K f) (entriesAt K n f e F i) }
+after K r n f e F = record { struck = F .struckInConfession; at = λ i. settled r n (ruleOf K f) (entriesAt K n f e F i) }
 
 -- the end of phase p; end 0 is the start
 unfoldable pub endAfter : Family → ℕ → ℕ → (ℕ → ℤ) → (ℕ → Faults) → ℕ → End

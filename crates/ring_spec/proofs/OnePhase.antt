@@ -47,15 +47,15 @@ toldIn n p a k i = heardEntry (said n p 0 k (planted (a .plants) k i))
 unfoldable pub faultsIn : ℕ → ℕ → ℕ → Round → Round → Faults
 faultsIn n m p a b =
     record {
-      collect = bitOf (a .struck);
-      told = toldIn n p a;
-      confess = isOut n m (b .struck);
+      struckInCollection = bitOf (a .struck);
+      sent = toldIn n p a;
+      struckInConfession = isOut n m (b .struck);
       replied = λ k i. givenOf (said n p 1 k (planted (b .plants) k i));
     }
 
 -- and in a phase of one round
 unfoldable pub faultsInOne : ℕ → ℕ → ℕ → Round → Faults
-faultsInOne n m p a = record { collect = λ j. false; told = toldIn n p a; confess = isOut n m (a .struck); replied = λ k i. Trust.nothing }
+faultsInOne n m p a = record { struckInCollection = λ j. false; sent = toldIn n p a; struckInConfession = isOut n m (a .struck); replied = λ k i. Trust.nothing }
 
 -- the phase end that a ring stands at before the first round of a phase
 abbrev pub endAt : Ring → End
@@ -135,7 +135,7 @@ module _ (K : Family) (n m f : ℕ) (R : Ring) (w : Round) (S : RingReady K n f 
         (ordered-same n _ _ (entries i l q))
 
   -- the end of the phase, with the listeners
-  ends-same : ((i : ℕ) → isOut n m (w .struck) i ≡ F .confess i)
+  ends-same : ((i : ℕ) → isOut n m (w .struck) i ≡ F .struckInConfession i)
       → SameEnd receivers (asEnd n m (markedEnd (w .struck) (afterRound K n f R w .heads))) (after K (rounding (R .phase)) n f e F)
   unfolding after
   ends-same out = record { struck = λ i l. out i; at = λ i l q. let (h, u) = hears n m (w .struck) i l q in settles-as i h u }
