@@ -99,10 +99,10 @@ same-counts a b begun =
     F b (length a) (kept a) (record { begun = begun; heads = refl; more = omega arith; listeners = λ some. refl }))
 
 -- before a start there is no row, and before the first round that of the start alone
-rows-then : (a b : List ℕ) (ends : List ℤ) (words : List ℕ) → Rows (readFile a .setup .n) (readFile a .setup .listeners) (endsSoFar (readFile a)) ends words
-    → Rows (readFile (a ++ b) .setup .n) (readFile (a ++ b) .setup .listeners) (endsSoFar (readFile a)) ends words
+rows-then : (a b : List ℕ) (rows : List ℤ) (words : List ℕ) → Rows (readFile a .setup .n) (readFile a .setup .listeners) (endsSoFar (readFile a)) rows words
+    → Rows (readFile (a ++ b) .setup .n) (readFile (a ++ b) .setup .listeners) (endsSoFar (readFile a)) rows words
 unfolding Rows
-rows-then a b ends words = go (F .setup .begun) refl
+rows-then a b rows words = go (F .setup .begun) refl
   where
     F : File
     F = readFile a
@@ -111,14 +111,14 @@ rows-then a b ends words = go (F .setup .begun) refl
     G = readFile (a ++ b)
 
     counted-on : F .setup .begun ≡ true → Dec (0 < roundsGiven F) → let es = endsFrom (F .setup) (F .rounds .played) in
-        Rows (F .setup .n) (F .setup .listeners) es ends words → Rows (G .setup .n) (G .setup .listeners) es ends words
+        Rows (F .setup .n) (F .setup .listeners) es rows words → Rows (G .setup .n) (G .setup .listeners) es rows words
     counted-on e (yes some) R = let C = same-counts a b e in rw (C .heads, C .listeners some) R
     counted-on e (no none) R =
         rw (same-counts a b e .heads)
-        (rows-recount (F .setup .family) (F .setup .n) (F .setup .listeners) (G .setup .listeners) (F .setup .f) (F .setup .first) (F .rounds .played) ends words (omega arith) R)
+        (rows-recount (F .setup .family) (F .setup .n) (F .setup .listeners) (G .setup .listeners) (F .setup .f) (F .setup .first) (F .rounds .played) rows words (omega arith) R)
 
     go : (c : Bool) → F .setup .begun ≡ c → let es = cond c (endsFrom (F .setup) (F .rounds .played)) [] in
-        Rows (F .setup .n) (F .setup .listeners) es ends words → Rows (G .setup .n) (G .setup .listeners) es ends words
+        Rows (F .setup .n) (F .setup .listeners) es rows words → Rows (G .setup .n) (G .setup .listeners) es rows words
     go true e R = counted-on e (decLt 0 (roundsGiven F)) R
     go false e R = tt
 
@@ -137,9 +137,9 @@ unfolding Rows
 none-told n m B = record { len = refl; out = refl; count = refl; rows = tt; more-rows = refl; more-words = refl; long = refl; wide = refl }
 
 pub going-first : {file : List ℕ} {p : Player} {carry : List ℕ} {M : Memory} {t : Text} {l : ℕ} {out : List ℕ} (B : Buffers)
-    → hasRoom file (length (B .out)) (length (B .ends)) (length (B .words)) ≡ true → StateAt [] p carry M → bytesOf t ≡ title → t .len ≤ 64
+    → hasRoom file (length (B .out)) (length (B .rows)) (length (B .words)) ≡ true → StateAt [] p carry M → bytesOf t ≡ title → t .len ≤ 64
     → Put t 0 l (B .out) out
-    → Going file (record { player = p; used = 0; len = l; count = 0 }) carry M B (record { out = out; ends = B .ends; words = B .words })
+    → Going file (record { player = p; used = 0; len = l; count = 0 }) carry M B (record { out = out; rows = B .rows; words = B .words })
 unfolding unread feed
 going-first {file} {t} B room L text short P =
     let R = roomy file B room in
@@ -167,18 +167,18 @@ module _ {file : List ℕ} {at : Place} {carry : List ℕ} {M : Memory} {B₀ B 
         len = T .len;
         out = T .out;
         count = T .count;
-        rows = rows-then a b (B .ends) (B .words) (T .rows);
+        rows = rows-then a b (B .rows) (B .words) (T .rows);
         more-rows = T .more-rows;
         more-words = T .more-words;
         long = T .long;
         wide = T .wide;
       }
 
-  pub going-on : (used : ℕ) {t : Text} {q : Player} {carry′ : List ℕ} {M′ : Memory} {l c : ℕ} {out : List ℕ} {ends : List ℤ} {words : List ℕ} {some : Bool}
+  pub going-on : (used : ℕ) {t : Text} {q : Player} {carry′ : List ℕ} {M′ : Memory} {l c : ℕ} {out : List ℕ} {rows : List ℤ} {words : List ℕ} {some : Bool}
       → at .used + used ≤ length file → t .len ≤ 64 → AdvancesOnce a (take used (rest (at .used) file)) (at .player) M q (bytesOf t) carry′ M′
       → Put t (at .len) l (B .out) out → some ≡ not (eqb (t .len) 0)
-      → EndKept some (q .n) (q .listeners) (q .before) (M′ .positions) (at .count) c (B .ends) (B .words) ends words
-      → Going file (record { player = q; used = at .used + used; len = l; count = c }) carry′ M′ B₀ (record { out = out; ends = ends; words = words })
+      → EndKept some (q .n) (q .listeners) (q .before) (M′ .positions) (at .count) c (B .rows) (B .words) rows words
+      → Going file (record { player = q; used = at .used + used; len = l; count = c }) carry′ M′ B₀ (record { out = out; rows = rows; words = words })
   going-on used {t} {q} {M′} within short S P flag K =
       let b = take used (rest (at .used) file) in
       let is : a ++ b ≡ take (at .used + used) file = joined [] (at .used) used file in
@@ -276,8 +276,8 @@ module _ (s : List ℕ) {r : PlayResult} {B₀ B : Buffers} (number : r .number 
   whole-told =
       let F = readFile s in
       let es = endsPlayed F in
-      let at : (e : ℕ) → e < r .ends → HoldsEnd (F .setup .n) (F .setup .listeners) (endNumber es e) (row e (B .ends)) (getD (B .words) e 0) =
-      λ e l. rows-at (F .setup .n) (F .setup .listeners) es (B .ends) (B .words) (T .rows) e (omega (arith, T .count)) in
+      let at : (e : ℕ) → e < r .ends → HoldsEnd (F .setup .n) (F .setup .listeners) (endNumber es e) (row e (B .rows)) (getD (B .words) e 0) =
+      λ e l. rows-at (F .setup .n) (F .setup .listeners) es (B .rows) (B .words) (T .rows) e (omega (arith, T .count)) in
       record {
         number = number;
         len = T .len;
@@ -302,13 +302,13 @@ module _ (s : List ℕ) {r : PlayResult} {B₀ B : Buffers} (number : r .number 
       }
 
 module _ {file : List ℕ} {at : Place} {carry : List ℕ} {M : Memory} {B₀ B : Buffers} (G : Going file at carry M B₀ B) (all : at .used ≡ length file) where
-  pub closes : {r : FinishResult} {M′ : Memory} {l l′ c : ℕ} {out out′ : List ℕ} {ends : List ℤ} {words : List ℕ} {some : Bool}
+  pub closes : {r : FinishResult} {M′ : Memory} {l l′ c : ℕ} {out out′ : List ℕ} {rows : List ℤ} {words : List ℕ} {some : Bool}
       → EndsWith (take (at .used) file) M r M′ → r .line .len ≤ 64 → r .verdict .len ≤ 64
       → Put (r .line) (at .len) l (B .out) out → some ≡ not (eqb (r .line .len) 0)
-      → EndKept some (at .player .n) (at .player .listeners) (at .player .struck) (M′ .positions) (at .count) c (B .ends) (B .words) ends words
+      → EndKept some (at .player .n) (at .player .listeners) (at .player .struck) (M′ .positions) (at .count) c (B .rows) (B .words) rows words
       → Put (r .verdict) l l′ out out′
-      → Whole file (record { number = r .number; len = l′; ends = c; since = r .since }) B₀ (record { out = out′; ends = ends; words = words })
-  closes {r} {M′} {l′} {c} {out′} {ends} {words} E short short′ P flag K Q =
+      → Whole file (record { number = r .number; len = l′; ends = c; since = r .since }) B₀ (record { out = out′; rows = rows; words = words })
+  closes {r} {M′} {l′} {c} {out′} {rows} {words} E short short′ P flag K Q =
       let s = take (at .used) file in
       let is : s ≡ file = take-all (at .used) file (omega arith) in
       let F = readFile s in
@@ -324,6 +324,6 @@ module _ {file : List ℕ} {at : Place} {carry : List ℕ} {M : Memory} {B₀ B 
       let (told, small) = told-more (G .told) room (G .small) short few {R = ringAtEnd F} ended P flag (rw (← L .player .n, ← L .player .listeners) at K) (E .grown) in
       let (len, put) = Q .puts short′ (omega (arith, out-long told (omega (arith, told .count, room .out)), told .count, room .out)) in
       let whole =
-      whole-told s {r = record { number = r .number; len = l′; ends = c; since = r .since }} {B₀ = B₀} {B = record { out = out′; ends = ends; words = words }} (E .number)
+      whole-told s {r = record { number = r .number; len = l′; ends = c; since = r .since }} {B₀ = B₀} {B = record { out = out′; rows = rows; words = words }} (E .number)
       (rw (E .ends .shows ∙ sym (append-assoc (shown F) (bytesOf (r .line)) (bytesOf (r .verdict))), len) (told-put told (bytesOf (r .verdict)) (r .verdict .len) (Q .long short′) put)) (E .counts) in
       rw (← is) whole

@@ -79,49 +79,49 @@ same-part {A = A} {m} a b l l′ h e =
     sym (take-add a b l) ∙ f (a + b) h ∙ take-add a b l′ ∙ ap (λ (x : List A). x ++ take b (drop a l′)) (sym (f a (omega arith))) in
     sym (drop-at (take a l) _ (length (take a l)) refl) ∙ ap (drop (length (take a l))) both ∙ drop-at (take a l) _ (length (take a l)) refl
 
-module _ (ends : List ℤ) (c : ℕ) (s : List ℤ) (room : 48 * c + 48 ≤ length ends) (long : length s ≡ 48) where
+module _ (rows : List ℤ) (c : ℕ) (s : List ℤ) (room : 48 * c + 48 ≤ length rows) (long : length s ≡ 48) where
   abbrev written : List ℤ
-  written = paste ends (48 * c) s 48
+  written = paste rows (48 * c) s 48
 
-  first-same : take (48 * c) written ≡ take (48 * c) ends
+  first-same : take (48 * c) written ≡ take (48 * c) rows
   first-same =
-      ap (take (48 * c)) (append-assoc (take (48 * c) ends) (take 48 s) _)
-      ∙ take-at (take (48 * c) ends) _ (48 * c) (length-take-le (48 * c) ends (omega arith))
+      ap (take (48 * c)) (append-assoc (take (48 * c) rows) (take 48 s) _)
+      ∙ take-at (take (48 * c) rows) _ (48 * c) (length-take-le (48 * c) rows (omega arith))
 
   -- the rows before
-  pub row-before : (e : ℕ) → e < c → row e written ≡ row e ends
-  row-before e l = same-part {m = 48 * c} (48 * e) 48 written ends (omega arith) first-same
+  pub row-before : (e : ℕ) → e < c → row e written ≡ row e rows
+  row-before e l = same-part {m = 48 * c} (48 * e) 48 written rows (omega arith) first-same
 
   -- the row itself
   pub row-new : row c written ≡ s
   row-new =
-      ap (λ (l : List ℤ). take 48 (drop (48 * c) l)) (append-assoc (take (48 * c) ends) (take 48 s) _)
-      ∙ ap (take 48) (drop-at (take (48 * c) ends) _ (48 * c) (length-take-le (48 * c) ends (omega arith)))
+      ap (λ (l : List ℤ). take 48 (drop (48 * c) l)) (append-assoc (take (48 * c) rows) (take 48 s) _)
+      ∙ ap (take 48) (drop-at (take (48 * c) rows) _ (48 * c) (length-take-le (48 * c) rows (omega arith)))
       ∙ take-at (take 48 s) _ 48 (length-take-le 48 s (omega arith))
       ∙ ap (λ (k : ℕ). take k s) (sym long) ∙ take-length s
 
 -- ---- the rows of several ends
 
 -- rows and words that are the same for as many ends hold the same
-pub rows-same : (n m : ℕ) (es : List PhaseEnd) (ends ends′ : List ℤ) (words words′ : List ℕ)
-    → ((e : ℕ) → e < length es → row e ends′ ≡ row e ends) → ((e : ℕ) → e < length es → getD words′ e 0 ≡ getD words e 0)
-    → Rows n m es ends words → Rows n m es ends′ words′
+pub rows-same : (n m : ℕ) (es : List PhaseEnd) (rows rows′ : List ℤ) (words words′ : List ℕ)
+    → ((e : ℕ) → e < length es → row e rows′ ≡ row e rows) → ((e : ℕ) → e < length es → getD words′ e 0 ≡ getD words e 0)
+    → Rows n m es rows words → Rows n m es rows′ words′
 unfolding Rows
-rows-same n m [] ends ends′ words words′ r w R = tt
-rows-same n m (x ∷ es) ends ends′ words words′ r w R = (
+rows-same n m [] rows rows′ words words′ r w R = tt
+rows-same n m (x ∷ es) rows rows′ words words′ r w R = (
   rw (r (length es) (omega arith), w (length es) (omega arith)) (R .0),
-  rows-same n m es ends ends′ words words′ (λ e l. r e (omega arith)) (λ e l. w e (omega arith)) (R .1),
+  rows-same n m es rows rows′ words words′ (λ e l. r e (omega arith)) (λ e l. w e (omega arith)) (R .1),
 )
 
 -- each of them
-pub rows-at : (n m : ℕ) (es : List PhaseEnd) (ends : List ℤ) (words : List ℕ) → Rows n m es ends words
-    → (e : ℕ) → e < length es → HoldsEnd n m (endNumber es e) (row e ends) (getD words e 0)
+pub rows-at : (n m : ℕ) (es : List PhaseEnd) (rows : List ℤ) (words : List ℕ) → Rows n m es rows words
+    → (e : ℕ) → e < length es → HoldsEnd n m (endNumber es e) (row e rows) (getD words e 0)
 unfolding Rows
-rows-at n m [] ends words R e l = absurd (omega arith)
-rows-at n m (x ∷ es) ends words R e l = go (decLt e (length es)) (rows-at n m es ends words (R .1) e)
+rows-at n m [] rows words R e l = absurd (omega arith)
+rows-at n m (x ∷ es) rows words R e l = go (decLt e (length es)) (rows-at n m es rows words (R .1) e)
   where
-    go : Dec (e < length es) → (e < length es → HoldsEnd n m (endNumber es e) (row e ends) (getD words e 0))
-        → HoldsEnd n m (endNumber (x ∷ es) e) (row e ends) (getD words e 0)
+    go : Dec (e < length es) → (e < length es → HoldsEnd n m (endNumber es e) (row e rows) (getD words e 0))
+        → HoldsEnd n m (endNumber (x ∷ es) e) (row e rows) (getD words e 0)
     go (yes h) before =
         let k : suc (length es) - 1 - e ≡ suc (length es - 1 - e) = omega arith in
         rw k (before h)
@@ -131,10 +131,10 @@ rows-at n m (x ∷ es) ends words R e l = go (decLt e (length es)) (rows-at n m 
         rw k (rw same at (R .0))
 
 -- the start's row, with any other number of listeners
-pub rows-recount : (K : Family) (n m k f : ℕ) (v : ℕ → ℤ) (ws : List Round) (ends : List ℤ) (words : List ℕ) → length ws ≡ 0
-    → Rows n m (endsAfter K n f v ws) ends words → Rows n k (endsAfter K n f v ws) ends words
+pub rows-recount : (K : Family) (n m k f : ℕ) (v : ℕ → ℤ) (ws : List Round) (rows : List ℤ) (words : List ℕ) → length ws ≡ 0
+    → Rows n m (endsAfter K n f v ws) rows words → Rows n k (endsAfter K n f v ws) rows words
 unfolding Rows endsAfter
-rows-recount K n m k f v [] ends words z (H, R) = (
+rows-recount K n m k f v [] rows words z (H, R) = (
   record {
     marks = H .marks;
     held = λ i l s. H .held i l (sym (first-sound n m k i l) ∙ s);
@@ -142,4 +142,4 @@ rows-recount K n m k f v [] ends words z (H, R) = (
   },
   tt,
 )
-rows-recount K n m k f v (w ∷ ws) ends words z R = absurd (omega arith)
+rows-recount K n m k f v (w ∷ ws) rows words z R = absurd (omega arith)

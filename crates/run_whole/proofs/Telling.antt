@@ -25,15 +25,15 @@ use Rattle.run_whole.proofs.Rows.{row-long, row-holds, row-before, row-
 
 pub record Roomy (most : ℕ) (B : Buffers) : Type 0 where
   pub out : 64 * (most + 2) ≤ length (B .out)
-  pub ends : 48 * most ≤ length (B .ends)
+  pub rows : 48 * most ≤ length (B .rows)
   pub words : most ≤ length (B .words)
 
-pub roomy : (k : List ℕ) (B : Buffers) → hasRoom k (length (B .out)) (length (B .ends)) (length (B .words)) ≡ true → Roomy (mostEnds k) B
+pub roomy : (k : List ℕ) (B : Buffers) → hasRoom k (length (B .out)) (length (B .rows)) (length (B .words)) ≡ true → Roomy (mostEnds k) B
 unfolding hasRoom
 roomy k B h =
     let (front, words) = and-both _ _ h in
-    let (out, ends) = and-both _ _ front in
-    record { out = leb-true _ _ out; ends = leb-true _ _ ends; words = leb-true _ _ words }
+    let (out, rows) = and-both _ _ front in
+    record { out = leb-true _ _ out; rows = leb-true _ _ rows; words = leb-true _ _ words }
 
 -- a phase end x of n heads and m listeners at which the ring R stands: those struck in its last round are these, and the positions are those of its sound receivers
 pub record AtEnd (n m : ℕ) (x : PhaseEnd) (R : Ring) (struck : ℕ) (positions : List ℤ) : Type 0 where
@@ -52,7 +52,7 @@ module _ {n m : ℕ} {text : List ℕ} {es : List PhaseEnd} {l c : ℕ} {B₀ B 
   -- ---- a text more
 
   abbrev with-out : List ℕ → Buffers
-  with-out out = record { out = out; ends = B .ends; words = B .words }
+  with-out out = record { out = out; rows = B .rows; words = B .words }
 
   pub told-put : (more : List ℕ) (k : ℕ) {out : List ℕ} → length more ≡ k → out ≡ paste (B .out) l more k → HoldsSoFar n m (text ++ more) es (l + k) c B₀ (with-out out)
   told-put more k e p =
@@ -78,12 +78,12 @@ module _ {n m : ℕ} {text : List ℕ} {es : List PhaseEnd} {l c : ℕ} {B₀ B 
 
   module _ (x : PhaseEnd) (word : ℕ) (positions : List ℤ) (is : word ≡ x .struck)
       (held : Each receivers (λ i. isOut n m (x .struck) i ≡ false → x .heads i .seat .position ≡ Entry.Position (getD positions i (pos 0))))
-      (ends-room : 48 * c + 48 ≤ length (B .ends)) (words-room : c < length (B .words)) where
+      (ends-room : 48 * c + 48 ≤ length (B .rows)) (words-room : c < length (B .words)) where
     abbrev s : List ℤ
     s = soundRow n m word positions 48
 
-    abbrev ends′ : List ℤ
-    ends′ = paste (B .ends) (48 * c) s 48
+    abbrev rows′ : List ℤ
+    rows′ = paste (B .rows) (48 * c) s 48
 
     abbrev words′ : List ℕ
     words′ = set (B .words) c word
@@ -91,16 +91,16 @@ module _ {n m : ℕ} {text : List ℕ} {es : List PhaseEnd} {l c : ℕ} {B₀ B 
     long-row : length s ≡ 48
     long-row = row-long n m word positions 48
 
-    new-rows : Rows n m (x ∷ es) ends′ words′
+    new-rows : Rows n m (x ∷ es) rows′ words′
     unfolding Rows
     new-rows =
         let z = T .count in (
-          rw (← z, row-new (B .ends) c s ends-room long-row, getD-set-same (B .words) c word 0 words-room) (row-holds n m word positions x is held),
-          rows-same n m es (B .ends) ends′ (B .words) words′ (λ e h. row-before (B .ends) c s ends-room long-row e (omega arith))
+          rw (← z, row-new (B .rows) c s ends-room long-row, getD-set-same (B .words) c word 0 words-room) (row-holds n m word positions x is held),
+          rows-same n m es (B .rows) rows′ (B .words) words′ (λ e h. row-before (B .rows) c s ends-room long-row e (omega arith))
               (λ e h. getD-set-other (B .words) c e word 0 (omega arith)) (T .rows),
         )
 
-    told-keep : HoldsSoFar n m text (x ∷ es) l (c + 1) B₀ (record { out = B .out; ends = ends′; words = words′ })
+    told-keep : HoldsSoFar n m text (x ∷ es) l (c + 1) B₀ (record { out = B .out; rows = rows′; words = words′ })
     told-keep =
         let next : 48 * (c + 1) ≡ 48 * c + 48 = omega arith in
         record {
@@ -110,11 +110,11 @@ module _ {n m : ℕ} {text : List ℕ} {es : List PhaseEnd} {l c : ℕ} {B₀ B 
           rows = new-rows;
           more-rows =
               rw next
-              (drop-paste (B .ends) (48 * c) s 48 (omega arith) (omega (arith, long-row)) ∙ sym (drop-drop 48 (48 * c) (B .ends)) ∙ ap (drop 48) (T .more-rows)
-              ∙ drop-drop 48 (48 * c) (B₀ .ends));
+              (drop-paste (B .rows) (48 * c) s 48 (omega arith) (omega (arith, long-row)) ∙ sym (drop-drop 48 (48 * c) (B .rows)) ∙ ap (drop 48) (T .more-rows)
+              ∙ drop-drop 48 (48 * c) (B₀ .rows));
           more-words =
               drop-set-lt (c + 1) (B .words) c word (omega arith) ∙ sym (drop-drop 1 c (B .words)) ∙ ap (drop 1) (T .more-words) ∙ drop-drop 1 c (B₀ .words);
-          long = length-paste (B .ends) (48 * c) s 48 ends-room (omega (arith, long-row)) ∙ T .long;
+          long = length-paste (B .rows) (48 * c) s 48 ends-room (omega (arith, long-row)) ∙ T .long;
           wide = length-set (B .words) c word ∙ T .wide;
         }
 
@@ -123,9 +123,9 @@ module _ {n m : ℕ} {text : List ℕ} {es : List PhaseEnd} {l c : ℕ} {B₀ B 
 module _ {n m : ℕ} {text : List ℕ} {es : List PhaseEnd} {l c : ℕ} {B₀ B : Buffers} (T : HoldsSoFar n m text es l c B₀ B) where
   module _ {most : ℕ} (room : Roomy most B₀) (small : l ≤ 64 * (c + 1)) {t : Text} (short : t .len ≤ 64) {es′ : List PhaseEnd} (few : length es′ ≤ most) {R : Ring}
       {struck : ℕ} {positions : List ℤ} (ended : (x : PhaseEnd) → es′ ≡ x ∷ es → R .round ≡ 0 → AtEnd n m x R struck positions)
-      {l′ c′ : ℕ} {out : List ℕ} {ends : List ℤ} {words : List ℕ} (P : Put t l l′ (B .out) out) where
-    pub told-more : {some : Bool} → some ≡ not (eqb (t .len) 0) → EndKept some n m struck positions c c′ (B .ends) (B .words) ends words → Grown n m es es′ R (bytesOf t)
-        → HoldsSoFar n m (text ++ bytesOf t) es′ l′ c′ B₀ (record { out = out; ends = ends; words = words }) × (l′ ≤ 64 * (c′ + 1))
+      {l′ c′ : ℕ} {out : List ℕ} {rows : List ℤ} {words : List ℕ} (P : Put t l l′ (B .out) out) where
+    pub told-more : {some : Bool} → some ≡ not (eqb (t .len) 0) → EndKept some n m struck positions c c′ (B .rows) (B .words) rows words → Grown n m es es′ R (bytesOf t)
+        → HoldsSoFar n m (text ++ bytesOf t) es′ l′ c′ B₀ (record { out = out; rows = rows; words = words }) × (l′ ≤ 64 * (c′ + 1))
     told-more {some} flag K (none e z) =
         let long = P .long short in
         let zero : t .len ≡ 0 = omega (arith, ap length z) in
@@ -144,7 +144,7 @@ module _ {n m : ℕ} {text : List ℕ} {es : List PhaseEnd} {l c : ℕ} {B₀ B 
         let A = ended x e r in
         let n-es = ap length e in
         let fits : l + 64 ≤ length (B₀ .out) = omega (arith, T .count, room .out) in
-        let ends-room : 48 * c + 48 ≤ length (B .ends) = omega (arith, T .count, T .long, room .ends) in
+        let ends-room : 48 * c + 48 ≤ length (B .rows) = omega (arith, T .count, T .long, room .rows) in
         let words-room : c < length (B .words) = omega (arith, T .count, T .wide, room .words) in
         let (more, rows, marks) = (rw on at K) ends-room words-room in
         let (is, put) = P .puts short (omega (arith, out-long T (omega arith))) in

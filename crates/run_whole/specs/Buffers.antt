@@ -12,16 +12,16 @@ use Rattle.run_state.specs.Memory.{Lent}
 
 pub record Buffers : Type 0 where
   pub out : List ℕ
-  pub ends : List ℤ
+  pub rows : List ℤ
   pub words : List ℕ
 
 -- what is lent, as the function begins
 abbrev pub lent : Lent (List ℕ) → Lent (List ℤ) → Lent (List ℕ) → Buffers
-lent out ends words = record { out = now (out .entry); ends = now (ends .entry); words = now (words .entry) }
+lent out rows words = record { out = now (out .entry); rows = now (rows .entry); words = now (words .entry) }
 
 -- and as it ends
 abbrev pub left : Lent (List ℕ) → Lent (List ℤ) → Lent (List ℕ) → Buffers
-left out ends words = record { out = now (out .exit); ends = now (ends .exit); words = now (words .exit) }
+left out rows words = record { out = now (out .exit); rows = now (rows .exit); words = now (words .exit) }
 
 -- how many bytes a phase takes at least, by the kind of the first record: a round record takes 8, and in a ring of one round a phase has
 -- one
@@ -42,8 +42,8 @@ mostEnds file = min allEnds (endsByBytes file)
 
 -- whether buffers of these lengths have room for a file: 64 bytes for each line, 48 numbers and a word for each phase end
 unfoldable pub hasRoom : List ℕ → ℕ → ℕ → ℕ → Bool
-hasRoom file out ends words = leb (64 * (mostEnds file + 2)) out && leb (48 * mostEnds file) ends && leb (mostEnds file) words
+hasRoom file out rows words = leb (64 * (mostEnds file + 2)) out && leb (48 * mostEnds file) rows && leb (mostEnds file) words
 
 -- row e of a table with 48 numbers to a row
 abbrev pub row : ℕ → List ℤ → List ℤ
-row e ends = take 48 (drop (48 * e) ends)
+row e rows = take 48 (drop (48 * e) rows)

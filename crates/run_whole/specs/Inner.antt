@@ -38,30 +38,30 @@ wordAt (suc e) struck = struck
 
 -- a phase end is kept, if there is one and room for it
 abbrev pub EndKept : Bool → ℕ → ℕ → ℕ → List ℤ → ℕ → ℕ → List ℤ → List ℕ → List ℤ → List ℕ → Type 0
-EndKept true n m struck positions count r ends words ends′ words′ =
-    48 * count + 48 ≤ length ends → count < length words
-    → (r ≡ count + 1) × (ends′ ≡ paste ends (48 * count) (soundRow n m (wordAt count struck) positions 48) 48) × (words′ ≡ set words count (wordAt count struck))
-EndKept false n m struck positions count r ends words ends′ words′ = (r ≡ count) × (ends′ ≡ ends) × (words′ ≡ words)
+EndKept true n m struck positions count r rows words rows′ words′ =
+    48 * count + 48 ≤ length rows → count < length words
+    → (r ≡ count + 1) × (rows′ ≡ paste rows (48 * count) (soundRow n m (wordAt count struck) positions 48) 48) × (words′ ≡ set words count (wordAt count struck))
+EndKept false n m struck positions count r rows words rows′ words′ = (r ≡ count) × (rows′ ≡ rows) × (words′ ≡ words)
 
 -- rows and words hold the phase ends es, which have the latest first
 unfoldable pub Rows : ℕ → ℕ → List PhaseEnd → List ℤ → List ℕ → Type 0
-Rows n m [] ends words = Unit {0}
-Rows n m (x ∷ es) ends words = HoldsEnd n m x (row (length es) ends) (getD words (length es) 0) × Rows n m es ends words
+Rows n m [] rows words = Unit {0}
+Rows n m (x ∷ es) rows words = HoldsEnd n m x (row (length es) rows) (getD words (length es) 0) × Rows n m es rows words
 
 -- the buffers B, which were B₀, hold a text of l bytes and the phase ends es, c of them
 pub record HoldsSoFar (n m : ℕ) (text : List ℕ) (es : List PhaseEnd) (l c : ℕ) (B₀ B : Buffers) : Type 0 where
   pub len : l ≡ length text
   pub out : B .out ≡ text ++ drop l (B₀ .out)
   pub count : c ≡ length es
-  pub rows : Rows n m es (B .ends) (B .words)
-  pub more-rows : drop (48 * c) (B .ends) ≡ drop (48 * c) (B₀ .ends)
+  pub rows : Rows n m es (B .rows) (B .words)
+  pub more-rows : drop (48 * c) (B .rows) ≡ drop (48 * c) (B₀ .rows)
   pub more-words : drop c (B .words) ≡ drop c (B₀ .words)
-  pub long : length (B .ends) ≡ length (B₀ .ends)
+  pub long : length (B .rows) ≡ length (B₀ .rows)
   pub wide : length (B .words) ≡ length (B₀ .words)
 
 -- at a place of the file, with buffers that have room for all of it
 pub record Going (file : List ℕ) (at : Place) (carry : List ℕ) (M : Memory) (B₀ B : Buffers) : Type 0 where
-  pub room : hasRoom file (length (B₀ .out)) (length (B₀ .ends)) (length (B₀ .words)) ≡ true
+  pub room : hasRoom file (length (B₀ .out)) (length (B₀ .rows)) (length (B₀ .words)) ≡ true
   pub within : at .used ≤ length file
   pub state : StateAt (take (at .used) file) (at .player) carry M
   pub told : let F = readFile (take (at .used) file) in HoldsSoFar (F .setup .n) (F .setup .listeners) (shown F) (endsSoFar F) (at .len) (at .count) B₀ B

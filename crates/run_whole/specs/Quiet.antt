@@ -30,4 +30,4 @@ QuietPhase =
     → (e : ℕ) → e + 1 < r .ends → let x = endNumber (endsPlayed (readFile s)) (e + 1) in
     Each (S .n) (λ k. (bitOf (x .collect) k ≡ false) × (bitOf (x .confess) k ≡ false))
     → (i j : ℕ) → InNeither (S .n) (S .listeners) x i → InNeither (S .n) (S .listeners) x j
-    → getD (row (e + 1) (B′ .ends)) i (pos 0) ≡ getD (row (e + 1) (B′ .ends)) j (pos 0)
+    → getD (row (e + 1) (B′ .rows)) i (pos 0) ≡ getD (row (e + 1) (B′ .rows)) j (pos 0)

@@ -37,7 +37,7 @@ pub record HoldsEnd (n m : ℕ) (x : PhaseEnd) (row : List ℤ) (word : ℕ) : T
 
 -- the phase end of n heads and m listeners that row e and word e are
 abbrev pub endAt : ℕ → ℕ → Buffers → ℕ → End
-endAt n m B e = endIn n m (getD (B .words) e 0) (row e (B .ends))
+endAt n m B e = endIn n m (getD (B .words) e 0) (row e (B .rows))
 
 -- the file s is played: how it ends; its listing, with the bytes behind it as they were; its phase ends, with what is behind them as it
 -- was; and any two of these, k phases apart, keep demand 3: of the heads alone (m = 0), as the order has it, and with the first m
@@ -50,8 +50,8 @@ pub record Whole (s : List ℕ) (r : PlayResult) (B B′ : Buffers) : Type 0 whe
   pub out : B′ .out ≡ listing s ++ drop (r .len) (B .out)
   pub count : r .ends ≡ length (endsPlayed (readFile s))
   pub rows : let S = readFile s .setup in
-      (e : ℕ) → e < r .ends → HoldsEnd (S .n) (S .listeners) (endNumber (endsPlayed (readFile s)) e) (row e (B′ .ends)) (getD (B′ .words) e 0)
-  pub more-rows : drop (48 * r .ends) (B′ .ends) ≡ drop (48 * r .ends) (B .ends)
+      (e : ℕ) → e < r .ends → HoldsEnd (S .n) (S .listeners) (endNumber (endsPlayed (readFile s)) e) (row e (B′ .rows)) (getD (B′ .words) e 0)
+  pub more-rows : drop (48 * r .ends) (B′ .rows) ≡ drop (48 * r .ends) (B .rows)
   pub more-words : drop (r .ends) (B′ .words) ≡ drop (r .ends) (B .words)
   pub demand3 : let S = readFile s .setup in
       (m e k : ℕ) → m ≤ S .listeners → e + k < r .ends

@@ -63,14 +63,14 @@ fn most_ends(file: &[u8]) -> usize
 }
 
 // Whether buffers of these lengths have room for a file.
-fn has_room(file: &[u8], out: usize, ends: usize, words: usize) -> bool
-    ensures { λ r. ⌜ r ≡ hasRoom (now (file .entry)) out ends words ⌝ }
+fn has_room(file: &[u8], out: usize, rows: usize, words: usize) -> bool
+    ensures { λ r. ⌜ r ≡ hasRoom (now (file .entry)) out rows words ⌝ }
 {
     let most = most_ends(file);
     if out / 64 < most + 2 {
         return false;
     }
-    if ends / 48 < most {
+    if rows / 48 < most {
         return false;
     }
     most <= words
@@ -109,14 +109,14 @@ fn number_at(positions: &Positions, n: u8, m: u8, word: u64, i: usize) -> i32
 }
 
 // Writes a row.
-fn fill_row(ends: &mut [i32], base: usize, positions: &Positions, n: u8, m: u8, word: u64)
-    requires { ⌜ base + 48 ≤ length (now ends) ⌝ }
-    ensures { λ _. ⌜ now (ends .exit) ≡ paste (now (ends .entry)) base (soundRow n m word (now (positions .entry)) 48) 48 ⌝ }
+fn fill_row(rows: &mut [i32], base: usize, positions: &Positions, n: u8, m: u8, word: u64)
+    requires { ⌜ base + 48 ≤ length (now rows) ⌝ }
+    ensures { λ _. ⌜ now (rows .exit) ≡ paste (now (rows .entry)) base (soundRow n m word (now (positions .entry)) 48) 48 ⌝ }
 {
     let mut i: usize = 0;
     while i < 48 {
         let v = number_at(positions, n, m, word, i);
-        ends[base + i] = v;
+        rows[base + i] = v;
         i += 1;
     }
 }
@@ -134,7 +134,7 @@ fn word_at(count: usize, struck: u64) -> u64
 // Keeps a phase end, if there is one and room for it, and answers how many there are then.
 fn keep(
     some: bool,
-    ends: &mut [i32],
+    rows: &mut [i32],
     words: &mut [u64],
     count: usize,
     positions: &Positions,
@@ -142,7 +142,7 @@ fn keep(
     m: u8,
     struck: u64,
 ) -> usize
-    ensures { λ r. ⌜ EndKept some n m struck (now (positions .entry)) count r (now (ends .entry)) (now (words .entry)) (now (ends .exit)) (now (words .exit)) ⌝ }
+    ensures { λ r. ⌜ EndKept some n m struck (now (positions .entry)) count r (now (rows .entry)) (now (words .entry)) (now (rows .exit)) (now (words .exit)) ⌝ }
 {
     if !some {
         return count;
@@ -150,11 +150,11 @@ fn keep(
     if words.len() <= count {
         return count;
     }
-    if ends.len() / 48 <= count {
+    if rows.len() / 48 <= count {
         return count;
     }
     let word = word_at(count, struck);
-    fill_row(ends, 48 * count, positions, n, m, word);
+    fill_row(rows, 48 * count, positions, n, m, word);
     words[count] = word;
     count + 1
 }
@@ -164,7 +164,7 @@ fn step(
     at: Place,
     file: &[u8],
     out: &mut [u8],
-    ends: &mut [i32],
+    rows: &mut [i32],
     words: &mut [u64],
     carry: &mut Carry,
     positions: &mut Positions,
@@ -176,8 +176,8 @@ fn step(
     requires { ⌜ at .used < length (now file) ⌝ }
     ensures { λ r. ⌜ (at .used < r .used) × (r .used ≤ length (now (file .entry))) ⌝ }
     ensures { λ r. ⌜ ((B : Buffers)
-        → Going (now (file .entry)) at (now (carry .entry)) (memoryBefore positions marks lists planted lengths) B (lent out ends words)
-        → Going (now (file .entry)) r (now (carry .exit)) (memoryAfter positions marks lists planted lengths) B (left out ends words)) ⌝ }
+        → Going (now (file .entry)) at (now (carry .entry)) (memoryBefore positions marks lists planted lengths) B (lent out rows words)
+        → Going (now (file .entry)) r (now (carry .exit)) (memoryAfter positions marks lists planted lengths) B (left out rows words)) ⌝ }
 {
     let used = at.used;
     let fed = run_stream::feed(
@@ -195,7 +195,7 @@ fn step(
     let len = put(out, at.len, text);
     let count = keep(
         text.len != 0,
-        ends,
+        rows,
         words,
         at.count,
         positions,
@@ -215,7 +215,7 @@ fn step(
 fn close(
     at: Place,
     out: &mut [u8],
-    ends: &mut [i32],
+    rows: &mut [i32],
     words: &mut [u64],
     positions: &mut Positions,
     marks: &mut Words,
@@ -224,7 +224,7 @@ fn close(
     lengths: &PlantedLengths,
 ) -> PlayResult
     ensures { λ r. ⌜ ((file carry : List ℕ) (B : Buffers) → at .used ≡ length file
-        → Going file at carry (memoryBefore positions marks lists planted lengths) B (lent out ends words) → Whole file r B (left out ends words)) ⌝ }
+        → Going file at carry (memoryBefore positions marks lists planted lengths) B (lent out rows words) → Whole file r B (left out rows words)) ⌝ }
 {
     let player = at.player;
     let last = run_stream::finish(player, positions, marks, lists, planted, lengths);
@@ -234,7 +234,7 @@ fn close(
     let len = put(out, at.len, line);
     let count = keep(
         line.len != 0,
-        ends,
+        rows,
         words,
         at.count,
         positions,
@@ -254,7 +254,7 @@ fn close(
 fn run(
     file: &[u8],
     out: &mut [u8],
-    ends: &mut [i32],
+    rows: &mut [i32],
     words: &mut [u64],
     carry: &mut Carry,
     positions: &mut Positions,
@@ -263,8 +263,8 @@ fn run(
     planted: &mut PlantedBytes,
     lengths: &mut PlantedLengths,
 ) -> PlayResult
-    requires { ⌜ hasRoom (now file) (length (now out)) (length (now ends)) (length (now words)) ≡ true ⌝ }
-    ensures { λ r. ⌜ Whole (now (file .entry)) r (lent out ends words) (left out ends words) ⌝ }
+    requires { ⌜ hasRoom (now file) (length (now out)) (length (now rows)) (length (now words)) ≡ true ⌝ }
+    ensures { λ r. ⌜ Whole (now (file .entry)) r (lent out rows words) (left out rows words) ⌝ }
 {
     let title = run_listing::title_line();
     let mut at = Place {
@@ -278,7 +278,7 @@ fn run(
             at,
             file,
             out,
-            ends,
+            rows,
             words,
             carry,
             positions,
@@ -291,7 +291,7 @@ fn run(
     close(
         at,
         out,
-        ends,
+        rows,
         words,
         positions,
         marks,
@@ -303,11 +303,11 @@ fn run(
 
 // Plays a whole file: its listing at the front of out, and for each phase end a row of ends and a word of words. Refused 24 if one of the
 // three is too short for the most phase ends that a file of this length and kind can have.
-pub fn play(file: &[u8], out: &mut [u8], ends: &mut [i32], words: &mut [u64]) -> PlayResult
-    ensures { λ r. ⌜ Plays (hasRoom (now (file .entry)) (length (now (out .entry))) (length (now (ends .entry))) (length (now (words .entry))))
-        (now (file .entry)) r (lent out ends words) (left out ends words) ⌝ }
+pub fn play(file: &[u8], out: &mut [u8], rows: &mut [i32], words: &mut [u64]) -> PlayResult
+    ensures { λ r. ⌜ Plays (hasRoom (now (file .entry)) (length (now (out .entry))) (length (now (rows .entry))) (length (now (words .entry))))
+        (now (file .entry)) r (lent out rows words) (left out rows words) ⌝ }
 {
-    if !has_room(file, out.len(), ends.len(), words.len()) {
+    if !has_room(file, out.len(), rows.len(), words.len()) {
         let since = [0u8; 48];
         return PlayResult {
             number: refusal::BUFFER,
@@ -326,7 +326,7 @@ pub fn play(file: &[u8], out: &mut [u8], ends: &mut [i32], words: &mut [u64]) ->
     run(
         file,
         out,
-        ends,
+        rows,
         words,
         &mut carry,
         &mut positions,
@@ -343,20 +343,20 @@ pub fn play(file: &[u8], out: &mut [u8], ends: &mut [i32], words: &mut [u64]) ->
 pub extern "C" fn focus_play(
     file: &[u8],
     out: &mut [u8],
-    ends: &mut [i32],
+    rows: &mut [i32],
     words: &mut [u64],
     since: &mut Counts,
     size: &mut usize,
     count: &mut usize,
 ) -> u8
-    ensures { λ r. ⌜ PlaysInto (hasRoom (now (file .entry)) (length (now (out .entry))) (length (now (ends .entry))) (length (now (words .entry))))
+    ensures { λ r. ⌜ PlaysInto (hasRoom (now (file .entry)) (length (now (out .entry))) (length (now (rows .entry))) (length (now (words .entry))))
         (now (file .entry)) r (now (size .entry)) (now (size .exit)) (now (count .entry)) (now (count .exit))
-        (now (since .entry)) (now (since .exit)) (lent out ends words) (left out ends words) ⌝ }
+        (now (since .entry)) (now (since .exit)) (lent out rows words) (left out rows words) ⌝ }
 {
-    if !has_room(file, out.len(), ends.len(), words.len()) {
+    if !has_room(file, out.len(), rows.len(), words.len()) {
         return refusal::BUFFER;
     }
-    let played = play(file, out, ends, words);
+    let played = play(file, out, rows, words);
     let counts = played.since;
     *since = counts;
     *size = played.len;

@@ -11,9 +11,9 @@ returns c =
     let k = q .before .before .before .before .before in
     let p = k .before .before .before .before .before .before .before in
     let f = p .before .before .before .before .before in
-    let (rooms, ends) = f .finish .ensures in
+    let (rooms, rows) = f .finish .ensures in
     λ file carry B all G.
-    closes G all (ends _ carry (G .state)) (rooms .0) (rooms .1) (p .put .ensures) refl (k .keep .ensures) (q .put2 .ensures)
+    closes G all (rows _ carry (G .state)) (rooms .0) (rooms .1) (p .put .ensures) refl (k .keep .ensures) (q .put2 .ensures)
 
 pub close-spec : {M : Type 1} → statement M
 close-spec =

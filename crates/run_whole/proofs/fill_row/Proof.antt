@@ -18,15 +18,15 @@ use Rattle.run_whole.proofs.fill_row.Statement.{statement}
 use Rattle.run_whole.proofs.fill_row.Tie as tie
 
 abbrev Inv-loop : tie.InvT-loop
-Inv-loop ends₀ base positions n m word i₀ ends i = (i ≤ 48) × (ends ≡ paste ends₀ base (soundRow n m word positions 48) i) × (length ends ≡ length ends₀)
+Inv-loop rows₀ base positions n m word i₀ rows i = (i ≤ 48) × (rows ≡ paste rows₀ base (soundRow n m word positions 48) i) × (length rows ≡ length rows₀)
 
 abbrev μ-loop : tie.MeasureT-loop
-μ-loop ends₀ base positions n m word i₀ ends i = 48 - i
+μ-loop rows₀ base positions n m word i₀ rows i = 48 - i
 
 loop-holds : tie.Need-loop-holds Inv-loop μ-loop
 loop-holds c =
     let a = c .args in
-    (omega arith, paste-zero (now (a .ends)) (a .base) (soundRow (a .n) (a .m) (a .word) (now (a .positions)) 48), refl)
+    (omega arith, paste-zero (now (a .rows)) (a .base) (soundRow (a .n) (a .m) (a .word) (now (a .positions)) 48), refl)
 
 loop-again : tie.Need-loop-again Inv-loop μ-loop
 loop-again c =
@@ -38,8 +38,8 @@ loop-again c =
     toZ-ofZ (record { sfits = c .number-at .ok }) ∙ c .number-at .ensures ∙ sym (row-at (a .n) (a .m) (a .word) (now (a .positions)) 48 (l .i) i) in (
       omega arith,
       rw (add-one (l .i))
-          (ap (set (l .ends) (a .base + l .i)) v ∙ ap (λ (x : List ℤ). set x (a .base + l .i) (getD s (l .i) (pos 0))) (l .inv .1)
-          ∙ paste-suc (now (a .ends)) (a .base) s (l .i) (pos 0) (omega arith) (omega (arith, row-long (a .n) (a .m) (a .word) (now (a .positions)) 48))),
+          (ap (set (l .rows) (a .base + l .i)) v ∙ ap (λ (x : List ℤ). set x (a .base + l .i) (getD s (l .i) (pos 0))) (l .inv .1)
+          ∙ paste-suc (now (a .rows)) (a .base) s (l .i) (pos 0) (omega arith) (omega (arith, row-long (a .n) (a .m) (a .word) (now (a .positions)) 48))),
       simp length-set (l .inv .2),
     )
 
@@ -48,7 +48,7 @@ returns c =
     let l = c .before .loop in
     let a = c .before .before .args in
     let all : l .i ≡ 48 = omega arith in
-    l .inv .1 ∙ ap (paste (now (a .ends)) (a .base) (soundRow (a .n) (a .m) (a .word) (now (a .positions)) 48)) all
+    l .inv .1 ∙ ap (paste (now (a .rows)) (a .base) (soundRow (a .n) (a .m) (a .word) (now (a .positions)) 48)) all
 
 pub fill-row-spec : {M : Type 1} → statement M
 fill-row-spec =

@@ -13,12 +13,12 @@ use Rattle.run_whole.proofs.has_room.Tie as tie
 
 -- room for so many ends
 abbrev roomFor : ℕ → ℕ → ℕ → ℕ → Bool
-roomFor most out ends words = leb (64 * (most + 2)) out && leb (48 * most) ends && leb most words
+roomFor most out rows words = leb (64 * (most + 2)) out && leb (48 * most) rows && leb most words
 
 -- by the number that was found
-found : (m : tie.After-most-ends) → let a = m .before .before .args in hasRoom (now (a .file)) (a .out) (a .ends) (a .words) ≡ roomFor (m .most-ends .result) (a .out) (a .ends) (a .words)
+found : (m : tie.After-most-ends) → let a = m .before .before .args in hasRoom (now (a .file)) (a .out) (a .rows) (a .words) ≡ roomFor (m .most-ends .result) (a .out) (a .rows) (a .words)
 unfolding hasRoom
-found m = let a = m .before .before .args in λ t. roomFor (sym (m .most-ends .ensures) t) (a .out) (a .ends) (a .words)
+found m = let a = m .before .before .args in λ t. roomFor (sym (m .most-ends .ensures) t) (a .out) (a .rows) (a .words)
 
 fits : tie.Need-add-if1
 fits c = omega (arith, c .most-ends .ensures)
@@ -34,14 +34,14 @@ returns-2 c =
     let m = c .before .before in
     let a = m .before .before .args in
     let n = m .most-ends .result in
-    rw (found m, le-leb (64 * (n + 2)) (a .out) (omega arith), lt-leb (48 * n) (a .ends) (omega arith))
+    rw (found m, le-leb (64 * (n + 2)) (a .out) (omega arith), lt-leb (48 * n) (a .rows) (omega arith))
 
 returns-3 : tie.Need-returns-3
 returns-3 c =
     let m = c .before .before in
     let a = m .before .before .args in
     let n = m .most-ends .result in
-    rw (found m, le-leb (64 * (n + 2)) (a .out) (omega arith), le-leb (48 * n) (a .ends) (omega arith))
+    rw (found m, le-leb (64 * (n + 2)) (a .out) (omega arith), le-leb (48 * n) (a .rows) (omega arith))
 
 pub has-room-spec : {M : Type 1} → statement M
 has-room-spec = tie.close (tie.spec (λ c κs. search needs) fits returns returns-2 returns-3)

@@ -27,7 +27,7 @@ returns-4 c =
     rw (not-false (s .args .some) (w .before .before .before .if1 .left))
     (λ room more. (
       refl,
-      c .before .fill-row .ensures ∙ ap (λ (x : ℕ). paste (now (s .args .ends)) (48 * s .args .count) (soundRow (s .args .n) (s .args .m) x (now (s .args .positions)) 48) 48) (w .word-at .ensures),
+      c .before .fill-row .ensures ∙ ap (λ (x : ℕ). paste (now (s .args .rows)) (48 * s .args .count) (soundRow (s .args .n) (s .args .m) x (now (s .args .positions)) 48) 48) (w .word-at .ensures),
       ap (set (now (s .args .words)) (s .args .count)) (w .word-at .ensures),
     ))
 

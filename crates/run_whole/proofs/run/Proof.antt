@@ -12,16 +12,16 @@ use Rattle.run_whole.proofs.run.Statement.{statement}
 use Rattle.run_whole.proofs.run.Tie as tie
 
 abbrev Inv-loop : tie.InvT-loop
-Inv-loop file out₀ ends₀ words₀ carry₀ positions₀ marks₀ lists₀ planted₀ lengths₀ at₀ out ends words carry positions marks lists planted lengths at =
-    (at .used ≤ length file) × (length out ≡ length out₀) × (length ends ≡ length ends₀) × (length words ≡ length words₀)
+Inv-loop file out₀ rows₀ words₀ carry₀ positions₀ marks₀ lists₀ planted₀ lengths₀ at₀ out rows words carry positions marks lists planted lengths at =
+    (at .used ≤ length file) × (length out ≡ length out₀) × (length rows ≡ length rows₀) × (length words ≡ length words₀)
     × ((B : Buffers)
     → Going file at₀ carry₀ (record { positions = positions₀; marks = marks₀; lists = lists₀; planted = planted₀; lengths = lengths₀ })
-    B (record { out = out₀; ends = ends₀; words = words₀ })
+    B (record { out = out₀; rows = rows₀; words = words₀ })
     → Going file at carry (record { positions = positions; marks = marks; lists = lists; planted = planted; lengths = lengths })
-    B (record { out = out; ends = ends; words = words }))
+    B (record { out = out; rows = rows; words = words }))
 
 abbrev μ-loop : tie.MeasureT-loop
-μ-loop file out₀ ends₀ words₀ carry₀ positions₀ marks₀ lists₀ planted₀ lengths₀ at₀ out ends words carry positions marks lists planted lengths at =
+μ-loop file out₀ rows₀ words₀ carry₀ positions₀ marks₀ lists₀ planted₀ lengths₀ at₀ out rows words carry positions marks lists planted lengths at =
     length file - at .used
 
 loop-holds : tie.Need-loop-holds Inv-loop μ-loop
@@ -53,7 +53,7 @@ returns c =
     let t = g .before in
     let s = t .before .before .before .before in
     let a = s .args in
-    let B : Buffers = record { out = now (a .out); ends = now (a .ends); words = now (a .words) } in
+    let B : Buffers = record { out = now (a .out); rows = now (a .rows); words = now (a .words) } in
     let (text, room) = t .title-line .ensures in
     let first = going-first B (s .pre) (g .begin .ensures _ _) text room (p .put .ensures) in
     k .close .ensures (now (a .file)) _ B (omega arith) (l .loop .inv .4 B first)
