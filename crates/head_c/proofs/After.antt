@@ -19,8 +19,8 @@ use Rattle.head_spec.proofs.Stops.{answer-refusal}
 use Rattle.convergence.proofs.Demand3.{size-large}
 use Rattle.head_calls.specs.Steps.{checkMember, openingSeat}
 use Rattle.head_calls.proofs.Answers.{member-sized, member-small, proper-restarted-as}
-use Rattle.head_window.specs.declared.Beside.{Beside}
-use Rattle.head_c.specs.Blocks.{withHead, withAnswer, withBeside, withoutOffer}
+use Rattle.head_window.specs.declared.Registers.{Registers}
+use Rattle.head_c.specs.Blocks.{withHead, withAnswer, withRegisters, withoutOffer}
 
 -- the seats are those of the definitions where the checks pass: each number has room in its byte
 pub first-seat : (K : Family) (listens : Bool) (n f i rest : ℕ) (e : Entry) → checkMember K listens n f i rest ≡ 0
@@ -52,15 +52,15 @@ module _ (w : List ℕ) (s s′ : Seat) (old : Head) where
   left zero p = ap (λ (x : Seat). withHead (opened x noEntries) w) (p refl)
   left (suc c) p = refl
 
-  pub fresh-left : (beside : ℕ → Beside) {b : Beside} {r c : ℕ} {w′ : List ℕ} → r ≡ c → b ≡ beside r
-      → w′ ≡ withoutOffer r (withBeside b (leaves r (withHead (opened s noEntries) w) w)) → (c ≡ 0 → s ≡ s′)
+  pub fresh-left : (registers : ℕ → Registers) {b : Registers} {r c : ℕ} {w′ : List ℕ} → r ≡ c → b ≡ registers r
+      → w′ ≡ withoutOffer r (withRegisters b (leaves r (withHead (opened s noEntries) w) w)) → (c ≡ 0 → s ≡ s′)
       → let a = answer c (opened s′ noEntries) old in
-      (r ≡ a .refusal) × (w′ ≡ withoutOffer (a .refusal) (withBeside (beside (a .refusal)) (withAnswer w a)))
-  fresh-left beside {b} {r} {c} e q p seats =
+      (r ≡ a .refusal) × (w′ ≡ withoutOffer (a .refusal) (withRegisters (registers (a .refusal)) (withAnswer w a)))
+  fresh-left registers {b} {r} {c} e q p seats =
       let n = sym (answer-refusal c (opened s′ noEntries) old) in (
         e ∙ n,
         p
-            ∙ (λ i. withoutOffer (e i) (withBeside ((q ∙ ap beside e) i) (leaves (e i) (withHead (opened s noEntries) w) w)))
-            ∙ ap (λ (x : List ℕ). withoutOffer c (withBeside (beside c) x)) (left c seats)
-            ∙ ap (λ (x : ℕ). withoutOffer x (withBeside (beside x) (withAnswer w (answer c (opened s′ noEntries) old)))) n,
+            ∙ (λ i. withoutOffer (e i) (withRegisters ((q ∙ ap registers e) i) (leaves (e i) (withHead (opened s noEntries) w) w)))
+            ∙ ap (λ (x : List ℕ). withoutOffer c (withRegisters (registers c) x)) (left c seats)
+            ∙ ap (λ (x : ℕ). withoutOffer x (withRegisters (registers x) (withAnswer w (answer c (opened s′ noEntries) old)))) n,
       )

@@ -22,42 +22,42 @@ use Rattle.head_spec.specs.Batch.{entriesOf, batchRefusal}
 use Rattle.head_spec.specs.Offers.{lapsed, lapsedBy, offered}
 use Rattle.head_spec.proofs.Proper.{ProperHead}
 use Rattle.head_spec.proofs.RoundClose.{ProperClosed, proper-closed}
-use Rattle.head_window.specs.declared.Beside.{Beside}
-use Rattle.head_c.specs.Blocks.{IsBlock, headOf, withHead, withAnswer, besideOf, withBeside, offerOf, withOffer, withoutOffer, withClosing, heardIn, heardEach}
+use Rattle.head_window.specs.declared.Registers.{Registers}
+use Rattle.head_c.specs.Blocks.{IsBlock, headOf, withHead, withAnswer, registersOf, withRegisters, offerOf, withOffer, withoutOffer, withClosing, heardIn, heardEach}
 use Rattle.head_c.specs.Events.{Call, starts, restarts, startsListener, restartsListener, hears, hearsBatch, closes, adopts, sets, blockAfter, OnlyTheseChange}
 use Rattle.head_c.proofs.Putting.{second, third, second-long}
 use Rattle.head_c.proofs.Changes.{set-apart}
 use Rattle.head_c.proofs.Offers.{same-offer, FitOffer, offer-back, offer-ended, ended-apart}
 use Rattle.head_c.proofs.Lapsing.{offer-heard, offer-each}
-use Rattle.head_c.proofs.Beside.{put-beside, after-beside, heard-beside, each-beside}
+use Rattle.head_c.proofs.Registers.{put-registers, after-registers, heard-registers, each-registers}
 use Rattle.head_c.proofs.Calls.{last-fits, seat-fits, after-start, after-restart, after-start-listener, after-restart-listener, after-close, after-adopt}
 
-same-beside : (w′ w : List ℕ) → getD w′ 16 0 ≡ getD w 16 0 → getD w′ 17 0 ≡ getD w 17 0 → besideOf w′ ≡ besideOf w
-same-beside w′ w p q = λ i. record { events = p i; mask = q i }
+same-registers : (w′ w : List ℕ) → getD w′ 16 0 ≡ getD w 16 0 → getD w′ 17 0 ≡ getD w 17 0 → registersOf w′ ≡ registersOf w
+same-registers w′ w p q = λ i. record { events = p i; mask = q i }
 
 -- what was put beside the head is read
-pub beside-back : (b : Beside) (w : List ℕ) → 22 < length w → besideOf (withBeside b w) ≡ b
-beside-back b w l =
+pub registers-back : (b : Registers) (w : List ℕ) → 22 < length w → registersOf (withRegisters b w) ≡ b
+registers-back b w l =
     let one = set w 16 (b .events) in
     let long : 17 < length one = rw (length-set w 16 (b .events)) (omega arith) in
     let events = getD-set-other one 17 16 (b .mask) 0 (omega arith) ∙ getD-set-same w 16 (b .events) 0 (omega arith) in
     λ i. record { events = events i; mask = getD-set-same one 17 (b .mask) 0 long i }
 
 -- and it is all that is changed
-module _ (b : Beside) (w : List ℕ) where
-  kept : (i : ℕ) → (i ≡ 16 → ⊥) → (i ≡ 17 → ⊥) → getD (withBeside b w) i 0 ≡ getD w i 0
+module _ (b : Registers) (w : List ℕ) where
+  kept : (i : ℕ) → (i ≡ 16 → ⊥) → (i ≡ 17 → ⊥) → getD (withRegisters b w) i 0 ≡ getD w i 0
   kept i d e = getD-set-other (set w 16 (b .events)) 17 i (b .mask) 0 (omega arith) ∙ getD-set-other w 16 i (b .events) 0 (omega arith)
 
-  pub head-apart : headOf (withBeside b w) ≡ headOf w
+  pub head-apart : headOf (withRegisters b w) ≡ headOf w
   head-apart = set-apart (set w 16 (b .events)) 17 (b .mask) (omega arith) (omega arith) ∙ set-apart w 16 (b .events) (omega arith) (omega arith)
 
-  offer-kept : offerOf (withBeside b w) ≡ offerOf w
-  offer-kept = same-offer (withBeside b w) w (λ i from to. kept i (λ e. omega arith) (λ e. omega arith))
+  offer-kept : offerOf (withRegisters b w) ≡ offerOf w
+  offer-kept = same-offer (withRegisters b w) w (λ i from to. kept i (λ e. omega arith) (λ e. omega arith))
 
 -- an offer that is ended leaves what stands beside it
-ended-beside : (c : ℕ) (w : List ℕ) → besideOf (withoutOffer c w) ≡ besideOf w
-ended-beside zero w = same-beside (set w 18 0) w (getD-set-other w 18 16 0 0 (omega arith)) (getD-set-other w 18 17 0 0 (omega arith))
-ended-beside (suc c) w = refl
+ended-registers : (c : ℕ) (w : List ℕ) → registersOf (withoutOffer c w) ≡ registersOf w
+ended-registers zero w = same-registers (set w 18 0) w (getD-set-other w 18 16 0 0 (omega arith)) (getD-set-other w 18 17 0 0 (omega arith))
+ended-registers (suc c) w = refl
 
 -- ---- a block is long enough for it after a call
 
@@ -87,18 +87,18 @@ closing-long w (Closed.Settled k) h block = let long : length (withOffer (Offer.
 -- ---- only these change it
 
 -- a start, a restart and an adoption
-module _ (w : List ℕ) (block : IsBlock w) (b : Beside) (a : Answer) where
+module _ (w : List ℕ) (block : IsBlock w) (b : Registers) (a : Answer) where
   abbrev left : List ℕ
-  left = withBeside b (withAnswer w a)
+  left = withRegisters b (withAnswer w a)
 
-  put-after : besideOf (withoutOffer (a .refusal) left) ≡ b
-  put-after = ended-beside (a .refusal) left ∙ beside-back b (withAnswer w a) (after-long w a block)
+  put-after : registersOf (withoutOffer (a .refusal) left) ≡ b
+  put-after = ended-registers (a .refusal) left ∙ registers-back b (withAnswer w a) (after-long w a block)
 
   pub offer-after : offerOf (withoutOffer (a .refusal) left) ≡ lapsed (a .refusal) (offerOf w)
   offer-after =
       let long : 22 < length left = simp length-set (after-long w a block) in
       offer-ended (a .refusal) left w long
-      (offer-kept b (withAnswer w a) ∙ same-offer (withAnswer w a) w (λ i from to. after-beside w block i (omega arith) (omega arith) a))
+      (offer-kept b (withAnswer w a) ∙ same-offer (withAnswer w a) w (λ i from to. after-registers w block i (omega arith) (omega arith) a))
 
 -- a closing
 module _ (w : List ℕ) (block : IsBlock w) where
@@ -109,7 +109,7 @@ module _ (w : List ℕ) (block : IsBlock w) where
 
   offer-closed : (c : Closed) (h : Head) → FitOffer (offered c Offer.Nothing) → offerOf (withClosing c h w) ≡ offered c (offerOf w)
   offer-closed (Closed.Refused c) h F = refl
-  offer-closed Closed.Listed h F = same-offer (withHead h w) w (λ i from to. put-beside w block i (omega arith) (omega arith) h)
+  offer-closed Closed.Listed h F = same-offer (withHead h w) w (λ i from to. put-registers w block i (omega arith) (omega arith) h)
   offer-closed (Closed.Settled k) h F = offer-back k w block F
 
 pub only-these-change : OnlyTheseChange
@@ -119,31 +119,31 @@ only-these-change w (restarts K n f i p r) block = let a = restart (headOf w) K 
 only-these-change w (startsListener K n f i) block = let a = startListener (headOf w) K n f i in (put-after w block _ a, λ P. offer-after w block _ a)
 only-these-change w (restartsListener K n f i p r) block = let a = restartListener (headOf w) K n f i p r in (put-after w block _ a, λ P. offer-after w block _ a)
 only-these-change w adopts block = let a = adopt (headOf w) (offerOf w) in (put-after w block _ a, λ P. offer-after w block _ a)
-only-these-change w (sets at x) block = (beside-back _ w (omega arith), λ P. offer-kept _ w)
+only-these-change w (sets at x) block = (registers-back _ w (omega arith), λ P. offer-kept _ w)
 only-these-change w closes block =
     let q = close (headOf w) in
     let w′ = withClosing (q .closed) (q .head) w in (
-      beside-back _ w′ (closing-long w (q .closed) (q .head) block),
+      registers-back _ w′ (closing-long w (q .closed) (q .head) block),
       λ P. offer-kept _ w′ ∙ offer-closed w block (q .closed) (q .head)
           (proper-fits w block (headOf w .seat .f) (q .closed) (seat-fits (headOf w .seat) (P .seat) .f) (proper-closed (headOf w) P)),
     )
 only-these-change w (hears k s) block = (go (hear (headOf w) k s .refusal), λ P. offer-heard w block k s (P .seat .size .most))
   where
-    go : (c : ℕ) → besideOf (leaves c (heardIn w k (saidTo (headOf w .seat) k s)) w) ≡ besideOf w
+    go : (c : ℕ) → registersOf (leaves c (heardIn w k (saidTo (headOf w .seat) k s)) w) ≡ registersOf w
     go zero =
         let m = saidTo (headOf w .seat) k s in
-        same-beside (heardIn w k m) w (heard-beside w block 16 (omega arith) (omega arith) (omega arith) k m)
-        (heard-beside w block 17 (omega arith) (omega arith) (omega arith) k m)
+        same-registers (heardIn w k m) w (heard-registers w block 16 (omega arith) (omega arith) (omega arith) k m)
+        (heard-registers w block 17 (omega arith) (omega arith) (omega arith) k m)
     go (suc c) = refl
 only-these-change w (hearsBatch s room) block = (go (batchRefusal s room), λ P. all (batchRefusal s room) (P .seat .size .most))
   where
     D : List Delivery
     D = entriesOf s
 
-    go : (c : ℕ) → besideOf (leaves c (heardEach w D) w) ≡ besideOf w
+    go : (c : ℕ) → registersOf (leaves c (heardEach w D) w) ≡ registersOf w
     go zero =
-        same-beside (heardEach w D) w (each-beside D w block 16 (omega arith) (omega arith) (omega arith))
-        (each-beside D w block 17 (omega arith) (omega arith) (omega arith))
+        same-registers (heardEach w D) w (each-registers D w block 16 (omega arith) (omega arith) (omega arith))
+        (each-registers D w block 17 (omega arith) (omega arith) (omega arith))
     go (suc c) = refl
 
     all : (c : ℕ) → headOf w .seat .n ≤ 32
@@ -160,12 +160,12 @@ module _ (w : List ℕ) (block : IsBlock w) where
   set-stays : (j x : ℕ) (w′ : List ℕ) → j < 23 → Stays w′ → Stays (set w′ j x)
   set-stays j x w′ l e = getD-set-other w′ j 23 x 0 (omega arith) ∙ e
 
-  beside-stays : (b : Beside) (w′ : List ℕ) → Stays w′ → Stays (withBeside b w′)
-  beside-stays b w′ e =
+  registers-stays : (b : Registers) (w′ : List ℕ) → Stays w′ → Stays (withRegisters b w′)
+  registers-stays b w′ e =
       set-stays 17 (b .mask) (set w′ 16 (b .events)) (omega arith) (set-stays 16 (b .events) w′ (omega arith) e)
 
-  call-stays : (b : Beside) (a : Answer) → Stays (withoutOffer (a .refusal) (withBeside b (withAnswer w a)))
-  call-stays b a = go (a .refusal) (withBeside b (withAnswer w a)) (beside-stays b (withAnswer w a) (after-beside w block 23 (omega arith) (omega arith) a))
+  call-stays : (b : Registers) (a : Answer) → Stays (withoutOffer (a .refusal) (withRegisters b (withAnswer w a)))
+  call-stays b a = go (a .refusal) (withRegisters b (withAnswer w a)) (registers-stays b (withAnswer w a) (after-registers w block 23 (omega arith) (omega arith) a))
     where
       go : (c : ℕ) (w′ : List ℕ) → Stays w′ → Stays (withoutOffer c w′)
       go zero w′ e = set-stays 18 0 w′ (omega arith) e
@@ -173,7 +173,7 @@ module _ (w : List ℕ) (block : IsBlock w) where
 
   closing-stays : (c : Closed) (h : Head) → Stays (withClosing c h w)
   closing-stays (Closed.Refused c) h = refl
-  closing-stays Closed.Listed h = put-beside w block 23 (omega arith) (omega arith) h
+  closing-stays Closed.Listed h = put-registers w block 23 (omega arith) (omega arith) h
   closing-stays (Closed.Settled k) h =
       let w₁ = set w 18 1 in
       let w₂ = set w₁ 19 (wordOf (k .low)) in
@@ -191,23 +191,23 @@ module _ (w : List ℕ) (block : IsBlock w) where
   others-stay (startsListener K n f j) = call-stays _ (startListener (headOf w) K n f j)
   others-stay (restartsListener K n f j p r) = call-stays _ (restartListener (headOf w) K n f j p r)
   others-stay adopts = call-stays _ (adopt (headOf w) (offerOf w))
-  others-stay closes = let q = close (headOf w) in beside-stays _ (withClosing (q .closed) (q .head) w) (closing-stays (q .closed) (q .head))
-  others-stay (sets at x) = beside-stays _ w refl
+  others-stay closes = let q = close (headOf w) in registers-stays _ (withClosing (q .closed) (q .head) w) (closing-stays (q .closed) (q .head))
+  others-stay (sets at x) = registers-stays _ w refl
   others-stay (hears k s) = go (hear (headOf w) k s .refusal)
     where
       go : (c : ℕ) → Stays (leaves c (heardIn w k (saidTo (headOf w .seat) k s)) w)
-      go zero = heard-beside w block 23 (omega arith) (omega arith) (omega arith) k (saidTo (headOf w .seat) k s)
+      go zero = heard-registers w block 23 (omega arith) (omega arith) (omega arith) k (saidTo (headOf w .seat) k s)
       go (suc c) = refl
   others-stay (hearsBatch s room) = go (batchRefusal s room)
     where
       go : (c : ℕ) → Stays (leaves c (heardEach w (entriesOf s)) w)
-      go zero = each-beside (entriesOf s) w block 23 (omega arith) (omega arith) (omega arith)
+      go zero = each-registers (entriesOf s) w block 23 (omega arith) (omega arith) (omega arith)
       go (suc c) = refl
 
 -- so after each call the block is the record that the call by value makes
 module _ (w : List ℕ) (block : IsBlock w) where
-  call-head : (b : Beside) (a : Answer) → headOf (withoutOffer (a .refusal) (withBeside b (withAnswer w a))) ≡ headOf (withAnswer w a)
-  call-head b a = ended-apart (a .refusal) (withBeside b (withAnswer w a)) ∙ head-apart b (withAnswer w a)
+  call-head : (b : Registers) (a : Answer) → headOf (withoutOffer (a .refusal) (withRegisters b (withAnswer w a))) ≡ headOf (withAnswer w a)
+  call-head b a = ended-apart (a .refusal) (withRegisters b (withAnswer w a)) ∙ head-apart b (withAnswer w a)
 
   pub head-started : (K : Family) (n f i : ℕ) (v : ℤ) → headOf (blockAfter w (starts K n f i v)) ≡ start (headOf w) K n f i v .head
   unfolding blockAfter

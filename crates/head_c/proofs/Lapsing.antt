@@ -24,7 +24,7 @@ use Rattle.head_c.specs.Blocks.{IsBlock, headOf, offerOf, changed, heard
 use Rattle.head_c.specs.Steps.{numberOf}
 use Rattle.head_c.proofs.Offers.{no-offer}
 use Rattle.head_c.proofs.Hearing.{head-heard, heard-below, heard-refused, number-said, link-block}
-use Rattle.head_c.proofs.Beside.{changed-beside, heard-block}
+use Rattle.head_c.proofs.Registers.{changed-registers, heard-block}
 
 module _ (w : List ℕ) (block : IsBlock w) (k : ℕ) (s : List ℕ) where
   abbrev heard : List ℕ
@@ -41,7 +41,7 @@ module _ (w : List ℕ) (block : IsBlock w) (k : ℕ) (s : List ℕ) where
   lapses : k < 32 → (m : Meaning) → AcceptedMeaning m → offerOf (heardIn w k m) ≡ Offer.Nothing
   lapses l m a =
       rw (heard-below w k m l)
-      (no-offer (changed w k m) (changed-beside w block 18 (omega arith) (omega arith) k l m a ∙ getD-set-same w 18 0 0 (omega arith)))
+      (no-offer (changed w k m) (changed-registers w block 18 (omega arith) (omega arith) k l m a ∙ getD-set-same w 18 0 0 (omega arith)))
 
   pub offer-heard : headOf w .seat .n ≤ 32 → offerOf heard ≡ lapsed (hear (headOf w) k s .refusal) (offerOf w)
   unfolding said

@@ -9,7 +9,7 @@ pub mod Offers
 pub mod Hearing
 pub mod After
 pub mod Calls
-pub mod Beside
+pub mod Registers
 pub mod Lapsing
 pub mod Events
 pub mod Refused

@@ -24,13 +24,13 @@ use Rattle.head_spec.proofs.Offers.{offer-then-adopt, offer-holds, offering-rea
 use Rattle.head_c.proofs.Lapsing.{offer-each}
 use Rattle.head_spec.proofs.Stops.{adopts-nothing}
 use Rattle.head_spec.proofs.RoundClose.{offer-stays}
-use Rattle.head_window.specs.Window.{closedBeside, adoptedBeside}
-use Rattle.head_c.specs.Blocks.{IsBlock, headOf, besideOf, offerOf, heardIn, heardEach}
+use Rattle.head_window.specs.Window.{closedRegisters, adoptedRegisters}
+use Rattle.head_c.specs.Blocks.{IsBlock, headOf, registersOf, offerOf, heardIn, heardEach}
 use Rattle.head_c.specs.Events.{Call, starts, restarts, startsListener, restartsListener, hears, hearsBatch, closes, adopts, sets, numberAfter, blockAfter}
 use Rattle.head_c.specs.Made.{Opens, Bytes, MadeReachable, MadeOffers, MadeCloses}
 use Rattle.head_c.specs.Made as made
 use Rattle.head_c.proofs.Hearing.{head-heard}
-use Rattle.head_c.proofs.Beside.{heard-block}
+use Rattle.head_c.proofs.Registers.{heard-block}
 use Rattle.head_c.proofs.Events.{offer-after, only-these-change, head-started, head-restarted, listener-started, listener-restarted, head-closed, head-adopted, head-set}
 
 -- a block whose record and offer these are
@@ -174,7 +174,7 @@ made-closes w k M block block₁ e =
     let (ends, adopted) = offer-holds (headOf w) k (H₁ .0) O in
     let stays : close (headOf w) .head ≡ headOf w = offer-stays (headOf w) e in
     let number : numberAfter w₁ adopts ≡ 0 = (λ t. adopt (head₁ t) (offer₁ t) .refusal) ∙ adopted in
-    let beside₁ : besideOf w₁ ≡ besideOf w = only-these-change w closes block .0 ∙ ap (λ (c : Closed). closedBeside c (besideOf w)) e in
+    let registers₁ : registersOf w₁ ≡ registersOf w = only-these-change w closes block .0 ∙ ap (λ (c : Closed). closedRegisters c (registersOf w)) e in
     record {
       taken = number;
       head =
@@ -183,6 +183,6 @@ made-closes w k M block block₁ e =
           ∙ sym (λ t. thenAdopt (e t) (stays t) .head)
           ∙ ap (λ (c : Closing). c .head) (offer-then-adopt (headOf w));
       closed = ap (λ (c : Closing). c .closed) ends;
-      beside = only-these-change w₁ adopts block₁ .0 ∙ (λ t. adoptedBeside (number t) (beside₁ t));
+      registers = only-these-change w₁ adopts block₁ .0 ∙ (λ t. adoptedRegisters (number t) (registers₁ t));
       offer = only-these-change w₁ adopts block₁ .1 (proper-of H₁) ∙ ap (λ (c : ℕ). lapsed c (offerOf w₁)) number;
     }

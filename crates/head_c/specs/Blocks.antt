@@ -29,7 +29,7 @@ use Rattle.head_spec.specs.declared.Offer.{Offer}
 use Rattle.head_spec.specs.Seats.{familyIn}
 use Rattle.head_spec.specs.Calls.{saidTo, hear, Delivery}
 use Rattle.head_spec.specs.Batch.{entriesOf, batchRefusal, hearBatch, batchAnswers, batchCount}
-use Rattle.head_window.specs.declared.Beside.{Beside}
+use Rattle.head_window.specs.declared.Registers.{Registers}
 use Rattle.head_lent.specs.Answers.{heldNumber, heldOr, rangeNumber}
 use Rattle.head_c.specs.Places as place
 
@@ -137,11 +137,11 @@ withAnswer w a = leaves (a .refusal) (withHead (a .head) w) w
 -- ---- events and mask (document 02, A5)
 
 -- Q22
-abbrev pub besideOf : List ℕ → Beside
-besideOf w = record { events = getD w place.events 0; mask = getD w place.mask 0 }
+abbrev pub registersOf : List ℕ → Registers
+registersOf w = record { events = getD w place.events 0; mask = getD w place.mask 0 }
 
-abbrev pub withBeside : Beside → List ℕ → List ℕ
-withBeside b w = set (set w place.events (b .events)) place.mask (b .mask)
+abbrev pub withRegisters : Registers → List ℕ → List ℕ
+withRegisters b w = set (set w place.events (b .events)) place.mask (b .mask)
 
 -- ---- the offer (document 02, A8). If word 18 is 0 there is none, and words 19 to 22 are not looked at.
 

@@ -15,9 +15,9 @@ use Rattle.head_spec.specs.Proper.{ProperHead}
 use Rattle.head_spec.specs.Offers.{lapsed, lapsedBy, offered}
 use Rattle.head_spec.specs.declared.Offer.{Offer}
 use Rattle.head_lent.specs.Answers.{closedNumber}
-use Rattle.head_window.specs.declared.Beside.{Beside}
-use Rattle.head_window.specs.Window.{three, startedBeside, restartedBeside, closedBeside, adoptedBeside, setRefusal, setBeside}
-use Rattle.head_c.specs.Blocks.{IsBlock, headOf, withAnswer, besideOf, withBeside, offerOf, withoutOffer, withClosing, heardIn, heardEach}
+use Rattle.head_window.specs.declared.Registers.{Registers}
+use Rattle.head_window.specs.Window.{three, startedRegisters, restartedRegisters, closedRegisters, adoptedRegisters, setRefusal, setRegisters}
+use Rattle.head_c.specs.Blocks.{IsBlock, headOf, withAnswer, registersOf, withRegisters, offerOf, withoutOffer, withClosing, heardIn, heardEach}
 
 -- a call that is lent the block to change; all others are lent it to read. K: the family of the ring, which starts and restarts give
 pub data Call : Type 0 where
@@ -44,34 +44,34 @@ numberAfter w adopts = adopt (headOf w) (offerOf w) .refusal
 numberAfter w (sets at x) = setRefusal at
 
 -- events and mask after it
-abbrev pub besideAfter : List ℕ → Call → Beside
-besideAfter w (starts K n f i v) = startedBeside (start (headOf w) K n f i v .refusal) (besideOf w)
-besideAfter w (restarts K n f i p r) = restartedBeside (restart (headOf w) K n f i p r .refusal) (besideOf w)
-besideAfter w (startsListener K n f i) = startedBeside (startListener (headOf w) K n f i .refusal) (besideOf w)
-besideAfter w (restartsListener K n f i p r) = restartedBeside (restartListener (headOf w) K n f i p r .refusal) (besideOf w)
-besideAfter w (hears k s) = besideOf w
-besideAfter w (hearsBatch s room) = besideOf w
-besideAfter w closes = closedBeside (close (headOf w) .closed) (besideOf w)
-besideAfter w adopts = adoptedBeside (adopt (headOf w) (offerOf w) .refusal) (besideOf w)
-besideAfter w (sets at x) = setBeside at x (besideOf w)
+abbrev pub registersAfter : List ℕ → Call → Registers
+registersAfter w (starts K n f i v) = startedRegisters (start (headOf w) K n f i v .refusal) (registersOf w)
+registersAfter w (restarts K n f i p r) = restartedRegisters (restart (headOf w) K n f i p r .refusal) (registersOf w)
+registersAfter w (startsListener K n f i) = startedRegisters (startListener (headOf w) K n f i .refusal) (registersOf w)
+registersAfter w (restartsListener K n f i p r) = restartedRegisters (restartListener (headOf w) K n f i p r .refusal) (registersOf w)
+registersAfter w (hears k s) = registersOf w
+registersAfter w (hearsBatch s room) = registersOf w
+registersAfter w closes = closedRegisters (close (headOf w) .closed) (registersOf w)
+registersAfter w adopts = adoptedRegisters (adopt (headOf w) (offerOf w) .refusal) (registersOf w)
+registersAfter w (sets at x) = setRegisters at x (registersOf w)
 
 -- the block after it, as its contract has it
 unfoldable pub blockAfter : List ℕ → Call → List ℕ
 blockAfter w (starts K n f i v) =
-    withoutOffer (numberAfter w (starts K n f i v)) (withBeside (besideAfter w (starts K n f i v)) (withAnswer w (start (headOf w) K n f i v)))
+    withoutOffer (numberAfter w (starts K n f i v)) (withRegisters (registersAfter w (starts K n f i v)) (withAnswer w (start (headOf w) K n f i v)))
 blockAfter w (restarts K n f i p r) =
-    withoutOffer (numberAfter w (restarts K n f i p r)) (withBeside (besideAfter w (restarts K n f i p r)) (withAnswer w (restart (headOf w) K n f i p r)))
+    withoutOffer (numberAfter w (restarts K n f i p r)) (withRegisters (registersAfter w (restarts K n f i p r)) (withAnswer w (restart (headOf w) K n f i p r)))
 blockAfter w (startsListener K n f i) =
-    withoutOffer (numberAfter w (startsListener K n f i)) (withBeside (besideAfter w (startsListener K n f i)) (withAnswer w (startListener (headOf w) K n f i)))
+    withoutOffer (numberAfter w (startsListener K n f i)) (withRegisters (registersAfter w (startsListener K n f i)) (withAnswer w (startListener (headOf w) K n f i)))
 blockAfter w (restartsListener K n f i p r) =
     withoutOffer (numberAfter w (restartsListener K n f i p r))
-    (withBeside (besideAfter w (restartsListener K n f i p r)) (withAnswer w (restartListener (headOf w) K n f i p r)))
+    (withRegisters (registersAfter w (restartsListener K n f i p r)) (withAnswer w (restartListener (headOf w) K n f i p r)))
 blockAfter w (hears k s) = leaves (hear (headOf w) k s .refusal) (heardIn w k (saidTo (headOf w .seat) k s)) w
 blockAfter w (hearsBatch s room) = leaves (batchRefusal s room) (heardEach w (entriesOf s)) w
-blockAfter w closes = withBeside (besideAfter w closes) (withClosing (close (headOf w) .closed) (close (headOf w) .head) w)
+blockAfter w closes = withRegisters (registersAfter w closes) (withClosing (close (headOf w) .closed) (close (headOf w) .head) w)
 blockAfter w adopts =
-    withoutOffer (numberAfter w adopts) (withBeside (besideAfter w adopts) (withAnswer w (adopt (headOf w) (offerOf w))))
-blockAfter w (sets at x) = withBeside (besideAfter w (sets at x)) w
+    withoutOffer (numberAfter w adopts) (withRegisters (registersAfter w adopts) (withAnswer w (adopt (headOf w) (offerOf w))))
+blockAfter w (sets at x) = withRegisters (registersAfter w (sets at x)) w
 
 -- the offer after it: a start, a restart, an accepted frame and an adoption end it, closing the last round of a phase makes it
 abbrev pub offerAfter : List ℕ → Call → Offer
@@ -90,13 +90,13 @@ offerAfter w (sets at x) = offerOf w
 abbrev pub OnlyTheseChange : Type 0
 OnlyTheseChange =
     (w : List ℕ) (c : Call) → IsBlock w
-    → (besideOf (blockAfter w c) ≡ besideAfter w c) × (ProperHead (headOf w) → offerOf (blockAfter w c) ≡ offerAfter w c)
+    → (registersOf (blockAfter w c) ≡ registersAfter w c) × (ProperHead (headOf w) → offerOf (blockAfter w c) ≡ offerAfter w c)
 
 -- demand 1 of these calls: one that is refused changes nothing but the events, and those only if it is refused 25 (Q25)
 abbrev pub RefusedLeaves : Type 0
 RefusedLeaves =
     (w : List ℕ) (c : Call) → numberAfter w c ≢ 0
-    → (blockAfter w c ≡ withBeside (besideAfter w c) w) × (numberAfter w c ≢ refusal.trusted → blockAfter w c ≡ w)
+    → (blockAfter w c ≡ withRegisters (registersAfter w c) w) × (numberAfter w c ≢ refusal.trusted → blockAfter w c ≡ w)
 
 -- ---- a strike takes the block, and may leave anything beside the head: both bytes are written anew
 
@@ -118,12 +118,12 @@ Restarts (sets at x) = ⊥
 
 -- what stands beside the head then, if events and the mask were anything
 pub record ResetsWindow (w : List ℕ) (mask : ℕ) : Type 0 where
-  pub beside : besideOf (windowReset w mask) ≡ record { events = 0; mask = three (bitOf mask) }
+  pub registers : registersOf (windowReset w mask) ≡ record { events = 0; mask = three (bitOf mask) }
   -- the record is as it was
   pub head : headOf (windowReset w mask) ≡ headOf w
   -- a restart that is taken then leaves its own event alone
   pub restarted : (c : Call) → Restarts c → numberAfter (windowReset w mask) c ≡ 0
-      → besideOf (blockAfter (windowReset w mask) c) ≡ record { events = 4; mask = three (bitOf mask) }
+      → registersOf (blockAfter (windowReset w mask) c) ≡ record { events = 4; mask = three (bitOf mask) }
 
 abbrev pub AfterStrike : Type 0
 AfterStrike = (w : List ℕ) (mask : ℕ) → IsBlock w → ResetsWindow w mask

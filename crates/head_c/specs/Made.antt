@@ -14,7 +14,7 @@ use Rattle.head_spec.specs.Calls.{close, endRound}
 use Rattle.head_spec.specs.Demand2.{Reachable}
 use Rattle.head_spec.specs.Offers.{Offering}
 use Rattle.head_window.specs.Window.{phaseOver, withEvent}
-use Rattle.head_c.specs.Blocks.{IsBlock, headOf, besideOf, offerOf}
+use Rattle.head_c.specs.Blocks.{IsBlock, headOf, registersOf, offerOf}
 use Rattle.head_c.specs.Events.{Call, starts, restarts, startsListener, restartsListener, hears, hearsBatch, closes, adopts, sets, numberAfter, blockAfter}
 
 -- a start or a restart
@@ -58,7 +58,7 @@ pub record ClosesTwice (w : List ℕ) (k : Kept) : Type 0 where
   pub taken : numberAfter (blockAfter w closes) adopts ≡ 0
   pub head : headOf (blockAfter (blockAfter w closes) adopts) ≡ endRound (headOf w) .head
   pub closed : endRound (headOf w) .closed ≡ Closed.Settled k
-  pub beside : besideOf (blockAfter (blockAfter w closes) adopts) ≡ withEvent phaseOver (besideOf w)
+  pub registers : registersOf (blockAfter (blockAfter w closes) adopts) ≡ withEvent phaseOver (registersOf w)
   pub offer : offerOf (blockAfter (blockAfter w closes) adopts) ≡ Offer.Nothing
 
 -- Q68

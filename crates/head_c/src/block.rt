@@ -13,14 +13,14 @@ ghost use Rattle.head_lent.specs.Answers.{heldNumber, heldOr, rangeNumber};
 ghost use Rattle.head_spec.specs.declared.Offer.{Offer};
 ghost use Rattle.head_c.specs.Places as place;
 ghost use Rattle.head_c.specs.Blocks.{IsBlock, upTo, entryIn, rangeIn, numbersAt, seatOf, headOf};
-ghost use Rattle.head_c.specs.Blocks.{wordsOf, keptOf, familyNumber, seatWords, withHead, besideOf, withBeside, offerOf, withOffer, withoutOffer};
+ghost use Rattle.head_c.specs.Blocks.{wordsOf, keptOf, familyNumber, seatWords, withHead, registersOf, withRegisters, offerOf, withOffer, withoutOffer};
 ghost use Rattle.head_c.specs.Steps.{bare};
 use crate::place;
 use head_spec::Head;
 use head_spec::LastKept;
 use head_spec::Offer;
 use head_spec::Seat;
-use head_window::Beside;
+use head_window::Registers;
 use settle_midpoint::Kept;
 use settle_trust::Links;
 use terms::Entry;
@@ -280,19 +280,19 @@ fn put_opened(h: &mut [u32], seat: Seat, list: Table)
 
 // ---- What stands beside the head.
 
-pub fn beside_in(h: &[u32]) -> Beside
+pub fn registers_in(h: &[u32]) -> Registers
     requires { ⌜ IsBlock (now h) ⌝ }
-    ensures { λ r. ⌜ r ≡ besideOf (now (h .entry)) ⌝ }
+    ensures { λ r. ⌜ r ≡ registersOf (now (h .entry)) ⌝ }
 {
-    Beside {
+    Registers {
         events: h[place::EVENTS],
         mask: h[place::MASK],
     }
 }
 
-pub fn put_beside(h: &mut [u32], b: Beside)
+pub fn put_registers(h: &mut [u32], b: Registers)
     requires { ⌜ IsBlock (now h) ⌝ }
-    ensures { λ _. ⌜ now (h .exit) ≡ withBeside b (now (h .entry)) ⌝ }
+    ensures { λ _. ⌜ now (h .exit) ≡ withRegisters b (now (h .entry)) ⌝ }
 {
     h[place::EVENTS] = b.events;
     h[place::MASK] = b.mask;
@@ -347,11 +347,11 @@ fn put_seated(h: &mut [u32], number: u8, seat: Seat)
 }
 
 // Leaves what a start, a restart or an adoption makes that answers this number: the record, what stands beside the head, and no offer.
-pub fn put_fresh(h: &mut [u32], number: u8, seat: Seat, b: Beside)
+pub fn put_fresh(h: &mut [u32], number: u8, seat: Seat, b: Registers)
     requires { ⌜ IsBlock (now h) ⌝ }
-    ensures { λ _. ⌜ now (h .exit) ≡ withoutOffer number (withBeside b (leaves number (withHead (opened seat noEntries) (now (h .entry))) (now (h .entry)))) ⌝ }
+    ensures { λ _. ⌜ now (h .exit) ≡ withoutOffer number (withRegisters b (leaves number (withHead (opened seat noEntries) (now (h .entry))) (now (h .entry)))) ⌝ }
 {
     put_seated(h, number, seat);
-    put_beside(h, b);
+    put_registers(h, b);
     end_offer(h, number);
 }

@@ -9,10 +9,10 @@ ghost use Rattle.terms.specs.declared.Family.the-variants.{TwoRounds, OneRound}
 ghost use Rattle.head_c.specs.Blocks.{headOf, offerOf, Hears, HearsBatch};
 ghost use Rattle.head_c.specs.Events.{starts, restarts, startsListener, restartsListener, closes, adopts, blockAfter};
 use crate::block::bare_in;
-use crate::block::beside_in;
 use crate::block::offer_in;
-use crate::block::put_beside;
 use crate::block::put_fresh;
+use crate::block::put_registers;
+use crate::block::registers_in;
 use crate::block::seat_in;
 use crate::close::close_in;
 use crate::close::closed_number;
@@ -186,10 +186,10 @@ pub extern "C" fn focus_head_close(h: &mut Block) -> u8
     ensures { λ r. ⌜ (r ≡ closedNumber (close (headOf (now (h .entry))) .closed))
         × (now (h .exit) ≡ blockAfter (now (h .entry)) closes) ⌝ }
 {
-    let old = beside_in(h);
+    let old = registers_in(h);
     let closed = close_in(h);
     let b = head_window::after_close(closed, old);
-    put_beside(h, b);
+    put_registers(h, b);
     closed_number(closed)
 }
 
@@ -206,7 +206,7 @@ pub extern "C" fn focus_head_adopt(h: &mut Block) -> u8
             if seat.ended {
                 return refusal::ENDED;
             }
-            let b = head_window::after_adopt(0, beside_in(h));
+            let b = head_window::after_adopt(0, registers_in(h));
             put_fresh(h, 0, head_calls::next_seat(seat, kept), b);
             0
         }

@@ -7,8 +7,8 @@ ghost use Rattle.head_spec.specs.Calls.{start, restart, startListener, restartL
 ghost use Rattle.head_c.specs.Blocks.{headOf};
 ghost use Rattle.head_c.specs.Events.{starts, restarts, startsListener, restartsListener, blockAfter};
 use crate::Block;
-use crate::block::beside_in;
 use crate::block::put_fresh;
+use crate::block::registers_in;
 use head_spec::Seat;
 use terms::Entry;
 use terms::Family;
@@ -48,7 +48,7 @@ pub fn start_in(h: &mut Block, family: Family, n: u32, f: u32, number: u32, posi
     let last = head_calls::check(steps::is_position(position), refusal::POSITION, 0);
     let refused = head_calls::member_refusal(family, false, n, f, number, last);
     let seat = first_seat(family, n, f, number, Entry::Position(position));
-    let b = head_window::after_start(refused, beside_in(h)); // a start clears both
+    let b = head_window::after_start(refused, registers_in(h)); // a start clears both
     put_fresh(h, refused, seat, b);
     refused
 }
@@ -68,7 +68,7 @@ pub fn restart_in(
     let last = head_calls::check(head_calls::is_time(family, phase, round), refusal::PHASE, 0);
     let refused = head_calls::member_refusal(family, false, n, f, number, last);
     let seat = restart_seat(family, n, f, number, phase, round);
-    let b = head_window::after_restart(refused, beside_in(h));
+    let b = head_window::after_restart(refused, registers_in(h));
     put_fresh(h, refused, seat, b);
     refused
 }
@@ -79,7 +79,7 @@ pub fn start_listener_in(h: &mut Block, family: Family, n: u32, f: u32, number: 
 {
     let refused = head_calls::member_refusal(family, true, n, f, number, 0);
     let seat = first_seat(family, n, f, number, Entry::Null);
-    let b = head_window::after_start(refused, beside_in(h));
+    let b = head_window::after_start(refused, registers_in(h));
     put_fresh(h, refused, seat, b);
     refused
 }
@@ -99,7 +99,7 @@ pub fn restart_listener_in(
     let last = head_calls::check(head_calls::is_time(family, phase, round), refusal::PHASE, 0);
     let refused = head_calls::member_refusal(family, true, n, f, number, last);
     let seat = restart_seat(family, n, f, number, phase, round);
-    let b = head_window::after_restart(refused, beside_in(h)); // a restart sets its event
+    let b = head_window::after_restart(refused, registers_in(h)); // a restart sets its event
     put_fresh(h, refused, seat, b);
     refused
 }

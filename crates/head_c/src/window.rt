@@ -3,27 +3,27 @@
 ghost use mathlib.Core.Path.{_≡_};
 ghost use Rattle.terms.specs.Counting.{bit};
 ghost use Rattle.head_window.specs.Window.{window, readRefusal, byteRead, setRefusal, isUp};
-ghost use Rattle.head_c.specs.Blocks.{IsBlock, headOf, besideOf};
+ghost use Rattle.head_c.specs.Blocks.{IsBlock, headOf, registersOf};
 ghost use Rattle.head_c.specs.Events.{sets, blockAfter, windowReset};
 use crate::Block;
-use crate::block::beside_in;
-use crate::block::put_beside;
+use crate::block::put_registers;
+use crate::block::registers_in;
 use crate::block::seat_in;
 use head_window::Window;
 
 // The sixteen bytes.
 fn window_in(h: &[u32]) -> Window
     requires { ⌜ IsBlock (now h) ⌝ }
-    ensures { λ r. ⌜ r ≡ window (headOf (now (h .entry)) .seat) (besideOf (now (h .entry))) ⌝ }
+    ensures { λ r. ⌜ r ≡ window (headOf (now (h .entry)) .seat) (registersOf (now (h .entry))) ⌝ }
 {
-    head_window::window(seat_in(h), beside_in(h))
+    head_window::window(seat_in(h), registers_in(h))
 }
 
 // Reads a byte of the window: 0, or 16.
 #[no_mangle]
 pub extern "C" fn focus_head_register(h: &Block, at: u32, byte: &mut u8) -> u8
     ensures { λ r. ⌜ (r ≡ readRefusal at)
-        × (now (byte .exit) ≡ byteRead (headOf (now (h .entry)) .seat) (besideOf (now (h .entry))) at (now (byte .entry))) ⌝ }
+        × (now (byte .exit) ≡ byteRead (headOf (now (h .entry)) .seat) (registersOf (now (h .entry))) at (now (byte .entry))) ⌝ }
 {
     let refused = head_window::read_refusal(at);
     if refused != 0 {
@@ -37,7 +37,7 @@ pub extern "C" fn focus_head_register(h: &Block, at: u32, byte: &mut u8) -> u8
 // Reads all sixteen.
 #[no_mangle]
 pub extern "C" fn focus_head_window(h: &Block, bytes: &mut Window)
-    ensures { λ _. ⌜ now (bytes .exit) ≡ window (headOf (now (h .entry)) .seat) (besideOf (now (h .entry))) ⌝ }
+    ensures { λ _. ⌜ now (bytes .exit) ≡ window (headOf (now (h .entry)) .seat) (registersOf (now (h .entry))) ⌝ }
 {
     *bytes = window_in(h);
 }
@@ -47,8 +47,8 @@ pub extern "C" fn focus_head_window(h: &Block, bytes: &mut Window)
 pub extern "C" fn focus_head_set_register(h: &mut Block, at: u32, byte: u8) -> u8
     ensures { λ r. ⌜ (r ≡ setRefusal at) × (now (h .exit) ≡ blockAfter (now (h .entry)) (sets at byte)) ⌝ }
 {
-    let b = head_window::set_register(at, byte, beside_in(h));
-    put_beside(h, b);
+    let b = head_window::set_register(at, byte, registers_in(h));
+    put_registers(h, b);
     head_window::set_refusal(at)
 }
 
@@ -65,7 +65,7 @@ pub extern "C" fn focus_head_window_reset(h: &mut Block, mask: u8)
 // Whether the interrupt line is up: 1, or 0.
 #[no_mangle]
 pub extern "C" fn focus_head_interrupt(h: &Block) -> u8
-    ensures { λ r. ⌜ r ≡ bit (isUp (besideOf (now (h .entry)))) ⌝ }
+    ensures { λ r. ⌜ r ≡ bit (isUp (registersOf (now (h .entry)))) ⌝ }
 {
-    head_window::is_up(beside_in(h)) as u8
+    head_window::is_up(registers_in(h)) as u8
 }

@@ -14,7 +14,7 @@ use Rattle.terms.specs.Counting.{bit}
 use Rattle.marks.specs.Marks.{bitOf, withMark}
 use Rattle.head_spec.specs.declared.Seat.{Seat}
 use Rattle.head_spec.specs.declared.Closed.{Closed}
-use Rattle.head_window.specs.declared.Beside.{Beside}
+use Rattle.head_window.specs.declared.Registers.{Registers}
 
 -- ---- events and mask
 
@@ -32,28 +32,28 @@ abbrev pub strikeOver : ℕ
 strikeOver = 2
 
 -- one event more
-abbrev pub withEvent : ℕ → Beside → Beside
+abbrev pub withEvent : ℕ → Registers → Registers
 withEvent k b = record { events = withMark (b .events) k; mask = b .mask }
 
 -- ---- which call changes them; c is the number that it answers
 
 -- a start clears both (Q21)
-abbrev pub startedBeside : ℕ → Beside → Beside
-startedBeside c b = leaves c (record { events = 0; mask = 0 }) b
+abbrev pub startedRegisters : ℕ → Registers → Registers
+startedRegisters c b = leaves c (record { events = 0; mask = 0 }) b
 
 -- a restart sets strike over (Q27)
-abbrev pub restartedBeside : ℕ → Beside → Beside
-restartedBeside c b = leaves c (withEvent strikeOver b) b
+abbrev pub restartedRegisters : ℕ → Registers → Registers
+restartedRegisters c b = leaves c (withEvent strikeOver b) b
 
 -- a closing that is refused 25 sets that event: the one exception from demand 1; an offer sets none (Q25)
-abbrev pub closedBeside : Closed → Beside → Beside
-closedBeside (Closed.Refused c) b = cond (eqb c refusal.trusted) (withEvent tooFew b) b
-closedBeside Closed.Listed b = b
-closedBeside (Closed.Settled k) b = b
+abbrev pub closedRegisters : Closed → Registers → Registers
+closedRegisters (Closed.Refused c) b = cond (eqb c refusal.trusted) (withEvent tooFew b) b
+closedRegisters Closed.Listed b = b
+closedRegisters (Closed.Settled k) b = b
 
 -- an adoption ends a phase (document 02, A8; Q26)
-abbrev pub adoptedBeside : ℕ → Beside → Beside
-adoptedBeside c b = leaves c (withEvent phaseOver b) b
+abbrev pub adoptedRegisters : ℕ → Registers → Registers
+adoptedRegisters c b = leaves c (withEvent phaseOver b) b
 
 -- ---- the sixteen bytes
 
@@ -74,7 +74,7 @@ statusBits s (suc zero) = s .healed && not (s .ended)
 statusBits s (suc (suc k)) = not (eqb (s .round) 0)
 
 -- Q30
-unfoldable pub window : Seat → Beside → List ℕ
+unfoldable pub window : Seat → Registers → List ℕ
 window s b =
     s .n ∷ s .f ∷ s .number ∷ three (statusBits s)
     ∷ put2 (s .phase) (put4 (positionWord (s .position)) (three (bitOf (b .events)) ∷ three (bitOf (b .mask)) ∷ 0 ∷ 0 ∷ 0 ∷ 0 ∷ []))
@@ -86,7 +86,7 @@ abbrev pub readRefusal : ℕ → ℕ
 readRefusal at = check (ltb at 16) refusal.register 0
 
 -- the byte, or what was where it is to go
-abbrev pub byteRead : Seat → Beside → ℕ → ℕ → ℕ
+abbrev pub byteRead : Seat → Registers → ℕ → ℕ → ℕ
 byteRead s b at old = leaves (readRefusal at) (getD (window s b) at 0) old
 
 -- ---- writing a byte: 16 but for bytes 10 and 11
@@ -96,13 +96,13 @@ abbrev pub setRefusal : ℕ → ℕ
 setRefusal at = check (eqb at 10 || eqb at 11) refusal.register 0
 
 -- byte 10 clears the events written as one; byte 11 sets the mask to its low three bits (Q19)
-abbrev pub setBeside : ℕ → ℕ → Beside → Beside
-setBeside at x b =
+abbrev pub setRegisters : ℕ → ℕ → Registers → Registers
+setRegisters at x b =
     cond (eqb at 10) (record { events = three (λ k. bitOf (b .events) k && not (bitOf x k)); mask = b .mask })
     (cond (eqb at 11) (record { events = b .events; mask = three (bitOf x) }) b)
 
 -- ---- the interrupt line is up exactly when a pending event is in the mask
 
 -- Q28
-unfoldable pub isUp : Beside → Bool
+unfoldable pub isUp : Registers → Bool
 isUp b = not (eqb (three (λ k. bitOf (b .events) k && bitOf (b .mask) k)) 0)

@@ -4,15 +4,15 @@ ghost use mathlib.Core.Bool.{not, _&&_};
 ghost use Prim.Native.Nat.{_+_, _*_};
 ghost use Rattle.terms.specs.Counting.{bit};
 ghost use Rattle.marks.specs.Marks.{bitOf};
-ghost use Rattle.head_window.specs.Window.{withEvent, startedBeside, restartedBeside, closedBeside, adoptedBeside};
-ghost use Rattle.head_window.specs.Window.{three, isHeld, positionWord, statusBits, window, readRefusal, setRefusal, setBeside, isUp};
+ghost use Rattle.head_window.specs.Window.{withEvent, startedRegisters, restartedRegisters, closedRegisters, adoptedRegisters};
+ghost use Rattle.head_window.specs.Window.{three, isHeld, positionWord, statusBits, window, readRefusal, setRefusal, setRegisters, isUp};
 use head_spec::Closed;
 use head_spec::Seat;
 use terms::Entry;
 use terms::refusal;
 
 // Pending events and mask; of both the three low bits count: 0 phase end, 1 refusal 25, 2 strike over.
-pub struct Beside {
+pub struct Registers {
     pub events: u32,
     pub mask: u32,
 }
@@ -36,28 +36,28 @@ pub type Window = [u8; BYTES];
 // ---- Which call changes events and mask.
 
 // One event more.
-fn with_event(k: usize, b: Beside) -> Beside
+fn with_event(k: usize, b: Registers) -> Registers
     ensures { λ r. ⌜ r ≡ withEvent k b ⌝ }
 {
-    Beside {
+    Registers {
         events: marks::with_mark(b.events, k),
         mask: b.mask,
     }
 }
 
 // After a start that answers this number: it clears both.
-pub fn after_start(number: u8, b: Beside) -> Beside
-    ensures { λ r. ⌜ r ≡ startedBeside number b ⌝ }
+pub fn after_start(number: u8, b: Registers) -> Registers
+    ensures { λ r. ⌜ r ≡ startedRegisters number b ⌝ }
 {
     if number != 0 {
         return b;
     }
-    Beside { events: 0, mask: 0 }
+    Registers { events: 0, mask: 0 }
 }
 
 // After a restart that answers this number: the strike is over.
-pub fn after_restart(number: u8, b: Beside) -> Beside
-    ensures { λ r. ⌜ r ≡ restartedBeside number b ⌝ }
+pub fn after_restart(number: u8, b: Registers) -> Registers
+    ensures { λ r. ⌜ r ≡ restartedRegisters number b ⌝ }
 {
     if number != 0 {
         return b;
@@ -66,8 +66,8 @@ pub fn after_restart(number: u8, b: Beside) -> Beside
 }
 
 // After a closing: too few entries were trusted. An offer is no event.
-pub fn after_close(c: Closed, b: Beside) -> Beside
-    ensures { λ r. ⌜ r ≡ closedBeside c b ⌝ }
+pub fn after_close(c: Closed, b: Registers) -> Registers
+    ensures { λ r. ⌜ r ≡ closedRegisters c b ⌝ }
 {
     match c {
         Closed::Refused(number) => {
@@ -82,8 +82,8 @@ pub fn after_close(c: Closed, b: Beside) -> Beside
 }
 
 // After an adoption that answers this number: the phase has ended.
-pub fn after_adopt(number: u8, b: Beside) -> Beside
-    ensures { λ r. ⌜ r ≡ adoptedBeside number b ⌝ }
+pub fn after_adopt(number: u8, b: Registers) -> Registers
+    ensures { λ r. ⌜ r ≡ adoptedRegisters number b ⌝ }
 {
     if number != 0 {
         return b;
@@ -144,7 +144,7 @@ fn status(s: Seat) -> u8
 }
 
 // The head as sixteen bytes.
-pub fn window(s: Seat, b: Beside) -> Window
+pub fn window(s: Seat, b: Registers) -> Window
     ensures { λ r. ⌜ r ≡ window s b ⌝ }
 {
     let e = s.position;
@@ -213,17 +213,17 @@ fn events_left(events: u32, byte: u8) -> u8
 }
 
 // After a write of a byte: byte 10 clears the events written as one, byte 11 is the mask.
-pub fn set_register(at: u32, byte: u8, b: Beside) -> Beside
-    ensures { λ r. ⌜ r ≡ setBeside at byte b ⌝ }
+pub fn set_register(at: u32, byte: u8, b: Registers) -> Registers
+    ensures { λ r. ⌜ r ≡ setRegisters at byte b ⌝ }
 {
     if at == EVENTS_BYTE {
-        return Beside {
+        return Registers {
             events: events_left(b.events, byte) as u32,
             mask: b.mask,
         };
     }
     if at == MASK_BYTE {
-        return Beside {
+        return Registers {
             events: b.events,
             mask: low_bits(byte as u32) as u32,
         };
@@ -234,7 +234,7 @@ pub fn set_register(at: u32, byte: u8, b: Beside) -> Beside
 // ---- The interrupt line.
 
 // Whether event k is pending and in the mask.
-fn is_called(b: Beside, k: usize) -> bool
+fn is_called(b: Registers, k: usize) -> bool
     ensures { λ r. ⌜ r ≡ (bitOf (b .events) k && bitOf (b .mask) k) ⌝ }
 {
     if marks::marked(b.events, k) {
@@ -244,7 +244,7 @@ fn is_called(b: Beside, k: usize) -> bool
 }
 
 // Whether the line is up: an event is pending and in the mask.
-pub fn is_up(b: Beside) -> bool
+pub fn is_up(b: Registers) -> bool
     ensures { λ r. ⌜ r ≡ isUp b ⌝ }
 {
     three(is_called(b, 0), is_called(b, 1), is_called(b, 2)) != 0

@@ -29,7 +29,7 @@ use Rattle.head_c.specs.Blocks.{IsBlock, headOf, offerOf, heardIn, heardEach}
 use Rattle.head_c.specs.Events as call
 use Rattle.head_c.specs.Events.{numberAfter, blockAfter}
 use Rattle.head_c.proofs.Hearing.{head-heard}
-use Rattle.head_c.proofs.Beside.{heard-block}
+use Rattle.head_c.proofs.Registers.{heard-block}
 use Rattle.head_c.proofs.Events.{only-these-change, head-closed, head-adopted, head-set}
 use Rattle.ring_spec.specs.Rounds.{roundEnded}
 use Rattle.ring_devices.specs.Devices as device

@@ -14,11 +14,11 @@ use Rattle.head_spec.specs.Record.{noLinks, opened}
 use Rattle.head_spec.specs.Calls.{start, restart, startListener, restartListener, saidTo, hear, Delivery, closedCollection, close, adopt}
 use Rattle.head_spec.specs.Batch.{entriesOf, batchRefusal}
 use Rattle.head_spec.proofs.RoundClose as round
-use Rattle.head_window.specs.declared.Beside.{Beside}
-use Rattle.head_c.specs.Blocks.{IsBlock, headOf, withHead, withAnswer, withBeside, offerOf, withoutOffer, withClosing, heardIn, heardEach}
+use Rattle.head_window.specs.declared.Registers.{Registers}
+use Rattle.head_c.specs.Blocks.{IsBlock, headOf, withHead, withAnswer, withRegisters, offerOf, withoutOffer, withClosing, heardIn, heardEach}
 use Rattle.head_c.specs.Events.{Call, starts, restarts, startsListener, restartsListener, hears, hearsBatch, closes, adopts, sets, blockAfter}
 use Rattle.head_c.proofs.Putting.{third, third-long}
-use Rattle.head_c.proofs.Beside.{heard-block}
+use Rattle.head_c.proofs.Registers.{heard-block}
 use Rattle.ring_blocks.proofs.Opened.{Opens, start-opens, restart-opens, start-listener-opens, restart-listener-opens, adopt-opens}
 
 -- a record with nothing heard
@@ -38,9 +38,9 @@ module _ (w : List ℕ) (block : IsBlock w) where
   opened-block : (h : Head) → h ≡ opened (h .seat) (h .list) → IsBlock (withHead h w)
   opened-block h e = ap (λ (x : Head). length (withHead x w)) e ∙ put-block w (h .seat) (h .list) block
 
-  called-block : (b : Beside) (a : Answer) → Opens a → IsBlock (withoutOffer (a .refusal) (withBeside b (withAnswer w a)))
+  called-block : (b : Registers) (a : Answer) → Opens a → IsBlock (withoutOffer (a .refusal) (withRegisters b (withAnswer w a)))
   unfolding withAnswer
-  called-block b a opens = ended (a .refusal) (withBeside b (leaves (a .refusal) (withHead (a .head) w) w))
+  called-block b a opens = ended (a .refusal) (withRegisters b (leaves (a .refusal) (withHead (a .head) w) w))
       (simp length-set (go (a .refusal) refl))
     where
       ended : (c : ℕ) (x : List ℕ) → IsBlock x → IsBlock (withoutOffer c x)

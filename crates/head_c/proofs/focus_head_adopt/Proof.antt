@@ -15,9 +15,9 @@ use Rattle.head_spec.specs.Record.{noEntries, opened}
 use Rattle.head_spec.specs.Seats.{nextSeat}
 use Rattle.head_spec.specs.Calls.{closedPhase, adopt}
 use Rattle.head_spec.proofs.Stops.{takes, adopts-nothing, adopts-offer, ended-adopts}
-use Rattle.head_window.specs.declared.Beside.{Beside}
-use Rattle.head_window.specs.Window.{adoptedBeside}
-use Rattle.head_c.specs.Blocks.{headOf, besideOf, withBeside, withHead, withAnswer, offerOf, withoutOffer}
+use Rattle.head_window.specs.declared.Registers.{Registers}
+use Rattle.head_window.specs.Window.{adoptedRegisters}
+use Rattle.head_c.specs.Blocks.{headOf, registersOf, withRegisters, withHead, withAnswer, offerOf, withoutOffer}
 use Rattle.head_c.specs.Events.{adopts, numberAfter, blockAfter}
 use Rattle.head_c.proofs.Refused.{refused-leaves}
 use borrow.Author.Needs.{needs}
@@ -30,16 +30,16 @@ refused : (w : List ℕ) (c : ℕ) → adopt (headOf w) (offerOf w) .refusal ≡
 refused w c e d t = (sym e, sym (refused-leaves w adopts (λ z. d (sym e ∙ z)) .1 (λ z. t (sym e ∙ z))))
 
 -- taken: the record is opened in the next seat
-taken : (w : List ℕ) (k : Kept) {s : Seat} {b : Beside} {w′ : List ℕ} → offerOf w ≡ Offer.Standing k → headOf w .seat .ended ≡ false
-    → s ≡ nextSeat (headOf w .seat) k → b ≡ adoptedBeside 0 (besideOf w)
-    → w′ ≡ withoutOffer 0 (withBeside b (withHead (opened s noEntries) w)) → (0 ≡ adopt (headOf w) (offerOf w) .refusal) × (w′ ≡ blockAfter w adopts)
+taken : (w : List ℕ) (k : Kept) {s : Seat} {b : Registers} {w′ : List ℕ} → offerOf w ≡ Offer.Standing k → headOf w .seat .ended ≡ false
+    → s ≡ nextSeat (headOf w .seat) k → b ≡ adoptedRegisters 0 (registersOf w)
+    → w′ ≡ withoutOffer 0 (withRegisters b (withHead (opened s noEntries) w)) → (0 ≡ adopt (headOf w) (offerOf w) .refusal) × (w′ ≡ blockAfter w adopts)
 unfolding blockAfter withAnswer closedPhase
 taken w k {s} {b} e runs p q r =
     let a : adopt (headOf w) (offerOf w) ≡ takes (closedPhase (headOf w) k) = ap (adopt (headOf w)) e ∙ adopts-offer (headOf w) k runs in (
       sym (ap (λ (x : Answer). x .refusal) a),
       r
-          ∙ (λ i. withoutOffer 0 (withBeside (q i) (withHead (opened (p i) noEntries) w)))
-          ∙ sym (ap (λ (x : Answer). withoutOffer (x .refusal) (withBeside (adoptedBeside (x .refusal) (besideOf w)) (withAnswer w x))) a),
+          ∙ (λ i. withoutOffer 0 (withRegisters (q i) (withHead (opened (p i) noEntries) w)))
+          ∙ sym (ap (λ (x : Answer). withoutOffer (x .refusal) (withRegisters (adoptedRegisters (x .refusal) (registersOf w)) (withAnswer w x))) a),
     )
 
 returns : tie.Need-returns
@@ -75,7 +75,7 @@ returns-3 c =
     let s = seat .seat-in .ensures in
     let runs = ap (λ (x : Seat). x .ended) (sym s) ∙ e .if1 .left in
     let k = kept .kept .given .0 .0 in
-    taken w k o runs (next .next-seat .ensures ∙ ap (λ (x : Seat). nextSeat x k) s) (after .after-adopt .ensures ∙ ap (adoptedBeside 0) (old .beside-in .ensures))
+    taken w k o runs (next .next-seat .ensures ∙ ap (λ (x : Seat). nextSeat x k) s) (after .after-adopt .ensures ∙ ap (adoptedRegisters 0) (old .registers-in .ensures))
     (c .put-fresh .ensures)
 
 pub focus-head-adopt-spec : {M : Type 1} → statement M

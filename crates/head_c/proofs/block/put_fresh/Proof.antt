@@ -1,6 +1,6 @@
 -- The record, then what stands beside it, and then the end of an offer.
 use mathlib.Core.Path.{ap, _∙_}
-use Rattle.head_c.specs.Blocks.{withBeside, withoutOffer}
+use Rattle.head_c.specs.Blocks.{withRegisters, withoutOffer}
 use borrow.Author.Needs.{needs}
 use Rattle.head_c.proofs.block.put_fresh.Statement.{statement}
 use Rattle.head_c.proofs.block.put_fresh.Tie as tie
@@ -11,7 +11,7 @@ returns c =
     let b = e .before .before .before .before in
     let p = b .before .before .before .before in
     let a = p .before .before .before .args in
-    e .end-offer .ensures ∙ ap (withoutOffer (a .number)) (b .put-beside .ensures ∙ ap (withBeside (a .b)) (p .put-seated .ensures))
+    e .end-offer .ensures ∙ ap (withoutOffer (a .number)) (b .put-registers .ensures ∙ ap (withRegisters (a .b)) (p .put-seated .ensures))
 
 pub put-fresh-spec : {M : Type 1} → statement M
 put-fresh-spec = tie.close (tie.spec (λ c κs. search needs) (λ c κs. search needs) (λ c κs. search needs) (λ c. search needs) returns)

@@ -10,8 +10,8 @@ use Rattle.terms.specs.Positions.{isPosition}
 use Rattle.head_spec.specs.Seats.{firstSeat}
 use Rattle.head_spec.specs.Calls.{startRefusal, started, start}
 use Rattle.head_calls.specs.Steps.{checkMember}
-use Rattle.head_window.specs.Window.{startedBeside}
-use Rattle.head_c.specs.Blocks.{headOf, besideOf}
+use Rattle.head_window.specs.Window.{startedRegisters}
+use Rattle.head_c.specs.Blocks.{headOf, registersOf}
 use Rattle.head_c.specs.Events.{blockAfter}
 use Rattle.head_c.proofs.After.{first-seat, fresh-left}
 use borrow.Author.Needs.{needs}
@@ -33,8 +33,8 @@ returns c =
     let v = toZ-ofZ (s .fits .position) in
     let range = k .check .ensures ∙ ap (λ (b : Bool). check b refusal.position 0) (p .is-position .ensures ∙ ap isPosition v) in
     let checks = m .member-refusal .ensures ∙ ap (checkMember (a .family) false (a .n) (a .f) (a .number)) range in
-    fresh-left w (seat .first-seat .result) (firstSeat (a .family) (a .n) (a .f) (a .number) (a .position)) (headOf w) (λ (x : ℕ). startedBeside x (besideOf w)) checks
-    (after .after-start .ensures ∙ ap (startedBeside (m .member-refusal .result)) (old .beside-in .ensures)) (c .put-fresh .ensures)
+    fresh-left w (seat .first-seat .result) (firstSeat (a .family) (a .n) (a .f) (a .number) (a .position)) (headOf w) (λ (x : ℕ). startedRegisters x (registersOf w)) checks
+    (after .after-start .ensures ∙ ap (startedRegisters (m .member-refusal .result)) (old .registers-in .ensures)) (c .put-fresh .ensures)
     (λ z.
     seat .first-seat .ensures
     ∙ first-seat (a .family) false (a .n) (a .f) (a .number) (check (isPosition (a .position)) refusal.position 0) _ z

@@ -6,8 +6,8 @@ use denote.Ref.{now}
 use Rattle.terms.specs.declared.Entry.{Entry}
 use Rattle.head_spec.specs.Seats.{listenerSeat}
 use Rattle.head_spec.specs.Calls.{startListenerRefusal, startedListener, startListener}
-use Rattle.head_window.specs.Window.{startedBeside}
-use Rattle.head_c.specs.Blocks.{headOf, besideOf}
+use Rattle.head_window.specs.Window.{startedRegisters}
+use Rattle.head_c.specs.Blocks.{headOf, registersOf}
 use Rattle.head_c.specs.Events.{blockAfter}
 use Rattle.head_c.proofs.After.{first-seat, fresh-left}
 use borrow.Author.Needs.{needs}
@@ -23,8 +23,8 @@ returns c =
     let m = seat .before in
     let a = m .before .args in
     let w = now (a .h) in
-    fresh-left w (seat .first-seat .result) (listenerSeat (a .family) (a .n) (a .f) (a .number)) (headOf w) (λ (x : ℕ). startedBeside x (besideOf w)) (m .member-refusal .ensures)
-    (after .after-start .ensures ∙ ap (startedBeside (m .member-refusal .result)) (old .beside-in .ensures)) (c .put-fresh .ensures)
+    fresh-left w (seat .first-seat .result) (listenerSeat (a .family) (a .n) (a .f) (a .number)) (headOf w) (λ (x : ℕ). startedRegisters x (registersOf w)) (m .member-refusal .ensures)
+    (after .after-start .ensures ∙ ap (startedRegisters (m .member-refusal .result)) (old .registers-in .ensures)) (c .put-fresh .ensures)
     (λ z. seat .first-seat .ensures ∙ first-seat (a .family) true (a .n) (a .f) (a .number) 0 Entry.Null z)
 
 pub start-listener-in-spec : {M : Type 1} → statement M

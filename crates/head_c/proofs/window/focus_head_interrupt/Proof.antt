@@ -8,7 +8,7 @@ use Rattle.head_c.proofs.window.focus_head_interrupt.Statement.{stateme
 use Rattle.head_c.proofs.window.focus_head_interrupt.Tie as tie
 
 returns : tie.Need-returns
-returns c = byte-bit (c .is-up .result) ∙ ap bit (c .is-up .ensures ∙ ap isUp (c .before .beside-in .ensures))
+returns c = byte-bit (c .is-up .result) ∙ ap bit (c .is-up .ensures ∙ ap isUp (c .before .registers-in .ensures))
 
 pub focus-head-interrupt-spec : {M : Type 1} → statement M
 focus-head-interrupt-spec = tie.close (tie.spec (λ c κs. search needs) (λ c κs. search needs) (λ c. search needs) returns)

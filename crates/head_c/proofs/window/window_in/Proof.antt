@@ -8,7 +8,7 @@ returns : tie.Need-returns
 unfolding headOf
 returns c =
     let b = c .before in
-    rw (c .window .ensures, b .beside-in .ensures, b .before .seat-in .ensures)
+    rw (c .window .ensures, b .registers-in .ensures, b .before .seat-in .ensures)
 
 pub window-in-spec : {M : Type 1} → statement M
 window-in-spec = tie.close (tie.spec (λ c κs. search needs) (λ c κs. search needs) (λ c κs. search needs) returns)

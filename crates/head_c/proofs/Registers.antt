@@ -21,9 +21,9 @@ use Rattle.head_c.proofs.Putting.{words-long, first, second, third, fir
 use Rattle.head_c.proofs.Hearing.{heard-below, heard-past}
 
 module _ (w : List ℕ) (block : IsBlock w) (i : ℕ) (from : 16 ≤ i) (to : i < 24) where
-  pub put-beside : (h : Head) → getD (withHead h w) i 0 ≡ getD w i 0
+  pub put-registers : (h : Head) → getD (withHead h w) i 0 ≡ getD w i 0
   unfolding withHead
-  put-beside h =
+  put-registers h =
       let j = i - 16 in
       let e : i ≡ 16 + j = omega arith in
       let longer = length-append (second h w) (h .links .confessed ∷ h .links .listed ∷ h .links .marks) in
@@ -37,45 +37,45 @@ module _ (w : List ℕ) (block : IsBlock w) (i : ℕ) (from : 16 ≤ i) (to : i 
       ∙ ap (λ (n : ℕ). getD w n 0) (sym e)
 
   -- start, restart and adopting
-  pub after-beside : (a : Answer) → getD (withAnswer w a) i 0 ≡ getD w i 0
+  pub after-registers : (a : Answer) → getD (withAnswer w a) i 0 ≡ getD w i 0
   unfolding withAnswer
-  after-beside a = go (a .refusal)
+  after-registers a = go (a .refusal)
     where
       go : (c : ℕ) → getD (leaves c (withHead (a .head) w) w) i 0 ≡ getD w i 0
-      go zero = put-beside (a .head)
+      go zero = put-registers (a .head)
       go (suc c) = refl
 
   -- hearing: but for word 18, since an accepted frame ends an offer
   abbrev w₀ : List ℕ
   w₀ = set w 18 0
 
-  twice-beside : (at k : ℕ) → 24 ≤ at → getD (marked at k (heardOn k w)) i 0 ≡ getD w₀ i 0
-  twice-beside at k far = getD-set-other (heardOn k w) at i _ 0 (omega arith) ∙ getD-set-other w₀ 24 i _ 0 (omega arith)
+  twice-registers : (at k : ℕ) → 24 ≤ at → getD (marked at k (heardOn k w)) i 0 ≡ getD w₀ i 0
+  twice-registers at k far = getD-set-other (heardOn k w) at i _ 0 (omega arith) ∙ getD-set-other w₀ 24 i _ 0 (omega arith)
 
-  pub changed-beside : (k : ℕ) → k < 32 → (m : Meaning) → AcceptedMeaning m → getD (changed w k m) i 0 ≡ getD w₀ i 0
-  changed-beside k b (refused c) a = absurd a
-  changed-beside k b (collected Entry.Null) a = getD-set-other w₀ 24 i _ 0 (omega arith)
-  changed-beside k b (collected (Entry.Position v)) a =
-      getD-set-other (marked 25 k (heardOn k w)) (26 + k) i (wordOf v) 0 (omega arith) ∙ twice-beside 25 k (omega arith)
-  changed-beside k b confessed a = twice-beside 58 k (omega arith)
-  changed-beside k b (listed t) a =
+  pub changed-registers : (k : ℕ) → k < 32 → (m : Meaning) → AcceptedMeaning m → getD (changed w k m) i 0 ≡ getD w₀ i 0
+  changed-registers k b (refused c) a = absurd a
+  changed-registers k b (collected Entry.Null) a = getD-set-other w₀ 24 i _ 0 (omega arith)
+  changed-registers k b (collected (Entry.Position v)) a =
+      getD-set-other (marked 25 k (heardOn k w)) (26 + k) i (wordOf v) 0 (omega arith) ∙ twice-registers 25 k (omega arith)
+  changed-registers k b confessed a = twice-registers 58 k (omega arith)
+  changed-registers k b (listed t) a =
       let two = marked 59 k (heardOn k w) in
       let l = set two (60 + k) (t .marks) in
       let long : length l ≡ 1116 = simp length-set block in
       copied-before l (wordsOf (t .entries)) (92 + 32 * k) 32 0 (words-long (t .entries)) (omega arith) i (omega arith)
       ∙ getD-set-other two (60 + k) i (t .marks) 0 (omega arith)
-      ∙ twice-beside 59 k (omega arith)
+      ∙ twice-registers 59 k (omega arith)
 
   module _ (other : i ≢ 18) where
-    stays-beside : (k : ℕ) → k < 32 → (m : Meaning) → getD (changed w k m) i 0 ≡ getD w i 0
-    stays-beside k b (refused c) = refl
-    stays-beside k b (collected x) = changed-beside k b (collected x) tt ∙ getD-set-other w 18 i 0 0 other
-    stays-beside k b (listed t) = changed-beside k b (listed t) tt ∙ getD-set-other w 18 i 0 0 other
-    stays-beside k b confessed = changed-beside k b confessed tt ∙ getD-set-other w 18 i 0 0 other
+    stays-registers : (k : ℕ) → k < 32 → (m : Meaning) → getD (changed w k m) i 0 ≡ getD w i 0
+    stays-registers k b (refused c) = refl
+    stays-registers k b (collected x) = changed-registers k b (collected x) tt ∙ getD-set-other w 18 i 0 0 other
+    stays-registers k b (listed t) = changed-registers k b (listed t) tt ∙ getD-set-other w 18 i 0 0 other
+    stays-registers k b confessed = changed-registers k b confessed tt ∙ getD-set-other w 18 i 0 0 other
 
-    pub heard-beside : (k : ℕ) (m : Meaning) → getD (heardIn w k m) i 0 ≡ getD w i 0
-    heard-beside k m = by-cases (decLt k 32)
-        (λ l. rw (heard-below w k m l) (stays-beside k l m))
+    pub heard-registers : (k : ℕ) (m : Meaning) → getD (heardIn w k m) i 0 ≡ getD w i 0
+    heard-registers k m = by-cases (decLt k 32)
+        (λ l. rw (heard-below w k m l) (stays-registers k l m))
         (λ d. rw (heard-past w k m (omega arith)) refl)
 
 -- ---- hearing a batch
@@ -95,13 +95,13 @@ heard-block w block k m = by-cases (decLt k 32)
         let long : length s ≡ 1116 = simp length-set block in
         length-paste s (92 + 32 * k) (wordsOf (t .entries)) 32 (omega arith) (omega (arith, words-long (t .entries))) ∙ long
 
-pub each-beside : (D : List Delivery) (w : List ℕ) → IsBlock w → (i : ℕ) → 16 ≤ i → i < 24 → i ≢ 18 → getD (heardEach w D) i 0 ≡ getD w i 0
+pub each-registers : (D : List Delivery) (w : List ℕ) → IsBlock w → (i : ℕ) → 16 ≤ i → i < 24 → i ≢ 18 → getD (heardEach w D) i 0 ≡ getD w i 0
 unfolding heardEach
-each-beside [] w block i from to other = refl
-each-beside (d ∷ D) w block i from to other =
+each-registers [] w block i from to other = refl
+each-registers (d ∷ D) w block i from to other =
     let m = saidTo (headOf w .seat) (d .link) (d .bytes) in
-    go (hear (headOf w) (d .link) (d .bytes) .refusal) (heardIn w (d .link) m) (each-beside D w block i from to other)
-    (each-beside D (heardIn w (d .link) m) (heard-block w block (d .link) m) i from to other ∙ heard-beside w block i from to other (d .link) m)
+    go (hear (headOf w) (d .link) (d .bytes) .refusal) (heardIn w (d .link) m) (each-registers D w block i from to other)
+    (each-registers D (heardIn w (d .link) m) (heard-block w block (d .link) m) i from to other ∙ heard-registers w block i from to other (d .link) m)
   where
     go : (c : ℕ) (w′ : List ℕ) → getD (heardEach w D) i 0 ≡ getD w i 0 → getD (heardEach w′ D) i 0 ≡ getD w i 0
         → getD (heardEach (leaves c w′ w) D) i 0 ≡ getD w i 0
