@@ -44,7 +44,7 @@ module _ (K : Family) (n f : ℕ) (R : Ring) (w : DeviceRound) where
   comes k i = firstFrame (openedBy K n f R i .seat) k (brought i)
 
   unfoldable pub asRound : Round
-  asRound = record { struck = w .marks; told = false; plants = plantsOf comes n }
+  asRound = record { struck = w .marks; amended = false; plants = plantsOf comes n }
 
 -- two rings with the same records, but for those that the next round restarts
 pub record SameSound (n m : ℕ) (R R′ : Ring) : Type 0 where

@@ -22,7 +22,7 @@ use Rattle.ring_spec.specs.Converges.{noEnd, AnyTwo, HoldsBetween, countAfter, 
 -- rounds with these marks, of which nothing else is told
 unfoldable pub marking : List ℕ → List Round
 marking [] = []
-marking (x ∷ xs) = record { struck = x; told = false; plants = [] } ∷ marking xs
+marking (x ∷ xs) = record { struck = x; amended = false; plants = [] } ∷ marking xs
 
 pub record Promised (K : Family) (n m f : ℕ) (marks : List ℕ) (es : List PhaseEnd) (now : ℕ → Head) : Type 0 where
   -- there is an end for the start and for each phase whose rounds are all there

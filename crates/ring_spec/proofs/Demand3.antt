@@ -46,7 +46,7 @@ use Rattle.ring_spec.proofs.Counts.{counted, phase-most, phase-more}
 
 -- a round that strikes no head
 abbrev noRound : Round
-noRound = record { struck = 0; told = false; plants = [] }
+noRound = record { struck = 0; amended = false; plants = [] }
 
 -- round j of a run, counted from 1, if there is one
 abbrev roundAt : List Round → ℕ → Round

@@ -90,7 +90,7 @@ module _ (K : Family) (n f : ℕ) (R : Ring) (w : LateRound) where
   frame k = frameFor (openedLate K n f R w k)
 
   unfoldable asRound : Round
-  asRound = record { struck = w .round .struck; told = w .round .told; plants = sentLate isLate frame (w .round .plants) n }
+  asRound = record { struck = w .round .struck; amended = w .round .amended; plants = sentLate isLate frame (w .round .plants) n }
 
 -- two rings with the same records, but for those that the next round restarts
 record SameSound (R R′ : Ring) : Type 0 where

@@ -26,10 +26,10 @@ pub record Plant : Type 0 where
   pub bytes : List ℕ
 
 -- A round: who is struck, and what is planted. Bits 0 to 31 of the mark word are for heads, bits 32 to 47 for the listeners of these
--- numbers (document 02, A6). told: a record gave the listeners' marks.
+-- numbers (document 02, A6). amended: a record gave the listeners' marks.
 pub record Round : Type 0 where
   pub struck : ℕ
-  pub told : Bool
+  pub amended : Bool
   pub plants : List Plant
 
 -- what is planted from k to i. Nothing planted is the empty frame, which its receiver refuses (P47, P63).

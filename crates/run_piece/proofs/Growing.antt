@@ -81,7 +81,7 @@ module _ (K : Family) (n m f : ℕ) (v : ℕ → ℤ) (ws : List Round) (w : Rou
 
 -- the file after an accepted round record s, with the rounds ws played
 abbrev with-rounds : File → List ℕ → List Round → File
-with-rounds F s ws = between (F .setup) (record { played = ws; pending = true; last = record { struck = struckIn s; told = false; plants = [] } })
+with-rounds F s ws = between (F .setup) (record { played = ws; pending = true; last = record { struck = struckIn s; amended = false; plants = [] } })
 
 module _ (F : File) (s : List ℕ) {text : List ℕ} where
   start-grown : (K : Family) → F .setup .begun ≡ false → shown (withRecord (start K) F s) ≡ shown F ++ text → GrownTo F (withRecord (start K) F s) text

@@ -142,11 +142,11 @@ first-begun F e =
     let (begun, first) = and-both (F .setup .begun) _ front in
     (begun, eqb-true (roundsGiven F) 0 first, eqb-true (F .setup .listeners) 0 none)
 
-pub bare-pending : (R : Rounds) → isBare R ≡ true → (R .pending ≡ true) × (R .last .told ≡ false) × (length (R .last .plants) ≡ 0)
+pub bare-pending : (R : Rounds) → isBare R ≡ true → (R .pending ≡ true) × (R .last .amended ≡ false) × (length (R .last .plants) ≡ 0)
 bare-pending R e =
-    let (front, none) = and-both (R .pending && not (R .last .told)) _ e in
+    let (front, none) = and-both (R .pending && not (R .last .amended)) _ e in
     let (pending, untold) = and-both (R .pending) _ front in
-    (pending, not-true (R .last .told) untold, eqb-true (length (R .last .plants)) 0 none)
+    (pending, not-true (R .last .amended) untold, eqb-true (length (R .last .plants)) 0 none)
 
 -- nothing is planted, by the pair that was last
 pub none-planted : (xs : List Plant) → eqb (length xs) 0 ≡ not (lastPair xs .some)

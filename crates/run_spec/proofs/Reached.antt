@@ -52,7 +52,7 @@ PlantsFit n m struck (x ∷ xs) = PlantFits n m struck x × PlantsFit n m struck
 pub record RoundFits (n m f : ℕ) (w : Round) : Type 0 where
   pub few : AtMost f n (bitOf (w .struck))
   pub marks : MarksFit n m (w .struck)
-  pub untold : w .told ≡ false → w .struck < 4294967296
+  pub untold : w .amended ≡ false → w .struck < 4294967296
   pub plants : PlantsFit n m (w .struck) (w .plants)
 
 abbrev pub AllFit : ℕ → ℕ → ℕ → List Round → Type 0

@@ -43,7 +43,7 @@ abbrev pub noSetup : Setup
 noSetup = record { begun = false; family = TwoRounds; n = 0; f = 0; first = λ i. pos 0; listeners = 0 }
 
 abbrev pub noRound : Round
-noRound = record { struck = 0; told = false; plants = [] }
+noRound = record { struck = 0; amended = false; plants = [] }
 
 abbrev pub noRounds : Rounds
 noRounds = record { played = []; pending = false; last = noRound }
@@ -99,7 +99,7 @@ isFirst F = F .setup .begun && eqb (roundsGiven F) 0 && eqb (F .setup .listeners
 
 -- nothing was accepted after the record of the pending round
 abbrev pub isBare : Rounds → Bool
-isBare R = R .pending && not (R .last .told) && eqb (length (R .last .plants)) 0
+isBare R = R .pending && not (R .last .amended) && eqb (length (R .last .plants)) 0
 
 abbrev pub isAllowed : RecordKind → File → ℕ → Bool
 isAllowed k F len = allowedWhen k (F .setup .begun) (isFirst F) (F .rounds .pending) (isBare (F .rounds)) len
@@ -212,7 +212,7 @@ allRounds R = thenPlayed (R .pending) (R .played) (R .last)
 
 -- a round more, which has the pending one played (P51, Q48)
 abbrev pub withRound : Rounds → ℕ → Rounds
-withRound R struck = record { played = allRounds R; pending = true; last = record { struck = struck; told = false; plants = [] } }
+withRound R struck = record { played = allRounds R; pending = true; last = record { struck = struck; amended = false; plants = [] } }
 
 -- its struck listeners
 abbrev pub withStrikes : Rounds → ℕ → Rounds
@@ -220,12 +220,12 @@ withStrikes R marks =
     record {
       played = R .played;
       pending = R .pending;
-      last = record { struck = R .last .struck + 4294967296 * marks; told = true; plants = R .last .plants };
+      last = record { struck = R .last .struck + 4294967296 * marks; amended = true; plants = R .last .plants };
     }
 
 -- bytes planted in the last round
 abbrev pub withPlant : Rounds → Plant → Rounds
-withPlant R x = record { played = R .played; pending = R .pending; last = record { struck = R .last .struck; told = R .last .told; plants = x ∷ R .last .plants } }
+withPlant R x = record { played = R .played; pending = R .pending; last = record { struck = R .last .struck; amended = R .last .amended; plants = x ∷ R .last .plants } }
 
 -- what a planted record plants (P47, P48)
 abbrev pub plantIn : List ℕ → Plant
@@ -275,7 +275,7 @@ readFile s = feed unread s
 -- in it
 unfoldable pub recordsOf : List Round → ℕ
 recordsOf [] = 0
-recordsOf (w ∷ ws) = suc (bit (w .told) + length (w .plants) + recordsOf ws)
+recordsOf (w ∷ ws) = suc (bit (w .amended) + length (w .plants) + recordsOf ws)
 
 unfoldable pub accepted : File → ℕ
 accepted F = cond (F .setup .begun) (suc (bit (not (eqb (F .setup .listeners) 0)) + recordsOf (allRounds (F .rounds)))) 0

@@ -84,7 +84,7 @@ module _ {F : File} {p : Player} (T : PlayerOf p F) where
         pending = refl;
         before = round-before s;
         struck = refl;
-        told = refl;
+        amended = refl;
         last = refl;
         fault = refl;
         agreed = agreed;
@@ -113,7 +113,7 @@ module _ {F : File} {p : Player} (T : PlayerOf p F) where
         pending = T .pending;
         before = T .before;
         struck = omega (arith, T .struck);
-        told = refl;
+        amended = refl;
         last = T .last;
         fault = refl;
         agreed = T .agreed;
@@ -126,7 +126,7 @@ module _ {F : File} {p : Player} (T : PlayerOf p F) where
   first-as = rw (T .begun, T .given, T .listeners)
 
   pub bare-as : isBare (F .rounds) ≡ bareOf p
-  bare-as = rw (T .pending, T .told, ← T .last, no-plants (F .rounds .last .plants))
+  bare-as = rw (T .pending, T .amended, ← T .last, no-plants (F .rounds .last .plants))
     where
       no-plants : (xs : List Plant) → eqb (length xs) 0 ≡ not (lastPair xs .some)
       no-plants [] = refl

@@ -40,7 +40,7 @@ pub record PlayerOf (p : Player) (F : File) : Type 0 where
   pub pending : F .rounds .pending ≡ p .pending
   pub before : ringBefore F .before ≡ p .before
   pub struck : F .rounds .last .struck ≡ p .struck
-  pub told : F .rounds .last .told ≡ p .told
+  pub amended : F .rounds .last .amended ≡ p .amended
   pub last : lastPair (F .rounds .last .plants) ≡ p .last
   pub fault : F .fault ≡ p .fault
   pub agreed : isAgreed (agreedBefore F) ≡ p .agreed

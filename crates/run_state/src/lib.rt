@@ -37,7 +37,7 @@ pub struct Player {
     pub f: u8,
     pub listeners: u8,
     pub pending: bool, // the last round is not yet played
-    pub told: bool, // its struck listeners were given
+    pub amended: bool, // its struck listeners were given
     pub fault: u8, // the number of the first fault, 0 for none
     pub last: Pair, // the last planted pair of the last round
     pub agreed: bool, // all sound receivers held one position at a phase end that was played
@@ -59,7 +59,7 @@ pub fn fresh(begun: bool, family: Family, n: u8, f: u8) -> Player
         pending: false,
         before: 0,
         struck: 0,
-        told: false,
+        amended: false,
         last: no_pair(),
         have: 0,
         fault: 0,
@@ -202,7 +202,7 @@ pub fn given_round(p: Player, struck: u32, agreed: bool) -> Player
         pending: true,
         before: struck_before(p),
         struck: struck as u64,
-        told: false,
+        amended: false,
         last: no_pair(),
         have: 0,
         fault: 0,
@@ -242,7 +242,7 @@ pub fn is_bare(p: Player) -> bool
     if !p.pending {
         return false;
     }
-    if p.told {
+    if p.amended {
         return false;
     }
     !p.last.some
@@ -273,7 +273,7 @@ pub fn given_strikes(p: Player, marks: u16) -> Player
     let struck = with_listeners(p.struck, marks);
     let mut out = p;
     out.struck = struck;
-    out.told = true;
+    out.amended = true;
     out.have = 0;
     out.fault = 0;
     out

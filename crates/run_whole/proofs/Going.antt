@@ -144,12 +144,12 @@ unfolding unread feed
 going-first {file} {t} B room L text short P =
     let R = roomy file B room in
     let (is, put) = P .puts short (omega (arith, R .out)) in
-    let told = told-put (none-told (readFile [] .setup .n) (readFile [] .setup .listeners) B) (bytesOf t) (t .len) (P .long short) put in
+    let holds = told-put (none-told (readFile [] .setup .n) (readFile [] .setup .listeners) B) (bytesOf t) (t .len) (P .long short) put in
     record {
       room = room;
       within = omega arith;
       state = L;
-      told = rw (shown-first ∙ sym text, is) told;
+      holds = rw (shown-first ∙ sym text, is) holds;
       small = omega arith;
     }
 
@@ -162,7 +162,7 @@ module _ {file : List ℕ} {at : Place} {carry : List ℕ} {M : Memory} {B₀ B 
   -- the numbers of heads and listeners as they are after more bytes
   told-then : (b : List ℕ) → HoldsSoFar (readFile (a ++ b) .setup .n) (readFile (a ++ b) .setup .listeners) (shown (readFile a)) (endsSoFar (readFile a)) (at .len) (at .count) B₀ B
   told-then b =
-      let T = G .told in
+      let T = G .holds in
       record {
         len = T .len;
         out = T .out;
@@ -192,13 +192,13 @@ module _ {file : List ℕ} {at : Place} {carry : List ℕ} {M : Memory} {B₀ B 
       λ x e r.
       let begun = begun-so F x _ e in
       record { is = sym (L .player .before); held = held-at-end false (a ++ b) begun (L .memory .keeps begun) r x (rw begun at e) } in
-      let (told, small) =
+      let (holds, small) =
       told-more (told-then b) (roomy file B₀ (G .room)) (G .small) short few {R = ringBefore F} ended P flag (rw (← L .player .n, ← L .player .listeners) at K) (S .grown) in
       record {
         room = G .room;
         within = within;
         state = rw (← is) L;
-        told = rw (← is, S .advances .shows) told;
+        holds = rw (← is, S .advances .shows) holds;
         small = small;
       }
 
@@ -321,9 +321,9 @@ module _ {file : List ℕ} {at : Place} {carry : List ℕ} {M : Memory} {B₀ B 
       λ x e z.
       let begun = begun-at F x _ e in
       record { is = sym (last-struck F x e ∙ L .player .struck); held = last-held s begun (E .ends .held begun) z x e } in
-      let (told, small) = told-more (G .told) room (G .small) short few {R = ringAtEnd F} ended P flag (rw (← L .player .n, ← L .player .listeners) at K) (E .grown) in
-      let (len, put) = Q .puts short′ (omega (arith, out-long told (omega (arith, told .count, room .out)), told .count, room .out)) in
+      let (holds, small) = told-more (G .holds) room (G .small) short few {R = ringAtEnd F} ended P flag (rw (← L .player .n, ← L .player .listeners) at K) (E .grown) in
+      let (len, put) = Q .puts short′ (omega (arith, out-long holds (omega (arith, holds .count, room .out)), holds .count, room .out)) in
       let whole =
       whole-told s {r = record { number = r .number; len = l′; ends = c; since = r .since }} {B₀ = B₀} {B = record { out = out′; rows = rows; words = words }} (E .number)
-      (rw (E .ends .shows ∙ sym (append-assoc (shown F) (bytesOf (r .line)) (bytesOf (r .verdict))), len) (told-put told (bytesOf (r .verdict)) (r .verdict .len) (Q .long short′) put)) (E .counts) in
+      (rw (E .ends .shows ∙ sym (append-assoc (shown F) (bytesOf (r .line)) (bytesOf (r .verdict))), len) (told-put holds (bytesOf (r .verdict)) (r .verdict .len) (Q .long short′) put)) (E .counts) in
       rw (← is) whole

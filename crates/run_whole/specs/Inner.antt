@@ -64,5 +64,5 @@ pub record Going (file : List ℕ) (at : Place) (carry : List ℕ) (M : Memory) 
   pub room : hasRoom file (length (B₀ .out)) (length (B₀ .rows)) (length (B₀ .words)) ≡ true
   pub within : at .used ≤ length file
   pub state : StateAt (take (at .used) file) (at .player) carry M
-  pub told : let F = readFile (take (at .used) file) in HoldsSoFar (F .setup .n) (F .setup .listeners) (shown F) (endsSoFar F) (at .len) (at .count) B₀ B
+  pub holds : let F = readFile (take (at .used) file) in HoldsSoFar (F .setup .n) (F .setup .listeners) (shown F) (endsSoFar F) (at .len) (at .count) B₀ B
   pub small : at .len ≤ 64 * (at .count + 1)
