@@ -53,8 +53,8 @@ abbrev pub carries : Stage → (ℕ → ℕ → List ℕ) → ℕ → ℕ → Me
 carries s plant i k m = cond (bitOf (s .struck) k) (plant k i) (frameOf (heads s) k (s .phase) m)
 
 -- the same is planted from each struck head to receivers i and m
-abbrev pub ToldAlike : Stage → (ℕ → ℕ → List ℕ) → ℕ → ℕ → Type 0
-ToldAlike s plant i m = (k : ℕ) → k < heads s → bitOf (s .struck) k ≡ true → plant k i ≡ plant k m
+abbrev pub SamePlanted : Stage → (ℕ → ℕ → List ℕ) → ℕ → ℕ → Type 0
+SamePlanted s plant i m = (k : ℕ) → k < heads s → bitOf (s .struck) k ≡ true → plant k i ≡ plant k m
 
 -- ---- collection
 

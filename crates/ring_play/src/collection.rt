@@ -156,7 +156,7 @@ fn list_after(
         → HeldBefore s i (λ m. tableOf (heads s) (heardWith s (S .entry) (plantedIn (now (planted .entry)) (now (lengths .entry))) m)) (rowIn (now (marks .entry)) (now (lists .entry)))
         → r ≡ tableOf (heads s) (heardWith s (S .entry) (plantedIn (now (planted .entry)) (now (lengths .entry))) i)) ⌝ }
 {
-    match round::told_before(s, planted, lengths, i, last) {
+    match round::same_before(s, planted, lengths, i, last) {
         Before::As(m) => {
             let entries = lists[m];
             let word = marks[m];
@@ -268,7 +268,7 @@ fn position_after(
         → HeldBefore s i (λ m. settledFrom s (tableAt (tableOf (heads s) (heardWith s (S .entry) (plantedIn (now (planted .entry)) (now (lengths .entry))) m)))) (λ m. getD (now (positions .entry)) m (pos 0))
         → r ≡ settledFrom s (tableAt (tableOf (heads s) (heardWith s (S .entry) (plantedIn (now (planted .entry)) (now (lengths .entry))) i)))) ⌝ }
 {
-    match round::told_before(s, planted, lengths, i, last) {
+    match round::same_before(s, planted, lengths, i, last) {
         Before::As(m) => positions[m],
         Before::None => position_for(s, sent, order, planted, lengths, i),
     }
@@ -294,9 +294,9 @@ fn fill_positions(
     let mut i: usize = 0;
     while i < end {
         if round::settles(s, i) {
-            let told = position_after(s, sent, order, planted, lengths, i, last, positions);
+            let position = position_after(s, sent, order, planted, lengths, i, last, positions);
             last = Before::As(i);
-            positions[i] = told;
+            positions[i] = position;
         }
         i += 1;
     }

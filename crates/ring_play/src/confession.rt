@@ -11,7 +11,7 @@ ghost use Rattle.settle_trust.specs.Received.{givenBy};
 ghost use Rattle.ring_play.specs.Memory.{settles, Sayable, newPosition};
 ghost use Rattle.frame_slots.specs.Slots.{plantedIn};
 ghost use Rattle.ring_play.specs.Inner.Before.{SettlesBefore, HeldBefore};
-ghost use Rattle.ring_play.specs.Inner.Confession.{linksWith, rowsWith, Received, RowsKept, Untold, OwnLinks};
+ghost use Rattle.ring_play.specs.Inner.Confession.{linksWith, rowsWith, Received, RowsKept, Unplanted, OwnLinks};
 ghost use Rattle.ring_play.specs.Inner.Planted.{givenOrPlanted, positionSettled, AllSettled};
 use crate::Stage;
 use crate::round;
@@ -84,7 +84,7 @@ fn hear_planted(
     base: Links,
     rows: &mut Lists,
 ) -> Links
-    requires { ⌜ (i < 48) × Untold s base (now rows) ⌝ }
+    requires { ⌜ (i < 48) × Unplanted s base (now rows) ⌝ }
     ensures given { λ r. ⌜ Received r (now (rows .exit)) (givenOrPlanted s (givenBy base (now (rows .entry))) (plantedIn (now (planted .entry)) (now (lengths .entry))) i) ⌝ }
     ensures kept { λ r. ⌜ RowsKept base (now (rows .entry)) (now (rows .exit)) ⌝ }
 {
@@ -132,7 +132,7 @@ fn position_for(
     base: Links,
     rows: &mut Lists,
 ) -> i32
-    requires { ⌜ (i < 48) × Untold s base (now rows) ⌝ }
+    requires { ⌜ (i < 48) × Unplanted s base (now rows) ⌝ }
     ensures position { λ r. ⌜ r ≡ positionSettled s (givenOrPlanted s (givenBy base (now (rows .entry))) (plantedIn (now (planted .entry)) (now (lengths .entry))) i) ⌝ }
     ensures kept { λ r. ⌜ RowsKept base (now (rows .entry)) (now (rows .exit)) ⌝ }
 {
@@ -151,12 +151,12 @@ fn position_after(
     last: Before,
     positions: &[i32],
 ) -> i32
-    requires { ⌜ (i < 48) × Untold s base (now rows) × SettlesBefore s i last × (length (now positions) ≡ 48)
+    requires { ⌜ (i < 48) × Unplanted s base (now rows) × SettlesBefore s i last × (length (now positions) ≡ 48)
         × HeldBefore s i (λ m. positionSettled s (givenOrPlanted s (givenBy base (now rows)) (plantedIn (now planted) (now lengths)) m)) (λ m. getD (now positions) m (pos 0)) ⌝ }
     ensures position { λ r. ⌜ r ≡ positionSettled s (givenOrPlanted s (givenBy base (now (rows .entry))) (plantedIn (now (planted .entry)) (now (lengths .entry))) i) ⌝ }
     ensures kept { λ r. ⌜ RowsKept base (now (rows .entry)) (now (rows .exit)) ⌝ }
 {
-    match round::told_before(s, planted, lengths, i, last) {
+    match round::same_before(s, planted, lengths, i, last) {
         Before::As(m) => positions[m],
         Before::None => position_for(s, planted, lengths, i, base, rows),
     }
@@ -171,7 +171,7 @@ fn fill_positions(
     rows: &mut Lists,
     positions: &mut [i32],
 )
-    requires { ⌜ Untold s base (now rows) × (length (now positions) ≡ 48) ⌝ }
+    requires { ⌜ Unplanted s base (now rows) × (length (now positions) ≡ 48) ⌝ }
     ensures { λ _. ⌜ ((i : ℕ) → getD (now (positions .exit)) i (pos 0)
         ≡ cond (settles s i)
         (positionSettled s (givenOrPlanted s (givenBy base (now (rows .entry))) (plantedIn (now (planted .entry)) (now (lengths .entry))) i))
@@ -182,24 +182,24 @@ fn fill_positions(
     let mut i: usize = 0;
     while i < end {
         if round::settles(s, i) {
-            let told = position_after(s, planted, lengths, i, base, rows, last, positions);
+            let position = position_after(s, planted, lengths, i, base, rows, last, positions);
             last = Before::As(i);
-            positions[i] = told;
+            positions[i] = position;
         }
         i += 1;
     }
 }
 
 // Stores one position for each unstruck receiver.
-fn fill_alike(s: Stage, told: i32, positions: &mut [i32])
+fn fill_same(s: Stage, position: i32, positions: &mut [i32])
     requires { ⌜ length (now positions) ≡ 48 ⌝ }
-    ensures { λ _. ⌜ ((i : ℕ) → getD (now (positions .exit)) i (pos 0) ≡ cond (settles s i) told (getD (now (positions .entry)) i (pos 0))) ⌝ }
+    ensures { λ _. ⌜ ((i : ℕ) → getD (now (positions .exit)) i (pos 0) ≡ cond (settles s i) position (getD (now (positions .entry)) i (pos 0))) ⌝ }
 {
     let end = round::receiver_end(s);
     let mut i: usize = 0;
     while i < end {
         if round::settles(s, i) {
-            positions[i] = told;
+            positions[i] = position;
         }
         i += 1;
     }
@@ -210,8 +210,8 @@ fn settle_quiet(s: Stage, lists: &Lists, links: Links, positions: &mut Positions
     ensures { λ _. ⌜ (s .struck ≡ 0 → (plant : ℕ → ℕ → List ℕ)
         → AllSettled s (givenBy links (now (lists .entry))) plant (now (positions .entry)) (now (positions .exit))) ⌝ }
 {
-    let told = settled(s, lists, links, first_listed(links.listed));
-    fill_alike(s, told, positions);
+    let position = settled(s, lists, links, first_listed(links.listed));
+    fill_same(s, position, positions);
 }
 
 // The same lists, to be changed.

@@ -8,7 +8,7 @@ ghost use lib.IntN.{pos, _+ℤ_};
 ghost use Rattle.terms.specs.Positions.{half, rounding};
 ghost use Rattle.frame_slots.specs.Slots.{plantedIn};
 ghost use Rattle.ring_play.specs.Memory.{heads};
-ghost use Rattle.ring_play.specs.Inner.Ends.{toldBy, withEntry, EndsCounted, Decides};
+ghost use Rattle.ring_play.specs.Inner.Ends.{plantedEntry, withEntry, EndsCounted, Decides};
 use crate::Stage;
 use crate::collection;
 use crate::round;
@@ -51,7 +51,7 @@ fn highest_of(order: Order) -> i32
 // Counts what is planted to receiver i. `order`: the positions that all hear.
 pub(crate) fn count_ends(s: Stage, order: Order, planted: &[u8], lengths: &[u8], i: usize) -> Counts
     requires { ⌜ (i < 48) × (order .len ≤ 32) ⌝ }
-    ensures { λ r. ⌜ EndsCounted (heads s) (toldBy s (plantedIn (now (planted .entry)) (now (lengths .entry))) i) (getD (order .positions) 0 (pos 0))
+    ensures { λ r. ⌜ EndsCounted (heads s) (plantedEntry s (plantedIn (now (planted .entry)) (now (lengths .entry))) i) (getD (order .positions) 0 (pos 0))
         (getD (order .positions) (order .len - 1) (pos 0)) r ⌝ }
 {
     let n = round::head_count(s) as usize;

@@ -4,7 +4,7 @@ ghost use mathlib.Core.Logic.{_↔_};
 ghost use mathlib.Core.Path.{_≡_};
 ghost use Prim.Native.Nat.{_<_};
 ghost use Rattle.frame_slots.specs.Slots.{plantedIn};
-ghost use Rattle.ring_play.specs.Memory.{heads, listeners, receiverEnd, settles, ToldAlike};
+ghost use Rattle.ring_play.specs.Memory.{heads, listeners, receiverEnd, settles, SamePlanted};
 ghost use Rattle.ring_play.specs.Inner.Before.{SettlesBefore, AsBefore};
 use crate::Stage;
 
@@ -57,9 +57,9 @@ pub(crate) fn settles(s: Stage, i: usize) -> bool
 }
 
 // Whether the same is planted from each struck head to receivers i and m: what the one hears of them, the other does too.
-pub(crate) fn is_told_alike(s: Stage, planted: &[u8], lengths: &[u8], i: usize, m: usize) -> bool
+pub(crate) fn is_same_planted(s: Stage, planted: &[u8], lengths: &[u8], i: usize, m: usize) -> bool
     requires { ⌜ (i < 48) × (m < 48) ⌝ }
-    ensures { λ r. ⌜ (r ≡ true) ↔ ToldAlike s (plantedIn (now (planted .entry)) (now (lengths .entry))) i m ⌝ }
+    ensures { λ r. ⌜ (r ≡ true) ↔ SamePlanted s (plantedIn (now (planted .entry)) (now (lengths .entry))) i m ⌝ }
 {
     if s.struck == 0 {
         return true;
@@ -79,7 +79,7 @@ pub(crate) fn is_told_alike(s: Stage, planted: &[u8], lengths: &[u8], i: usize, 
 
 // The receiver `last`, which settles before i, if the same is planted to both: what is made of what the one hears, is made of what the
 // other hears. To answer none is free, and shows in the time alone.
-pub(crate) fn told_before(
+pub(crate) fn same_before(
     s: Stage,
     planted: &[u8],
     lengths: &[u8],
@@ -90,7 +90,7 @@ pub(crate) fn told_before(
     ensures { λ r. ⌜ AsBefore s (plantedIn (now (planted .entry)) (now (lengths .entry))) i r ⌝ }
 {
     if let Before::As(m) = last {
-        if is_told_alike(s, planted, lengths, i, m) {
+        if is_same_planted(s, planted, lengths, i, m) {
             return Before::As(m);
         }
     }

@@ -124,7 +124,7 @@ fn is_same_front(a: &Numbers, b: &Numbers, n: usize) -> bool
 
 // The position that a receiver settles, by what it counted, how many lists are needed of what all hear, and who confessed to it. `last` is
 // what was settled last, from the codes `settled`: a receiver with the same trusted entries settles the same.
-fn position_told(
+fn position_counted(
     s: Stage,
     codes: &Numbers,
     same: &Words,
@@ -141,9 +141,9 @@ fn position_told(
     let left = need_after(need, confessed, n as usize);
     let mut own = [0i32; 32];
     codes::trust_codes(codes, same, left, confessed, n as usize, &mut own);
-    if let Last::At(told) = last {
+    if let Last::At(position) = last {
         if is_same_front(&own, settled, n as usize) {
-            return told;
+            return position;
         }
     }
     *settled = own;
@@ -171,7 +171,7 @@ fn fill_positions(
     let mut i: usize = 0;
     while i < end {
         if round::settles(s, i) {
-            match round::told_before(s, planted, lengths, i, before) {
+            match round::same_before(s, planted, lengths, i, before) {
                 Before::As(m) => {
                     positions[i] = positions[m];
                     before = Before::As(i);
@@ -179,9 +179,17 @@ fn fill_positions(
                 Before::None => {
                     let mut same = *counts;
                     let confessed = count_planted(s, planted, lengths, i, codes, &mut same);
-                    let told = position_told(s, codes, &same, need, confessed, &mut settled, last);
-                    last = Last::At(told);
-                    positions[i] = told;
+                    let position = position_counted(
+                        s,
+                        codes,
+                        &same,
+                        need,
+                        confessed,
+                        &mut settled,
+                        last,
+                    );
+                    last = Last::At(position);
+                    positions[i] = position;
                     before = Before::As(i);
                 }
             }

@@ -27,7 +27,7 @@ use Rattle.settle_midpoint.specs.declared.Settled.{Settled}
 use Rattle.settle_midpoint.proofs.Middle.{settling-same}
 use Rattle.entries.specs.Tables.{tableAt}
 use Rattle.entries.proofs.TableAt.{table-at}
-use Rattle.ring_play.specs.Memory.{heads, ToldAlike, sends, InRange, listEntry, rowIn, positionOf, heardPosition}
+use Rattle.ring_play.specs.Memory.{heads, SamePlanted, sends, InRange, listEntry, rowIn, positionOf, heardPosition}
 use Rattle.ring_play.specs.Inner.Collection.{ownEntry, sentBy, heardOf, heardWith, Shared, settledFrom}
 use Rattle.ring_play.proofs.round.Filling.{filledTo, Filled, filled-none, filled-passed, filled-stored, filled-yet}
 
@@ -58,7 +58,7 @@ heard-list s positions small fit plant i = table-same (heads s) _ _ (λ k l. go 
     go k false e = e
 
 -- heads told alike fill the same list
-pub told-list : (s : Stage) (E : ℕ → Entry) (plant : ℕ → ℕ → List ℕ) (i m : ℕ) → ToldAlike s plant i m
+pub told-list : (s : Stage) (E : ℕ → Entry) (plant : ℕ → ℕ → List ℕ) (i m : ℕ) → SamePlanted s plant i m
     → tableOf (heads s) (heardWith s E plant m) ≡ tableOf (heads s) (heardWith s E plant i)
 unfolding heardWith
 told-list s E plant i m h = table-same (heads s) _ _ (λ k l. go k (bitOf (s .struck) k) (h k l))

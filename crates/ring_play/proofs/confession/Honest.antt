@@ -25,7 +25,7 @@ use Rattle.head_spec.specs.Record.{givenOf}
 use Rattle.ring_play.specs.declared.Stage.{Stage}
 use Rattle.ring_play.specs.Memory.{heads, hears, rowIn, Sayable}
 use Rattle.ring_play.proofs.round.Filling.{Filled, filled-none, filled-passed, filled-stored, filled-yet}
-use Rattle.ring_play.specs.Inner.Confession.{replied, givenAlike, OwnLinks, Untold}
+use Rattle.ring_play.specs.Inner.Confession.{replied, givenAlike, OwnLinks, Unplanted}
 
 -- ---- what the unstruck heads say
 
@@ -90,7 +90,7 @@ module _ (s : Stage) (small : s .phase < 65536) (marks : List ℕ) (lists : List
       go false d b x y l e p q = rw (p, q) refl
 
 -- a struck head gives nothing
-pub own-untold : (s : Stage) (marks : List ℕ) (lists : List (List ℤ)) (g : Links) → OwnLinks s marks g → length (g .marks) ≡ 32 → length lists ≡ 32 → Untold s g lists
+pub own-untold : (s : Stage) (marks : List ℕ) (lists : List (List ℤ)) (g : Links) → OwnLinks s marks g → length (g .marks) ≡ 32 → length lists ≡ 32 → Unplanted s g lists
 unfolding givenBy
 own-untold s marks lists g L m l =
     record {

@@ -25,7 +25,7 @@ use Rattle.ring_play.specs.Memory.{heads, hears, replies, givenEntry, po
 use Rattle.ring_play.specs.Inner.Planted.{isStruck, givenOrPlanted, positionSettled, Alike}
 use Rattle.ring_play.proofs.shared.Settling.{settled-same}
 use Rattle.ring_play.proofs.shared.Told.{given-positions}
-use Rattle.ring_play.specs.Inner.Confession.{replied, Received, RowsKept, givenAlike, Untold}
+use Rattle.ring_play.specs.Inner.Confession.{replied, Received, RowsKept, givenAlike, Unplanted}
 
 -- ---- what is settled
 
@@ -42,7 +42,7 @@ settled-received s g rows G h = ap (positionSettled s) (fun-ext (h .gives))
 
 -- g gives the same with other rows
 module _ (s : Stage) (g : Links) (rows rows′ : List (List ℤ)) (h : RowsKept g rows rows′) where
-  pub untold-kept : Untold s g rows → Untold s g rows′
+  pub untold-kept : Unplanted s g rows → Unplanted s g rows′
   untold-kept u = record { marks-long = u .marks-long; rows-long = h .long; untold = λ k e. ap (λ (G : ℕ → Given). G k) (h .gives) ∙ u .untold k e }
 
   pub planted-kept : (plant : ℕ → ℕ → List ℕ) (i : ℕ) → givenOrPlanted s (givenBy g rows′) plant i ≡ givenOrPlanted s (givenBy g rows) plant i

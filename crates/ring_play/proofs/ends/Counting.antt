@@ -21,7 +21,7 @@ use Rattle.terms.proofs.Sums.{bit-le}
 use Rattle.ring_play.specs.declared.Stage.{Stage}
 use Rattle.ring_play.specs.declared.ends.Counts.{Counts}
 use Rattle.ring_play.specs.Inner.Collection.{heardOf}
-use Rattle.ring_play.specs.Inner.Ends.{toldBy, tested, withEntry, EndsCounted}
+use Rattle.ring_play.specs.Inner.Ends.{plantedEntry, tested, withEntry, EndsCounted}
 
 pub tested-le : (q : ℤ → Bool) (e : Entry) → tested q e ≤ 1
 tested-le q Null = omega arith
@@ -56,12 +56,12 @@ half-read x y a b e h = h ∙ rw (toZ-ofZ a, toZ-ofZ b, e) refl
 
 -- ---- head by head
 
-pub told-none : (s : Stage) (plant : ℕ → ℕ → List ℕ) (i k : ℕ) → bitOf (s .struck) k ≡ false → toldBy s plant i k ≡ Null
-unfolding toldBy
+pub told-none : (s : Stage) (plant : ℕ → ℕ → List ℕ) (i k : ℕ) → bitOf (s .struck) k ≡ false → plantedEntry s plant i k ≡ Null
+unfolding plantedEntry
 told-none s plant i k b = rw b
 
-pub told-some : (s : Stage) (plant : ℕ → ℕ → List ℕ) (i k : ℕ) → bitOf (s .struck) k ≡ true → toldBy s plant i k ≡ heardOf s (plant k i) k
-unfolding toldBy
+pub told-some : (s : Stage) (plant : ℕ → ℕ → List ℕ) (i k : ℕ) → bitOf (s .struck) k ≡ true → plantedEntry s plant i k ≡ heardOf s (plant k i) k
+unfolding plantedEntry
 told-some s plant i k b = rw b
 
 module _ (E : ℕ → Entry) (lowest highest : ℤ) where

@@ -23,7 +23,7 @@ use Rattle.ring_play.specs.declared.Stage.{Stage}
 use Rattle.ring_play.specs.declared.ends.Counts.{Counts}
 use Rattle.ring_play.specs.Memory.{heads}
 use Rattle.ring_play.specs.Inner.Collection.{heardOf, heardWith, Shared, settledFrom}
-use Rattle.ring_play.specs.Inner.Ends.{toldBy, EndsCounted, Decides}
+use Rattle.ring_play.specs.Inner.Ends.{plantedEntry, EndsCounted, Decides}
 use Rattle.ring_play.proofs.ends.Counting.{counts-as}
 use Rattle.ring_play.proofs.ends.Kept.{settled-inside}
 
@@ -45,8 +45,8 @@ module _ (s : Stage) {t : Table} (S : Shared s t) (plant : ℕ → ℕ → List 
   sent-at : Each (heads s) (λ j. tableAt t j ≡ S .entry j)
   sent-at j h = ap (λ (x : Table). tableAt x j) (S .is) ∙ table-at (heads s) (S .entry) (omega arith) j h
 
-  split : (q : ℤ → Bool) → Each (heads s) (λ j. passes q (heard j) ≡ passes q (tableAt t j) + passes q (toldBy s plant i j))
-  unfolding heardWith toldBy
+  split : (q : ℤ → Bool) → Each (heads s) (λ j. passes q (heard j) ≡ passes q (tableAt t j) + passes q (plantedEntry s plant i j))
+  unfolding heardWith plantedEntry
   split q j h =
       rw (sent-at j h, table-at (heads s) (heardWith s (S .entry) plant i) (omega arith) j h) (go (bitOf (s .struck) j) (S .none j))
     where
@@ -56,14 +56,14 @@ module _ (s : Stage) {t : Table} (S : Shared s t) (plant : ℕ → ℕ → List 
       go false e = omega arith
 
   pub settles-inside : {len : ℕ} {a : List ℤ} {c : Counts} {v : ℤ} → len ≡ length l → a ≡ padded l
-      → EndsCounted (heads s) (toldBy s plant i) (getD a 0 (pos 0)) (getD a (len - 1) (pos 0)) c → Decides (heads s) (s .f) len c
+      → EndsCounted (heads s) (plantedEntry s plant i) (getD a 0 (pos 0)) (getD a (len - 1) (pos 0)) c → Decides (heads s) (s .f) len c
       → v ≡ half (rounding (s .phase)) (getD a (s .f - c .low) (pos 0) +ℤ getD a (len - 1 - (s .f - c .high)) (pos 0)) → v ≡ settledFrom s heard
   unfolding settledFrom
   settles-inside {c = c} p q C D h =
       let E : Decides (heads s) (s .f) (length l) c = rw p at D in
       let some = E .some in
-      let B : EndsCounted (heads s) (toldBy s plant i) (getD l 0 (pos 0)) (getD l (length l - 1) (pos 0)) c =
+      let B : EndsCounted (heads s) (plantedEntry s plant i) (getD l 0 (pos 0)) (getD l (length l - 1) (pos 0)) c =
       counts-as refl (padded-at l 0 (omega arith)) (padded-at l (length l - 1) (omega arith)) (rw (p, q) at C) in
       rw (p, q) at h
       ∙ ap₂ (λ (x y : ℤ). half (rounding (s .phase)) (x +ℤ y)) (padded-at l (s .f - c .low) (omega arith)) (padded-at l (length l - 1 - (s .f - c .high)) (omega arith))
-      ∙ settled-inside (heads s) (s .f) (tableAt t) (toldBy s plant i) heard split B E (rounding (s .phase))
+      ∙ settled-inside (heads s) (s .f) (tableAt t) (plantedEntry s plant i) heard split B E (rounding (s .phase))

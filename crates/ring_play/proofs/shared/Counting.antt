@@ -55,11 +55,11 @@ module _ (s : Stage) (plant : ℕ → ℕ → List ℕ) (i : ℕ) (codes : List 
   adds j k = cond (bitOf (s .struck) k) (holds j (getD codes j (pos 0)) (plantedGiven s plant i k)) 0
 
   -- the struck links below k gave what is planted: the counts, and which of them confessed
-  pub record ToldTo (k : ℕ) (counts : List ℕ) (marked : ℕ) : Type 0 where
+  pub record PlantedTo (k : ℕ) (counts : List ℕ) (marked : ℕ) : Type 0 where
     pub counted : Each (heads s) (λ j. getD counts j 0 ≡ getD same j 0 + sum k (adds j))
     pub confesses : Filled (bitOf (s .struck)) (λ j. hasConfessed (plantedGiven s plant i j)) (λ j. false) k (bitOf marked)
 
-  pub told-none : ToldTo 0 same 0
+  pub told-none : PlantedTo 0 same 0
   unfolding sum
   told-none = record { counted = λ j l. omega arith; confesses = λ j. bit-none j ∙ filled-none (bitOf (s .struck)) (λ k. hasConfessed (plantedGiven s plant i k)) (λ k. false) j }
 
@@ -73,8 +73,8 @@ module _ (s : Stage) (plant : ℕ → ℕ → List ℕ) (i : ℕ) (codes : List 
   added-le : (j k : ℕ) → sum k (adds j) ≤ k
   added-le j k = omega (arith, sum-one k, sums-le k (adds j ∷ []) ((λ m. 1) ∷ []) (λ m l. omega (arith, adds-le j m)))
 
-  module _ (k : ℕ) {counts : List ℕ} {marked : ℕ} (h : ToldTo k counts marked) where
-    pub told-passed : bitOf (s .struck) k ≡ false → ToldTo (k + 1) counts marked
+  module _ (k : ℕ) {counts : List ℕ} {marked : ℕ} (h : PlantedTo k counts marked) where
+    pub told-passed : bitOf (s .struck) k ≡ false → PlantedTo (k + 1) counts marked
     told-passed e =
         record {
           counted = λ j l. h .counted j l ∙ omega (arith, sum-next (adds j) k refl refl, none j);
@@ -94,7 +94,7 @@ module _ (s : Stage) (plant : ℕ → ℕ → List ℕ) (i : ℕ) (codes : List 
       others true q j d = rw q (with-other marked k small j d)
       others false q j d = rw q refl
 
-      pub told-heard : ToldTo (k + 1) counts′ marked′
+      pub told-heard : PlantedTo (k + 1) counts′ marked′
       told-heard =
           record {
             counted = λ j l. omega (arith, C .counts j l (omega (arith, h .counted j l, few j l, added-le j k)), h .counted j l, sum-next (adds j) k refl refl, one j);

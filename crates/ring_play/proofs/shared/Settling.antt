@@ -23,7 +23,7 @@ use Rattle.head_spec.specs.Record.{givenOf}
 use Rattle.ring_play.specs.declared.Stage.{Stage}
 use Rattle.ring_play.specs.declared.shared.Last.{Last}
 use Rattle.ring_play.specs.declared.shared.Last.the-variants.{At}
-use Rattle.ring_play.specs.Memory.{heads, ToldAlike, positionOf}
+use Rattle.ring_play.specs.Memory.{heads, SamePlanted, positionOf}
 use Rattle.ring_play.specs.Inner.Planted.{givenOrPlanted, positionSettled}
 use Rattle.ring_play.specs.Inner.Told.{settledBy, settledAt, LastOf}
 
@@ -49,7 +49,7 @@ pub last-at : (s : Stage) (codes : List ℤ) {x : Last} {p : ℤ} → x ≡ At p
 last-at s codes e h = rw e at h
 
 -- receivers told alike settle the same
-pub told-settled : (s : Stage) (G : ℕ → Given) (plant : ℕ → ℕ → List ℕ) (i m : ℕ) → ToldAlike s plant i m
+pub told-settled : (s : Stage) (G : ℕ → Given) (plant : ℕ → ℕ → List ℕ) (i m : ℕ) → SamePlanted s plant i m
     → positionSettled s (givenOrPlanted s G plant m) ≡ positionSettled s (givenOrPlanted s G plant i)
 unfolding givenOrPlanted
 told-settled s G plant i m h = settled-same s _ _ go

@@ -7,7 +7,7 @@ use Prim.Native.Nat.{ℕ, _<_}
 use Rattle.ring_play.specs.declared.Stage.{Stage}
 use Rattle.ring_play.specs.declared.round.Before.{Before}
 use Rattle.ring_play.specs.declared.round.Before.the-variants.{None, As}
-use Rattle.ring_play.specs.Memory.{settles, ToldAlike}
+use Rattle.ring_play.specs.Memory.{settles, SamePlanted}
 
 -- a receiver that settles before receiver i, if any
 abbrev pub SettlesBefore : Stage → ℕ → Before → Type 0
@@ -17,7 +17,7 @@ SettlesBefore s i (As m) = (m < i) × (settles s m ≡ true)
 -- and the same is planted to it
 abbrev pub AsBefore : Stage → (ℕ → ℕ → List ℕ) → ℕ → Before → Type 0
 AsBefore s plant i None = Unit {0}
-AsBefore s plant i (As m) = (m < i) × (settles s m ≡ true) × ToldAlike s plant i m
+AsBefore s plant i (As m) = (m < i) × (settles s m ≡ true) × SamePlanted s plant i m
 
 -- each receiver before i that settles holds what is made for it
 abbrev pub HeldBefore : {A : Type 0} → Stage → ℕ → (ℕ → A) → (ℕ → A) → Type 0

@@ -50,7 +50,7 @@ unfoldable pub givenAlike : Stage → List ℕ → List (List ℤ) → ℕ → G
 givenAlike s marks lists k = cond (hears s k) (givenOf (replied s marks lists k)) nothing
 
 -- the struck heads gave nothing
-pub record Untold (s : Stage) (g : Links) (rows : List (List ℤ)) : Type 0 where
+pub record Unplanted (s : Stage) (g : Links) (rows : List (List ℤ)) : Type 0 where
   pub marks-long : length (g .marks) ≡ 32
   pub rows-long : length rows ≡ 32
   pub untold : (k : ℕ) → isStruck s k ≡ true → givenBy g rows k ≡ nothing

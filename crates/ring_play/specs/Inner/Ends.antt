@@ -14,8 +14,8 @@ use Rattle.ring_play.specs.declared.ends.Counts.{Counts}
 use Rattle.ring_play.specs.Inner.Collection.{heardOf}
 
 -- what receiver i hears of head k, if it is struck
-unfoldable pub toldBy : Stage → (ℕ → ℕ → List ℕ) → ℕ → ℕ → Entry
-toldBy s plant i k = cond (bitOf (s .struck) k) (heardOf s (plant k i) k) Null
+unfoldable pub plantedEntry : Stage → (ℕ → ℕ → List ℕ) → ℕ → ℕ → Entry
+plantedEntry s plant i k = cond (bitOf (s .struck) k) (heardOf s (plant k i) k) Null
 
 -- 1 for a position that passes a test
 abbrev pub tested : (ℤ → Bool) → Entry → ℕ

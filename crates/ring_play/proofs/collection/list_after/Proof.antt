@@ -16,7 +16,7 @@ module _ (c : tie.After-m) where
   start = c .before .before .before .before .before .before
 
   found : let a = start .args in AsBefore (a .s) (plantedIn (now (a .planted)) (now (a .lengths))) (a .i) (As (c .m .given .0 .0))
-  found = rw (c .m .given .1) at (c .before .before .told-before .ensures)
+  found = rw (c .m .given .1) at (c .before .before .same-before .ensures)
 
 mul-entries : tie.Need-mul-entries
 mul-entries c = omega (arith, found (c .before) .0, start (c .before) .pre .0)

@@ -32,7 +32,7 @@ returns c z plant i =
     let a = t .before .before .args in
     let G = givenBy (a .links) (now (a .lists)) in
     let had = getD (now (a .positions)) i (pos 0) in
-    c .fill-alike .ensures i
+    c .fill-same .ensures i
     ∙ ap (λ (x : ℤ). cond (settles (a .s) i) x had)
     (toZ-ofZ (record { sfits = t .settled .ok }) ∙ t .settled .ensures ∙ ap (positionSettled (a .s)) (quiet-given (a .s) G plant i z))
 

@@ -10,14 +10,14 @@ use denote.Ref.{now}
 use borrow.Author.Needs.{needs}
 use Rattle.frame_slots.specs.Slots.{plantedIn}
 use Rattle.ring_play.specs.Memory.{heads}
-use Rattle.ring_play.specs.Inner.Ends.{toldBy, EndsCounted}
+use Rattle.ring_play.specs.Inner.Ends.{plantedEntry, EndsCounted}
 use Rattle.ring_play.proofs.ends.Counting.{told-none, told-some, counts-none, counts-small, counts-more, counts-passed, counts-as}
 use Rattle.ring_play.proofs.ends.count_ends.Statement.{statement}
 use Rattle.ring_play.proofs.ends.count_ends.Tie as tie
 
 abbrev Inv-loop : tie.InvT-loop
 Inv-loop s planted lengths i n lowest highest c₀ k₀ c k =
-    (k ≤ n) × (n ≤ 32) × EndsCounted k (toldBy s (plantedIn planted lengths) i) (toZ w32 lowest) (toZ w32 highest) c
+    (k ≤ n) × (n ≤ 32) × EndsCounted k (plantedEntry s (plantedIn planted lengths) i) (toZ w32 lowest) (toZ w32 highest) c
 
 abbrev μ-loop : tie.MeasureT-loop
 μ-loop s planted lengths i n lowest highest c₀ k₀ c k = n - k

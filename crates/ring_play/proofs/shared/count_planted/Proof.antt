@@ -7,12 +7,12 @@ use denote.Ref.{now}
 use borrow.Author.Needs.{needs}
 use Rattle.frame_slots.specs.Slots.{plantedIn}
 use Rattle.ring_play.specs.Memory.{heads}
-use Rattle.ring_play.proofs.shared.Counting.{counted-planted, ToldTo, told-none, told-passed, told-heard}
+use Rattle.ring_play.proofs.shared.Counting.{counted-planted, PlantedTo, told-none, told-passed, told-heard}
 use Rattle.ring_play.proofs.shared.count_planted.Statement.{statement}
 use Rattle.ring_play.proofs.shared.count_planted.Tie as tie
 
 abbrev Inv-loop : tie.InvT-loop
-Inv-loop s planted lengths i codes same₀ n count confessed₀ k₀ same confessed k = (k ≤ count) × ToldTo s (plantedIn planted lengths) i codes same₀ k same confessed
+Inv-loop s planted lengths i codes same₀ n count confessed₀ k₀ same confessed k = (k ≤ count) × PlantedTo s (plantedIn planted lengths) i codes same₀ k same confessed
 
 abbrev μ-loop : tie.MeasureT-loop
 μ-loop s planted lengths i codes same₀ n count confessed₀ k₀ same confessed k = count - k

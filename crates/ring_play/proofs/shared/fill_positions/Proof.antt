@@ -46,7 +46,7 @@ module _ (l : tie.At-loop Inv-loop μ-loop) where
 found : (c : tie.After-m Inv-loop μ-loop) →
     let l = c .before .before .before .before .before .before in
     AsBefore (start l .args .s) (plant l) (l .loop .i) (As (c .m .given .0 .0))
-found c = rw (c .m .given .1) at (c .before .before .told-before .ensures)
+found c = rw (c .m .given .1) at (c .before .before .same-before .ensures)
 
 mul-positions : tie.Need-mul-positions Inv-loop μ-loop
 mul-positions c = omega (arith, found (c .before) .0)
@@ -57,8 +57,8 @@ copy-out-positions c = let l = c .before .before .before .before .before .before
 count-planted-requires : tie.Need-count-planted-requires Inv-loop μ-loop
 count-planted-requires c κs = (search needs, start (c .before .before .before .before .before .before .before .before) .pre .1 .shares .few)
 
-position-told-requires : tie.Need-position-told-requires Inv-loop μ-loop
-position-told-requires c κs =
+position-counted-requires : tie.Need-position-counted-requires Inv-loop μ-loop
+position-counted-requires c κs =
     c .before .before .before .before .before .before .before .before .before .before .before .loop .inv .3
 
 loop-again : tie.Need-loop-again Inv-loop μ-loop
@@ -126,7 +126,7 @@ fill-positions-spec =
     (λ c. search needs)
     (λ c. search needs)
     count-planted-requires
-    position-told-requires
+    position-counted-requires
     (λ c. search needs)
     (λ c. search needs)
     (λ c. search needs)

@@ -1,4 +1,4 @@
--- `ring_play::round::told_before` meets its contract: `last` settles before i, and is told the same.
+-- `ring_play::round::same_before` meets its contract: `last` settles before i, and is told the same.
 use mathlib.Core.Path.{_≡_}
 use mathlib.Core.Bool.{true}
 use Prim.Native.Nat.{_<_}
@@ -6,8 +6,8 @@ use native.Mathlib.Omega.{arith}
 use borrow.Author.Needs.{needs}
 use Rattle.ring_play.specs.Memory.{settles}
 use Rattle.ring_play.proofs.round.Receivers.{settles-at}
-use Rattle.ring_play.proofs.round.told_before.Statement.{statement}
-use Rattle.ring_play.proofs.round.told_before.Tie as tie
+use Rattle.ring_play.proofs.round.same_before.Statement.{statement}
+use Rattle.ring_play.proofs.round.same_before.Tie as tie
 
 module _ (l : tie.After-last) where
   abbrev start : tie.Start
@@ -16,8 +16,8 @@ module _ (l : tie.After-last) where
   settles-last : let m = l .last .given .0 .0 in (m < start .args .i) × (settles (start .args .s) m ≡ true)
   settles-last = settles-at (start .args .s) (l .last .given .1) (start .pre .1)
 
-is-told-alike-requires : tie.Need-is-told-alike-requires
-is-told-alike-requires c κs =
+is-same-planted-requires : tie.Need-is-same-planted-requires
+is-same-planted-requires c κs =
     let p = start (c .before) .pre in
     (p .0, omega (arith, settles-last (c .before) .0, p .0))
 
@@ -25,7 +25,7 @@ returns : tie.Need-returns
 returns c =
     let a = c .before in
     let q = settles-last (a .before .before) in
-    (q .0, q .1, a .is-told-alike .ensures .0 (c .if1 .taken))
+    (q .0, q .1, a .is-same-planted .ensures .0 (c .if1 .taken))
 
-pub told-before-spec : {M : Type 1} → statement M
-told-before-spec = tie.close (tie.spec (λ c. search needs) is-told-alike-requires returns (λ c. search needs) (λ c. tt) (λ c. tt))
+pub same-before-spec : {M : Type 1} → statement M
+same-before-spec = tie.close (tie.spec (λ c. search needs) is-same-planted-requires returns (λ c. search needs) (λ c. tt) (λ c. tt))

@@ -1,4 +1,4 @@
--- `ring_play::round::is_told_alike` meets its contract: before head k, the struck heads below k have the same planted to both.
+-- `ring_play::round::is_same_planted` meets its contract: before head k, the struck heads below k have the same planted to both.
 use mathlib.Core.Path.{_≡_, refl, sym, _∙_}
 use mathlib.Core.Logic.{⊎-elim}
 use mathlib.Core.Bool.{true, true≢false}
@@ -11,8 +11,8 @@ use Rattle.marks.specs.Marks.{bitOf}
 use Rattle.marks.proofs.Marks.{bit-none}
 use Rattle.terms.specs.Counting.{Each}
 use Rattle.frame_slots.specs.Slots.{plantedIn}
-use Rattle.ring_play.proofs.round.is_told_alike.Statement.{statement}
-use Rattle.ring_play.proofs.round.is_told_alike.Tie as tie
+use Rattle.ring_play.proofs.round.is_same_planted.Statement.{statement}
+use Rattle.ring_play.proofs.round.is_same_planted.Tie as tie
 
 abbrev Inv-loop : tie.InvT-loop
 Inv-loop s planted lengths i m n k₀ k = (k ≤ n) × Each k (λ j. bitOf (s .struck) j ≡ true → plantedIn planted lengths j i ≡ plantedIn planted lengths j m)
@@ -50,8 +50,8 @@ returns-3 c =
     let l = c .before .loop in
     (λ e k below h. l .inv .1 k (omega (arith, c .before .before .head-count .ensures)) h, λ h. refl)
 
-pub is-told-alike-spec : {M : Type 1} → statement M
-is-told-alike-spec =
+pub is-same-planted-spec : {M : Type 1} → statement M
+is-same-planted-spec =
     tie.close
     (tie.spec
     Inv-loop

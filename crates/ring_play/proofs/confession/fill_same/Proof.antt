@@ -1,4 +1,4 @@
--- `ring_play::confession::fill_alike` meets its contract: before receiver i, the unstruck ones below i have the position, and all others the one they had.
+-- `ring_play::confession::fill_same` meets its contract: before receiver i, the unstruck ones below i have the position, and all others the one they had.
 use mathlib.Core.Path.{_≡_, refl, ap, sym, _∙_}
 use mathlib.Core.Bool.{cond}
 use mathlib.Core.Logic.{⊎-elim}
@@ -14,16 +14,16 @@ use lib.IntN.{ℤ, pos}
 use Rattle.ring_play.specs.Memory.{settles}
 use Rattle.ring_play.proofs.round.Filling.{Filled, filled-none, filled-passed, filled-set, filled-all}
 use Rattle.ring_play.proofs.round.Receivers.{end-small, settles-below}
-use Rattle.ring_play.proofs.confession.fill_alike.Statement.{statement}
-use Rattle.ring_play.proofs.confession.fill_alike.Tie as tie
+use Rattle.ring_play.proofs.confession.fill_same.Statement.{statement}
+use Rattle.ring_play.proofs.confession.fill_same.Tie as tie
 
 abbrev Inv-loop : tie.InvT-loop
-Inv-loop s told positions₀ end i₀ positions i =
+Inv-loop s position positions₀ end i₀ positions i =
     (i ≤ end) × (end ≤ 48) × (length positions ≡ 48)
-    × Filled (settles s) (λ j. toZ w32 told) (λ j. getD positions₀ j (pos 0)) i (λ j. getD positions j (pos 0))
+    × Filled (settles s) (λ j. toZ w32 position) (λ j. getD positions₀ j (pos 0)) i (λ j. getD positions j (pos 0))
 
 abbrev μ-loop : tie.MeasureT-loop
-μ-loop s told positions₀ end i₀ positions i = end - i
+μ-loop s position positions₀ end i₀ positions i = end - i
 
 loop-holds : tie.Need-loop-holds Inv-loop μ-loop
 loop-holds c =
@@ -56,10 +56,10 @@ returns c =
     let s = n .before .args .s in
     λ i.
     filled-all _ _ _ (l .i) (λ j t. omega (arith, settles-below s j t, n .receiver-end .ensures)) (l .inv .3) i
-    ∙ ap (λ (x : ℤ). cond (settles s i) x (getD (now (n .before .args .positions)) i (pos 0))) (toZ-ofZ (n .before .fits .told))
+    ∙ ap (λ (x : ℤ). cond (settles s i) x (getD (now (n .before .args .positions)) i (pos 0))) (toZ-ofZ (n .before .fits .position))
 
-pub fill-alike-spec : {M : Type 1} → statement M
-fill-alike-spec =
+pub fill-same-spec : {M : Type 1} → statement M
+fill-same-spec =
     tie.close
     (tie.spec
     Inv-loop

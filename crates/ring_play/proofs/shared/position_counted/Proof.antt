@@ -1,4 +1,4 @@
--- `ring_play::shared::position_told` meets its contract: a receiver with the codes that the last position was settled from settles that one. Else the counts, and the lists that
+-- `ring_play::shared::position_counted` meets its contract: a receiver with the codes that the last position was settled from settles that one. Else the counts, and the lists that
 -- are needed with its confessions, decide its entries.
 use mathlib.Core.Path.{_≡_, ap, sym, _∙_}
 use mathlib.Core.List.{List}
@@ -12,8 +12,8 @@ use Rattle.marks.specs.Marks.{markedTo}
 use Rattle.ring_play.specs.Inner.Codes.{entryOf, codeTaken, entryTaken}
 use Rattle.ring_play.specs.Inner.Told.{settledBy, settledAt, neededHere, takenHere}
 use Rattle.ring_play.proofs.shared.Settling.{settled-entries, codes-alike, last-at}
-use Rattle.ring_play.proofs.shared.position_told.Statement.{statement}
-use Rattle.ring_play.proofs.shared.position_told.Tie as tie
+use Rattle.ring_play.proofs.shared.position_counted.Statement.{statement}
+use Rattle.ring_play.proofs.shared.position_counted.Tie as tie
 
 -- a receiver whose codes are worked out
 module _ (t : tie.After-trust-codes) where
@@ -47,8 +47,8 @@ returns c =
     let l = f .before .before .before .before in
     let t = l .before .before in
     let a = start t .args in
-    let told = last-at (a .s) (now (a .settled)) (l .last .given .1) (start t .pre) in
-    let e = toZ-ofZ (record { sfits = f .before .before .before .known-told .given .0 .1 }) ∙ told in
+    let position = last-at (a .s) (now (a .settled)) (l .last .given .1) (start t .pre) in
+    let e = toZ-ofZ (record { sfits = f .before .before .before .known-told .given .0 .1 }) ∙ position in
     let alike = codes-alike (a .s) (own t) (now (a .settled)) (λ j q. f .is-same-front .ensures (c .if1 .taken) j (omega (arith, played t .head-count .ensures))) in
     (e ∙ sym alike ∙ own-taken t, e)
 
@@ -60,8 +60,8 @@ returns-2 c =
     ∙ ap (λ (x : ℕ). settledBy (a .s) (entryTaken (now (a .codes)) (now (a .same)) x (a .confessed))) (needed t) in
     (e, e ∙ sym (own-taken t))
 
-pub position-told-spec : {M : Type 1} → statement M
-position-told-spec =
+pub position-counted-spec : {M : Type 1} → statement M
+position-counted-spec =
     tie.close
     (tie.spec
     (λ c κs. search needs)
