@@ -18,7 +18,7 @@ unfoldable pub halved : ℕ → ℕ → ℕ
 halved k s = (s + 2 ^ k - 1) / 2 ^ k
 
 -- a receiver holds a position, and it lies between the lowest and the highest (P73)
-abbrev pub HeldBetween : Entry → Entry → Entry → Type 0
+abbrev pub HeldBetween : (low high held : Entry) → Type 0
 HeldBetween (Position low) (Position high) (Position u) = (low ≤ℤ u) × (u ≤ℤ high)
 HeldBetween low high Null = ⊥
 HeldBetween Null high (Position u) = ⊥

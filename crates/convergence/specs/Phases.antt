@@ -60,7 +60,7 @@ entriesAt TwoRounds n f e F i = trusted n f (givenTo e F i)
 entriesAt OneRound n f e F i = heardFrom (F .struckInConfession) e F i
 
 -- The phase's end: each receiver that is not struck settles a position. r: how odd sums are rounded.
-unfoldable pub after : Family → ℕ → ℕ → ℕ → End → Faults → End
+unfoldable pub after : (K : Family) (r n f : ℕ) (e : End) (F : Faults) → End
 after K r n f e F = record { struck = F .struckInConfession; at = λ i. settled r n (ruleOf K f) (entriesAt K n f e F i) }
 
 -- the end of phase p; end 0 is the start

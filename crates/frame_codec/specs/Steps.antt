@@ -14,7 +14,7 @@ abbrev pub fromMarks : Kind → ℕ → List ℕ → ℕ
 fromMarks K n t = check (countFits K n t) refusal.marks (check (rangeFits K n t) refusal.entry 0)
 
 -- 22, 9, 23, and 0 if none of them
-unfoldable pub commonRefusal : Kind → ℕ → ℕ → ℕ → List ℕ → ℕ
+unfoldable pub commonRefusal : (K : Kind) (p r k : ℕ) (s : List ℕ) → ℕ
 commonRefusal K p r k s =
     check (eqb (roundOf K) r) refusal.other-round (check (eqb (senderField s) k) refusal.sender (check (eqb (phaseField s) p) refusal.other-phase 0))
 

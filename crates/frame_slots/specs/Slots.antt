@@ -27,7 +27,7 @@ unfoldable pub withLength : List ℕ → ℕ → ℕ → List ℕ → List ℕ
 withLength lengths k i b = cond (isPlantable k i b) (set lengths (48 * k + i) (length b)) lengths
 
 -- read back, with b planted from k to i: on that link b, and on every other such link, if its slot has at most 140 bytes, what was there
-abbrev pub PlantedThen : ℕ → ℕ → List ℕ → List ℕ → List ℕ → List ℕ → List ℕ → Type 0
+abbrev pub PlantedThen : (k i : ℕ) (b bytes lengths bytes′ lengths′ : List ℕ) → Type 0
 PlantedThen k i b bytes lengths bytes′ lengths′ =
     length b ≤ 140 → (j m : ℕ) → j < 32 → m < 48 → length (plantedIn bytes lengths j m) ≤ 140
     → plantedIn bytes′ lengths′ j m ≡ cond (eqb k j && eqb i m) b (plantedIn bytes lengths j m)

@@ -58,7 +58,7 @@ rangeFits confession n t = true
 rangeFits unknown n t = true
 
 -- 6, 7, 8, 22, 9, 23, 10, 11 (P13, P17, Q78)
-unfoldable pub refusalOf : ℕ → ℕ → ℕ → ℕ → List ℕ → ℕ
+unfoldable pub refusalOf : (n phase round link : ℕ) (frame : List ℕ) → ℕ
 refusalOf n p r k s =
     checkFrame s
     (check (eqb (roundOf (kindField s)) r) refusal.other-round
@@ -86,7 +86,7 @@ meaning list n t = listed (tableIn n t)
 meaning confession n t = confessed
 meaning unknown n t = refused refusal.kind
 
-unfoldable pub said : ℕ → ℕ → ℕ → ℕ → List ℕ → Meaning
+unfoldable pub said : (n phase round link : ℕ) (frame : List ℕ) → Meaning
 said n p r k s = unlessRefused refused (refusalOf n p r k s) (meaning (kindField s) n (restField s))
 
 -- ---- as the code has it: an enum, and apart from it the table of a list

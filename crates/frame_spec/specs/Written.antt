@@ -13,7 +13,7 @@ use Rattle.frame_spec.specs.declared.Written.{Written}
 use Rattle.frame_spec.specs.Said.{Meaning, refused, collected, listed, confessed}
 
 -- two bytes length, two bytes kind, sender, two bytes phase
-abbrev pub header : ℕ → ℕ → ℕ → ℕ → List ℕ → List ℕ
+abbrev pub header : (len kind sender phase : ℕ) (rest : List ℕ) → List ℕ
 header len kind k p rest = put2 len (put2 kind (k ∷ put2 p rest))
 
 -- the first n entries, of 4 bytes each
@@ -27,13 +27,13 @@ positionFrame k p v = header 11 1 k p (put4 (wordOf v) [])
 abbrev pub silenceFrame : ℕ → ℕ → List ℕ
 silenceFrame k p = header 7 2 k p []
 
-abbrev pub listFrame : ℕ → ℕ → ℕ → Table → List ℕ
+abbrev pub listFrame : (n sender phase : ℕ) (t : Table) → List ℕ
 listFrame n k p t = header (12 + 4 * n) 3 k p (n ∷ put4 (t .marks) (entryBytes (t .entries) n))
 
 abbrev pub confessionFrame : ℕ → ℕ → List ℕ
 confessionFrame k p = header 7 4 k p []
 
-abbrev pub frameOf : ℕ → ℕ → ℕ → Meaning → List ℕ
+abbrev pub frameOf : (n sender phase : ℕ) (m : Meaning) → List ℕ
 frameOf n k p (refused c) = []
 frameOf n k p (collected Entry.Null) = silenceFrame k p
 frameOf n k p (collected (Entry.Position v)) = positionFrame k p v

@@ -20,11 +20,11 @@ abbrev pub isMember : Bool → ℕ → ℕ → Bool
 isMember listens n i = cond listens (isListener i) (ltb i n)
 
 -- 1, 2 or 18, 3, before the checks that follow
-abbrev pub checkMember : Family → Bool → ℕ → ℕ → ℕ → ℕ → ℕ
+abbrev pub checkMember : (K : Family) (listens : Bool) (n f number rest : ℕ) → ℕ
 checkMember K listens n f i rest = checkSize K n f (check (isMember listens n i) refusal.head-number rest)
 
 -- phase 1 opens, with the position that is held, if one is
-abbrev pub openingSeat : Family → ℕ → ℕ → ℕ → Entry → Seat
+abbrev pub openingSeat : (K : Family) (n f number : ℕ) (e : Entry) → Seat
 openingSeat K n f i e =
     record {
       family = K;
@@ -41,10 +41,10 @@ openingSeat K n f i e =
     }
 
 -- a start of a head or a listener, and a restart
-unfoldable pub startAs : Family → Bool → Head → ℕ → ℕ → ℕ → Entry → ℕ → Answer
+unfoldable pub startAs : (K : Family) (listens : Bool) (h : Head) (n f number : ℕ) (e : Entry) (rest : ℕ) → Answer
 startAs K listens h n f i e rest = answer (checkMember K listens n f i rest) (opened (openingSeat K n f i e) noEntries) h
 
-unfoldable pub restartAs : Family → Bool → Head → ℕ → ℕ → ℕ → ℕ → ℕ → Answer
+unfoldable pub restartAs : (K : Family) (listens : Bool) (h : Head) (n f number phase round : ℕ) → Answer
 restartAs K listens h n f i p r = answer (checkMember K listens n f i (check (isTime K p r) refusal.phase 0)) (restarted K n f i p r) h
 
 -- what a head has to say, as the code has it: the table of a list is the record's

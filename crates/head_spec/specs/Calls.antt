@@ -42,14 +42,14 @@ answer (suc c) new old = record { refusal = suc c; head = old }
 -- ---- a start gives n, f, number and position, and opens phase 1; checks 1, 2 (in a ring of one round 18), 3, 4
 
 -- P34, Q76
-unfoldable pub startRefusal : Family → ℕ → ℕ → ℕ → ℤ → ℕ
+unfoldable pub startRefusal : (K : Family) (n f number : ℕ) (position : ℤ) → ℕ
 startRefusal K n f i v = checkSize K n f (check (ltb i n) refusal.head-number (check (isPosition v) refusal.position 0))
 
 -- P37
-unfoldable pub started : Family → ℕ → ℕ → ℕ → ℤ → Head
+unfoldable pub started : (K : Family) (n f number : ℕ) (position : ℤ) → Head
 started K n f i v = opened (firstSeat K n f i v) noEntries
 
-unfoldable pub start : Head → Family → ℕ → ℕ → ℕ → ℤ → Answer
+unfoldable pub start : (h : Head) (K : Family) (n f number : ℕ) (position : ℤ) → Answer
 start h K n f i v = answer (startRefusal K n f i v) (started K n f i v) h
 
 -- ---- a restart gives phase and round in place of the position; checks 1, 2 or 18, 3, 5. The head is healed, with no position
@@ -59,34 +59,34 @@ abbrev pub isTime : Family → ℕ → ℕ → Bool
 isTime K p r = isPhase p && ltb r (roundsOf K)
 
 -- P34, Q76
-unfoldable pub restartRefusal : Family → ℕ → ℕ → ℕ → ℕ → ℕ → ℕ
+unfoldable pub restartRefusal : (K : Family) (n f number phase round : ℕ) → ℕ
 restartRefusal K n f i p r = checkSize K n f (check (ltb i n) refusal.head-number (check (isTime K p r) refusal.phase 0))
 
-unfoldable pub restarted : Family → ℕ → ℕ → ℕ → ℕ → ℕ → Head
+unfoldable pub restarted : (K : Family) (n f number phase round : ℕ) → Head
 restarted K n f i p r = opened (healedSeat K n f i p r) noEntries
 
-unfoldable pub restart : Head → Family → ℕ → ℕ → ℕ → ℕ → ℕ → Answer
+unfoldable pub restart : (h : Head) (K : Family) (n f number phase round : ℕ) → Answer
 restart h K n f i p r = answer (restartRefusal K n f i p r) (restarted K n f i p r) h
 
 -- ---- a listener (document 02, A6) is a record with a number from 32 to 47. Its start gives no position; checks 1, 2 or 18, 3. Its restart
 -- checks 1, 2 or 18, 3, 5 and makes the record that a head's makes. It hears and closes as a head does.
 
 -- Q31, Q32
-unfoldable pub startListenerRefusal : Family → ℕ → ℕ → ℕ → ℕ
+unfoldable pub startListenerRefusal : (K : Family) (n f number : ℕ) → ℕ
 startListenerRefusal K n f i = checkSize K n f (check (isListener i) refusal.head-number 0)
 
 -- Q34
-unfoldable pub startedListener : Family → ℕ → ℕ → ℕ → Head
+unfoldable pub startedListener : (K : Family) (n f number : ℕ) → Head
 startedListener K n f i = opened (listenerSeat K n f i) noEntries
 
-unfoldable pub startListener : Head → Family → ℕ → ℕ → ℕ → Answer
+unfoldable pub startListener : (h : Head) (K : Family) (n f number : ℕ) → Answer
 startListener h K n f i = answer (startListenerRefusal K n f i) (startedListener K n f i) h
 
 -- Q33
-unfoldable pub restartListenerRefusal : Family → ℕ → ℕ → ℕ → ℕ → ℕ → ℕ
+unfoldable pub restartListenerRefusal : (K : Family) (n f number phase round : ℕ) → ℕ
 restartListenerRefusal K n f i p r = checkSize K n f (check (isListener i) refusal.head-number (check (isTime K p r) refusal.phase 0))
 
-unfoldable pub restartListener : Head → Family → ℕ → ℕ → ℕ → ℕ → ℕ → Answer
+unfoldable pub restartListener : (h : Head) (K : Family) (n f number phase round : ℕ) → Answer
 restartListener h K n f i p r = answer (restartListenerRefusal K n f i p r) (restarted K n f i p r) h
 
 -- ---- hearing a frame on link k; checks 26, 3, 21, then those of the frame

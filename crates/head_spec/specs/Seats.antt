@@ -16,7 +16,7 @@ familyIn zero = TwoRounds
 familyIn (suc b) = OneRound
 
 -- a start, at position v: phase 1 opens
-abbrev pub firstSeat : Family → ℕ → ℕ → ℕ → ℤ → Seat
+abbrev pub firstSeat : (K : Family) (n f number : ℕ) (position : ℤ) → Seat
 firstSeat K n f i v =
     record {
       family = K;
@@ -33,7 +33,7 @@ firstSeat K n f i v =
     }
 
 -- a listener's start: phase 1 opens, and it holds no position before its first phase end (document 02, A6; Q34)
-abbrev pub listenerSeat : Family → ℕ → ℕ → ℕ → Seat
+abbrev pub listenerSeat : (K : Family) (n f number : ℕ) → Seat
 listenerSeat K n f i =
     record {
       family = K;
@@ -50,7 +50,7 @@ listenerSeat K n f i =
     }
 
 -- a restart, in round r of phase p: the head is healed, with no position and no kept range (document 02, A2; Q11)
-abbrev pub healedSeat : Family → ℕ → ℕ → ℕ → ℕ → ℕ → Seat
+abbrev pub healedSeat : (K : Family) (n f number phase round : ℕ) → Seat
 healedSeat K n f i p r =
     record {
       family = K;

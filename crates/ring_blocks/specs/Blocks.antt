@@ -92,7 +92,7 @@ pub record BlockRing : Type 0 where
 
 module _ (K : Family) (n f : ℕ) where
   -- the restart of device i
-  abbrev pub againCall : ℕ → ℕ → ℕ → Call
+  abbrev pub againCall : (i p r : ℕ) → Call
   againCall i p r = cond (ltb i 32) (restarts K n f i p r) (restartsListener K n f i p r)
 
   module _ (R : BlockRing) where

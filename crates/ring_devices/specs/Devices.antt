@@ -70,7 +70,7 @@ marksOf (w ∷ ws) = w .marks ∷ marksOf ws
 
 module _ (K : Family) (n f : ℕ) where
   -- device i is restarted, whatever it holds
-  abbrev pub again : Head → ℕ → ℕ → ℕ → Answer
+  abbrev pub again : (h : Head) (i p r : ℕ) → Answer
   again h i p r = cond (ltb i 32) (restart h K n f i p r) (restartListener h K n f i p r)
 
   -- the record of device i as the next round opens: one that was marked in the round before is restarted

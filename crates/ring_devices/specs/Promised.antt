@@ -41,7 +41,7 @@ pub record Promised (K : Family) (n m f : ℕ) (marks : List ℕ) (es : List Pha
 
 -- In plain words, of any two devices, heads or listeners, that an end does not mark: each holds a position, and k phases after another end
 -- neither lies further above the other than the spread at that end divided by 2 to the power k, rounded up.
-abbrev pub AnyPair : Family → ℕ → ℕ → ℕ → List PhaseEnd → Type 0
+abbrev pub AnyPair : (K : Family) (n m f : ℕ) (es : List PhaseEnd) → Type 0
 AnyPair K n m f es =
     (i k : ℕ) → i + k < length es → Halves K n f
     → let e = getD es i noEnd in let s = spread receivers (asEnd n m (getD es (i + k) noEnd)) in

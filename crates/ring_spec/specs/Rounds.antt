@@ -139,11 +139,11 @@ abbrev pub receivers : ℕ
 receivers = 48
 
 -- Q40
-abbrev pub isReceiver : ℕ → ℕ → ℕ → Bool
+abbrev pub isReceiver : (n m i : ℕ) → Bool
 isReceiver n m i = ltb i n || (leb 32 i && ltb i (32 + m))
 
 -- struck by a mark word, or not there
-abbrev pub isOut : ℕ → ℕ → ℕ → ℕ → Bool
+abbrev pub isOut : (n m marks i : ℕ) → Bool
 isOut n m marks i = not (isReceiver n m i) || bitOf marks i
 
 -- what is compared: who was struck in the round that ended the phase, or is not there, and the position that each record holds (P59, Q56)

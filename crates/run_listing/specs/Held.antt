@@ -10,6 +10,6 @@ use Rattle.convergence.specs.Phases.{End}
 use Rattle.ring_spec.specs.Rounds.{isReceiver}
 
 -- a phase end of n heads and m listeners: the mark word of those struck in its last round, and the positions of the others
-unfoldable pub endIn : ℕ → ℕ → ℕ → List ℤ → End
+unfoldable pub endIn : (n m struck : ℕ) (positions : List ℤ) → End
 endIn n m struck positions =
     record { struck = λ i. not (isReceiver n m i) || bitOf struck i; at = λ i. Entry.Position (getD positions i (pos 0)) }

@@ -10,7 +10,7 @@ use Rattle.ring_spec.specs.Rounds.{receivers}
 use Rattle.run_listing.specs.Held.{endIn}
 
 -- a line of the listing, field by field
-unfoldable pub fields : ℕ → Entry → Entry → ℕ → ℕ → ℕ → List ℕ
+unfoldable pub fields : (p : ℕ) (low high : Entry) (wide collect confess : ℕ) → List ℕ
 fields p low high wide collect confess =
     spaced (decimal p)
     (spaced (textOf low)
@@ -20,7 +20,7 @@ fields p low high wide collect confess =
     (hex 8 confess ++ (10 ∷ []))))))
 
 -- the line of a phase end as the player holds it; struck: in the round that ended the phase
-unfoldable pub endLine : ℕ → ℕ → ℕ → List ℤ → ℕ → ℕ → ℕ → List ℕ
+unfoldable pub endLine : (n m p : ℕ) (positions : List ℤ) (collect confess struck : ℕ) → List ℕ
 endLine n m p positions collect confess struck =
     let e = endIn n m struck positions in
     fields p (lowest receivers e) (highest receivers e) (spread receivers e) collect confess

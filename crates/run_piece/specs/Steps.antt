@@ -31,7 +31,7 @@ Reads p bytes r carry M carry′ M′ =
     (a : List ℕ) → StateAt a p carry M → AdvancesOnce a (take (r .used) bytes) p M (r .player) (bytesOf (r .text)) carry′ M′
 
 -- the same of bytes that show nothing and change what is planted alone
-abbrev pub Passes : Player → List ℕ → PassResult → List ℕ → List ℕ → List ℕ → List ℕ → Type 0
+abbrev pub Passes : (p : Player) (bytes : List ℕ) (r : PassResult) (planted lengths planted′ lengths′ : List ℕ) → Type 0
 Passes p bytes r planted lengths planted′ lengths′ =
     (a carry : List ℕ) (M : Memory) → StateAt a p carry (withSlots M planted lengths)
     → AdvancesOnce a (take (r .used) bytes) p (withSlots M planted lengths) (r .player) [] carry (withSlots M planted′ lengths′)

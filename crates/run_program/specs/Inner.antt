@@ -13,7 +13,7 @@ use Rattle.run_program.specs.declared.Program.{Program}
 use Rattle.run_program.specs.Calls.{unplayed}
 
 -- with nothing of its page written
-abbrev pub placed : Player → Stage → ℕ → ℕ → ℕ → Program
+abbrev pub placed : (player : Player) (stage : Stage) (at end to : ℕ) → Program
 placed player stage at end to = record { player = player; stage = stage; at = at; end = end; from = 0; to = to }
 
 -- with k bytes more written

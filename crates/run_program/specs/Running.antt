@@ -38,14 +38,14 @@ pub record Closes (a out : List ℕ) (p : Program) (page : List ℕ) : Type 0 wh
   pub shows : out ++ unwritten p page ≡ listing a
   pub room : p .to ≤ 4096
 
-abbrev pub RunningAt : Stage → List ℕ → List ℕ → Program → List ℕ → List ℕ → List ℕ → Memory → Type 0
+abbrev pub RunningAt : (stage : Stage) (a out : List ℕ) (p : Program) (piece page carry : List ℕ) (M : Memory) → Type 0
 RunningAt Stage.Title a out p piece page carry M = Opens a out (p .player) carry M
 RunningAt Stage.Going a out p piece page carry M = Plays a out p piece page carry M
 RunningAt Stage.Last a out p piece page carry M = Closes a out p page
 RunningAt Stage.Failed a out p piece page carry M = ⊥
 
 -- the program runs, when exactly the bytes a were read and exactly the bytes out were written (D15)
-abbrev pub Running : List ℕ → List ℕ → Program → List ℕ → List ℕ → List ℕ → Memory → Type 0
+abbrev pub Running : (a out : List ℕ) (p : Program) (piece page carry : List ℕ) (M : Memory) → Type 0
 Running a out p piece page carry M = RunningAt (p .stage) a out p piece page carry M
 
 -- the same program after a failure

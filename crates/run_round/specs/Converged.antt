@@ -16,7 +16,7 @@ use Rattle.run_spec.specs.RunFile.{File}
 use Rattle.run_listing.specs.Held.{endIn}
 
 -- D14
-abbrev pub Converged : Family → ℕ → ℕ → ℕ → (ℕ → ℤ) → List Round → List ℤ → Type 0
+abbrev pub Converged : (K : Family) (n m f : ℕ) (v : ℕ → ℤ) (ws : List Round) (positions : List ℤ) → Type 0
 Converged K n m f v ws positions =
     let es = endsAfter K n f v ws in
     ringAfter K n f v ws .round ≡ 0 → (k : ℕ) → k < length es

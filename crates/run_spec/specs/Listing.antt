@@ -20,7 +20,7 @@ title =
 
 -- of n heads and m listeners: phase, lowest, highest and spread of the sound ones, the heads' mark words of the two rounds as eight
 -- hexadecimal digits (P58, Q57)
-unfoldable pub line : ℕ → ℕ → ℕ → PhaseEnd → List ℕ
+unfoldable pub line : (n m p : ℕ) (e : PhaseEnd) → List ℕ
 line n m p e =
     spaced (decimal p)
     (spaced (textOf (lowest receivers (asEnd n m e)))

@@ -85,7 +85,7 @@ kindIn s = recordKind (at2 s 2)
 -- By its first four bytes: a start first and once, a round after it, a planted record after a round; the number of listeners just after the
 -- start, and a round's struck listeners just after its record; the lengths that some record of that kind has. begun: a start was accepted;
 -- first: nothing else was; pending: a round is pending; bare: nothing was accepted after its record (P41, P44, P49, Q41, Q46).
-abbrev pub allowedWhen : RecordKind → Bool → Bool → Bool → Bool → ℕ → Bool
+abbrev pub allowedWhen : (kind : RecordKind) (begun first pending bare : Bool) (len : ℕ) → Bool
 allowedWhen (start K) begun first pending bare len = not begun && leb 6 len && leb len 1026
 allowedWhen round begun first pending bare len = begun && eqb len 8
 allowedWhen plant begun first pending bare len = pending && leb 6 len && leb len 146
@@ -131,11 +131,11 @@ startFault K s =
 abbrev pub struckIn : List ℕ → ℕ
 struckIn s = at4 s 4
 
-unfoldable pub fewMarks : ℕ → ℕ → ℕ → Bool
+unfoldable pub fewMarks : (n f m : ℕ) → Bool
 fewMarks n f m = marksBelow m n && leb (sum n (λ j. bit (bitOf m j))) f
 
 -- of n heads with the struck limit f; rounds: how many were given before (P45, Q49, Q84)
-abbrev pub roundFault : Family → ℕ → ℕ → ℕ → List ℕ → ℕ
+abbrev pub roundFault : (K : Family) (n f rounds : ℕ) (s : List ℕ) → ℕ
 roundFault K n f rounds s = check (fewMarks n f (struckIn s)) refusal.struck (check (ltb rounds (mostRounds K)) refusal.ended 0)
 
 -- ---- the number of listeners, from 1 to 16 (document 02, A6)
@@ -175,11 +175,11 @@ abbrev pub rises : Pair → ℕ → ℕ → Bool
 rises last k i = not (last .some) || (ltb (last .from) k || eqb (last .from) k && ltb (last .to) i)
 
 -- P46, P50, Q50, Q52
-unfoldable pub pairFits : ℕ → ℕ → ℕ → Pair → ℕ → ℕ → Bool
+unfoldable pub pairFits : (n m struck : ℕ) (last : Pair) (k i : ℕ) → Bool
 pairFits n m struck last k i = ltb k n && isReceiver n m i && bitOf struck k && not (bitOf struck i) && rises last k i
 
 -- of n heads and m listeners, in a round with the mark word struck, after the pair last
-abbrev pub plantFault : ℕ → ℕ → ℕ → Pair → List ℕ → ℕ
+abbrev pub plantFault : (n m struck : ℕ) (last : Pair) (s : List ℕ) → ℕ
 plantFault n m struck last s = check (pairFits n m struck last (senderIn s) (receiverIn s)) refusal.run-record 0
 
 -- ---- a whole record: the number of its fault, 0 for none; 13, then 1, 2 or 18, 4, 14, 26

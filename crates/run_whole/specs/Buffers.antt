@@ -41,7 +41,7 @@ abbrev pub mostEnds : List ℕ → ℕ
 mostEnds file = min allEnds (endsByBytes file)
 
 -- whether buffers of these lengths have room for a file: 64 bytes for each line, 48 numbers and a word for each phase end
-unfoldable pub hasRoom : List ℕ → ℕ → ℕ → ℕ → Bool
+unfoldable pub hasRoom : (file : List ℕ) (out rows words : ℕ) → Bool
 hasRoom file out rows words = leb (64 * (mostEnds file + 2)) out && leb (48 * mostEnds file) rows && leb (mostEnds file) words
 
 -- row e of a table with 48 numbers to a row

@@ -23,11 +23,11 @@ pub record Put (t : Text) (len r : ℕ) (out out′ : List ℕ) : Type 0 where
   pub puts : t .len ≤ 64 → len + t .len ≤ length out → (r ≡ len + t .len) × (out′ ≡ paste out len (bytesOf t) (t .len))
 
 -- the number that a row has for receiver i
-abbrev pub soundNumber : ℕ → ℕ → ℕ → List ℤ → ℕ → ℤ
+abbrev pub soundNumber : (n m word : ℕ) (positions : List ℤ) (i : ℕ) → ℤ
 soundNumber n m word positions i = cond (isSound n m word i) (getD positions i (pos 0)) (pos 0)
 
 -- the first k numbers of a row
-unfoldable pub soundRow : ℕ → ℕ → ℕ → List ℤ → ℕ → List ℤ
+unfoldable pub soundRow : (n m word : ℕ) (positions : List ℤ) (k : ℕ) → List ℤ
 soundRow n m word positions zero = []
 soundRow n m word positions (suc k) = soundRow n m word positions k ++ (soundNumber n m word positions k ∷ [])
 
@@ -37,7 +37,7 @@ wordAt zero struck = allListeners
 wordAt (suc e) struck = struck
 
 -- a phase end is kept, if there is one and room for it
-abbrev pub EndKept : Bool → ℕ → ℕ → ℕ → List ℤ → ℕ → ℕ → List ℤ → List ℕ → List ℤ → List ℕ → Type 0
+abbrev pub EndKept : (ended : Bool) (n m struck : ℕ) (positions : List ℤ) (count r : ℕ) (rows : List ℤ) (words : List ℕ) (rows′ : List ℤ) (words′ : List ℕ) → Type 0
 EndKept true n m struck positions count r rows words rows′ words′ =
     48 * count + 48 ≤ length rows → count < length words
     → (r ≡ count + 1) × (rows′ ≡ paste rows (48 * count) (soundRow n m (wordAt count struck) positions 48) 48) × (words′ ≡ set words count (wordAt count struck))

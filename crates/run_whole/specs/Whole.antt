@@ -25,7 +25,7 @@ abbrev pub endNumber : List PhaseEnd → ℕ → PhaseEnd
 endNumber es e = getD es (length es - 1 - e) noEnd
 
 -- whether receiver i of n heads and m listeners is sound, by the mark word of a phase end
-abbrev pub isSound : ℕ → ℕ → ℕ → ℕ → Bool
+abbrev pub isSound : (n m word i : ℕ) → Bool
 isSound n m word i = isReceiver n m i && not (bitOf word i)
 
 -- A row and a mark word hold a phase end of n heads and m listeners: the word is that of the round that ended it, and at the start that of
@@ -69,7 +69,7 @@ Plays false s r B B′ = (r ≡ record { number = refusal.buffer; len = 0; ends 
 
 -- the same from C, which lends room for the rest: how many bytes the listing has, how many phase ends were played, and the counts. If a
 -- buffer is too short, 24, and all that is lent is as it was.
-abbrev pub PlaysInto : Bool → List ℕ → ℕ → ℕ → ℕ → ℕ → ℕ → List ℕ → List ℕ → Buffers → Buffers → Type 0
+abbrev pub PlaysInto : (room : Bool) (s : List ℕ) (number len len′ ends ends′ : ℕ) (since since′ : List ℕ) (B B′ : Buffers) → Type 0
 PlaysInto true s number len len′ ends ends′ since since′ B B′ = Whole s (record { number = number; len = len′; ends = ends′; since = since′ }) B B′
 PlaysInto false s number len len′ ends ends′ since since′ B B′ =
     (number ≡ refusal.buffer) × (len′ ≡ len) × (ends′ ≡ ends) × (since′ ≡ since) × (B′ ≡ B)

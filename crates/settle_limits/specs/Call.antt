@@ -51,7 +51,7 @@ limitsFit m s zero = true
 limitsFit m s (suc j) = limitsFit m s j && fits (bitOf m j) (limitOf 0 s j) (limitOf 4 s j)
 
 -- 1, 2, 5, 8, 10, 19, before the checks that follow (Q94)
-unfoldable pub checkLimits : ℕ → ℕ → ℕ → ℕ → List ℕ → ℕ → ℕ
+unfoldable pub checkLimits : (n f phase marks : ℕ) (limits : List ℕ) (rest : ℕ) → ℕ
 checkLimits n f p m s rest =
     checkSize TwoRounds n f
     (check (isPhase p) refusal.phase
@@ -60,7 +60,7 @@ checkLimits n f p m s rest =
     (check (limitsFit m s n) refusal.limits rest))))
 
 -- and then 25: "null entries are counted as before"
-unfoldable pub limitsRefusal : ℕ → ℕ → ℕ → ℕ → List ℕ → ℕ
+unfoldable pub limitsRefusal : (n f phase marks : ℕ) (limits : List ℕ) → ℕ
 limitsRefusal n f p m s = checkLimits n f p m s (check (enough n (twoRounds f) (lowests m s)) refusal.trusted 0)
 
 -- what is answered: the number of the first check that fails, and else the lowest and the highest new position
@@ -100,5 +100,5 @@ rangedOf (Refused c) h = Ranged.Refused c
 rangedOf (New k) (Refused c) = Ranged.Refused c
 rangedOf (New k) (New h) = Ranged.Range (k .position) (h .position)
 
-unfoldable pub rangeAt : ℕ → ℕ → ℕ → ℕ → List ℕ → Ranged
+unfoldable pub rangeAt : (r n f marks : ℕ) (limits : List ℕ) → Ranged
 rangeAt r n f m s = rangedOf (settling r n (twoRounds f) (lowests m s)) (settling r n (twoRounds f) (highests m s))

@@ -21,7 +21,7 @@ abbrev pub entriesGiven : ℕ → ℕ → List ℕ → ℕ → Entry
 entriesGiven n m s = entryAt m (numbers s n)
 
 -- all but 25, which settling gives (P40b, Q62)
-unfoldable pub listRefusal : Family → ℕ → ℕ → ℕ → ℕ → List ℕ → ℕ
+unfoldable pub listRefusal : (K : Family) (n f phase marks : ℕ) (entries : List ℕ) → ℕ
 listRefusal K n f p m s =
     checkSize K n f
     (check (isPhase p) refusal.phase
@@ -30,5 +30,5 @@ listRefusal K n f p m s =
     (check (entriesFit m s n) refusal.entry 0))))
 
 -- rounded as in phase p (Q87)
-unfoldable pub midpointCall : Family → ℕ → ℕ → ℕ → ℕ → List ℕ → Settled
+unfoldable pub midpointCall : (K : Family) (n f phase marks : ℕ) (entries : List ℕ) → Settled
 midpointCall K n f p m s = unlessRefused Settled.Refused (listRefusal K n f p m s) (settling (rounding p) n (ruleOf K f) (entriesGiven n m s))

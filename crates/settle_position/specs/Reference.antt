@@ -20,7 +20,7 @@ abbrev pub isApart : ℕ → ℕ → Bool
 isApart m w = not (eqb m w) && not (eqb m 0)
 
 -- list k has the marks of the reference, and its number at entry j
-abbrev pub agrees : List ℕ → List (List ℤ) → ℕ → ℕ → ℕ → Bool
+abbrev pub agrees : (marks : List ℕ) (lists : List (List ℤ)) (reference j k : ℕ) → Bool
 agrees marks lists reference j k = eqb (getD marks k 0) (getD marks reference 0) && sameNumber (getD lists k []) (getD lists reference []) j
 
 -- how many of the first n lists have the marks of the reference, how many have others, and how many of the first have its number at entry j
@@ -41,11 +41,11 @@ pub record Compares (n : ℕ) (marks : List ℕ) (lists : List (List ℤ)) (refe
 
 -- The cell x of the reference decides. Where it is null, only lists with other marks hold a position. Where it is not, enough lists agree
 -- with it, and those that may hold another position are too few.
-abbrev pub Decides : ℕ → ℕ → ℕ → ℕ → ℕ → Type 0
+abbrev pub Decides : (x need alike apart same : ℕ) → Type 0
 Decides zero need alike apart same = apart < need
 Decides (suc w) need alike apart same = (need ≤ same) × (alike + apart < same + need)
 
 -- The cell x of the reference is a position, and no position is decided on: those that may hold it are too few, and so are those that may
 -- hold another.
-abbrev pub Lacks : ℕ → ℕ → ℕ → ℕ → ℕ → Type 0
+abbrev pub Lacks : (x need alike apart same : ℕ) → Type 0
 Lacks x need alike apart same = (0 < x) × (same + apart < need) × (alike + apart < same + need)

@@ -29,7 +29,7 @@ othersFit j m s zero = true
 othersFit j m s (suc k) = othersFit j m s k && (eqb k j || fits (bitOf m k) (signedAt s (4 * k)))
 
 -- 1, 2 or 18, 5, 3, 8, 10, 11, before the checks that follow (Q96)
-unfoldable pub checkReach : Family → ℕ → ℕ → ℕ → ℕ → ℕ → List ℕ → ℕ → ℕ
+unfoldable pub checkReach : (K : Family) (n f phase j marks : ℕ) (entries : List ℕ) (rest : ℕ) → ℕ
 checkReach K n f p j m s rest =
     checkSize K n f
     (check (isPhase p) refusal.phase
@@ -39,7 +39,7 @@ checkReach K n f p j m s rest =
     (check (othersFit j m s n) refusal.entry rest)))))
 
 -- and then 25: "the open entry is not null when nulls are counted" (Q98)
-unfoldable pub reachRefusal : Family → ℕ → ℕ → ℕ → ℕ → ℕ → List ℕ → ℕ
+unfoldable pub reachRefusal : (K : Family) (n f phase j marks : ℕ) (entries : List ℕ) → ℕ
 reachRefusal K n f p j m s =
     checkReach K n f p j m s (check (enough n (ruleOf K f) (opened (entriesGiven n m s) j (pos 0))) refusal.trusted 0)
 

@@ -30,7 +30,7 @@ unfoldable pub isListener : ℕ → Bool
 isListener i = leb 32 i && leb i 47
 
 -- 1, then 2 or 18, before the checks that follow
-abbrev pub checkSize : Family → ℕ → ℕ → ℕ → ℕ
+abbrev pub checkSize : (K : Family) (n f rest : ℕ) → ℕ
 checkSize K n f rest = check (isCount n) refusal.head-count (check (isLimit K n f) (limitNumber K) rest)
 
 abbrev pub sizeRefusal : Family → ℕ → ℕ → ℕ

@@ -33,7 +33,7 @@ hex zero x = []
 hex (suc k) x = hex k (x / 16) ++ (hexDigit (x % 16) ∷ [])
 
 -- the last k digits of x in base b
-unfoldable pub spelled : ℕ → ℕ → ℕ → List ℕ
+unfoldable pub spelled : (b k x : ℕ) → List ℕ
 spelled b zero x = []
 spelled b (suc k) x = spelled b k (x / b) ++ (hexDigit (x % b) ∷ [])
 

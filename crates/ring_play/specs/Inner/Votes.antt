@@ -9,7 +9,7 @@ use Rattle.terms.specs.Positions.{eqZ}
 use Rattle.marks.specs.Marks.{bitOf}
 
 -- link k gives a list
-abbrev pub givesList : ℕ → ℕ → ℕ → Bool
+abbrev pub givesList : (confesses lists k : ℕ) → Bool
 givesList confesses lists k = not (bitOf confesses k) && bitOf lists k
 
 -- a list with the code x votes: l is by how much the code c leads, c′ and l′ are both after the vote
