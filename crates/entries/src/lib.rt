@@ -7,6 +7,7 @@ ghost use Rattle.terms.specs.Positions.{isPosition};
 ghost use Rattle.fields.specs.Bytes.{at4, signedOf};
 ghost use Rattle.marks.specs.Marks.{allMarked};
 ghost use Rattle.entries.specs.Entries.{fits, entriesFit, numbers};
+use terms::HEADS;
 use terms::Numbers;
 
 // Whether a word holds a position.
@@ -90,7 +91,7 @@ pub fn entries_fit(m: u32, s: &[u8], n: u8) -> bool
 pub fn numbers_at(s: &[u8], n: u8) -> Numbers
     ensures { λ r. ⌜ r ≡ numbers (now (s .entry)) n ⌝ }
 {
-    let mut out = [0i32; 32];
+    let mut out = [0i32; HEADS];
     let end = terms::at_most_32(n as usize);
     let whole = 4 * end <= s.len();
     let mut k: usize = 0;

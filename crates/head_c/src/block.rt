@@ -25,6 +25,7 @@ use settle_midpoint::Kept;
 use settle_trust::Links;
 use terms::Entry;
 use terms::Family;
+use terms::HEADS;
 use terms::Table;
 
 // ---- The record that a block is.
@@ -95,13 +96,13 @@ pub fn seat_in(h: &[u32]) -> Seat
 }
 
 // The 32 numbers from a word on.
-fn numbers_in(h: &[u32], from: usize) -> [i32; 32]
+fn numbers_in(h: &[u32], from: usize) -> [i32; HEADS]
     requires { ⌜ from + 32 ≤ length (now h) ⌝ }
     ensures { λ r. ⌜ r ≡ numbersAt (now (h .entry)) from ⌝ }
 {
-    let mut out = [0i32; 32];
+    let mut out = [0i32; HEADS];
     let mut j: usize = 0;
-    while j < 32 {
+    while j < HEADS {
         let v = fields::signed(h[from + j]);
         out[j] = v;
         j += 1;
@@ -126,9 +127,9 @@ pub fn links_in(h: &[u32]) -> Links
     requires { ⌜ IsBlock (now h) ⌝ }
     ensures { λ r. ⌜ r ≡ headOf (now (h .entry)) .links ⌝ }
 {
-    let mut marks = [0u32; 32];
+    let mut marks = [0u32; HEADS];
     let mut k: usize = 0;
-    while k < 32 {
+    while k < HEADS {
         marks[k] = h[place::LIST_MARKS + k];
         k += 1;
     }
@@ -152,12 +153,12 @@ pub fn bare_in(h: &[u32]) -> Head
 // ---- A record put into a block.
 
 // Puts 32 numbers from a word on.
-pub fn put_numbers(h: &mut [u32], from: usize, numbers: &[i32; 32])
+pub fn put_numbers(h: &mut [u32], from: usize, numbers: &[i32; HEADS])
     requires { ⌜ from + 32 ≤ length (now h) ⌝ }
     ensures { λ _. ⌜ now (h .exit) ≡ paste (now (h .entry)) from (wordsOf (now (numbers .entry))) 32 ⌝ }
 {
     let mut j: usize = 0;
-    while j < 32 {
+    while j < HEADS {
         h[from + j] = fields::unsigned(numbers[j]);
         j += 1;
     }

@@ -11,6 +11,7 @@ use crate::block::seat_in;
 use frame_spec::Written;
 use hostpage::Readings;
 use reading::Reading;
+use terms::HEADS;
 use terms::refusal;
 
 // The head's reading: 0 unknown; 1 a point, and its float; 2 a range, and its lowest, its highest and their midpoint.
@@ -51,9 +52,9 @@ fn reading_at(blocks: &[u32], k: usize) -> Reading
 fn readings_in(blocks: &[u32]) -> Readings
     ensures { λ r. ⌜ r ≡ readingsOf (now (blocks .entry)) ⌝ }
 {
-    let mut out = [Reading::Unknown; 32];
+    let mut out = [Reading::Unknown; HEADS];
     let mut k: usize = 0;
-    while k < 32 {
+    while k < HEADS {
         let reading = reading_at(blocks, k);
         out[k] = reading;
         k += 1;

@@ -26,6 +26,7 @@ use settle_position::Deciding;
 use settle_trust::Links;
 use terms::Entry;
 use terms::Family;
+use terms::HEADS;
 use terms::Words;
 
 // The words of the list of link k.
@@ -44,7 +45,7 @@ fn add_same(a: &[u32], b: &[u32], same: &mut Words)
         ≡ getD (now (same .entry)) j 0 + bit (eqZ (signedOf (getD (now (a .entry)) j 0)) (signedOf (getD (now (b .entry)) j 0)))) ⌝ }
 {
     let mut j: usize = 0;
-    while j < 32 {
+    while j < HEADS {
         same[j] = same[j] + (a[j] == b[j]) as u32;
         j += 1;
     }
@@ -59,7 +60,7 @@ fn compare_in(h: &[u32], marks: &Words, n: usize, reference: usize) -> Compariso
     let row = row_in(h, reference);
     let mut alike: u8 = 0;
     let mut apart: u8 = 0;
-    let mut same = [0u32; 32];
+    let mut same = [0u32; HEADS];
     let mut k: usize = 0;
     while k < n {
         alike += (marks[k] == word) as u8;
@@ -84,7 +85,7 @@ fn cell_at(h: &[u32], k: usize, m: u32, j: usize) -> u64
 }
 
 // The cells of entry j of the first n lists.
-fn column_in(h: &[u32], marks: &Words, n: usize, j: usize, cells: &mut [u64; 32])
+fn column_in(h: &[u32], marks: &Words, n: usize, j: usize, cells: &mut [u64; HEADS])
     requires { ⌜ IsBlock (now h) × (n ≤ 32) × (j < 32) × (length (now cells) ≡ 32) ⌝ }
     ensures { λ _. ⌜ (length (now (cells .exit)) ≡ 32) × HoldsEach n (now (cells .exit)) (columnOf (now (marks .entry)) (rowsIn (now (h .entry))) j) ⌝ }
 {
@@ -102,7 +103,7 @@ fn search_in(
     n: usize,
     need: usize,
     j: usize,
-    cells: &mut [u64; 32],
+    cells: &mut [u64; HEADS],
 ) -> u64
     requires { ⌜ IsBlock (now h) × (n ≤ 32) × (j < 32) × (length (now cells) ≡ 32) ⌝ }
     ensures { λ r. ⌜ (length (now (cells .exit)) ≡ 32) × CellOf r (decided false n need (columnOf (now (marks .entry)) (rowsIn (now (h .entry))) j)) ⌝ }
@@ -119,7 +120,7 @@ fn cell_in(
     same: &Words,
     d: Deciding,
     j: usize,
-    cells: &mut [u64; 32],
+    cells: &mut [u64; HEADS],
 ) -> u64
     requires { ⌜ IsBlock (now h) × (reference < 32) × (j < 32) × (d .count ≤ 32) × (length (now cells) ≡ 32) ⌝ }
     ensures { λ r. ⌜ (length (now (cells .exit)) ≡ 32)
@@ -157,8 +158,8 @@ pub fn settle_lists(h: &[u32], links: Links, n: u8, f: u8, up: bool) -> Settled
         alike: compared.alike,
         apart: compared.apart,
     };
-    let mut cells = [0u64; 32];
-    let mut positions = [0i32; 32];
+    let mut cells = [0u64; HEADS];
+    let mut positions = [0i32; HEADS];
     let mut len: usize = 0;
     let mut j: usize = 0;
     while j < count {

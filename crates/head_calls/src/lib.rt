@@ -26,6 +26,7 @@ use settle_midpoint::Settled;
 use settle_trust::Links;
 use terms::Entry;
 use terms::Family;
+use terms::HEADS;
 use terms::Lists;
 use terms::Table;
 use terms::refusal;
@@ -34,7 +35,7 @@ use terms::refusal;
 pub fn no_entries() -> Table
     ensures { λ r. ⌜ r ≡ noEntries ⌝ }
 {
-    let entries = [0i32; 32]; // a null entry holds 0
+    let entries = [0i32; HEADS]; // a null entry holds 0
     Table { marks: 0, entries }
 }
 
@@ -42,15 +43,15 @@ pub fn no_entries() -> Table
 pub fn opened(seat: Seat, list: Table) -> Head
     ensures { λ r. ⌜ r ≡ opened seat list ⌝ }
 {
-    let marks = [0u32; 32];
+    let marks = [0u32; HEADS];
     let links = Links {
         confessed: 0,
         listed: 0,
         marks,
     };
-    let entries = [0i32; 32];
+    let entries = [0i32; HEADS];
     let row = Row { entries };
-    let lists = [row; 32];
+    let lists = [row; HEADS];
     Head {
         seat,
         heard: 0,
@@ -347,13 +348,13 @@ pub fn write(h: Head, buffer: &mut [u8]) -> Written
 // gives its number and leaves the record as it was.
 
 // The lists received, without their marks, as settling takes them.
-fn laid_out(lists: [Row; 32]) -> Lists
+fn laid_out(lists: [Row; HEADS]) -> Lists
     ensures { λ r. ⌜ r ≡ rows lists ⌝ }
 {
-    let zeros = [0i32; 32];
-    let mut out = [zeros; 32];
+    let zeros = [0i32; HEADS];
+    let mut out = [zeros; HEADS];
     let mut k: usize = 0;
-    while k < 32 {
+    while k < HEADS {
         let row = lists[k];
         let entries = row.entries;
         out[k] = entries;

@@ -4,11 +4,12 @@ use settle_midpoint::Kept;
 use settle_trust::Links;
 use terms::Entry;
 use terms::Family;
+use terms::HEADS;
 use terms::Table;
 
 // The numbers of a received list.
 pub struct Row {
-    pub entries: [i32; 32],
+    pub entries: [i32; HEADS],
 }
 
 // What the last phase end since the start or restart settled: the kept range, the trim and the position; nothing before the first.
@@ -45,7 +46,7 @@ pub struct Head {
     pub heard: u32, // the links heard in this round
     pub list: Table, // in round 0 what is heard so far, in confession the list of this phase
     pub links: Links, // which links confessed or gave a list, and the lists' marks
-    pub lists: [Row; 32], // the lists received
+    pub lists: [Row; HEADS], // the lists received
 }
 
 // What start, restart and hearing answer: 0 or the refusal's number, and the record.

@@ -36,6 +36,7 @@ use libc::STDOUT_FILENO;
 use settle_midpoint::Kept;
 use terms::Entry;
 use terms::Family;
+use terms::HEADS;
 use terms::Table;
 
 // ---- The record, lent: each function puts it into a local, lends that to the call, and gives back what the call answers and the record
@@ -386,7 +387,7 @@ fn first() -> Head
         last: LastKept::Nothing,
         since: 0,
     };
-    let entries = [0i32; 32];
+    let entries = [0i32; HEADS];
     head_calls::opened(seat, Table { marks: 0, entries })
 }
 

@@ -11,11 +11,12 @@ ghost use Rattle.hostpage.specs.Page.{floatText, rangeText, lineOf, page
 use frame_spec::Written;
 use reading::KeptRange;
 use reading::Reading;
+use terms::HEADS;
 use terms::refusal;
 use texts::Text;
 
 // The readings of as many heads as a ring can have.
-pub type Readings = [Reading; 32];
+pub type Readings = [Reading; HEADS];
 
 // The bits of a float. A NaN has the pattern that the logic writes for it.
 pub fn bits_of(x: f32) -> u32

@@ -8,8 +8,10 @@ use run_program::Ask;
 use run_program::Did;
 use run_state::Carry;
 use run_stream::Page;
+use terms::HEADS;
 use terms::Lists;
 use terms::Positions;
+use terms::RECEIVERS;
 use terms::Words;
 
 // Makes the system call that is asked for.
@@ -64,10 +66,10 @@ fn main() {
     let mut piece = io::large_buffer();
     let mut page = io::buffer();
     let mut carry = [0u8; run_state::CARRY];
-    let mut positions = [0i32; 48];
-    let mut marks = [0u32; 32];
-    let none = [0i32; 32];
-    let mut lists = [none; 32];
+    let mut positions = [0i32; RECEIVERS];
+    let mut marks = [0u32; HEADS];
+    let none = [0i32; HEADS];
+    let mut lists = [none; HEADS];
     let mut planted = [0u8; frame_slots::BYTES];
     let mut lengths = [0u8; frame_slots::LINKS];
     run(

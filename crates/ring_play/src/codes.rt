@@ -20,6 +20,7 @@ use settle_midpoint::Order;
 use settle_trust::Links;
 use terms::Entry;
 use terms::Family;
+use terms::HEADS;
 use terms::Lists;
 use terms::Numbers;
 use terms::Words;
@@ -41,7 +42,7 @@ fn codes_of(m: u32, list: &Numbers, n: usize) -> Numbers
     requires { ⌜ n ≤ 32 ⌝ }
     ensures { λ r. ⌜ Each n (λ j. getD r j (pos 0) ≡ codeAt m (now (list .entry)) j) ⌝ }
 {
-    let mut codes = [0i32; 32];
+    let mut codes = [0i32; HEADS];
     let mut j: usize = 0;
     while j < n {
         let v = code(m, j, list[j]);
@@ -250,12 +251,12 @@ pub(crate) fn share(
     if need <= struck {
         return false;
     }
-    let mut leads = [0u32; 32];
+    let mut leads = [0u32; HEADS];
     let count = vote_all(lists, links, heads, codes, &mut leads);
     if !are_alone(&leads, links.confessed, heads, count, need - struck) {
         return false;
     }
-    *same = [0u32; 32];
+    *same = [0u32; HEADS];
     tally_all(lists, links, heads, codes, same);
     drop_confessed(codes, links.confessed, heads);
     true
@@ -357,7 +358,7 @@ pub(crate) fn settle_counted(
     ensures { λ r. ⌜ r ≡ settling (bit up) n (twoRounds f) (entryTaken (now (codes .entry)) (now (same .entry)) need confessed) ⌝ }
 {
     let count = n as usize;
-    let mut positions = [0i32; 32];
+    let mut positions = [0i32; HEADS];
     let mut len: usize = 0;
     let mut j: usize = 0;
     while j < count {

@@ -22,6 +22,7 @@ use settle_midpoint::Order;
 use settle_midpoint::Settled;
 use terms::Entry;
 use terms::Family;
+use terms::HEADS;
 use terms::Lists;
 use terms::Positions;
 use terms::Table;
@@ -97,7 +98,7 @@ fn entries_sent(s: Stage, positions: &Positions) -> Table
 {
     let n = round::head_count(s) as usize;
     let mut marks: u32 = 0;
-    let mut entries = [0i32; 32];
+    let mut entries = [0i32; HEADS];
     let mut k: usize = 0;
     while k < n {
         let mut e = Entry::Null;
@@ -149,7 +150,7 @@ fn list_after(
     i: usize,
     last: Before,
     marks: &[u32],
-    lists: &[[i32; 32]],
+    lists: &[[i32; HEADS]],
 ) -> Table
     requires { ⌜ (i < 32) × SettlesBefore s i last × (length (now marks) ≡ 32) × (length (now lists) ≡ 32) × Shared s sent ⌝ }
     ensures { λ r. ⌜ ((S : Shared s sent)
@@ -176,7 +177,7 @@ fn fill_lists(
     planted: &[u8],
     lengths: &[u8],
     marks: &mut [u32],
-    lists: &mut [[i32; 32]],
+    lists: &mut [[i32; HEADS]],
 )
     requires { ⌜ (length (now marks) ≡ 32) × (length (now lists) ≡ 32) × Shared s sent ⌝ }
     ensures { λ _. ⌜ ((S : Shared s sent) (i : ℕ) → rowIn (now (marks .exit)) (now (lists .exit)) i

@@ -22,6 +22,7 @@ use crate::round::Before;
 use frame_spec::Said;
 use settle_midpoint::Settled;
 use settle_trust::Links;
+use terms::HEADS;
 use terms::Lists;
 use terms::Numbers;
 use terms::Positions;
@@ -139,7 +140,7 @@ fn position_counted(
 {
     let n = round::head_count(s);
     let left = need_after(need, confessed, n as usize);
-    let mut own = [0i32; 32];
+    let mut own = [0i32; HEADS];
     codes::trust_codes(codes, same, left, confessed, n as usize, &mut own);
     if let Last::At(position) = last {
         if is_same_front(&own, settled, n as usize) {
@@ -165,7 +166,7 @@ fn fill_positions(
         → AllSettled s (S .given) (plantedIn (now (planted .entry)) (now (lengths .entry))) (now (positions .entry)) (now (positions .exit))) ⌝ }
 {
     let end = round::receiver_end(s);
-    let mut settled = [0i32; 32];
+    let mut settled = [0i32; HEADS];
     let mut last = Last::None;
     let mut before = Before::None;
     let mut i: usize = 0;
@@ -216,8 +217,8 @@ pub(crate) fn settle_all(
     }
     let n = round::head_count(s);
     let struck = marks::marked_to(s.struck, n as usize);
-    let mut codes = [0i32; 32];
-    let mut counts = [0u32; 32];
+    let mut codes = [0i32; HEADS];
+    let mut counts = [0u32; HEADS];
     if !codes::share(rows, links, n, s.f, struck, &mut codes, &mut counts) {
         return false;
     }

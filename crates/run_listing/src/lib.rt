@@ -156,7 +156,7 @@ pub fn level(positions: &mut Positions, struck: u64, n: u8, m: u8) -> bool
     if a != b {
         return false;
     }
-    *positions = [a; 48];
+    *positions = [a; RECEIVERS];
     true
 }
 

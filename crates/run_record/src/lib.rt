@@ -16,6 +16,7 @@ use frame_slots::PlantedLengths;
 use run_spec::Pair;
 use run_state::Player;
 use terms::Family;
+use terms::HEADS;
 use terms::Lists;
 use terms::Numbers;
 use terms::Positions;
@@ -46,7 +47,7 @@ fn store_heads(first: &Numbers, positions: &mut [i32])
     ensures { λ _. ⌜ ((j : ℕ) → j < 32 → getD (now (positions .exit)) j (pos 0) ≡ getD (now (first .entry)) j (pos 0)) ⌝ }
 {
     let mut j: usize = 0;
-    while j < 32 {
+    while j < HEADS {
         positions[j] = first[j];
         j += 1;
     }

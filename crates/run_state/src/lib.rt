@@ -48,7 +48,7 @@ pub struct Player {
 pub fn fresh(begun: bool, family: Family, n: u8, f: u8) -> Player
     ensures { λ r. ⌜ r ≡ freshPlayer begun family n f ⌝ }
 {
-    let since = [0u8; 48];
+    let since = [0u8; RECEIVERS];
     Player {
         begun,
         family,
@@ -146,7 +146,7 @@ fn aged(since: Counts) -> Counts
 {
     let mut out = since;
     let mut j: usize = 0;
-    while j < 48 {
+    while j < RECEIVERS {
         out[j] = count_more(since[j]);
         j += 1;
     }
@@ -159,7 +159,7 @@ fn cleared(since: Counts, marks: u64) -> Counts
 {
     let mut out = since;
     let mut j: usize = 0;
-    while j < 48 {
+    while j < RECEIVERS {
         if marks >> j == 0 {
             return out;
         }

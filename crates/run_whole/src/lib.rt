@@ -15,8 +15,10 @@ use frame_slots::PlantedLengths;
 use run_state::Carry;
 use run_state::Counts;
 use run_state::Player;
+use terms::HEADS;
 use terms::Lists;
 use terms::Positions;
+use terms::RECEIVERS;
 use terms::Words;
 use terms::refusal;
 use texts::Text;
@@ -114,7 +116,7 @@ fn fill_row(rows: &mut [i32], base: usize, positions: &Positions, n: u8, m: u8, 
     ensures { λ _. ⌜ now (rows .exit) ≡ paste (now (rows .entry)) base (soundRow n m word (now (positions .entry)) 48) 48 ⌝ }
 {
     let mut i: usize = 0;
-    while i < 48 {
+    while i < RECEIVERS {
         let v = number_at(positions, n, m, word, i);
         rows[base + i] = v;
         i += 1;
@@ -308,7 +310,7 @@ pub fn play(file: &[u8], out: &mut [u8], rows: &mut [i32], words: &mut [u64]) ->
         (now (file .entry)) r (lent out rows words) (left out rows words) ⌝ }
 {
     if !has_room(file, out.len(), rows.len(), words.len()) {
-        let since = [0u8; 48];
+        let since = [0u8; RECEIVERS];
         return PlayResult {
             number: refusal::BUFFER,
             len: 0,
@@ -317,10 +319,10 @@ pub fn play(file: &[u8], out: &mut [u8], rows: &mut [i32], words: &mut [u64]) ->
         };
     }
     let mut carry = [0u8; run_state::CARRY];
-    let mut positions = [0i32; 48];
-    let mut marks = [0u32; 32];
-    let none = [0i32; 32];
-    let mut lists = [none; 32];
+    let mut positions = [0i32; RECEIVERS];
+    let mut marks = [0u32; HEADS];
+    let none = [0i32; HEADS];
+    let mut lists = [none; HEADS];
     let mut planted = [0u8; frame_slots::BYTES];
     let mut lengths = [0u8; frame_slots::LINKS];
     run(

@@ -17,6 +17,7 @@ use settle_midpoint::Order;
 use settle_trust::Links;
 use terms::Entry;
 use terms::Family;
+use terms::HEADS;
 use terms::Lists;
 use terms::Numbers;
 use terms::Words;
@@ -47,7 +48,7 @@ fn add_same(a: &Numbers, b: &Numbers, same: &mut Words)
     ensures { λ _. ⌜ (length (now (same .exit)) ≡ 32) × Each 32 (λ j. getD (now (same .exit)) j 0 ≡ getD (now (same .entry)) j 0 + bit (sameNumber (now (a .entry)) (now (b .entry)) j)) ⌝ }
 {
     let mut j: usize = 0;
-    while j < 32 {
+    while j < HEADS {
         same[j] = same[j] + (a[j] == b[j]) as u32;
         j += 1;
     }
@@ -72,7 +73,7 @@ fn compare(lists: &Lists, marks: &Words, n: usize, reference: usize) -> Comparis
     let row = lists[reference];
     let mut alike: u8 = 0;
     let mut apart: u8 = 0;
-    let mut same = [0u32; 32];
+    let mut same = [0u32; HEADS];
     let mut k: usize = 0;
     while k < n {
         alike += (marks[k] == word) as u8;
@@ -213,7 +214,7 @@ pub fn settle_entries(
         → r ≡ settling (bit up) n (twoRounds f) E) ⌝ }
 {
     let count = terms::at_most_32(n as usize);
-    let mut positions = [0i32; 32];
+    let mut positions = [0i32; HEADS];
     let mut len: usize = 0;
     let mut j: usize = 0;
     while j < count {
@@ -234,8 +235,8 @@ pub fn settle_by(
 ) -> settle_midpoint::Settled
     ensures { λ r. ⌜ r ≡ settling (bit up) n (twoRounds f) (trusted n f (givenBy links (now (lists .entry)))) ⌝ }
 {
-    let mut marks = [0u32; 32];
-    let mut same = [0u32; 32];
+    let mut marks = [0u32; HEADS];
+    let mut same = [0u32; HEADS];
     let d = prepare(lists, links, reference, n, f, &mut marks, &mut same);
     settle_entries(lists, &marks, &lists[reference % 32], &same, d, n, f, up)
 }

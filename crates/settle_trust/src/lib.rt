@@ -12,6 +12,7 @@ ghost use mathlib.Core.Bool.{false};
 ghost use Rattle.convergence.specs.Trust.{support, trusted, choose};
 ghost use Rattle.settle_trust.specs.Received.{givenBy};
 use terms::Entry;
+use terms::HEADS;
 use terms::Lists;
 use terms::Numbers;
 use terms::Table;
@@ -58,7 +59,7 @@ pub fn all_marks(links: Links, n: u8) -> Words
     ensures { λ r. ⌜ r ≡ marksTo links (min n 32) ⌝ }
 {
     let count = terms::at_most_32(n as usize);
-    let mut marks = [0u32; 32];
+    let mut marks = [0u32; HEADS];
     let mut k: usize = 0;
     while k < count {
         let confessed = marks::marked(links.confessed, k);
@@ -112,7 +113,7 @@ pub fn entry_of(x: u64) -> Entry
 // ---- From what the links gave in a confession round to the trusted entries: support, and the one position that enough links support.
 
 // The cells of entry j of the first n lists.
-fn column(lists: &Lists, marks: &Words, n: usize, j: usize, cells: &mut [u64; 32])
+fn column(lists: &Lists, marks: &Words, n: usize, j: usize, cells: &mut [u64; HEADS])
     requires { ⌜ (n ≤ 32) × (n ≤ length (now cells)) ⌝ }
     ensures { λ _. ⌜ HoldsEach n (now (cells .exit)) (columnOf (now (marks .entry)) (now (lists .entry)) j) ⌝ }
 {
@@ -124,7 +125,7 @@ fn column(lists: &Lists, marks: &Words, n: usize, j: usize, cells: &mut [u64; 32
 }
 
 // How many of the first n cells are x.
-fn equal_to(cells: &[u64; 32], n: usize, x: u64) -> usize
+fn equal_to(cells: &[u64; HEADS], n: usize, x: u64) -> usize
     requires { ⌜ n ≤ 32 ⌝ }
     ensures { λ r. ⌜ r ≡ equalTo n (now (cells .entry)) x ⌝ }
 {
@@ -138,7 +139,7 @@ fn equal_to(cells: &[u64; 32], n: usize, x: u64) -> usize
 }
 
 // Whether the cell x is another than the one found, and is in `need` lists or more.
-fn is_another(cells: &[u64; 32], n: usize, need: usize, found: u64, x: u64) -> bool
+fn is_another(cells: &[u64; HEADS], n: usize, need: usize, found: u64, x: u64) -> bool
     requires { ⌜ n ≤ 32 ⌝ }
     ensures { λ r. ⌜ r ≡ isAnother n need (now (cells .entry)) found x ⌝ }
 {
@@ -191,7 +192,7 @@ fn after_cell(v: Vote, x: u64) -> Vote
 }
 
 // The vote among the first n cells.
-fn voted(cells: &[u64; 32], n: usize) -> Vote
+fn voted(cells: &[u64; HEADS], n: usize) -> Vote
     requires { ⌜ n ≤ 32 ⌝ }
     ensures { λ r. ⌜ ((E : ℕ → Entry) → HoldsEach n (now (cells .entry)) E → Leads n E r) ⌝ }
 {
@@ -210,7 +211,7 @@ fn voted(cells: &[u64; 32], n: usize) -> Vote
 
 // The cell of the only position that is in `need` lists or more; 0 if there is none, or several. What is in `need` lists is in an early
 // one, so the search ends if fewer than `need` are left.
-fn searched(cells: &[u64; 32], n: usize, need: usize) -> u64
+fn searched(cells: &[u64; HEADS], n: usize, need: usize) -> u64
     requires { ⌜ (n ≤ 32) × (0 < need) ⌝ }
     ensures { λ r. ⌜ ((E : ℕ → Entry) → HoldsEach n (now (cells .entry)) E → CellOf r (choose false false (agreed n need E))) ⌝ }
 {
@@ -230,7 +231,7 @@ fn searched(cells: &[u64; 32], n: usize, need: usize) -> u64
 }
 
 // The same by a vote: if `need` is more than half of the cells that are not null, only the leader can stand in so many.
-fn only(cells: &[u64; 32], n: usize, need: usize) -> u64
+fn only(cells: &[u64; HEADS], n: usize, need: usize) -> u64
     requires { ⌜ (n ≤ 32) × (0 < need) ⌝ }
     ensures { λ r. ⌜ ((E : ℕ → Entry) → HoldsEach n (now (cells .entry)) E → CellOf r (choose false false (agreed n need E))) ⌝ }
 {
@@ -245,7 +246,7 @@ fn only(cells: &[u64; 32], n: usize, need: usize) -> u64
 }
 
 // The cell of the entry that the first n cells decide, if `need` of them have to agree.
-pub fn agreed_cell(cells: &[u64; 32], n: usize, need: usize) -> u64
+pub fn agreed_cell(cells: &[u64; HEADS], n: usize, need: usize) -> u64
     ensures { λ r. ⌜ ((E : ℕ → Entry) → HoldsEach (min n 32) (now (cells .entry)) E → CellOf r (decided false (min n 32) need E)) ⌝ }
 {
     if need == 0 {
@@ -268,7 +269,7 @@ pub fn trusted_cell(
     if marks::marked(confessed, j) {
         return 0;
     }
-    let mut cells = [0u64; 32];
+    let mut cells = [0u64; HEADS];
     column(lists, marks, terms::at_most_32(n), j, &mut cells);
     agreed_cell(&cells, n, need)
 }
@@ -279,7 +280,7 @@ pub fn support(lists: Lists, links: Links, n: u8, j: usize, u: i32) -> usize
 {
     let count = terms::at_most_32(n as usize);
     let given = all_marks(links, n);
-    let mut cells = [0u64; 32];
+    let mut cells = [0u64; HEADS];
     column(&lists, &given, count, j, &mut cells);
     marks::marked_to(links.confessed, count) + equal_to(&cells, count, cell_of(u))
 }
@@ -302,7 +303,7 @@ pub fn trusted_table(lists: Lists, links: Links, n: u8, f: u8) -> Table
     let count = terms::at_most_32(n as usize);
     let given = all_marks(links, n);
     let mut marks: u32 = 0;
-    let mut entries = [0i32; 32];
+    let mut entries = [0i32; HEADS];
     let mut j: usize = 0;
     while j < count {
         let x = trusted_cell(&lists, &given, links.confessed, count, need, j);
