@@ -138,8 +138,8 @@ static uint32_t too_high(int family, uint32_t n) {
 
 /* A ring of 5 heads with positions 10 to 50, or of 33 (or, if a mark must stand at n or above, of 0) as a wrong count. */
 static void midpoint_faults(int faults, int null_entry, int family) {
-    uint8_t limit = family ? FOCUS_ONE_ROUND_LIMIT : FOCUS_STRUCK_LIMIT;
-    const uint8_t order[] = {FOCUS_HEAD_COUNT, limit, FOCUS_PHASE, FOCUS_KIND_LENGTH, FOCUS_MARKS, FOCUS_ENTRY, FOCUS_TRUSTED};
+    uint8_t limit = family ? FOCUS_ONE_ROUND_LIMIT_TOO_HIGH : FOCUS_STRUCK_LIMIT_TOO_HIGH;
+    const uint8_t order[] = {FOCUS_BAD_HEAD_COUNT, limit, FOCUS_PHASE_OUT_OF_RANGE, FOCUS_WRONG_LENGTH_FOR_KIND, FOCUS_BAD_COUNT_OR_MARKS, FOCUS_ENTRY_OUT_OF_RANGE, FOCUS_TOO_FEW_TRUSTED};
     uint8_t entries[512] = {0};
     uint32_t n = !(faults & HEADS) ? 5 : faults & MARK ? 0 : 33;
     uint32_t f = faults & LIMIT ? too_high(family, n) : n == 0 ? 0 : 1;
@@ -169,51 +169,51 @@ static void midpoint_extremes(void) {
     uint8_t entries[512] = {0};
     static const uint32_t wide[] = {0, 33, 255, 256, 261, 65536 + 5, UINT32_MAX / 2 + 1, UINT32_MAX};
     for (size_t i = 0; i < sizeof wide / sizeof *wide; i++) {
-        midpoint("head count", wide[i], 0, 1, 0, entries, 0, FOCUS_HEAD_COUNT, 0);
-        midpoint("head count, any limit", wide[i], UINT32_MAX, 0, UINT32_MAX, entries, 20, FOCUS_HEAD_COUNT, 0);
+        midpoint("head count", wide[i], 0, 1, 0, entries, 0, FOCUS_BAD_HEAD_COUNT, 0);
+        midpoint("head count, any limit", wide[i], UINT32_MAX, 0, UINT32_MAX, entries, 20, FOCUS_BAD_HEAD_COUNT, 0);
     }
     static const uint32_t limits[] = {2, 257, 65536, UINT32_MAX / 7, UINT32_MAX / 7 + 1, UINT32_MAX};
     for (size_t i = 0; i < sizeof limits / sizeof *limits; i++)
-        midpoint("struck limit", 5, limits[i], 0, 31, entries, 20, FOCUS_STRUCK_LIMIT, 0);
+        midpoint("struck limit", 5, limits[i], 0, 31, entries, 20, FOCUS_STRUCK_LIMIT_TOO_HIGH, 0);
     /* every size from 1 to 40 heads, with every limit to 12 */
     for (uint32_t n = 1; n <= 40; n++)
         for (uint32_t f = 0; f <= 12; f++) {
             uint32_t marks = n >= 32 ? UINT32_MAX : (UINT32_C(1) << n) - 1;
-            midpoint("size", n, f, 1, marks, entries, 4 * n, n > 32 ? FOCUS_HEAD_COUNT : 2 * n < 7 * f + 2 ? FOCUS_STRUCK_LIMIT : 0, 0);
+            midpoint("size", n, f, 1, marks, entries, 4 * n, n > 32 ? FOCUS_BAD_HEAD_COUNT : 2 * n < 7 * f + 2 ? FOCUS_STRUCK_LIMIT_TOO_HIGH : 0, 0);
         }
     for (uint32_t n = 1; n <= 40; n++)
         for (uint32_t f = 0; f <= 12; f++) {
             uint32_t marks = n >= 32 ? UINT32_MAX : (UINT32_C(1) << n) - 1;
-            one_round("size", n, f, 1, marks, entries, 4 * n, n > 32 ? FOCUS_HEAD_COUNT : n < 4 * f + 1 ? FOCUS_ONE_ROUND_LIMIT : 0, 0);
+            one_round("size", n, f, 1, marks, entries, 4 * n, n > 32 ? FOCUS_BAD_HEAD_COUNT : n < 4 * f + 1 ? FOCUS_ONE_ROUND_LIMIT_TOO_HIGH : 0, 0);
         }
     for (uint32_t nulls = 0; nulls <= 29; nulls++)
-        one_round("nulls", 29, 7, 1, UINT32_MAX >> 3 >> nulls, entries, 116, nulls > 14 ? FOCUS_TRUSTED : 0, 0);
+        one_round("nulls", 29, 7, 1, UINT32_MAX >> 3 >> nulls, entries, 116, nulls > 14 ? FOCUS_TOO_FEW_TRUSTED : 0, 0);
     /* every phase near the ends, and each bit beside them; all entries are 0 */
     static const uint32_t phases[] = {0, 1, 2, 65534, 65535, 65536, 65537, UINT32_C(1) << 17, UINT32_MAX - 1, UINT32_MAX};
     for (size_t i = 0; i < sizeof phases / sizeof *phases; i++)
-        midpoint("phase", 5, 1, phases[i], 31, entries, 20, phases[i] >= 1 && phases[i] <= 65535 ? 0 : FOCUS_PHASE, 0);
+        midpoint("phase", 5, 1, phases[i], 31, entries, 20, phases[i] >= 1 && phases[i] <= 65535 ? 0 : FOCUS_PHASE_OUT_OF_RANGE, 0);
     for (uint32_t bit = 16; bit < 32; bit++)
-        midpoint("a phase of more than 2 bytes", 5, 1, 1 | UINT32_C(1) << bit, 31, entries, 20, FOCUS_PHASE, 0);
+        midpoint("a phase of more than 2 bytes", 5, 1, 1 | UINT32_C(1) << bit, 31, entries, 20, FOCUS_PHASE_OUT_OF_RANGE, 0);
     /* every length beside 4n, and one byte short and long of it */
     for (size_t length = 0; length <= 200; length++)
-        midpoint("entries not 4n bytes", 32, 8, 1, UINT32_MAX, entries, length, length == 128 ? 0 : FOCUS_KIND_LENGTH, 0);
+        midpoint("entries not 4n bytes", 32, 8, 1, UINT32_MAX, entries, length, length == 128 ? 0 : FOCUS_WRONG_LENGTH_FOR_KIND, 0);
     /* each mark above n */
     for (uint32_t j = 5; j < 32; j++)
-        midpoint("a mark at n or above", 5, 1, 1, 31 | UINT32_C(1) << j, entries, 20, FOCUS_MARKS, 0);
+        midpoint("a mark at n or above", 5, 1, 1, 31 | UINT32_C(1) << j, entries, 20, FOCUS_BAD_COUNT_OR_MARKS, 0);
     /* each entry at the ends of the range and past them, marked and not */
     static const int32_t values[] = {-1000000, 1000000, -1000001, 1000001, INT32_MIN, INT32_MAX, -1, 1, 0};
     for (uint32_t j = 0; j < 32; j++)
         for (size_t i = 0; i < sizeof values / sizeof *values; i++) {
             int in_range = values[i] >= -1000000 && values[i] <= 1000000;
             put4(entries + 4 * j, values[i]);
-            midpoint("an entry's range", 32, 8, 1, UINT32_MAX, entries, 128, in_range ? 0 : FOCUS_ENTRY, 0);
-            midpoint("a null entry", 32, 8, 1, ~(UINT32_C(1) << j), entries, 128, values[i] == 0 ? 0 : FOCUS_ENTRY, 0);
+            midpoint("an entry's range", 32, 8, 1, UINT32_MAX, entries, 128, in_range ? 0 : FOCUS_ENTRY_OUT_OF_RANGE, 0);
+            midpoint("a null entry", 32, 8, 1, ~(UINT32_C(1) << j), entries, 128, values[i] == 0 ? 0 : FOCUS_ENTRY_OUT_OF_RANGE, 0);
             put4(entries + 4 * j, 0);
         }
     /* 25 by the nulls alone */
     for (uint32_t nulls = 0; nulls <= 32; nulls++)
-        midpoint("nulls", 32, 8, 1, nulls == 32 ? 0 : UINT32_MAX >> nulls, entries, 128, nulls > 24 ? FOCUS_TRUSTED : 0, 0);
-    midpoint("one null while f is 0", 1, 0, 1, 0, entries, 4, FOCUS_TRUSTED, 0);
+        midpoint("nulls", 32, 8, 1, nulls == 32 ? 0 : UINT32_MAX >> nulls, entries, 128, nulls > 24 ? FOCUS_TOO_FEW_TRUSTED : 0, 0);
+    midpoint("one null while f is 0", 1, 0, 1, 0, entries, 4, FOCUS_TOO_FEW_TRUSTED, 0);
 }
 
 struct point {
@@ -226,7 +226,7 @@ struct point {
 static void midpoint_points(void) {
     static const struct point points[] = {
         {5, 1, 1, 0x0f, {10, 20, 30, 40, 0}, 0, 25}, {5, 1, 1, 0x07, {10, 20, 30, 0, 0}, 0, 20}, {5, 1, 1, 0x03, {10, 20, 0, 0, 0}, 0, 15},
-        {5, 1, 1, 0x01, {10, 0, 0, 0, 0}, FOCUS_TRUSTED, 0}, {1, 0, 1, 0x01, {7}, 0, 7},
+        {5, 1, 1, 0x01, {10, 0, 0, 0, 0}, FOCUS_TOO_FEW_TRUSTED, 0}, {1, 0, 1, 0x01, {7}, 0, 7},
         /* odd sums: down in phases 1, 3 and 65,535, up in 2 and 65,534 */
         {5, 1, 1, 0x1f, {0, 0, 0, 1, 1}, 0, 0}, {5, 1, 2, 0x1f, {0, 0, 0, 1, 1}, 0, 1}, {5, 1, 3, 0x1f, {0, 0, 0, 1, 1}, 0, 0},
         {5, 1, 1, 0x1f, {-3, -3, -2, -2, -2}, 0, -3}, {5, 1, 2, 0x1f, {-3, -3, -2, -2, -2}, 0, -2},
@@ -261,7 +261,7 @@ static void wrong_limits(uint8_t *bytes, uint32_t *marks, int way) {
 
 /* A ring of 5 heads known from 9 to 12, 19 to 22 and so on; of 33 or of 0 as a wrong count, as for the midpoint. */
 static void limits_faults(int faults, int way) {
-    static const uint8_t order[] = {FOCUS_HEAD_COUNT, FOCUS_STRUCK_LIMIT, FOCUS_PHASE, FOCUS_KIND_LENGTH, FOCUS_MARKS, FOCUS_LIMITS, FOCUS_TRUSTED};
+    static const uint8_t order[] = {FOCUS_BAD_HEAD_COUNT, FOCUS_STRUCK_LIMIT_TOO_HIGH, FOCUS_PHASE_OUT_OF_RANGE, FOCUS_WRONG_LENGTH_FOR_KIND, FOCUS_BAD_COUNT_OR_MARKS, FOCUS_BAD_LIMITS, FOCUS_TOO_FEW_TRUSTED};
     uint8_t bytes[512] = {0};
     uint32_t n = !(faults & HEADS) ? 5 : faults & MARK ? 0 : 33;
     uint32_t f = faults & LIMIT ? too_high(0, n) : n == 0 ? 0 : 1;
@@ -286,17 +286,17 @@ static void limits_extremes(void) {
     uint8_t bytes[512] = {0};
     static const uint32_t wide[] = {0, 33, 255, 256, 261, 65536 + 5, UINT32_MAX / 2 + 1, UINT32_MAX};
     for (size_t i = 0; i < sizeof wide / sizeof *wide; i++)
-        limits("head count", wide[i], UINT32_MAX, 0, UINT32_MAX, bytes, 40, FOCUS_HEAD_COUNT, 0, 0);
+        limits("head count", wide[i], UINT32_MAX, 0, UINT32_MAX, bytes, 40, FOCUS_BAD_HEAD_COUNT, 0, 0);
     for (uint32_t n = 1; n <= 40; n++)
         for (uint32_t f = 0; f <= 12; f++) {
             uint32_t marks = n >= 32 ? UINT32_MAX : (UINT32_C(1) << n) - 1;
-            limits("size", n, f, 1, marks, bytes, 8 * n, n > 32 ? FOCUS_HEAD_COUNT : 2 * n < 7 * f + 2 ? FOCUS_STRUCK_LIMIT : 0, 0, 0);
+            limits("size", n, f, 1, marks, bytes, 8 * n, n > 32 ? FOCUS_BAD_HEAD_COUNT : 2 * n < 7 * f + 2 ? FOCUS_STRUCK_LIMIT_TOO_HIGH : 0, 0, 0);
         }
     /* every length beside 8n, the midpoint's 4n among them, and each mark above n */
     for (size_t length = 0; length <= 300; length++)
-        limits("not 8n bytes", 32, 8, 1, UINT32_MAX, bytes, length, length == 256 ? 0 : FOCUS_KIND_LENGTH, 0, 0);
+        limits("not 8n bytes", 32, 8, 1, UINT32_MAX, bytes, length, length == 256 ? 0 : FOCUS_WRONG_LENGTH_FOR_KIND, 0, 0);
     for (uint32_t j = 5; j < 32; j++)
-        limits("a mark at n or above", 5, 1, 1, 31 | UINT32_C(1) << j, bytes, 40, FOCUS_MARKS, 0, 0);
+        limits("a mark at n or above", 5, 1, 1, 31 | UINT32_C(1) << j, bytes, 40, FOCUS_BAD_COUNT_OR_MARKS, 0, 0);
     /* each entry with every pair of ends, marked and not */
     static const int32_t ends[] = {-1000000, 1000000, -1000001, 1000001, INT32_MIN, INT32_MAX, -1, 1, 0};
     enum { ENDS = sizeof ends / sizeof *ends };
@@ -305,12 +305,12 @@ static void limits_extremes(void) {
             int32_t low = ends[i / ENDS], high = ends[i % ENDS];
             int fit = low >= -1000000 && high <= 1000000 && low <= high;
             put8(bytes + 8 * j, low, high);
-            limits("an entry's limits", 32, 8, 1, UINT32_MAX, bytes, 256, fit ? 0 : FOCUS_LIMITS, 0, 0);
-            limits("a null entry's limits", 32, 8, 1, ~(UINT32_C(1) << j), bytes, 256, low == 0 && high == 0 ? 0 : FOCUS_LIMITS, 0, 0);
+            limits("an entry's limits", 32, 8, 1, UINT32_MAX, bytes, 256, fit ? 0 : FOCUS_BAD_LIMITS, 0, 0);
+            limits("a null entry's limits", 32, 8, 1, ~(UINT32_C(1) << j), bytes, 256, low == 0 && high == 0 ? 0 : FOCUS_BAD_LIMITS, 0, 0);
             put8(bytes + 8 * j, 0, 0);
         }
     for (uint32_t nulls = 0; nulls <= 32; nulls++)
-        limits("nulls", 32, 8, 1, nulls == 32 ? 0 : UINT32_MAX >> nulls, bytes, 256, nulls > 24 ? FOCUS_TRUSTED : 0, 0, 0);
+        limits("nulls", 32, 8, 1, nulls == 32 ? 0 : UINT32_MAX >> nulls, bytes, 256, nulls > 24 ? FOCUS_TOO_FEW_TRUSTED : 0, 0, 0);
     /* nothing known, at every size from 1 on: all positions are possible */
     for (uint32_t j = 0; j < 32; j++)
         put8(bytes + 8 * j, -1000000, 1000000);
@@ -367,8 +367,8 @@ enum { R_HEADS = 1, R_LIMIT = 2, R_PHASE = 4, R_NUMBER = 8, R_BYTES = 16, R_MARK
 
 /* A ring of 5 heads at 10, 20, 30, 40 and entry 4 open, with any bytes and any mark; of 33 or of 0 as a wrong count, as for the midpoint. */
 static void reach_faults(int faults, int way, int family) {
-    uint8_t limit = family ? FOCUS_ONE_ROUND_LIMIT : FOCUS_STRUCK_LIMIT;
-    const uint8_t order[] = {FOCUS_HEAD_COUNT, limit, FOCUS_PHASE, FOCUS_HEAD_NUMBER, FOCUS_KIND_LENGTH, FOCUS_MARKS, FOCUS_ENTRY, FOCUS_TRUSTED};
+    uint8_t limit = family ? FOCUS_ONE_ROUND_LIMIT_TOO_HIGH : FOCUS_STRUCK_LIMIT_TOO_HIGH;
+    const uint8_t order[] = {FOCUS_BAD_HEAD_COUNT, limit, FOCUS_PHASE_OUT_OF_RANGE, FOCUS_NUMBER_TOO_HIGH, FOCUS_WRONG_LENGTH_FOR_KIND, FOCUS_BAD_COUNT_OR_MARKS, FOCUS_ENTRY_OUT_OF_RANGE, FOCUS_TOO_FEW_TRUSTED};
     struct table t = {family, !(faults & R_HEADS) ? 5 : faults & R_MARK ? 0 : 33, 1, 1 + (uint32_t)way, 4, 0, {0}, 0};
     if (faults & R_LIMIT)
         t.f = too_high(family, t.n);
@@ -413,9 +413,9 @@ static void reach_points(void) {
     /* every number of null entries among the others: the open one is not counted */
     for (uint32_t nulls = 0; nulls <= 28; nulls++) {
         struct table wide = {0, 29, 7, 1, 28, UINT32_MAX >> 4 >> nulls, {0}, 116};
-        reach("nulls", &wide, 0, nulls > 21 ? FOCUS_TRUSTED : 0, nulls == 21 ? 0 : -1000000); /* with 3f nulls nothing is dropped */
+        reach("nulls", &wide, 0, nulls > 21 ? FOCUS_TOO_FEW_TRUSTED : 0, nulls == 21 ? 0 : -1000000); /* with 3f nulls nothing is dropped */
         wide.family = 1;
-        reach("nulls", &wide, 0, nulls > 14 ? FOCUS_TRUSTED : 0, -1000000);
+        reach("nulls", &wide, 0, nulls > 14 ? FOCUS_TOO_FEW_TRUSTED : 0, -1000000);
     }
 }
 
@@ -454,7 +454,7 @@ static void reach_tables(void) {
                 other++;
             }
             if (nulls > (t.family ? 2 : 3)) {
-                reach("too few", &t, 0, FOCUS_TRUSTED, 0);
+                reach("too few", &t, 0, FOCUS_TOO_FEW_TRUSTED, 0);
                 continue;
             }
             for (int32_t wanted = -2; wanted <= 12; wanted++)
@@ -468,16 +468,16 @@ static void scales(void) {
     static const uint32_t bad[] = {0, 1000001, UINT32_MAX};
     static const int32_t out[] = {-1000001, 1000001, INT32_MIN, INT32_MAX};
     for (size_t i = 0; i < 3; i++) {
-        scale("numerator", 1, bad[i], 1, FOCUS_SCALE, 0);
-        scale("denominator", 1, 1000000, bad[i], FOCUS_SCALE, 0);
+        scale("numerator", 1, bad[i], 1, FOCUS_BAD_SCALE, 0);
+        scale("denominator", 1, 1000000, bad[i], FOCUS_BAD_SCALE, 0);
         for (size_t j = 0; j < 4; j++) {
-            scale("numerator, then position", out[j], bad[i], 1, FOCUS_SCALE, 0);
-            scale("denominator, then position", out[j], 1000000, bad[i], FOCUS_SCALE, 0);
+            scale("numerator, then position", out[j], bad[i], 1, FOCUS_BAD_SCALE, 0);
+            scale("denominator, then position", out[j], 1000000, bad[i], FOCUS_BAD_SCALE, 0);
         }
     }
-    scale("numerator below denominator", 1, 1, 2, FOCUS_SCALE, 0);
+    scale("numerator below denominator", 1, 1, 2, FOCUS_BAD_SCALE, 0);
     for (size_t j = 0; j < 4; j++)
-        scale("position", out[j], 3, 2, FOCUS_POSITION, 0);
+        scale("position", out[j], 3, 2, FOCUS_POSITION_OUT_OF_RANGE, 0);
     scale("largest", 1000000, 1000000, 1, 0, INT64_C(1000000000000));
     scale("lowest", -1000000, 1000000, 1, 0, INT64_C(-1000000000000));
     scale("equal", -7, 1000000, 1000000, 0, -7);
@@ -529,11 +529,11 @@ static void unscales(void) {
     static const int64_t any[] = {0, 1, -1, FAR, -FAR, FAR + 1, -FAR - 1, INT64_MAX, INT64_MIN, INT64_MAX - 1, INT64_MIN + 1};
     for (size_t j = 0; j < sizeof any / sizeof *any; j++) {
         for (size_t i = 0; i < 3; i++) {
-            unscale("numerator, any reading", any[j], bad[i], 1, FOCUS_SCALE, 0);
-            unscale("denominator, any reading", any[j], 1000000, bad[i], FOCUS_SCALE, 0);
+            unscale("numerator, any reading", any[j], bad[i], 1, FOCUS_BAD_SCALE, 0);
+            unscale("denominator, any reading", any[j], 1000000, bad[i], FOCUS_BAD_SCALE, 0);
         }
-        unscale("numerator below denominator, any reading", any[j], 1, 2, FOCUS_SCALE, 0);
-        unscale("numerator just below denominator", any[j], 999999, 1000000, FOCUS_SCALE, 0);
+        unscale("numerator below denominator, any reading", any[j], 1, 2, FOCUS_BAD_SCALE, 0);
+        unscale("numerator just below denominator", any[j], 999999, 1000000, FOCUS_BAD_SCALE, 0);
         for (size_t k = 0; j >= 5 && k < RATIOS; k++)
             unscale("a far reading", any[j], ratios[k][0], ratios[k][1], 0, FOCUS_NO_STEP);
     }
@@ -596,34 +596,34 @@ static void frames(void) {
                 uint8_t count = length >= 12 ? (uint8_t)((length - 12) / 4) : 0;
                 int known = kind >= 1 && kind <= 4;
                 size_t right = kind == 3 ? 12 + 4 * (size_t)count : known ? lengths[kind] : 0;
-                int number = length < 4 || off ? FOCUS_STATED_LENGTH : !known ? FOCUS_KIND : length != right ? FOCUS_KIND_LENGTH : 0;
+                int number = length < 4 || off ? FOCUS_STATED_LENGTH_DIFFERS : !known ? FOCUS_UNKNOWN_KIND : length != right ? FOCUS_WRONG_LENGTH_FOR_KIND : 0;
                 build(bytes, length, (unsigned)length + (unsigned)off, kind, count);
                 frame("frame", bytes, length, (uint8_t)number);
             }
     /* all 16 bits of the kind count, and a list's own count */
     for (unsigned kind = 0; kind <= 65535; kind += 255) {
         int known = kind >= 1 && kind <= 4;
-        frame("kind", bytes, build(bytes, 9, 9, kind, 0), known ? FOCUS_KIND_LENGTH : FOCUS_KIND);
+        frame("kind", bytes, build(bytes, 9, 9, kind, 0), known ? FOCUS_WRONG_LENGTH_FOR_KIND : FOCUS_UNKNOWN_KIND);
     }
     for (unsigned count = 0; count <= 255; count++)
         for (size_t other = 0; other <= 255; other += 5) {
             size_t length = build(bytes, 12 + 4 * other, (unsigned)(12 + 4 * other), 3, (uint8_t)count);
-            frame("count", bytes, length, count == other ? 0 : FOCUS_KIND_LENGTH);
+            frame("count", bytes, length, count == other ? 0 : FOCUS_WRONG_LENGTH_FOR_KIND);
         }
     /* faults together: the earlier number */
-    frame("length, then kind", bytes, build(bytes, 9, 8, 5, 0), FOCUS_STATED_LENGTH);
-    frame("length, then the kind's length", bytes, build(bytes, 9, 8, 1, 0), FOCUS_STATED_LENGTH);
-    frame("kind, then the kind's length", bytes, build(bytes, 9, 9, 0, 0), FOCUS_KIND);
-    frame("all three", bytes, build(bytes, 9, 8, 0, 0), FOCUS_STATED_LENGTH);
+    frame("length, then kind", bytes, build(bytes, 9, 8, 5, 0), FOCUS_STATED_LENGTH_DIFFERS);
+    frame("length, then the kind's length", bytes, build(bytes, 9, 8, 1, 0), FOCUS_STATED_LENGTH_DIFFERS);
+    frame("kind, then the kind's length", bytes, build(bytes, 9, 9, 0, 0), FOCUS_UNKNOWN_KIND);
+    frame("all three", bytes, build(bytes, 9, 8, 0, 0), FOCUS_STATED_LENGTH_DIFFERS);
     /* short and long slices */
     const uint8_t four_unknown[] = {4, 0, 5, 0}, four_known[] = {4, 0, 1, 0}, three[] = {4, 0, 2}, list7[] = {7, 0, 3, 0, 0, 1, 0};
-    frame("4 bytes, unknown", four_unknown, 4, FOCUS_KIND);
-    frame("4 bytes, known", four_known, 4, FOCUS_KIND_LENGTH);
-    frame("3 bytes", three, 3, FOCUS_STATED_LENGTH);
-    frame("a list without a count", list7, 7, FOCUS_KIND_LENGTH);
-    frame("no bytes", bytes, 0, FOCUS_STATED_LENGTH);
-    frame("the longest field", bytes, build(bytes, 65535, 65535, 3, 255), FOCUS_KIND_LENGTH);
-    frame("more bytes than a field can say", bytes, build(bytes, 65536 + 7, 7, 2, 0), FOCUS_STATED_LENGTH);
+    frame("4 bytes, unknown", four_unknown, 4, FOCUS_UNKNOWN_KIND);
+    frame("4 bytes, known", four_known, 4, FOCUS_WRONG_LENGTH_FOR_KIND);
+    frame("3 bytes", three, 3, FOCUS_STATED_LENGTH_DIFFERS);
+    frame("a list without a count", list7, 7, FOCUS_WRONG_LENGTH_FOR_KIND);
+    frame("no bytes", bytes, 0, FOCUS_STATED_LENGTH_DIFFERS);
+    frame("the longest field", bytes, build(bytes, 65535, 65535, 3, 255), FOCUS_WRONG_LENGTH_FOR_KIND);
+    frame("more bytes than a field can say", bytes, build(bytes, 65536 + 7, 7, 2, 0), FOCUS_STATED_LENGTH_DIFFERS);
 }
 
 int main(void) {

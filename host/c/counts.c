@@ -13,14 +13,14 @@ static void show(unsigned number, unsigned count) {
 }
 
 int main(int count, char **names) {
-    struct played p = {.number = FOCUS_BUFFER};
+    struct played p = {.number = FOCUS_BUFFER_TOO_SHORT};
     size_t bytes = 0;
     uint8_t *file = count == 2 ? read_whole(names[1], &bytes) : NULL;
     if (file != NULL) {
         make_room(&p, file, bytes);
         play(&p, file, bytes);
     }
-    if (p.number == FOCUS_BUFFER) {
+    if (p.number == FOCUS_BUFFER_TOO_SHORT) {
         fprintf(stderr, count == 2 ? "%s: cannot be read\n" : "counts FILE\n", count == 2 ? names[1] : "");
         return 2;
     }

@@ -63,11 +63,11 @@ static const uint32_t listeners[6] = {32, 33, 40, 45, 46, 47}, no_listeners[6] =
 
 /* the number of a struck limit that is too high */
 static uint8_t limit(int once) {
-    return once ? FOCUS_ONE_ROUND_LIMIT : FOCUS_STRUCK_LIMIT;
+    return once ? FOCUS_ONE_ROUND_LIMIT_TOO_HIGH : FOCUS_STRUCK_LIMIT_TOO_HIGH;
 }
 
 static void starts(int once) {
-    const uint8_t order[] = {FOCUS_HEAD_COUNT, limit(once), FOCUS_HEAD_NUMBER, FOCUS_POSITION};
+    const uint8_t order[] = {FOCUS_BAD_HEAD_COUNT, limit(once), FOCUS_NUMBER_TOO_HIGH, FOCUS_POSITION_OUT_OF_RANGE};
     for (int faults = 0; faults < 16; faults++) {
         focus_head head = in_confession(9, 2), before = head;
         uint32_t n = faults & 1 ? 33 : 5, f = faults & 2 ? 20 : 1, number = faults & 4 ? n : n - 1;
@@ -78,7 +78,7 @@ static void starts(int once) {
 }
 
 static void listener_starts(int once) {
-    const uint8_t order[] = {FOCUS_HEAD_COUNT, limit(once), FOCUS_HEAD_NUMBER};
+    const uint8_t order[] = {FOCUS_BAD_HEAD_COUNT, limit(once), FOCUS_NUMBER_TOO_HIGH};
     for (int faults = 0; faults < 8; faults++)
         for (size_t t = 0; t < 6; t++) {
             focus_head head = in_confession(9, 2), before = head;
@@ -90,7 +90,7 @@ static void listener_starts(int once) {
 
 /* In a one-round ring round 1 is refused too. */
 static void restarts(int listens, int once) {
-    const uint8_t order[] = {FOCUS_HEAD_COUNT, limit(once), FOCUS_HEAD_NUMBER, FOCUS_PHASE};
+    const uint8_t order[] = {FOCUS_BAD_HEAD_COUNT, limit(once), FOCUS_NUMBER_TOO_HIGH, FOCUS_PHASE_OUT_OF_RANGE};
     const uint32_t times[][2] = {{0, 0}, {65536, 1 - once}, {1, 2 - once}, {7, 255}, {0, 9}, {UINT32_MAX, UINT32_MAX}};
     static const uint32_t heads[6] = {0, 1, 2, 3, 4, 4}, no_heads[6] = {5, 31, 32, 47, 256, UINT32_MAX};
     for (int faults = 0; faults < 16; faults++)
@@ -110,13 +110,13 @@ static void one_round_sizes(void) {
     for (uint32_t n = 1; n <= 32; n++)
         for (uint32_t f = 0; f < 300; f++) {
             focus_head head = {{0}};
-            uint8_t want = n < 4 * f + 1 ? FOCUS_ONE_ROUND_LIMIT : 0;
+            uint8_t want = n < 4 * f + 1 ? FOCUS_ONE_ROUND_LIMIT_TOO_HIGH : 0;
             same("a size", focus_one_round_start(&head, n, f, 0, 7), want);
             same("a listener's size", focus_one_round_listener_restart(&head, n, f, 47, 1, 0), want);
         }
     focus_head head = {{0}};
-    same("f at which 4f is 0 again", focus_one_round_start(&head, 5, 1u << 30, 0, 7), FOCUS_ONE_ROUND_LIMIT);
-    same("f at which 4f + 1 is 5 again", focus_one_round_restart(&head, 5, (1u << 30) + 1, 0, 1, 0), FOCUS_ONE_ROUND_LIMIT);
+    same("f at which 4f is 0 again", focus_one_round_start(&head, 5, 1u << 30, 0, 7), FOCUS_ONE_ROUND_LIMIT_TOO_HIGH);
+    same("f at which 4f + 1 is 5 again", focus_one_round_restart(&head, 5, (1u << 30) + 1, 0, 1, 0), FOCUS_ONE_ROUND_LIMIT_TOO_HIGH);
 }
 
 enum { ENDED = 1, NUMBER = 2, HEARD = 4, LENGTH = 8, KIND = 16, KIND_LENGTH = 32 };
@@ -152,8 +152,8 @@ static size_t faulty_list(uint8_t *frame, int faults, unsigned phase) {
 }
 
 static void hears(void) {
-    static const uint8_t order[] = {FOCUS_ENDED, FOCUS_HEAD_NUMBER, FOCUS_HEARD,       FOCUS_STATED_LENGTH, FOCUS_KIND, FOCUS_KIND_LENGTH,
-                                    FOCUS_OTHER_ROUND, FOCUS_SENDER, FOCUS_OTHER_PHASE, FOCUS_MARKS,  FOCUS_ENTRY};
+    static const uint8_t order[] = {FOCUS_RUN_HAS_ENDED, FOCUS_NUMBER_TOO_HIGH, FOCUS_ALREADY_HEARD,       FOCUS_STATED_LENGTH_DIFFERS, FOCUS_UNKNOWN_KIND, FOCUS_WRONG_LENGTH_FOR_KIND,
+                                    FOCUS_OTHER_ROUND, FOCUS_SENDER_IS_NOT_LINK, FOCUS_OTHER_PHASE, FOCUS_BAD_COUNT_OR_MARKS,  FOCUS_ENTRY_OUT_OF_RANGE};
     for (int faults = 0; faults < HEAR; faults++) {
         uint8_t frame[FOCUS_FRAME_MAX + 1], copy[sizeof frame];
         unsigned phase = faults & ENDED ? 65535 : 1;
@@ -178,7 +178,7 @@ enum { ROOM = 8, BATCH = 5 * (1 + FOCUS_FRAME_MAX) };
 /* A batch is refused 15, then 24, and leaves block, buffer and count; else it is heard as its frames one by one. Link 5 is refused 3, the second frame of
  * link 1 is refused 21. */
 static void batches(void) {
-    static const uint8_t order[] = {FOCUS_BATCH_ENTRY, FOCUS_BUFFER};
+    static const uint8_t order[] = {FOCUS_BAD_BATCH_ENTRY, FOCUS_BUFFER_TOO_SHORT};
     static const unsigned links[] = {1, 5, 1, 0};
     for (int faults = 0; faults < 8; faults++) {
         int last = faults >> 2; /* the head has ended: no refusal of the batch, and each frame is refused 26 */
@@ -200,14 +200,14 @@ static void batches(void) {
         same("the block after a batch", same_block(&head, &one), 1);
         same("the answers", memcmp(answers, copy, sizeof answers), 0);
         same("the number of frames", (long long)count, want ? 99 : 4);
-        same("the second answer", answers[1], want ? 0xee : last ? FOCUS_ENDED : FOCUS_HEAD_NUMBER);
+        same("the second answer", answers[1], want ? 0xee : last ? FOCUS_RUN_HAS_ENDED : FOCUS_NUMBER_TOO_HIGH);
     }
 }
 
 /* Where a batch is cut, one entry at a time: no bytes; a lone link byte; half a length field; a field of 3; a field of 4, heard as 8; a frame with a byte too few. */
 static void batch_cuts(void) {
     static const struct { uint8_t bytes[8]; size_t length; uint8_t want, answer; } cuts[] = {
-        {{0}, 0, 0, 0xee}, {{0}, 1, 15, 0xee}, {{0, 7}, 2, 15, 0xee}, {{0, 3, 0, 2}, 4, 15, 0xee}, {{0, 4, 0, 1, 0}, 5, 0, FOCUS_KIND_LENGTH},
+        {{0}, 0, 0, 0xee}, {{0}, 1, 15, 0xee}, {{0, 7}, 2, 15, 0xee}, {{0, 3, 0, 2}, 4, 15, 0xee}, {{0, 4, 0, 1, 0}, 5, 0, FOCUS_WRONG_LENGTH_FOR_KIND},
         {{0, 7, 0, 2, 0, 0, 1, 0}, 7, 15, 0xee}, {{0, 7, 0, 2, 0, 0, 1, 0}, 8, 0, 0},
     };
     for (size_t i = 0; i < sizeof cuts / sizeof *cuts; i++) {
@@ -224,7 +224,7 @@ static void batch_cuts(void) {
 }
 
 static void writes(void) {
-    static const uint8_t order[] = {FOCUS_ENDED, FOCUS_LISTENER, FOCUS_BUFFER};
+    static const uint8_t order[] = {FOCUS_RUN_HAS_ENDED, FOCUS_LISTENER_SENDS_NOTHING, FOCUS_BUFFER_TOO_SHORT};
     for (int faults = 0; faults < 8; faults++) {
         uint8_t buffer[FOCUS_FRAME_MAX], copy[sizeof buffer], want = first(faults, order, 3);
         uint32_t number = faults & 2 ? 47 : 0;
@@ -248,10 +248,10 @@ static void closes(void) {
         uint8_t got = focus_head_close(&head);
         if (lists < 4) /* all that it leaves is its event */
             same("clear the event", focus_head_set_register(&head, FOCUS_WINDOW_EVENTS, FOCUS_EVENT_TOO_FEW), 0);
-        answered("close", got, lists < 4 ? FOCUS_TRUSTED : 0, &head, &before);
+        answered("close", got, lists < 4 ? FOCUS_TOO_FEW_TRUSTED : 0, &head, &before);
     }
     focus_head head = ended(), before = head;
-    answered("close at the end", focus_head_close(&head), FOCUS_ENDED, &head, &before);
+    answered("close at the end", focus_head_close(&head), FOCUS_RUN_HAS_ENDED, &head, &before);
     answered("adopt at the end", focus_head_adopt(&head), FOCUS_NO_OFFER, &head, &before);
 }
 
@@ -276,9 +276,9 @@ static void offered(void) {
     before = head;
     same("close again", focus_head_close(&head), 0);
     same("the same is offered", memcmp(&head, &before, sizeof head), 0);
-    answered("a refused frame", focus_head_hear(&head, 0, frame, sevens(frame, 0, 3)), FOCUS_HEARD, &head, &before);
-    answered("a refused start", focus_head_start(&head, 33, 1, 0, 7), FOCUS_HEAD_COUNT, &head, &before);
-    answered("a refused restart", focus_head_restart(&head, 5, 1, 5, 3, 1), FOCUS_HEAD_NUMBER, &head, &before);
+    answered("a refused frame", focus_head_hear(&head, 0, frame, sevens(frame, 0, 3)), FOCUS_ALREADY_HEARD, &head, &before);
+    answered("a refused start", focus_head_start(&head, 33, 1, 0, 7), FOCUS_BAD_HEAD_COUNT, &head, &before);
+    answered("a refused restart", focus_head_restart(&head, 5, 1, 5, 3, 1), FOCUS_NUMBER_TOO_HIGH, &head, &before);
     offers("the offer still stands", &head, 1);
     same("an accepted frame", focus_head_hear(&head, 4, frame, sevens(frame, 4, 3)), 0);
     offers("it has lapsed", &head, 0);
@@ -333,7 +333,7 @@ static void kept_ranges(void) {
         same("the position", kept.position, 30);
         if (more == 0) {
             same("close the collection round", focus_head_close(&head), 0);
-            same("close with nothing heard", focus_head_close(&head), FOCUS_TRUSTED);
+            same("close with nothing heard", focus_head_close(&head), FOCUS_TOO_FEW_TRUSTED);
         }
     }
     same("start", focus_head_start(&head, 5, 1, 0, 7), 0);
@@ -355,7 +355,7 @@ static void listens(void) {
             size_t length = round == 0 ? put_frame(frame, 1, k, 1, rest, 4) : put_list(frame, k, 1, 5, 0x1f, entries);
             same("hear", focus_head_hear(&head, k, frame, length), 0);
             same("a listener hears", focus_head_hear(&listener, k, frame, length), 0);
-            same("no link of its own", focus_head_hear(&listener, 36, frame, length), FOCUS_HEAD_NUMBER);
+            same("no link of its own", focus_head_hear(&listener, 36, frame, length), FOCUS_NUMBER_TOO_HIGH);
         }
         same("no position before the phase end", focus_head_position(&listener, &at), 0);
         same("what is lent for it", at, -777);
@@ -417,8 +417,8 @@ static size_t faulty_position(uint8_t *frame, int faults, unsigned phase) {
 
 /* Hearing in a one-round ring: a list is refused 22 after 8, and before 9, 23, 10 and 11. */
 static void one_round_hears(void) {
-    static const uint8_t order[] = {FOCUS_ENDED, FOCUS_HEAD_NUMBER, FOCUS_HEARD,       FOCUS_STATED_LENGTH, FOCUS_KIND, FOCUS_KIND_LENGTH,
-                                    FOCUS_OTHER_ROUND, FOCUS_SENDER, FOCUS_OTHER_PHASE, FOCUS_MARKS,  FOCUS_ENTRY};
+    static const uint8_t order[] = {FOCUS_RUN_HAS_ENDED, FOCUS_NUMBER_TOO_HIGH, FOCUS_ALREADY_HEARD,       FOCUS_STATED_LENGTH_DIFFERS, FOCUS_UNKNOWN_KIND, FOCUS_WRONG_LENGTH_FOR_KIND,
+                                    FOCUS_OTHER_ROUND, FOCUS_SENDER_IS_NOT_LINK, FOCUS_OTHER_PHASE, FOCUS_BAD_COUNT_OR_MARKS,  FOCUS_ENTRY_OUT_OF_RANGE};
     for (int faults = 0; faults < HEAR; faults++) {
         if (faults & MARKS && !(faults & ROUND))
             continue; /* only a list has marks */
@@ -445,7 +445,7 @@ static void one_round_closes(void) {
             uint32_t n = sizes[s].n, f = sizes[s].f;
             focus_head head = once_in(n, f, 0, 3, heard), before;
             focus_kept kept = {-777, -777, -777, -777};
-            uint8_t frame[FOCUS_FRAME_MAX], want = n - heard > 2 * f ? FOCUS_TRUSTED : 0;
+            uint8_t frame[FOCUS_FRAME_MAX], want = n - heard > 2 * f ? FOCUS_TOO_FEW_TRUSTED : 0;
             tried = (int)(100 * s + heard);
             for (unsigned k = heard; k < n; k += 2) /* every other null is a silence */
                 same("silence", focus_head_hear(&head, k, frame, put_frame(frame, 2, k, 3, NULL, 0)), 0);
@@ -495,7 +495,7 @@ static void one_round_phases(uint32_t number) {
         before = head;
         if (phase < 65535) {
             uint8_t got = focus_head_hear(&head, 0, frame, position_frame(frame, 0, phase + 1, 7));
-            answered("the next phase before adoption, on a link that was heard", got, FOCUS_HEARD, &head, &before);
+            answered("the next phase before adoption, on a link that was heard", got, FOCUS_ALREADY_HEARD, &head, &before);
         }
         same("close again", focus_head_close(&head), 0);
         same("the same is offered", same_block(&head, &before), 1);
@@ -510,9 +510,9 @@ static void one_round_phases(uint32_t number) {
         same("adopt twice", focus_head_adopt(&head), FOCUS_NO_OFFER);
     }
     before = head;
-    answered("hear at the end", focus_head_hear(&head, 9, frame, 0), FOCUS_ENDED, &head, &before);
-    answered("write at the end", focus_head_write(&head, buffer, sizeof buffer, &length), FOCUS_ENDED, &head, &before);
-    answered("close at the end", focus_head_close(&head), FOCUS_ENDED, &head, &before);
+    answered("hear at the end", focus_head_hear(&head, 9, frame, 0), FOCUS_RUN_HAS_ENDED, &head, &before);
+    answered("write at the end", focus_head_write(&head, buffer, sizeof buffer, &length), FOCUS_RUN_HAS_ENDED, &head, &before);
+    answered("close at the end", focus_head_close(&head), FOCUS_RUN_HAS_ENDED, &head, &before);
     answered("adopt at the end", focus_head_adopt(&head), FOCUS_NO_OFFER, &head, &before);
 }
 
@@ -526,7 +526,7 @@ static void one_round_offers(void) {
     before = head;
     answered("a frame of the next phase", focus_head_hear(&head, 4, frame, position_frame(frame, 4, 4, 7)), FOCUS_OTHER_PHASE, &head, &before);
     answered("a list", focus_head_hear(&head, 4, frame, sevens(frame, 4, 3)), FOCUS_OTHER_ROUND, &head, &before);
-    answered("a restart in round 1", focus_one_round_restart(&head, 5, 1, 0, 3, 1), FOCUS_PHASE, &head, &before);
+    answered("a restart in round 1", focus_one_round_restart(&head, 5, 1, 0, 3, 1), FOCUS_PHASE_OUT_OF_RANGE, &head, &before);
     same("the offer stands", focus_head_offer(&head, &kept), 1);
     same("half of 20 and 30", kept.position, 25);
     same("an accepted frame", focus_head_hear(&head, 4, frame, position_frame(frame, 4, 3, 50)), 0);
@@ -553,12 +553,12 @@ static void families(void) {
     same("start in the other family", focus_one_round_start(&head, 5, 1, 0, 7), 0);
     same("write", focus_head_write(&head, frame, sizeof frame, &length), 0);
     same("a position", frame[2], 1);
-    same("nothing heard", focus_head_close(&head), FOCUS_TRUSTED);
+    same("nothing heard", focus_head_close(&head), FOCUS_TOO_FEW_TRUSTED);
     same("restart", focus_one_round_restart(&head, 5, 1, 0, 9, 0), 0);
     same("write", focus_head_write(&head, frame, sizeof frame, &length), 0);
     same("silence", frame[2], 2);
     same("a listener", focus_one_round_listener_start(&head, 5, 1, 40), 0);
-    same("sends nothing", focus_head_write(&head, frame, 0, &length), FOCUS_LISTENER);
+    same("sends nothing", focus_head_write(&head, frame, 0, &length), FOCUS_LISTENER_SENDS_NOTHING);
 }
 
 /* A block of zeros is a head of a ring of no heads. A block that says n above 32 accepts frames on links from 32 on, and keeps nothing of them. */
@@ -568,7 +568,7 @@ static void unstarted(void) {
     focus_head head = {{0}}, before = head;
     put4(seven, 7);
     size_t length = put_frame(frame, 1, 0, 0, seven, sizeof seven);
-    answered("no head speaks", focus_head_hear(&head, 0, frame, length), FOCUS_HEAD_NUMBER, &head, &before);
+    answered("no head speaks", focus_head_hear(&head, 0, frame, length), FOCUS_NUMBER_TOO_HIGH, &head, &before);
     answered("nothing is offered", focus_head_adopt(&head), FOCUS_NO_OFFER, &head, &before);
     same("closing is taken", focus_head_close(&head), 0);
     head = before;
@@ -578,7 +578,7 @@ static void unstarted(void) {
     same("a link that no block has words for", focus_head_hear(&head, 33, frame, length), 0);
     same("changes nothing", same_block(&head, &before), 1);
     same("nor is it heard", focus_head_hear(&head, 33, frame, length), 0);
-    same("link 40", focus_head_hear(&head, 40, frame, length), FOCUS_HEAD_NUMBER);
+    same("link 40", focus_head_hear(&head, 40, frame, length), FOCUS_NUMBER_TOO_HIGH);
 }
 
 /* ---- phases since the last strike */
@@ -597,10 +597,10 @@ static void untouching(focus_head *head, uint32_t number, unsigned phase, int on
     int listens = number >= 32;
     same("a refused frame", focus_head_hear(head, 0, frame, sevens(frame, 1, phase)) != 0, 1);
     same("a batch", focus_head_hear_batch(head, batch, put_entry(batch, 9, phase), answers, 2, &length), 0);
-    same("a refused restart", restart(head, 5, 1, number, 0, 0, listens, once), FOCUS_PHASE);
-    same("a refused start", start(head, 0, 1, number, 7, listens, once), FOCUS_HEAD_COUNT);
-    same("write", focus_head_write(head, frame, sizeof frame, &length), listens ? FOCUS_LISTENER : 0);
-    same("write with no room", focus_head_write(head, frame, 0, &length), listens ? FOCUS_LISTENER : FOCUS_BUFFER);
+    same("a refused restart", restart(head, 5, 1, number, 0, 0, listens, once), FOCUS_PHASE_OUT_OF_RANGE);
+    same("a refused start", start(head, 0, 1, number, 7, listens, once), FOCUS_BAD_HEAD_COUNT);
+    same("write", focus_head_write(head, frame, sizeof frame, &length), listens ? FOCUS_LISTENER_SENDS_NOTHING : 0);
+    same("write with no room", focus_head_write(head, frame, 0, &length), listens ? FOCUS_LISTENER_SENDS_NOTHING : FOCUS_BUFFER_TOO_SHORT);
     same("the mask", focus_head_set_register(head, FOCUS_WINDOW_MASK, 7), 0);
     same("the events", focus_head_set_register(head, FOCUS_WINDOW_EVENTS, 7), 0);
     focus_head_window(head, bytes);
@@ -616,7 +616,7 @@ static void offered_phase(focus_head *head, uint32_t number, unsigned phase, int
         same("close the collection round", focus_head_close(head), 0);
         same("a collection round is no phase", focus_head_since(head), count);
     }
-    same("nothing heard", focus_head_close(head), FOCUS_TRUSTED);
+    same("nothing heard", focus_head_close(head), FOCUS_TOO_FEW_TRUSTED);
     same("refused 25", focus_head_since(head), count);
     same("adopt too early", focus_head_adopt(head), FOCUS_NO_OFFER);
     hear_sevens(head, phase, !once);
@@ -669,8 +669,8 @@ static void last_counts(void) {
     tried = 0;
     for (int i = 0; i < 2; i++) {
         same("the last phase end", focus_head_since(&heads[i]), 1);
-        same("close at the end", focus_head_close(&heads[i]), FOCUS_ENDED);
-        same("hear at the end", focus_head_hear(&heads[i], 0, frame, sevens(frame, 0, 1)), FOCUS_ENDED);
+        same("close at the end", focus_head_close(&heads[i]), FOCUS_RUN_HAS_ENDED);
+        same("hear at the end", focus_head_hear(&heads[i], 0, frame, sevens(frame, 0, 1)), FOCUS_RUN_HAS_ENDED);
         same("adopt at the end", focus_head_adopt(&heads[i]), FOCUS_NO_OFFER);
         same("it stays", focus_head_since(&heads[i]), 1);
         same("start", focus_head_start(&heads[i], 5, 1, 0, 7), 0);

@@ -47,7 +47,7 @@ static void speak(struct ring *r, uint64_t struck, uint8_t frames[][FOCUS_FRAME_
         }
         if (r->before >> i & 1)
             restart(r, i);
-        same("write", focus_head_write(&r->heads[i], frames[i], FOCUS_FRAME_MAX, &lengths[i]), i < 32 ? 0 : FOCUS_LISTENER);
+        same("write", focus_head_write(&r->heads[i], frames[i], FOCUS_FRAME_MAX, &lengths[i]), i < 32 ? 0 : FOCUS_LISTENER_SENDS_NOTHING);
     }
 }
 
@@ -66,7 +66,7 @@ static void play_late(struct ring *r, uint64_t struck, uint64_t late, liar lies)
                 same("hear", focus_head_hear(&r->heads[i], k, frames[k], lengths[k]), 0);
             else if (lies) {
                 size_t length = lies(r, k, i, planted);
-                same("hear a liar", focus_head_hear(&r->heads[i], k, planted, length), length == 0 ? FOCUS_STATED_LENGTH : 0);
+                same("hear a liar", focus_head_hear(&r->heads[i], k, planted, length), length == 0 ? FOCUS_STATED_LENGTH_DIFFERS : 0);
             }
         }
         same("close", focus_head_close(&r->heads[i]), 0);
@@ -193,10 +193,10 @@ static void once_nine(struct ring *r) {
 static void after_all(focus_head *head) {
     uint8_t buffer[FOCUS_FRAME_MAX];
     size_t length = 99;
-    same("write after the last phase", focus_head_write(head, buffer, sizeof buffer, &length), FOCUS_ENDED);
+    same("write after the last phase", focus_head_write(head, buffer, sizeof buffer, &length), FOCUS_RUN_HAS_ENDED);
     same("length of a refused frame", (long long)length, 99);
-    same("hear after the last phase", focus_head_hear(head, 40, buffer, 0), FOCUS_ENDED);
-    same("close after the last phase", focus_head_close(head), FOCUS_ENDED);
+    same("hear after the last phase", focus_head_hear(head, 40, buffer, 0), FOCUS_RUN_HAS_ENDED);
+    same("close after the last phase", focus_head_close(head), FOCUS_RUN_HAS_ENDED);
     same("adopt after the last phase", focus_head_adopt(head), FOCUS_NO_OFFER);
     same("restart after the last phase", focus_head_restart(head, 1, 0, 0, 65535, 1), 0);
     same("start after the last phase", focus_head_start(head, 1, 0, 0, 3), 0);

@@ -179,9 +179,9 @@ static uint64_t links; /* those heard by the device whose turn it is */
 static void answered(const struct ring *r, const struct item *x, uint8_t answer) {
     heard++;
     if (x->link >= r->n)
-        same("a link that is not there", answer, FOCUS_HEAD_NUMBER);
+        same("a link that is not there", answer, FOCUS_NUMBER_TOO_HIGH);
     else if (links >> x->link & 1)
-        same("heard before", answer, FOCUS_HEARD);
+        same("heard before", answer, FOCUS_ALREADY_HEARD);
     else if (x->kind == OTHER)
         same("refused", answer != 0, 1);
     else {
@@ -204,7 +204,7 @@ static int hear_batch(struct ring *r, uint32_t i, int a) {
         length += x->length + 1;
     }
     if (b > a && drawn(8) == 0)
-        same("a batch that is cut", focus_head_hear_batch(&r->blocks[i], bytes, length - 1, answers, BATCH, &got), FOCUS_BATCH_ENTRY);
+        same("a batch that is cut", focus_head_hear_batch(&r->blocks[i], bytes, length - 1, answers, BATCH, &got), FOCUS_BAD_BATCH_ENTRY);
     if (b > a) {
         same("a batch", focus_head_hear_batch(&r->blocks[i], bytes, length, answers, BATCH, &got), 0);
         same("answers", (long long)got, b - a);
@@ -223,10 +223,10 @@ static void meddle(struct ring *r, uint32_t i) {
     uint32_t at = drawn(20);
     if (drawn(6) == 0)
         same("a window write", focus_head_set_register(&r->blocks[i], at, (uint8_t)drawn(256)),
-             at == 10 || at == 11 ? 0 : FOCUS_REGISTER);
+             at == 10 || at == 11 ? 0 : FOCUS_NO_SUCH_REGISTER);
     if (is_last(r) && drawn(12) == 0) {
         uint8_t number = focus_head_close(&r->blocks[i]);
-        same("an early closing", number == 0 || number == FOCUS_TRUSTED, 1);
+        same("an early closing", number == 0 || number == FOCUS_TOO_FEW_TRUSTED, 1);
         early++;
     }
     if (i < 32 && drawn(12) == 0) {
@@ -255,7 +255,7 @@ static void end_round(struct ring *r, uint32_t i) {
     if (!is_last(r) || (breaks("late") && drawn(20) == 0))
         return;
     if (drawn(2) && links & 1)
-        same("heard before closing", focus_head_hear(&r->blocks[i], 0, r->frames[0][0], r->lengths[0][0]), FOCUS_HEARD);
+        same("heard before closing", focus_head_hear(&r->blocks[i], 0, r->frames[0][0], r->lengths[0][0]), FOCUS_ALREADY_HEARD);
     same("adopt", focus_head_adopt(&r->blocks[i]), 0);
 }
 
@@ -308,7 +308,7 @@ static void speak(struct ring *r) {
         if (r->before >> i & 1 && !breaks("restart"))
             restart(r, i);
         same("write", focus_head_write(&r->blocks[i], r->frames[0][i], FOCUS_FRAME_MAX, &r->lengths[0][i]),
-             i < 32 ? 0 : FOCUS_LISTENER);
+             i < 32 ? 0 : FOCUS_LISTENER_SENDS_NOTHING);
     }
 }
 

@@ -26,9 +26,9 @@ static void wait_for_a_person(uint32_t i, const uint8_t *heard, size_t length) {
     uint8_t frame[FOCUS_FRAME_MAX];
     focus_head other = heads[i];
     size_t written;
-    same("a link that was heard", focus_head_hear(&heads[i], 0, heard, length), FOCUS_HEARD);
-    same("a link that no head has", focus_head_hear(&heads[i], N, heard, length), FOCUS_HEAD_NUMBER);
-    same("a restart in no round", focus_head_restart(&heads[i], N, F, i, phase, 2), FOCUS_PHASE);
+    same("a link that was heard", focus_head_hear(&heads[i], 0, heard, length), FOCUS_ALREADY_HEARD);
+    same("a link that no head has", focus_head_hear(&heads[i], N, heard, length), FOCUS_NUMBER_TOO_HIGH);
+    same("a restart in no round", focus_head_restart(&heads[i], N, F, i, phase, 2), FOCUS_PHASE_OUT_OF_RANGE);
     same("writing", focus_head_write(&heads[i], frame, sizeof frame, &written), 0);
     same("offering again", focus_head_close(&heads[i]), 0);
     same("nothing has changed", memcmp(&other, &heads[i], sizeof other), 0);

@@ -58,7 +58,7 @@ static inline void make_room(struct played *p, const uint8_t *file, size_t bytes
 
 /* Plays so many bytes, for which there is room. */
 static inline uint8_t play(struct played *p, const uint8_t *file, size_t bytes) {
-    p->number = FOCUS_BUFFER;
+    p->number = FOCUS_BUFFER_TOO_SHORT;
     if (p->listing != NULL && p->rows != NULL && p->words != NULL)
         p->number = focus_play(file, bytes, p->listing, p->listing_room, p->rows, p->rows_room, p->words, p->words_room, p->since,
                                &p->length, &p->ends);

@@ -19,7 +19,7 @@ int main(void) {
     uint8_t *file = read_whole("-", &bytes);
     same("the file is read", file != NULL, 1);
     make_room(&p, file, bytes);
-    same("room of the calls", play(&p, file, bytes) != FOCUS_BUFFER, 1);
+    same("room of the calls", play(&p, file, bytes) != FOCUS_BUFFER_TOO_SHORT, 1);
     if (p.ends > 0) {
         const uint8_t *at = start_ring(&ring, file, listeners_of(file, bytes));
         for (size_t rounds = (p.ends - 1) * (ring.once ? 1 : 2); rounds > 0; rounds--) {

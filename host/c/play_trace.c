@@ -82,7 +82,7 @@ static void judge(struct played *p, uint8_t *file, size_t bytes) {
     size_t count = 0, *ends = cut(file, bytes, &count);
     same("memory", ends != NULL, 1);
     uint8_t number = play(p, file, bytes);
-    same("room of the calls", number != FOCUS_BUFFER, 1);
+    same("room of the calls", number != FOCUS_BUFFER_TOO_SHORT, 1);
     size_t right = number == 0 ? count : taken(p, file, ends, count);
     play(p, file, bytes);
     printf("file %zu %zu\n", bytes, count);

@@ -64,7 +64,7 @@ static uint8_t play(size_t bytes, size_t less_out, size_t less_rows, size_t less
 /* One buffer too short by one: 24, and nothing is written. */
 static void too_short(size_t bytes, size_t less_out, size_t less_rows, size_t less_words) {
     size_t length = 7, ends = 9;
-    same("short", play(bytes, less_out, less_rows, less_words, &length, &ends), FOCUS_BUFFER);
+    same("short", play(bytes, less_out, less_rows, less_words, &length, &ends), FOCUS_BUFFER_TOO_SHORT);
     same("length", (long long)length, 7);
     same("ends", (long long)ends, 9);
     untouched_behind(0, 0);
@@ -129,8 +129,8 @@ static void counted(size_t bytes, uint8_t number) {
  * struck. The last round given is not played then, so that the count may be that of the middle of a phase. */
 static void counted_at(size_t bytes) {
     static const struct { uint8_t record[8]; size_t size; uint8_t number; } faults[] = {
-        {{6}, 1, FOCUS_RUN_RECORD}, {{4, 0, 0x16}, 4, FOCUS_RUN_RECORD}, {{6, 0, 0x12, 0, 255, 255}, 6, FOCUS_RUN_RECORD},
-        {{8, 0, 0x11, 0, 255, 255, 255, 255}, 8, FOCUS_STRUCK},
+        {{6}, 1, FOCUS_BAD_RUN_RECORD}, {{4, 0, 0x16}, 4, FOCUS_BAD_RUN_RECORD}, {{6, 0, 0x12, 0, 255, 255}, 6, FOCUS_BAD_RUN_RECORD},
+        {{8, 0, 0x11, 0, 255, 255, 255, 255}, 8, FOCUS_TOO_MANY_STRUCK},
     };
     uint8_t kept[8];
     size_t length = 0, ends = 0;
@@ -141,7 +141,7 @@ static void counted_at(size_t bytes) {
         memcpy(file + bytes, faults[i].record, sizeof kept);
         set_room(bytes + faults[i].size);
         uint8_t number = play(bytes + faults[i].size, 0, 0, 0, &length, &ends);
-        same("a fault", number, bytes == 0 ? FOCUS_RUN_RECORD : faults[i].number);
+        same("a fault", number, bytes == 0 ? FOCUS_BAD_RUN_RECORD : faults[i].number);
         counted(bytes, number);
     }
     memcpy(file + bytes, kept, sizeof kept);

@@ -78,7 +78,7 @@ static void unknown(void) {
     same("adopt", focus_head_adopt(&head), 0);
     same("after an adoption", focus_head_reading(&head, &got), FOCUS_POINT);
     same("one float", got.lowest == 5 && got.highest == 8 && got.midpoint == 9, 1);
-    same("refused restart", focus_one_round_restart(&head, 1, 0, 0, 1, 1), FOCUS_PHASE);
+    same("refused restart", focus_one_round_restart(&head, 1, 0, 0, 1, 1), FOCUS_PHASE_OUT_OF_RANGE);
     same("after a refused restart", focus_head_reading(&head, &got), FOCUS_POINT);
     same("restart", focus_one_round_restart(&head, 1, 0, 0, 1, 0), 0);
     same("after a restart", focus_head_reading(&head, &got), FOCUS_UNKNOWN);
@@ -146,8 +146,8 @@ static void page(uint32_t n) {
     same("length", (long long)length, (long long)size);
     same("bytes", memcmp(buffer, want, size), 0);
     all_back(buffer + size, buffer + sizeof buffer);
-    same("one too short", page_of(buffer, sizeof buffer, size - 1, n, 32, &length), FOCUS_BUFFER);
-    same("no room", page_of(buffer, sizeof buffer, 0, n, 32, &length), FOCUS_BUFFER);
+    same("one too short", page_of(buffer, sizeof buffer, size - 1, n, 32, &length), FOCUS_BUFFER_TOO_SHORT);
+    same("no room", page_of(buffer, sizeof buffer, 0, n, 32, &length), FOCUS_BUFFER_TOO_SHORT);
     same("no length", (long long)length, 777);
     all_back(buffer, buffer + sizeof buffer);
 }
@@ -157,7 +157,7 @@ static void page_refused(void) {
     uint8_t buffer[64];
     size_t length;
     for (size_t i = 0; i < sizeof counts / sizeof *counts; i++) {
-        same("count", page_of(buffer, sizeof buffer, i % 2 ? sizeof buffer : 0, counts[i], 32, &length), FOCUS_HEAD_COUNT);
+        same("count", page_of(buffer, sizeof buffer, i % 2 ? sizeof buffer : 0, counts[i], 32, &length), FOCUS_BAD_HEAD_COUNT);
         same("no length", (long long)length, 777);
         all_back(buffer, buffer + sizeof buffer);
     }

@@ -39,7 +39,7 @@ static void reads_past(const focus_head *head) {
     for (uint32_t at = 16; at < 256 + 6; at++) {
         uint8_t byte = 0xee;
         tried = (int)at;
-        same("read past the window", focus_head_register(head, at < 256 ? at : far[at - 256], &byte), FOCUS_REGISTER);
+        same("read past the window", focus_head_register(head, at < 256 ? at : far[at - 256], &byte), FOCUS_NO_SUCH_REGISTER);
         same("what is lent for a byte", byte, 0xee);
     }
 }
@@ -53,7 +53,7 @@ static void writes(const focus_head *head) {
             focus_head copy = *head;
             int taken = at == 10 || at == 11;
             tried = (int)at;
-            same("write", focus_head_set_register(&copy, at, (uint8_t)byte), taken ? 0 : FOCUS_REGISTER);
+            same("write", focus_head_set_register(&copy, at, (uint8_t)byte), taken ? 0 : FOCUS_NO_SUCH_REGISTER);
             if (!taken)
                 same("the block after a refused write", memcmp(&copy, head, sizeof copy), 0);
         }
@@ -120,10 +120,10 @@ static void confessed(focus_head *head, struct seen *now, int32_t v) {
 /* Refused starts and restarts leave head, events and mask. */
 static void refused(focus_head *head, struct seen now) {
     focus_head before = *head;
-    same("a refused start", focus_head_start(head, 5, 1, 5, 3), FOCUS_HEAD_NUMBER);
-    same("a start out of range", focus_head_start(head, 5, 1, 2, 1000001), FOCUS_POSITION);
-    same("a refused restart", focus_head_restart(head, 5, 1, 2, 0, 0), FOCUS_PHASE);
-    same("a restart of no ring", focus_head_restart(head, 0, 0, 0, 1, 0), FOCUS_HEAD_COUNT);
+    same("a refused start", focus_head_start(head, 5, 1, 5, 3), FOCUS_NUMBER_TOO_HIGH);
+    same("a start out of range", focus_head_start(head, 5, 1, 2, 1000001), FOCUS_POSITION_OUT_OF_RANGE);
+    same("a refused restart", focus_head_restart(head, 5, 1, 2, 0, 0), FOCUS_PHASE_OUT_OF_RANGE);
+    same("a restart of no ring", focus_head_restart(head, 0, 0, 0, 1, 0), FOCUS_BAD_HEAD_COUNT);
     same("the block after them", memcmp(head, &before, sizeof before), 0);
     shows(head, now);
 }
@@ -174,7 +174,7 @@ int main(void) {
     masks(&head, &now, TOO_FEW);
     collected(&head, &now);
     for (int times = 0; times < 2; times++) {
-        same("nothing heard", focus_head_close(&head), FOCUS_TRUSTED);
+        same("nothing heard", focus_head_close(&head), FOCUS_TOO_FEW_TRUSTED);
         now.events |= TOO_FEW;
         shows(&head, now);
         same("refusal 25", served(&head, &now), TOO_FEW);
@@ -195,15 +195,15 @@ int main(void) {
     masks(&head, &now, PHASE_END | TOO_FEW | STRIKE_OVER);
     confessed(&head, &now, -3);
     same("the last phase end", served(&head, &now), PHASE_END);
-    same("close at the end", focus_head_close(&head), FOCUS_ENDED);
+    same("close at the end", focus_head_close(&head), FOCUS_RUN_HAS_ENDED);
     same("adopt at the end", focus_head_adopt(&head), FOCUS_NO_OFFER);
-    same("hear at the end", focus_head_hear(&head, 0, (const uint8_t *)"", 0), FOCUS_ENDED);
+    same("hear at the end", focus_head_hear(&head, 0, (const uint8_t *)"", 0), FOCUS_RUN_HAS_ENDED);
     shows(&head, now);
     refused(&head, now);
 
     /* all events pending at the end: every address, every byte */
     restarted(&head, &now, 65535, 1);
-    same("nothing heard", focus_head_close(&head), FOCUS_TRUSTED);
+    same("nothing heard", focus_head_close(&head), FOCUS_TOO_FEW_TRUSTED);
     now.events |= TOO_FEW;
     confessed(&head, &now, 5);
     same("all three are pending", now.events, 7);

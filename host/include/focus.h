@@ -119,64 +119,64 @@ enum focus_frame_byte { FOCUS_FRAME_LENGTH = 0, FOCUS_FRAME_KIND = 2, FOCUS_FRAM
 
 /* The refusals (document 01, "Stops"), by the names that crates/terms/src/refusal.rt has. */
 enum focus_refusal {
-    FOCUS_OK = 0,           /* no refusal */
-    FOCUS_HEAD_COUNT = 1,   /* head count */
-    FOCUS_STRUCK_LIMIT = 2, /* struck limit too high */
-    FOCUS_HEAD_NUMBER = 3,  /* head or link number n or more, or a listener's outside 32 to 47 */
-    FOCUS_POSITION = 4,     /* position out of range */
-    FOCUS_PHASE = 5,        /* phase out of range, or round neither 0 (collection) nor 1 (confession); in a one-round ring, not 0 */
-    FOCUS_STATED_LENGTH = 6, /* fewer than 4 bytes, or the length field differs from the bytes given */
-    FOCUS_KIND = 7,         /* unknown kind */
-    FOCUS_KIND_LENGTH = 8,  /* a length wrong for its kind and count */
-    FOCUS_SENDER = 9,       /* sender is not the link */
-    FOCUS_MARKS = 10,       /* list count not n, or a mark at n or above */
-    FOCUS_ENTRY = 11,       /* entry out of range, or not 0 where null */
-    FOCUS_SCALE = 12,       /* scale */
-    FOCUS_RUN_RECORD = 13,  /* run record of wrong form or out of order, or file ended before a start or inside a phase */
-    FOCUS_STRUCK = 14,      /* more than f struck, or a mark at n or above */
-    FOCUS_BATCH_ENTRY = 15, /* an entry's length field is missing, below 4 or runs past the end (document 02, A1) */
-    FOCUS_REGISTER = 16,    /* a write to a byte of the window other than 10 and 11, or a read past byte 15 (document 02, A5) */
-    FOCUS_LISTENER = 17,    /* a listener is told to send (document 02, A6) */
-    FOCUS_ONE_ROUND_LIMIT = 18, /* n below 4f + 1, in a one-round ring; where 2 stands in others (document 02, A9) */
-    FOCUS_LIMITS = 19,      /* a lowest above its highest, either of them out of range, or either not 0 where null (document 02, A12) */
-    FOCUS_HEARD = 21,       /* link already heard this round */
-    FOCUS_OTHER_ROUND = 22, /* frame of the other round; in a one-round ring, a list or confession */
-    FOCUS_OTHER_PHASE = 23, /* frame of another phase */
-    FOCUS_BUFFER = 24,      /* buffer too short */
-    FOCUS_TRUSTED = 25,     /* too few trusted */
-    FOCUS_ENDED = 26,       /* phase 65,535 has ended */
-    FOCUS_NO_OFFER = 27     /* adopting with no offer standing */
+    FOCUS_OK = 0,                        /* no refusal */
+    FOCUS_BAD_HEAD_COUNT = 1,            /* head count */
+    FOCUS_STRUCK_LIMIT_TOO_HIGH = 2,     /* struck limit too high */
+    FOCUS_NUMBER_TOO_HIGH = 3,           /* head or link number n or more, or a listener's outside 32 to 47 */
+    FOCUS_POSITION_OUT_OF_RANGE = 4,     /* position out of range */
+    FOCUS_PHASE_OUT_OF_RANGE = 5,        /* phase out of range, or round neither 0 nor 1; in a one-round ring, not 0 */
+    FOCUS_STATED_LENGTH_DIFFERS = 6,     /* fewer than 4 bytes, or the length field differs from the bytes given */
+    FOCUS_UNKNOWN_KIND = 7,              /* unknown kind */
+    FOCUS_WRONG_LENGTH_FOR_KIND = 8,     /* a length wrong for its kind and count */
+    FOCUS_SENDER_IS_NOT_LINK = 9,        /* sender is not the link */
+    FOCUS_BAD_COUNT_OR_MARKS = 10,       /* list count not n, or a mark at n or above */
+    FOCUS_ENTRY_OUT_OF_RANGE = 11,       /* entry out of range, or not 0 where null */
+    FOCUS_BAD_SCALE = 12,                /* scale */
+    FOCUS_BAD_RUN_RECORD = 13,           /* run record of wrong form or out of order, or file ended before a start or inside a phase */
+    FOCUS_TOO_MANY_STRUCK = 14,          /* more than f struck, or a mark at n or above */
+    FOCUS_BAD_BATCH_ENTRY = 15,          /* an entry's length field is missing, below 4 or runs past the end (document 02, A1) */
+    FOCUS_NO_SUCH_REGISTER = 16,         /* a write to a byte other than 10 and 11, or a read past byte 15 (document 02, A5) */
+    FOCUS_LISTENER_SENDS_NOTHING = 17,   /* a listener is told to send (document 02, A6) */
+    FOCUS_ONE_ROUND_LIMIT_TOO_HIGH = 18, /* n below 4f + 1, in a one-round ring; where 2 stands in others (document 02, A9) */
+    FOCUS_BAD_LIMITS = 19,               /* a lowest above its highest, or either out of range or not 0 where null (document 02, A12) */
+    FOCUS_ALREADY_HEARD = 21,            /* link already heard this round */
+    FOCUS_OTHER_ROUND = 22,              /* frame of the other round; in a one-round ring, a list or confession */
+    FOCUS_OTHER_PHASE = 23,              /* frame of another phase */
+    FOCUS_BUFFER_TOO_SHORT = 24,         /* buffer too short */
+    FOCUS_TOO_FEW_TRUSTED = 25,          /* too few trusted */
+    FOCUS_RUN_HAS_ENDED = 26,            /* phase 65,535 has ended */
+    FOCUS_NO_OFFER = 27                  /* adopting with no offer standing */
 };
 
 /* A refusal in words. */
 static inline const char *focus_refusal_text(unsigned number) {
     switch (number) {
     case FOCUS_OK: return "no refusal";
-    case FOCUS_HEAD_COUNT: return "head count is not 1 to 32";
-    case FOCUS_STRUCK_LIMIT: return "struck limit too high: 2n is below 7f + 2";
-    case FOCUS_HEAD_NUMBER: return "head or link number n or more, or a listener number outside 32 to 47";
-    case FOCUS_POSITION: return "position out of range";
-    case FOCUS_PHASE: return "phase or round out of range";
-    case FOCUS_STATED_LENGTH: return "fewer than 4 bytes, or the length field differs from the bytes given";
-    case FOCUS_KIND: return "unknown kind of frame";
-    case FOCUS_KIND_LENGTH: return "length wrong for the kind and count";
-    case FOCUS_SENDER: return "sender is not the link";
-    case FOCUS_MARKS: return "list count is not n, or a mark at n or above";
-    case FOCUS_ENTRY: return "entry out of range, or not 0 where null";
-    case FOCUS_SCALE: return "scale out of range, or its numerator below its denominator";
-    case FOCUS_RUN_RECORD: return "run record of wrong form or out of order, or the file ended too early";
-    case FOCUS_STRUCK: return "more than f heads struck, or a mark at n or above";
-    case FOCUS_BATCH_ENTRY: return "length field of a batch missing, below 4 or past the end";
-    case FOCUS_REGISTER: return "no such byte of the window, or not to be written";
-    case FOCUS_LISTENER: return "a listener sends nothing";
-    case FOCUS_ONE_ROUND_LIMIT: return "n is below 4f + 1 in a one-round ring";
-    case FOCUS_LIMITS: return "lowest above highest, out of range, or not 0 where null";
-    case FOCUS_HEARD: return "link already heard in this round";
+    case FOCUS_BAD_HEAD_COUNT: return "head count is not 1 to 32";
+    case FOCUS_STRUCK_LIMIT_TOO_HIGH: return "struck limit too high: 2n is below 7f + 2";
+    case FOCUS_NUMBER_TOO_HIGH: return "head or link number n or more, or a listener number outside 32 to 47";
+    case FOCUS_POSITION_OUT_OF_RANGE: return "position out of range";
+    case FOCUS_PHASE_OUT_OF_RANGE: return "phase or round out of range";
+    case FOCUS_STATED_LENGTH_DIFFERS: return "fewer than 4 bytes, or the length field differs from the bytes given";
+    case FOCUS_UNKNOWN_KIND: return "unknown kind of frame";
+    case FOCUS_WRONG_LENGTH_FOR_KIND: return "length wrong for the kind and count";
+    case FOCUS_SENDER_IS_NOT_LINK: return "sender is not the link";
+    case FOCUS_BAD_COUNT_OR_MARKS: return "list count is not n, or a mark at n or above";
+    case FOCUS_ENTRY_OUT_OF_RANGE: return "entry out of range, or not 0 where null";
+    case FOCUS_BAD_SCALE: return "scale out of range, or its numerator below its denominator";
+    case FOCUS_BAD_RUN_RECORD: return "run record of wrong form or out of order, or the file ended too early";
+    case FOCUS_TOO_MANY_STRUCK: return "more than f heads struck, or a mark at n or above";
+    case FOCUS_BAD_BATCH_ENTRY: return "length field of a batch missing, below 4 or past the end";
+    case FOCUS_NO_SUCH_REGISTER: return "no such byte of the window, or not to be written";
+    case FOCUS_LISTENER_SENDS_NOTHING: return "a listener sends nothing";
+    case FOCUS_ONE_ROUND_LIMIT_TOO_HIGH: return "n is below 4f + 1 in a one-round ring";
+    case FOCUS_BAD_LIMITS: return "lowest above highest, out of range, or not 0 where null";
+    case FOCUS_ALREADY_HEARD: return "link already heard in this round";
     case FOCUS_OTHER_ROUND: return "frame of the other round";
     case FOCUS_OTHER_PHASE: return "frame of another phase";
-    case FOCUS_BUFFER: return "buffer too short";
-    case FOCUS_TRUSTED: return "too few trusted entries";
-    case FOCUS_ENDED: return "the last phase, 65,535, has ended";
+    case FOCUS_BUFFER_TOO_SHORT: return "buffer too short";
+    case FOCUS_TOO_FEW_TRUSTED: return "too few trusted entries";
+    case FOCUS_RUN_HAS_ENDED: return "the last phase, 65,535, has ended";
     case FOCUS_NO_OFFER: return "no offer stands";
     default: return "no such refusal";
     }

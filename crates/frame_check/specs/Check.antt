@@ -56,10 +56,10 @@ countField s = getD s 7 0
 -- 6, 7, 8, before the checks that follow (P01, P02, P06, P08)
 unfoldable pub checkFrame : List ℕ → ℕ → ℕ
 checkFrame s more =
-    check (leb 4 (length s)) refusal.stated-length
-    (check (eqb (lengthField s) (length s)) refusal.stated-length
-    (check (isKnown (kindField s)) refusal.kind
-    (check (eqb (length s) (lengthOf (kindField s) (countField s))) refusal.kind-length more)))
+    check (leb 4 (length s)) refusal.stated-length-differs
+    (check (eqb (lengthField s) (length s)) refusal.stated-length-differs
+    (check (isKnown (kindField s)) refusal.unknown-kind
+    (check (eqb (length s) (lengthOf (kindField s) (countField s))) refusal.wrong-length-for-kind more)))
 
 -- the frame check alone: 0, or the refusal
 abbrev pub frameRefusal : List ℕ → ℕ

@@ -45,17 +45,17 @@ pub fn frame_refusal(frame: &[u8]) -> u8
 {
     let len = frame.len();
     if len < 4 {
-        return refusal::STATED_LENGTH;
+        return refusal::STATED_LENGTH_DIFFERS;
     }
     if fields::half_at(frame, 0) as usize != len {
-        return refusal::STATED_LENGTH;
+        return refusal::STATED_LENGTH_DIFFERS;
     }
     let kind = fields::half_at(frame, 2);
     if !is_known(kind) {
-        return refusal::KIND;
+        return refusal::UNKNOWN_KIND;
     }
     if len != length_of(kind, fields::byte_at(frame, 7)) {
-        return refusal::KIND_LENGTH;
+        return refusal::WRONG_LENGTH_FOR_KIND;
     }
     0
 }

@@ -11,12 +11,12 @@ use Rattle.frame_spec.specs.Said.{roundOf, countFits, rangeFits, refused, meani
 
 -- 10, 11, of the rest t
 abbrev pub fromMarks : Kind → ℕ → List ℕ → ℕ
-fromMarks K n t = check (countFits K n t) refusal.marks (check (rangeFits K n t) refusal.entry 0)
+fromMarks K n t = check (countFits K n t) refusal.bad-count-or-marks (check (rangeFits K n t) refusal.entry-out-of-range 0)
 
 -- 22, 9, 23, and 0 if none of them
 unfoldable pub commonRefusal : (K : Kind) (p r k : ℕ) (s : List ℕ) → ℕ
 commonRefusal K p r k s =
-    check (eqb (roundOf K) r) refusal.other-round (check (eqb (senderField s) k) refusal.sender (check (eqb (phaseField s) p) refusal.other-phase 0))
+    check (eqb (roundOf K) r) refusal.other-round (check (eqb (senderField s) k) refusal.sender-is-not-link (check (eqb (phaseField s) p) refusal.other-phase 0))
 
 -- what a frame of a kind says, if checks gave a number
 abbrev pub saidUnless : ℕ → Kind → ℕ → List ℕ → Said

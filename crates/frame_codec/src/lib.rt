@@ -43,7 +43,7 @@ fn read_position(rest: &[u8]) -> Said
     if entries::is_position_word(word) {
         return Said::Collection(Entry::Position(fields::signed(word)));
     }
-    Said::Refused(refusal::ENTRY)
+    Said::Refused(refusal::ENTRY_OUT_OF_RANGE)
 }
 
 // The rest of a list frame: 10, 11.
@@ -51,16 +51,16 @@ fn read_list(rest: &[u8], n: u8) -> Said
     ensures { λ r. ⌜ r ≡ saidUnless (fromMarks list n (now (rest .entry))) list n (now (rest .entry)) ⌝ }
 {
     if fields::byte_at(rest, 0) != n {
-        return Said::Refused(refusal::MARKS);
+        return Said::Refused(refusal::BAD_COUNT_OR_MARKS);
     }
     let marks = fields::word_at(rest, 1);
     if !marks::marks_below(marks, n as usize) {
-        return Said::Refused(refusal::MARKS);
+        return Said::Refused(refusal::BAD_COUNT_OR_MARKS);
     }
     if entries::entries_fit(marks, entries_of(rest), n) {
         return Said::List;
     }
-    Said::Refused(refusal::ENTRY)
+    Said::Refused(refusal::ENTRY_OUT_OF_RANGE)
 }
 
 // 10 and 11, by the kind, and what the frame says.
@@ -72,7 +72,7 @@ fn read_rest(rest: &[u8], kind: u16, n: u8) -> Said
         frame_check::SILENCE => Said::Collection(Entry::Null),
         frame_check::LIST => read_list(rest, n),
         frame_check::CONFESSION => Said::Confession,
-        _ => Said::Refused(refusal::KIND),
+        _ => Said::Refused(refusal::UNKNOWN_KIND),
     }
 }
 
@@ -84,7 +84,7 @@ fn common_refusal(frame: &[u8], kind: u16, phase: u16, round: u8, link: u8) -> u
         return refusal::OTHER_ROUND;
     }
     if fields::byte_at(frame, 4) != link {
-        return refusal::SENDER;
+        return refusal::SENDER_IS_NOT_LINK;
     }
     if fields::half_at(frame, 5) != phase {
         return refusal::OTHER_PHASE;
@@ -138,7 +138,7 @@ fn write_bare(kind: u16, sender: u8, phase: u16, buffer: &mut [u8]) -> Written
     ensures bytes { λ r. ⌜ now (buffer .exit) ≡ buffered (header 7 kind sender phase []) (now (buffer .entry)) ⌝ }
 {
     if buffer.len() < 7 {
-        return Written::Refused(refusal::BUFFER);
+        return Written::Refused(refusal::BUFFER_TOO_SHORT);
     }
     put_header(7, kind, sender, phase, buffer);
     Written::Length(7)
@@ -150,7 +150,7 @@ fn write_position(v: i32, sender: u8, phase: u16, buffer: &mut [u8]) -> Written
     ensures bytes { λ r. ⌜ now (buffer .exit) ≡ buffered (positionFrame sender phase v) (now (buffer .entry)) ⌝ }
 {
     if buffer.len() < 11 {
-        return Written::Refused(refusal::BUFFER);
+        return Written::Refused(refusal::BUFFER_TOO_SHORT);
     }
     put_header(11, frame_check::POSITION, sender, phase, buffer);
     fields::put_word(buffer, 7, fields::unsigned(v));
@@ -194,7 +194,7 @@ fn write_list(
 {
     let size = 12 + 4 * (n as u16);
     if buffer.len() < size as usize {
-        return Written::Refused(refusal::BUFFER);
+        return Written::Refused(refusal::BUFFER_TOO_SHORT);
     }
     put_header(size, frame_check::LIST, sender, phase, buffer);
     buffer[7] = n;

@@ -75,7 +75,7 @@ over-list n k p t s {x} {y} h e f g =
 
 -- ---- the answer, and the buffer after it
 
-pub too-short : (frame s : List ℕ) → length s < length frame → (Written.Refused refusal.buffer ≡ written frame s) × (s ≡ buffered frame s)
+pub too-short : (frame s : List ℕ) → length s < length frame → (Written.Refused refusal.buffer-too-short ≡ written frame s) × (s ≡ buffered frame s)
 unfolding written buffered
 too-short frame s h = rw (lt-leb (length frame) (length s) h) (refl, refl)
 

@@ -77,7 +77,7 @@ meant-said n p r k s = go (refusalOf n p r k s) (kindField s)
     go (suc c) K = refl
 
 -- an empty frame says nothing
-pub nothing-said : (n p r k : ℕ) → said n p r k [] ≡ refused refusal.stated-length
+pub nothing-said : (n p r k : ℕ) → said n p r k [] ≡ refused refusal.stated-length-differs
 unfolding said refusalOf checkFrame
 nothing-said n p r k = refl
 

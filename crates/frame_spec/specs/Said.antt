@@ -62,10 +62,10 @@ unfoldable pub refusalOf : (n phase round link : ℕ) (frame : List ℕ) → ℕ
 refusalOf n p r k s =
     checkFrame s
     (check (eqb (roundOf (kindField s)) r) refusal.other-round
-    (check (eqb (senderField s) k) refusal.sender
+    (check (eqb (senderField s) k) refusal.sender-is-not-link
     (check (eqb (phaseField s) p) refusal.other-phase
-    (check (countFits (kindField s) n (restField s)) refusal.marks
-    (check (rangeFits (kindField s) n (restField s)) refusal.entry 0)))))
+    (check (countFits (kindField s) n (restField s)) refusal.bad-count-or-marks
+    (check (rangeFits (kindField s) n (restField s)) refusal.entry-out-of-range 0)))))
 
 -- ---- what it says
 
@@ -84,7 +84,7 @@ meaning position n t = collected (Entry.Position (numberIn t))
 meaning silence n t = collected Entry.Null
 meaning list n t = listed (tableIn n t)
 meaning confession n t = confessed
-meaning unknown n t = refused refusal.kind
+meaning unknown n t = refused refusal.unknown-kind
 
 unfoldable pub said : (n phase round link : ℕ) (frame : List ℕ) → Meaning
 said n p r k s = unlessRefused refused (refusalOf n p r k s) (meaning (kindField s) n (restField s))

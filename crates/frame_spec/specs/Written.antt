@@ -47,7 +47,7 @@ fitsIn frame buffer = leb (length frame) (length buffer)
 
 -- the frame's length, or 24 (P19)
 unfoldable pub written : List ℕ → List ℕ → Written
-written frame buffer = cond (fitsIn frame buffer) (Written.Length (length frame)) (Written.Refused refusal.buffer)
+written frame buffer = cond (fitsIn frame buffer) (Written.Length (length frame)) (Written.Refused refusal.buffer-too-short)
 
 -- the frame at the front, and the bytes after it as they were; all of it as it was if the frame is too long
 unfoldable pub buffered : List ℕ → List ℕ → List ℕ

@@ -32,7 +32,7 @@ first-seat K listens n f i rest e ok =
     let c : i < 256 = omega (arith, member-small K listens n f i rest ok) in
     λ t. openingSeat K (mod-eq-of-lt a t) (mod-eq-of-lt b t) (mod-eq-of-lt c t) e
 
-pub restart-seat : (K : Family) (listens : Bool) (n f i p r : ℕ) → checkMember K listens n f i (check (isTime K p r) refusal.phase 0) ≡ 0
+pub restart-seat : (K : Family) (listens : Bool) (n f i p r : ℕ) → checkMember K listens n f i (check (isTime K p r) refusal.phase-out-of-range 0) ≡ 0
     → healedSeat K (n % 256) (f % 256) (i % 256) (p % 65536) (r % 256) ≡ healedSeat K n f i p r
 unfolding restarted
 restart-seat K listens n f i p r ok =

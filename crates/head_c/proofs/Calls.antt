@@ -156,7 +156,7 @@ module _ (w : List ℕ) (block : IsBlock w) where
       h = headOf w
 
       ends : (b : Bool) (k : Kept) → FitOffer (Offer.Standing k)
-          → let a = answer (check (not b) refusal.ended 0) (opened (nextSeat (h .seat) k) noEntries) h in headOf (withAnswer w a) ≡ a .head
+          → let a = answer (check (not b) refusal.run-has-ended 0) (opened (nextSeat (h .seat) k) noEntries) h in headOf (withAnswer w a) ≡ a .head
       ends true k F = refl
       ends false k F =
           let s = nextSeat (h .seat) k in

@@ -23,7 +23,7 @@ pub offers : (w : List ℕ) (h : Head) (k : Kept) {w′ : List ℕ} → settled.
 offers w h k e q = rw (← e) (refl, q)
 
 module _ (w : List ℕ) (h : Head) where
-  pub ended-stays : h .seat .ended ≡ true → ClosesIn (close h) w (Closed.Refused refusal.ended) w
+  pub ended-stays : h .seat .ended ≡ true → ClosesIn (close h) w (Closed.Refused refusal.run-has-ended) w
   ended-stays e = rw (ended-closes h e) (refl, refl)
 
   pub lists : h .seat .ended ≡ false → isLastRound (h .seat) ≡ false → {w′ : List ℕ} → w′ ≡ withHead (closedCollection h) w → ClosesIn (close h) w Closed.Listed w′

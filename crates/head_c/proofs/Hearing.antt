@@ -176,7 +176,7 @@ module _ (w : List ℕ) (block : IsBlock w) (k : ℕ) (s : List ℕ) where
   link-block = go (not (h .seat .ended)) (ltb k (h .seat .n)) (not (bitOf (h .heard) k))
     where
       row : Bool → Bool → Bool → ℕ → ℕ
-      row a b c rest = check a refusal.ended (check b refusal.head-number (check c refusal.heard rest))
+      row a b c rest = check a refusal.run-has-ended (check b refusal.number-too-high (check c refusal.already-heard rest))
 
       frame : (c : ℕ) (m : Meaning) (new : Head)
           → heardIn w k (unlessRefused refused c m) ≡ leaves (answer c new h .refusal) (heardIn w k (unlessRefused refused c m)) w

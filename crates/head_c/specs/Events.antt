@@ -96,7 +96,7 @@ OnlyTheseChange =
 abbrev pub RefusedLeaves : Type 0
 RefusedLeaves =
     (w : List ℕ) (c : Call) → numberAfter w c ≢ 0
-    → (blockAfter w c ≡ withRegisters (registersAfter w c) w) × (numberAfter w c ≢ refusal.trusted → blockAfter w c ≡ w)
+    → (blockAfter w c ≡ withRegisters (registersAfter w c) w) × (numberAfter w c ≢ refusal.too-few-trusted → blockAfter w c ≡ w)
 
 -- ---- a strike takes the block, and may leave anything beside the head: both bytes are written anew
 

@@ -69,7 +69,7 @@ pub fn close_in(h: &mut [u32]) -> Closed
     ensures { λ r. ⌜ ClosesIn (close (headOf (now (h .entry)))) (now (h .entry)) r (now (h .exit)) ⌝ }
 {
     if h[place::ENDED] != 0 {
-        return Closed::Refused(refusal::ENDED);
+        return Closed::Refused(refusal::RUN_HAS_ENDED);
     }
     if !head_calls::is_last_round(seat_in(h)) {
         close_collection(h);

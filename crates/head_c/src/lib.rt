@@ -204,7 +204,7 @@ pub extern "C" fn focus_head_adopt(h: &mut Block) -> u8
         Offer::Standing(kept) => {
             let seat = seat_in(h);
             if seat.ended {
-                return refusal::ENDED;
+                return refusal::RUN_HAS_ENDED;
             }
             let b = head_window::after_adopt(0, registers_in(h));
             put_fresh(h, 0, head_calls::next_seat(seat, kept), b);

@@ -75,7 +75,7 @@ pub extern "C" fn focus_host_page(
         × (now (length .exit) ≡ writtenOr (pageAnswer n (readingsOf (now (blocks .entry))) (now (buffer .entry))) (now (length .entry))) ⌝ }
 {
     if 32 < n {
-        return refusal::HEAD_COUNT;
+        return refusal::BAD_HEAD_COUNT;
     }
     match hostpage::page(n as u8, readings_in(blocks), buffer) {
         Written::Refused(number) => number,

@@ -45,7 +45,11 @@ pub fn start_in(h: &mut Block, family: Family, n: u32, f: u32, number: u32, posi
     ensures { λ r. ⌜ (r ≡ start (headOf (now (h .entry))) family n f number position .refusal)
         × (now (h .exit) ≡ blockAfter (now (h .entry)) (starts family n f number position)) ⌝ }
 {
-    let last = head_calls::check(steps::is_position(position), refusal::POSITION, 0);
+    let last = head_calls::check(
+        steps::is_position(position),
+        refusal::POSITION_OUT_OF_RANGE,
+        0,
+    );
     let refused = head_calls::member_refusal(family, false, n, f, number, last);
     let seat = first_seat(family, n, f, number, Entry::Position(position));
     let b = head_window::after_start(refused, registers_in(h)); // a start clears both
@@ -65,7 +69,11 @@ pub fn restart_in(
     ensures { λ r. ⌜ (r ≡ restart (headOf (now (h .entry))) family n f number phase round .refusal)
         × (now (h .exit) ≡ blockAfter (now (h .entry)) (restarts family n f number phase round)) ⌝ }
 {
-    let last = head_calls::check(head_calls::is_time(family, phase, round), refusal::PHASE, 0);
+    let last = head_calls::check(
+        head_calls::is_time(family, phase, round),
+        refusal::PHASE_OUT_OF_RANGE,
+        0,
+    );
     let refused = head_calls::member_refusal(family, false, n, f, number, last);
     let seat = restart_seat(family, n, f, number, phase, round);
     let b = head_window::after_restart(refused, registers_in(h));
@@ -96,7 +104,11 @@ pub fn restart_listener_in(
     ensures { λ r. ⌜ (r ≡ restartListener (headOf (now (h .entry))) family n f number phase round .refusal)
         × (now (h .exit) ≡ blockAfter (now (h .entry)) (restartsListener family n f number phase round)) ⌝ }
 {
-    let last = head_calls::check(head_calls::is_time(family, phase, round), refusal::PHASE, 0);
+    let last = head_calls::check(
+        head_calls::is_time(family, phase, round),
+        refusal::PHASE_OUT_OF_RANGE,
+        0,
+    );
     let refused = head_calls::member_refusal(family, true, n, f, number, last);
     let seat = restart_seat(family, n, f, number, phase, round);
     let b = head_window::after_restart(refused, registers_in(h)); // a restart sets its event

@@ -90,13 +90,13 @@ fn link_refusal(h: &[u32], link: u32) -> u8
 {
     let again = marks::marked(h[place::HEARD], link as usize);
     if h[place::ENDED] != 0 {
-        return refusal::ENDED;
+        return refusal::RUN_HAS_ENDED;
     }
     if h[place::N] % 256 <= link {
-        return refusal::HEAD_NUMBER;
+        return refusal::NUMBER_TOO_HIGH;
     }
     if again {
-        return refusal::HEARD;
+        return refusal::ALREADY_HEARD;
     }
     0
 }

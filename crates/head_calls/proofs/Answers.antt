@@ -36,7 +36,7 @@ pub member-small : (K : Family) (listens : Bool) (n f i rest : ℕ) → checkMem
 member-small K true n f i rest e = listener-small i (both-passed (isListener i) true 2 0 (sized K n f e .1) .0)
 member-small K false n f i rest e = let (S, more) = sized K n f e in omega (arith, S .most, ltb-true i n (both-passed (ltb i n) true 2 0 more .0))
 
-pub proper-restarted-as : (K : Family) (listens : Bool) (n f i p r : ℕ) → checkMember K listens n f i (check (isTime K p r) refusal.phase 0) ≡ 0
+pub proper-restarted-as : (K : Family) (listens : Bool) (n f i p r : ℕ) → checkMember K listens n f i (check (isTime K p r) refusal.phase-out-of-range 0) ≡ 0
     → ProperHead (restarted K n f i p r)
 unfolding restartRefusal restartListenerRefusal
 proper-restarted-as K true n f i p r e = proper-restarted-listener K n f i p r e

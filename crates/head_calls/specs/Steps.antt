@@ -21,7 +21,7 @@ isMember listens n i = cond listens (isListener i) (ltb i n)
 
 -- 1, 2 or 18, 3, before the checks that follow
 abbrev pub checkMember : (K : Family) (listens : Bool) (n f number rest : ℕ) → ℕ
-checkMember K listens n f i rest = checkSize K n f (check (isMember listens n i) refusal.head-number rest)
+checkMember K listens n f i rest = checkSize K n f (check (isMember listens n i) refusal.number-too-high rest)
 
 -- phase 1 opens, with the position that is held, if one is
 abbrev pub openingSeat : (K : Family) (n f number : ℕ) (e : Entry) → Seat
@@ -45,7 +45,7 @@ unfoldable pub startAs : (K : Family) (listens : Bool) (h : Head) (n f number : 
 startAs K listens h n f i e rest = answer (checkMember K listens n f i rest) (opened (openingSeat K n f i e) noEntries) h
 
 unfoldable pub restartAs : (K : Family) (listens : Bool) (h : Head) (n f number phase round : ℕ) → Answer
-restartAs K listens h n f i p r = answer (checkMember K listens n f i (check (isTime K p r) refusal.phase 0)) (restarted K n f i p r) h
+restartAs K listens h n f i p r = answer (checkMember K listens n f i (check (isTime K p r) refusal.phase-out-of-range 0)) (restarted K n f i p r) h
 
 -- what a head has to say, as the code has it: the table of a list is the record's
 abbrev pub saidBy : ℕ → Seat → Said

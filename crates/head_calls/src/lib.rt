@@ -175,7 +175,11 @@ pub fn member_refusal(family: Family, listens: bool, n: u32, f: u32, number: u32
     if size != 0 {
         return size;
     }
-    check(is_member(listens, n, number), refusal::HEAD_NUMBER, rest)
+    check(
+        is_member(listens, n, number),
+        refusal::NUMBER_TOO_HIGH,
+        rest,
+    )
 }
 
 // Whether there is such a phase, and such a round.
@@ -227,7 +231,11 @@ fn start_as(
 pub fn start(h: Head, family: Family, n: u32, f: u32, number: u32, position: i32) -> Answer
     ensures { λ r. ⌜ r ≡ start h family n f number position ⌝ }
 {
-    let last = check(steps::is_position(position), refusal::POSITION, 0);
+    let last = check(
+        steps::is_position(position),
+        refusal::POSITION_OUT_OF_RANGE,
+        0,
+    );
     start_as(
         family,
         false,
@@ -260,7 +268,11 @@ fn restart_as(
 ) -> Answer
     ensures { λ r. ⌜ r ≡ restartAs family listens h n f number phase round ⌝ }
 {
-    let last = check(is_time(family, phase, round), refusal::PHASE, 0);
+    let last = check(
+        is_time(family, phase, round),
+        refusal::PHASE_OUT_OF_RANGE,
+        0,
+    );
     let refused = member_refusal(family, listens, n, f, number, last);
     if refused != 0 {
         return Answer {
@@ -335,10 +347,10 @@ pub fn write(h: Head, buffer: &mut [u8]) -> Written
 {
     let seat = h.seat;
     if seat.ended {
-        return Written::Refused(refusal::ENDED);
+        return Written::Refused(refusal::RUN_HAS_ENDED);
     }
     if terms::is_listener(seat.number as u32) {
-        return Written::Refused(refusal::LISTENER);
+        return Written::Refused(refusal::LISTENER_SENDS_NOTHING);
     }
     let list = h.list;
     frame_codec::write(spoken(seat), list, seat.n, seat.number, seat.phase, buffer)
@@ -434,7 +446,7 @@ pub fn close(h: Head) -> Closing
     let seat = h.seat;
     if seat.ended {
         return Closing {
-            closed: Closed::Refused(refusal::ENDED),
+            closed: Closed::Refused(refusal::RUN_HAS_ENDED),
             head: h,
         };
     }
@@ -463,7 +475,7 @@ pub fn adopt(h: Head, offer: Offer) -> Answer
         Offer::Standing(kept) => {
             if seat.ended {
                 return Answer {
-                    refusal: refusal::ENDED,
+                    refusal: refusal::RUN_HAS_ENDED,
                     head: h,
                 };
             }

@@ -74,7 +74,7 @@ module _ (h : Head) (k : ℕ) (s : List ℕ) where
   link-answered = sym (go (not (h .seat .ended)) (ltb k (h .seat .n)) (not (bitOf (h .heard) k)))
     where
       row : Bool → Bool → Bool → ℕ → ℕ
-      row a b c rest = check a refusal.ended (check b refusal.head-number (check c refusal.heard rest))
+      row a b c rest = check a refusal.run-has-ended (check b refusal.number-too-high (check c refusal.already-heard rest))
 
       go : (a b c : Bool) → let m = saidTo (h .seat) k s in
           answer (row a b c (refusalTo (h .seat) k s)) (taken h k m) h ≡ answered h k (unlessRefused refused (row a b c 0) m)

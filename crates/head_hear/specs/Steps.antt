@@ -13,7 +13,7 @@ use Rattle.head_spec.specs.Calls.{saidTo}
 -- 26, 3, 21
 abbrev pub linkRefusal : Seat → ℕ → ℕ → ℕ
 linkRefusal x heard k =
-    check (not (x .ended)) refusal.ended (check (ltb k (x .n)) refusal.head-number (check (not (bitOf heard k)) refusal.heard 0))
+    check (not (x .ended)) refusal.run-has-ended (check (ltb k (x .n)) refusal.number-too-high (check (not (bitOf heard k)) refusal.already-heard 0))
 
 -- what link k says to a head that has heard these links
 abbrev pub saidOn : Seat → ℕ → ℕ → List ℕ → Meaning

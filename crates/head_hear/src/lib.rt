@@ -25,13 +25,13 @@ fn link_refusal(seat: Seat, heard: u32, link: u32) -> u8
 {
     let again = marks::marked(heard, link as usize);
     if seat.ended {
-        return refusal::ENDED;
+        return refusal::RUN_HAS_ENDED;
     }
     if seat.n as u32 <= link {
-        return refusal::HEAD_NUMBER;
+        return refusal::NUMBER_TOO_HIGH;
     }
     if again {
-        return refusal::HEARD;
+        return refusal::ALREADY_HEARD;
     }
     0
 }
@@ -164,7 +164,7 @@ pub fn cut(batch: &[u8], room: usize) -> Cuts
         let size = entry_size(fields::bytes_from(batch, at));
         if size == 0 {
             return Cuts {
-                refusal: refusal::BATCH_ENTRY,
+                refusal: refusal::BAD_BATCH_ENTRY,
                 entries,
             };
         }
@@ -173,7 +173,7 @@ pub fn cut(batch: &[u8], room: usize) -> Cuts
     }
     if room < entries {
         return Cuts {
-            refusal: refusal::BUFFER,
+            refusal: refusal::BUFFER_TOO_SHORT,
             entries,
         };
     }

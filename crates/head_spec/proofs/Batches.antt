@@ -179,7 +179,7 @@ unfolding hearEach
 ended-each [] h over = refl
 ended-each (d ∷ D) h over = rw (ended-hears h over (d .link) (d .bytes)) (ended-each D h over)
 
-pub answers-ended : (D : List Delivery) (h : Head) → h .seat .ended ≡ true → answersTo h D ≡ replicate (length D) refusal.ended
+pub answers-ended : (D : List Delivery) (h : Head) → h .seat .ended ≡ true → answersTo h D ≡ replicate (length D) refusal.run-has-ended
 unfolding answersTo
 answers-ended [] h over = refl
-answers-ended (d ∷ D) h over = rw (ended-hears h over (d .link) (d .bytes)) (ap (λ (l : List ℕ). refusal.ended ∷ l) (answers-ended D h over))
+answers-ended (d ∷ D) h over = rw (ended-hears h over (d .link) (d .bytes)) (ap (λ (l : List ℕ). refusal.run-has-ended ∷ l) (answers-ended D h over))

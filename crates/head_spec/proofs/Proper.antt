@@ -173,7 +173,7 @@ module _ (K : Family) (n f i : ℕ) where
 
   -- b: the test of the number
   proper-healed : (b : Bool) (p r : ℕ) → (b ≡ true → isListener i ≡ false → i < n)
-      → checkSize K n f (check b refusal.head-number (check (isTime K p r) refusal.phase 0)) ≡ 0 → ProperSeat (healedSeat K n f i p r)
+      → checkSize K n f (check b refusal.number-too-high (check (isTime K p r) refusal.phase-out-of-range 0)) ≡ 0 → ProperSeat (healedSeat K n f i p r)
   proper-healed b p r number e =
       let (S, rest) = sized K n f e in
       let (member, times, done) = both-passed b (isTime K p r) 2 4 rest in

@@ -75,11 +75,11 @@ module _ (h : Head) (P : ProperHead h) where
   unfolding endRound settling closedCollection closedPhase
   ended-sound s = go (h .seat .ended) (isLastRound (h .seat))
     where
-      settles : (c : Bool) → enoughTrusted h ≡ c → Sound (endSettled (cond c (Settled.New (settledBy h)) (Settled.Refused refusal.trusted)) h .head .seat .last)
+      settles : (c : Bool) → enoughTrusted h ≡ c → Sound (endSettled (cond c (Settled.New (settledBy h)) (Settled.Refused refusal.too-few-trusted)) h .head .seat .last)
       settles true e = settled-sound e
       settles false e = s
 
-      go : (b r : Bool) → Sound (cond b (closing (Closed.Refused refusal.ended) h) (endIn r h) .head .seat .last)
+      go : (b r : Bool) → Sound (cond b (closing (Closed.Refused refusal.run-has-ended) h) (endIn r h) .head .seat .last)
       go true r = s
       go false false = s
       go false true = settles (enoughTrusted h) refl

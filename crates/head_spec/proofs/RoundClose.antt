@@ -36,7 +36,7 @@ Closes Closed.Listed h h′ = (h′ ≡ closedCollection h) × (endRound h ≡ c
 Closes (Closed.Settled k) h h′ = (h′ ≡ h) × Stands h k
 
 -- the end of the round, where its seat is known
-end-by : (h : Head) {b r : Bool} → h .seat .ended ≡ b → isLastRound (h .seat) ≡ r → endRound h ≡ cond b (closing (Closed.Refused refusal.ended) h) (endIn r h)
+end-by : (h : Head) {b r : Bool} → h .seat .ended ≡ b → isLastRound (h .seat) ≡ r → endRound h ≡ cond b (closing (Closed.Refused refusal.run-has-ended) h) (endIn r h)
 unfolding endRound
 end-by h e q = rw (e, q)
 
@@ -49,7 +49,7 @@ closes h = go (h .seat .ended) (isLastRound (h .seat)) refl refl
     settles (Settled.New k) runs e = (refl, record { runs = runs; ends = e })
 
     go : (b r : Bool) → h .seat .ended ≡ b → isLastRound (h .seat) ≡ r
-        → let a = cond b (closing (Closed.Refused refusal.ended) h) (closeIn r h) in Closes (a .closed) h (a .head)
+        → let a = cond b (closing (Closed.Refused refusal.run-has-ended) h) (closeIn r h) in Closes (a .closed) h (a .head)
     go true r e q = (refl, end-by h e q)
     go false false e q = (refl, end-by h e q)
     go false true e q = settles (settlingOf h) e (end-by h e q)
@@ -79,11 +79,11 @@ module _ (h : Head) (P : ProperHead h) where
   unfolding close settling
   both = go (h .seat .ended) (isLastRound (h .seat)) refl
     where
-      settles : (c : Bool) → Kept-proper (offerSettled (cond c (Settled.New (settledBy h)) (Settled.Refused refusal.trusted)) h)
+      settles : (c : Bool) → Kept-proper (offerSettled (cond c (Settled.New (settledBy h)) (Settled.Refused refusal.too-few-trusted)) h)
       settles true = (P, settled-proper h P)
       settles false = (P, tt)
 
-      go : (b r : Bool) → isLastRound (h .seat) ≡ r → Kept-proper (cond b (closing (Closed.Refused refusal.ended) h) (closeIn r h))
+      go : (b r : Bool) → isLastRound (h .seat) ≡ r → Kept-proper (cond b (closing (Closed.Refused refusal.run-has-ended) h) (closeIn r h))
       go true r c = (P, tt)
       go false false c = (proper-collection h P c, tt)
       go false true c = settles (enoughTrusted h)

@@ -43,9 +43,9 @@ pub settles-by : (h : Head) {K : Family} → h .seat .family ≡ K
     → settling (rounding (h .seat .phase)) (h .seat .n) (ruleOf K (h .seat .f)) (entriesBy K h) ≡ settlingOf h
 settles-by h e = ap (λ (k : Family). settling (rounding (h .seat .phase)) (h .seat .n) (ruleOf k (h .seat .f)) (entriesBy k h)) (sym e)
 
-settling-is : (h : Head) {b : Bool} → enoughTrusted h ≡ b → settlingOf h ≡ cond b (Settled.New (settledBy h)) (Settled.Refused refusal.trusted)
+settling-is : (h : Head) {b : Bool} → enoughTrusted h ≡ b → settlingOf h ≡ cond b (Settled.New (settledBy h)) (Settled.Refused refusal.too-few-trusted)
 unfolding settling
-settling-is h e = ap (λ (x : Bool). cond x (Settled.New (settledBy h)) (Settled.Refused refusal.trusted)) e
+settling-is h e = ap (λ (x : Bool). cond x (Settled.New (settledBy h)) (Settled.Refused refusal.too-few-trusted)) e
 
 module _ (h : Head) (runs : h .seat .ended ≡ false) where
   pub ends-collection : isLastRound (h .seat) ≡ false → endRound h ≡ closing Closed.Listed (closedCollection h)
@@ -60,7 +60,7 @@ module _ (h : Head) (runs : h .seat .ended ≡ false) where
     pub ends-phase : enoughTrusted h ≡ true → endRound h ≡ closing (Closed.Settled (settledBy h)) (closedPhase h (settledBy h))
     ends-phase e = ends-last ∙ ap (λ (s : Settled). endSettled s h) (settling-is h e)
 
-    pub too-few-trusted : enoughTrusted h ≡ false → endRound h ≡ closing (Closed.Refused refusal.trusted) h
+    pub too-few-trusted : enoughTrusted h ≡ false → endRound h ≡ closing (Closed.Refused refusal.too-few-trusted) h
     too-few-trusted e = ends-last ∙ ap (λ (s : Settled). endSettled s h) (settling-is h e)
 
 -- the new position is the midpoint
@@ -88,7 +88,7 @@ answers h = go (h .seat .ended) (isLastRound (h .seat))
     settles (Settled.Refused c) = refl
     settles (Settled.New k) = refl
 
-    go : (b r : Bool) → let a = cond b (closing (Closed.Refused refusal.ended) h) (endIn r h) in Answers (a .closed) h (a .head)
+    go : (b r : Bool) → let a = cond b (closing (Closed.Refused refusal.run-has-ended) h) (endIn r h) in Answers (a .closed) h (a .head)
     go true r = refl
     go false false = refl
     go false true = settles (settlingOf h)
@@ -164,11 +164,11 @@ module _ (h : Head) (P : ProperHead h) where
   unfolding endRound settling
   proper-end = go (h .seat .ended) (isLastRound (h .seat)) refl
     where
-      settles : (c : Bool) → ProperHead (endSettled (cond c (Settled.New (settledBy h)) (Settled.Refused refusal.trusted)) h .head)
+      settles : (c : Bool) → ProperHead (endSettled (cond c (Settled.New (settledBy h)) (Settled.Refused refusal.too-few-trusted)) h .head)
       settles true = proper-phase (settledBy h) settled-proper
       settles false = P
 
-      go : (b r : Bool) → isLastRound (h .seat) ≡ r → ProperHead (cond b (closing (Closed.Refused refusal.ended) h) (endIn r h) .head)
+      go : (b r : Bool) → isLastRound (h .seat) ≡ r → ProperHead (cond b (closing (Closed.Refused refusal.run-has-ended) h) (endIn r h) .head)
       go true r c = P
       go false false c = proper-collection c
       go false true c = settles (enoughTrusted h)

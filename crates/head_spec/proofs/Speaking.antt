@@ -53,7 +53,7 @@ module _ (h : Head) (P : ProperHead h) where
       s = frameFor h
 
       go : (a b c : Bool)
-          → cond a (Written.Refused refusal.ended) (cond b (Written.Refused refusal.listener) (cond c (Written.Length (length s)) (Written.Refused refusal.buffer)))
+          → cond a (Written.Refused refusal.run-has-ended) (cond b (Written.Refused refusal.listener-sends-nothing) (cond c (Written.Length (length s)) (Written.Refused refusal.buffer-too-short)))
           ≡ Written.Length len
           → saidTo (h .seat) (h .seat .number) (take len (cond a buffer (cond b buffer (cond c (s ++ drop (length s) buffer) buffer)))) ≡ spoken h
       go true b c e = let z : _≡_ {A = ℕ} 0 1 = cc in absurd (omega arith)

@@ -56,7 +56,7 @@ module _ (h : Head) (K : Family) (n f i : ℕ) where
 -- ---- a listener sends nothing
 
 pub listener-writes : (h : Head) → h .seat .ended ≡ false → isListener (h .seat .number) ≡ true → (buffer : List ℕ)
-    → (writeAnswer h buffer ≡ Written.Refused refusal.listener) × (writeBuffer h buffer ≡ buffer)
+    → (writeAnswer h buffer ≡ Written.Refused refusal.listener-sends-nothing) × (writeBuffer h buffer ≡ buffer)
 unfolding writeAnswer writeBuffer
 listener-writes h runs listens buffer = (rw (runs, listens), rw (runs, listens))
 
@@ -73,18 +73,18 @@ adopts-offer h k runs = rw runs
 -- ---- phase 65,535 has ended
 
 module _ (h : Head) (over : h .seat .ended ≡ true) where
-  pub ended-hears : (k : ℕ) (s : List ℕ) → hear h k s ≡ record { refusal = refusal.ended; head = h }
+  pub ended-hears : (k : ℕ) (s : List ℕ) → hear h k s ≡ record { refusal = refusal.run-has-ended; head = h }
   unfolding hear hearRefusal
   ended-hears k s = rw over
 
-  pub ended-writes : (buffer : List ℕ) → (writeAnswer h buffer ≡ Written.Refused refusal.ended) × (writeBuffer h buffer ≡ buffer)
+  pub ended-writes : (buffer : List ℕ) → (writeAnswer h buffer ≡ Written.Refused refusal.run-has-ended) × (writeBuffer h buffer ≡ buffer)
   unfolding writeAnswer writeBuffer
   ended-writes buffer = (rw over, rw over)
 
-  pub ended-closes : close h ≡ closing (Closed.Refused refusal.ended) h
+  pub ended-closes : close h ≡ closing (Closed.Refused refusal.run-has-ended) h
   unfolding close
   ended-closes = rw over
 
-  pub ended-adopts : (k : Kept) → adopt h (Offer.Standing k) ≡ record { refusal = refusal.ended; head = h }
+  pub ended-adopts : (k : Kept) → adopt h (Offer.Standing k) ≡ record { refusal = refusal.run-has-ended; head = h }
   unfolding adopt
   ended-adopts k = rw over

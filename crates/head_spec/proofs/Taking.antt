@@ -199,7 +199,7 @@ pub hear-cases : (h : Head) (k : ℕ) (s : List ℕ) (Q : Head → Type 0) → Q
 unfolding hear hearRefusal
 hear-cases h k s Q stays takes = go (hearRefusal h k s) refl
   where
-    free : (b : Bool) (rest : ℕ) → check (not b) refusal.heard rest ≡ 0 → b ≡ false
+    free : (b : Bool) (rest : ℕ) → check (not b) refusal.already-heard rest ≡ 0 → b ≡ false
     free true rest e = absurd (omega arith)
     free false rest e = refl
 

@@ -53,7 +53,7 @@ isBatch s = isCutInto (length s) s
 
 -- Q03, Q04, Q05
 unfoldable pub batchRefusal : List ℕ → ℕ → ℕ
-batchRefusal s room = check (isBatch s) refusal.batch-entry (check (leb (length (entriesOf s)) room) refusal.buffer 0)
+batchRefusal s room = check (isBatch s) refusal.bad-batch-entry (check (leb (length (entriesOf s)) room) refusal.buffer-too-short 0)
 
 -- the call's number, and the record after it
 unfoldable pub hearBatch : Head → List ℕ → ℕ → Answer

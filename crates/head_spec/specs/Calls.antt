@@ -43,7 +43,7 @@ answer (suc c) new old = record { refusal = suc c; head = old }
 
 -- P34, Q76
 unfoldable pub startRefusal : (K : Family) (n f number : ℕ) (position : ℤ) → ℕ
-startRefusal K n f i v = checkSize K n f (check (ltb i n) refusal.head-number (check (isPosition v) refusal.position 0))
+startRefusal K n f i v = checkSize K n f (check (ltb i n) refusal.number-too-high (check (isPosition v) refusal.position-out-of-range 0))
 
 -- P37
 unfoldable pub started : (K : Family) (n f number : ℕ) (position : ℤ) → Head
@@ -60,7 +60,7 @@ isTime K p r = isPhase p && ltb r (roundsOf K)
 
 -- P34, Q76
 unfoldable pub restartRefusal : (K : Family) (n f number phase round : ℕ) → ℕ
-restartRefusal K n f i p r = checkSize K n f (check (ltb i n) refusal.head-number (check (isTime K p r) refusal.phase 0))
+restartRefusal K n f i p r = checkSize K n f (check (ltb i n) refusal.number-too-high (check (isTime K p r) refusal.phase-out-of-range 0))
 
 unfoldable pub restarted : (K : Family) (n f number phase round : ℕ) → Head
 restarted K n f i p r = opened (healedSeat K n f i p r) noEntries
@@ -73,7 +73,7 @@ restart h K n f i p r = answer (restartRefusal K n f i p r) (restarted K n f i p
 
 -- Q31, Q32
 unfoldable pub startListenerRefusal : (K : Family) (n f number : ℕ) → ℕ
-startListenerRefusal K n f i = checkSize K n f (check (isListener i) refusal.head-number 0)
+startListenerRefusal K n f i = checkSize K n f (check (isListener i) refusal.number-too-high 0)
 
 -- Q34
 unfoldable pub startedListener : (K : Family) (n f number : ℕ) → Head
@@ -84,7 +84,7 @@ startListener h K n f i = answer (startListenerRefusal K n f i) (startedListener
 
 -- Q33
 unfoldable pub restartListenerRefusal : (K : Family) (n f number phase round : ℕ) → ℕ
-restartListenerRefusal K n f i p r = checkSize K n f (check (isListener i) refusal.head-number (check (isTime K p r) refusal.phase 0))
+restartListenerRefusal K n f i p r = checkSize K n f (check (isListener i) refusal.number-too-high (check (isTime K p r) refusal.phase-out-of-range 0))
 
 unfoldable pub restartListener : (h : Head) (K : Family) (n f number phase round : ℕ) → Answer
 restartListener h K n f i p r = answer (restartListenerRefusal K n f i p r) (restarted K n f i p r) h
@@ -101,9 +101,9 @@ refusalTo x k s = refusalOf (x .n) (x .phase) (x .round) k s
 -- P09, P12, P16, Q35
 unfoldable pub hearRefusal : Head → ℕ → List ℕ → ℕ
 hearRefusal h k s =
-    check (not (h .seat .ended)) refusal.ended
-    (check (ltb k (h .seat .n)) refusal.head-number
-    (check (not (bitOf (h .heard) k)) refusal.heard
+    check (not (h .seat .ended)) refusal.run-has-ended
+    (check (ltb k (h .seat .n)) refusal.number-too-high
+    (check (not (bitOf (h .heard) k)) refusal.already-heard
     (refusalTo (h .seat) k s)))
 
 -- link k heard: the list that is being filled, which links confessed or gave a list, and the lists
@@ -173,8 +173,8 @@ frameFor h = frameOf (h .seat .n) (h .seat .number) (h .seat .phase) (spoken h)
 -- P20, Q36
 unfoldable pub writeAnswer : Head → List ℕ → Written
 writeAnswer h buffer =
-    cond (h .seat .ended) (Written.Refused refusal.ended)
-    (cond (isListener (h .seat .number)) (Written.Refused refusal.listener) (written (frameFor h) buffer))
+    cond (h .seat .ended) (Written.Refused refusal.run-has-ended)
+    (cond (isListener (h .seat .number)) (Written.Refused refusal.listener-sends-nothing) (written (frameFor h) buffer))
 
 unfoldable pub writeBuffer : Head → List ℕ → List ℕ
 writeBuffer h buffer = cond (h .seat .ended) buffer (cond (isListener (h .seat .number)) buffer (buffered (frameFor h) buffer))
@@ -210,7 +210,7 @@ abbrev pub isLastRound : Seat → Bool
 isLastRound s = endsWith (s .family) (s .round)
 
 unfoldable pub endRound : Head → Closing
-endRound h = cond (h .seat .ended) (closing (Closed.Refused refusal.ended) h) (endIn (isLastRound (h .seat)) h)
+endRound h = cond (h .seat .ended) (closing (Closed.Refused refusal.run-has-ended) h) (endIn (isLastRound (h .seat)) h)
 
 -- ---- closing; checks 26, 25. It ends a collection round; in the last round of a phase it only offers the position, and the record stays
 -- as it is (document 02, A8)
@@ -227,14 +227,14 @@ closeIn true h = offerSettled (settlingOf h) h
 
 -- Q65
 unfoldable pub close : Head → Closing
-close h = cond (h .seat .ended) (closing (Closed.Refused refusal.ended) h) (closeIn (isLastRound (h .seat)) h)
+close h = cond (h .seat .ended) (closing (Closed.Refused refusal.run-has-ended) h) (closeIn (isLastRound (h .seat)) h)
 
 -- ---- adopting; checks 27, 26. What is offered becomes the head's position, and the phase ends
 
 -- Q67
 abbrev pub adoptRefusal : Head → Offer → ℕ
 adoptRefusal h Offer.Nothing = refusal.no-offer
-adoptRefusal h (Offer.Standing k) = check (not (h .seat .ended)) refusal.ended 0
+adoptRefusal h (Offer.Standing k) = check (not (h .seat .ended)) refusal.run-has-ended 0
 
 abbrev pub adopted : Head → Offer → Head
 adopted h Offer.Nothing = h

@@ -47,7 +47,7 @@ restartedRegisters c b = leaves c (withEvent strikeOver b) b
 
 -- a closing that is refused 25 sets that event: the one exception from demand 1; an offer sets none (Q25)
 abbrev pub closedRegisters : Closed → Registers → Registers
-closedRegisters (Closed.Refused c) b = cond (eqb c refusal.trusted) (withEvent tooFew b) b
+closedRegisters (Closed.Refused c) b = cond (eqb c refusal.too-few-trusted) (withEvent tooFew b) b
 closedRegisters Closed.Listed b = b
 closedRegisters (Closed.Settled k) b = b
 
@@ -83,7 +83,7 @@ window s b =
 
 -- Q18
 abbrev pub readRefusal : ℕ → ℕ
-readRefusal at = check (ltb at 16) refusal.register 0
+readRefusal at = check (ltb at 16) refusal.no-such-register 0
 
 -- the byte, or what was where it is to go
 abbrev pub byteRead : Seat → Registers → ℕ → ℕ → ℕ
@@ -93,7 +93,7 @@ byteRead s b at old = leaves (readRefusal at) (getD (window s b) at 0) old
 
 -- Q19
 abbrev pub setRefusal : ℕ → ℕ
-setRefusal at = check (eqb at 10 || eqb at 11) refusal.register 0
+setRefusal at = check (eqb at 10 || eqb at 11) refusal.no-such-register 0
 
 -- byte 10 clears the events written as one; byte 11 sets the mask to its low three bits (Q19)
 abbrev pub setRegisters : ℕ → ℕ → Registers → Registers

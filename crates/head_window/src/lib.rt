@@ -71,7 +71,7 @@ pub fn after_close(c: Closed, b: Registers) -> Registers
 {
     match c {
         Closed::Refused(number) => {
-            if number == refusal::TRUSTED {
+            if number == refusal::TOO_FEW_TRUSTED {
                 return with_event(TOO_FEW, b);
             }
             b
@@ -175,7 +175,11 @@ pub fn window(s: Seat, b: Registers) -> Window
 pub fn read_refusal(at: u32) -> u8
     ensures { λ r. ⌜ r ≡ readRefusal at ⌝ }
 {
-    if at < 16 { 0 } else { refusal::REGISTER }
+    if at < 16 {
+        0
+    } else {
+        refusal::NO_SUCH_REGISTER
+    }
 }
 
 // 16 but for bytes 10 and 11.
@@ -183,10 +187,10 @@ pub fn set_refusal(at: u32) -> u8
     ensures { λ r. ⌜ r ≡ setRefusal at ⌝ }
 {
     if at < EVENTS_BYTE {
-        return refusal::REGISTER;
+        return refusal::NO_SUCH_REGISTER;
     }
     if MASK_BYTE < at {
-        return refusal::REGISTER;
+        return refusal::NO_SUCH_REGISTER;
     }
     0
 }

@@ -54,7 +54,7 @@ pageOf (suc k) rs = pageOf k rs ++ lineOf k (getD rs k Reading.Unknown)
 
 -- 1, then 24, else the page's length (Q103)
 unfoldable pub pageAnswer : ℕ → List Reading → List ℕ → Written
-pageAnswer n rs buffer = cond (isCount n) (written (pageOf n rs) buffer) (Written.Refused refusal.head-count)
+pageAnswer n rs buffer = cond (isCount n) (written (pageOf n rs) buffer) (Written.Refused refusal.bad-head-count)
 
 -- the page at the front, and the bytes after it as they were; a refusal leaves all as it was (Q104)
 unfoldable pub pageIn : ℕ → List Reading → List ℕ → List ℕ

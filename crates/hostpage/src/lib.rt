@@ -106,14 +106,14 @@ pub fn page(n: u8, readings: Readings, buffer: &mut [u8]) -> Written
     ensures { λ _. ⌜ now (buffer .exit) ≡ pageIn n readings (now (buffer .entry)) ⌝ }
 {
     if n == 0 {
-        return Written::Refused(refusal::HEAD_COUNT);
+        return Written::Refused(refusal::BAD_HEAD_COUNT);
     }
     if 32 < n {
-        return Written::Refused(refusal::HEAD_COUNT);
+        return Written::Refused(refusal::BAD_HEAD_COUNT);
     }
     let len = page_length(n, readings);
     if buffer.len() < len {
-        return Written::Refused(refusal::BUFFER);
+        return Written::Refused(refusal::BUFFER_TOO_SHORT);
     }
     put_page(n, readings, buffer);
     Written::Length(len)

@@ -71,7 +71,7 @@ close-stays h e = go (h .seat .ended) (isLastRound (h .seat)) e
     settled (Settled.Refused c) = refl
     settled (Settled.New k) = refl
 
-    go : (b r : Bool) → r ≡ true → cond b (closing (Closed.Refused refusal.ended) h) (closeIn r h) .head ≡ h
+    go : (b r : Bool) → r ≡ true → cond b (closing (Closed.Refused refusal.run-has-ended) h) (closeIn r h) .head ≡ h
     go true r q = refl
     go false true q = settled (settlingOf h)
     go false false q = absurd (true≢false (sym q))
@@ -102,7 +102,7 @@ held-close h o e H = go (h .seat .ended) (isLastRound (h .seat)) e (closes h)
     settled (Settled.Refused c) z = H
     settled (Settled.New k) z = inr (k, refl, z .1)
 
-    go : (b r : Bool) → r ≡ true → let a = cond b (closing (Closed.Refused refusal.ended) h) (closeIn r h) in
+    go : (b r : Bool) → r ≡ true → let a = cond b (closing (Closed.Refused refusal.run-has-ended) h) (closeIn r h) in
         Closes (a .closed) h (a .head) → Held (a .head) (offered (a .closed) o)
     go true r q z = H
     go false true q z = settled (settlingOf h) z

@@ -133,8 +133,8 @@ writes-frame T s buffer e runs head room =
     (le-leb (length (frameFor T)) (length buffer) (omega (arith, ap length e))) e
   where
     go : (a b c : Bool) (u : List ℕ) → a ≡ false → b ≡ false → c ≡ true → u ≡ s
-        → (cond a (Written.Refused refusal.ended)
-        (cond b (Written.Refused refusal.listener) (cond c (Written.Length (length u)) (Written.Refused refusal.buffer)))
+        → (cond a (Written.Refused refusal.run-has-ended)
+        (cond b (Written.Refused refusal.listener-sends-nothing) (cond c (Written.Length (length u)) (Written.Refused refusal.buffer-too-short)))
         ≡ Written.Length (length s)) × (take (length s) (cond a buffer (cond b buffer (cond c (u ++ drop (length u) buffer) buffer))) ≡ s)
     go a b c u p q r z = rw (p, q, r, z) (refl, take-append-seam s (drop (length s) buffer))
 

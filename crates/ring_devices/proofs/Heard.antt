@@ -62,7 +62,7 @@ heard-by (hearsBatch s room ∷ C) h = heard-by C _ ∙ go (batchRefusal s room)
 pub first-says : {X : Type 0} (W : Meaning → X) → ((c : ℕ) → W (refused 0) ≡ W (refused c)) → (x : Seat) (k : ℕ) (D : List Delivery)
     → W (firstSaid x k D) ≡ W (saidTo x k (firstFrame x k D))
 unfolding firstSaid firstFrame
-first-says W none x k [] = none refusal.stated-length ∙ ap W (sym (nothing-said (x .n) (x .phase) (x .round) k))
+first-says W none x k [] = none refusal.stated-length-differs ∙ ap W (sym (nothing-said (x .n) (x .phase) (x .round) k))
 first-says W none x k (d ∷ D) = go (eqb (d .link) k) (saidTo x k (d .bytes)) refl (first-says W none x k D)
   where
     go : (b : Bool) (m : Meaning) → saidTo x k (d .bytes) ≡ m → W (firstSaid x k D) ≡ W (saidTo x k (firstFrame x k D))

@@ -70,8 +70,8 @@ module _ (K : Family) (n m f : ℕ) (v : ℕ → ℤ) (ws : List Round) (X : Wit
                 let k : _≡_ {A = ℕ} 0 1 = cc in
                 omega arith
 
-        pub never-25 : closes .closed ≢ Closed.Refused refusal.trusted
-        never-25 = never-refused refusal.trusted
+        pub never-25 : closes .closed ≢ Closed.Refused refusal.too-few-trusted
+        never-25 = never-refused refusal.too-few-trusted
 
   pub sound-holds : (i : ℕ) → i < length (endsAfter K n f v ws) → AllHold receivers (asEnd n m (getD (endsAfter K n f v ws) i noEnd))
   sound-holds i h j b q = held-position _ _ _ (ring-converges K n m f v ws X i 0 (omega arith) .range j b q)

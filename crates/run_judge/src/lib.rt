@@ -84,14 +84,14 @@ pub fn start_fault(family: Family, bytes: &[u8]) -> u8
     let n = fields::byte_at(bytes, 4);
     let f = fields::byte_at(bytes, 5);
     if bytes.len() != 6 + 4 * (n as usize) {
-        return refusal::RUN_RECORD;
+        return refusal::BAD_RUN_RECORD;
     }
     let size = steps::size_refusal(family, n as u32, f as u32);
     if size != 0 {
         return size;
     }
     if !positions_fit(bytes, n) {
-        return refusal::POSITION;
+        return refusal::POSITION_OUT_OF_RANGE;
     }
     0
 }
@@ -128,10 +128,10 @@ pub fn round_fault(family: Family, bytes: &[u8], n: u8, f: u8, rounds: u32) -> u
     ensures { λ r. ⌜ r ≡ roundFault family n f rounds (now (bytes .entry)) ⌝ }
 {
     if !few_marks(n, f, fields::word_at(bytes, 4)) {
-        return refusal::STRUCK;
+        return refusal::TOO_MANY_STRUCK;
     }
     if most_rounds(family) <= rounds {
-        return refusal::ENDED;
+        return refusal::RUN_HAS_ENDED;
     }
     0
 }
@@ -142,10 +142,10 @@ pub fn listeners_fault(bytes: &[u8]) -> u8
 {
     let number = fields::byte_at(bytes, 4);
     if number < 1 {
-        return refusal::RUN_RECORD;
+        return refusal::BAD_RUN_RECORD;
     }
     if 16 < number {
-        return refusal::RUN_RECORD;
+        return refusal::BAD_RUN_RECORD;
     }
     0
 }
@@ -157,7 +157,7 @@ pub fn strikes_fault(bytes: &[u8], m: u8) -> u8
     if marks::marks_below(fields::half_at(bytes, 4) as u32, m as usize) {
         return 0;
     }
-    refusal::RUN_RECORD
+    refusal::BAD_RUN_RECORD
 }
 
 // Whether a pair comes after the last of its round: by sender, then by receiver.
@@ -215,5 +215,5 @@ pub fn plant_fault(bytes: &[u8], n: u8, m: u8, struck: u64, last: Pair) -> u8
     if pair_fits(from, to, n, m, struck, last) {
         return 0;
     }
-    refusal::RUN_RECORD
+    refusal::BAD_RUN_RECORD
 }

@@ -271,9 +271,9 @@ module _ {a : List ℕ} {p : Player} {before : List ℕ} {M : Memory} (L : State
         go false no-place is =
             let some : 0 < length (take used rest) = omega (arith, four, length-take-le used rest (G .within)) in
             let n = stopped-next {F = F} {p = p} {M = M} {r = record { player = q; text = r .text }} (L .player) (L .memory) is (Q .none) in
-            becomes rest (stopped F refusal.run-record) (feed-refused F (L .player .fault ∙ ok) (take used rest) some (s-long ∙ four) no-place) refl
+            becomes rest (stopped F refusal.bad-run-record) (feed-refused F (L .player .fault ∙ ok) (take used rest) some (s-long ∙ four) no-place) refl
             (record { player = Q .player; used = Q .used; text = refl }) n (λ e z. omega arith)
-            (grown-none F (stopped F refusal.run-record) refl (stop-shows F refusal.run-record) (n .shows))
+            (grown-none F (stopped F refusal.bad-run-record) refl (stop-shows F refusal.bad-run-record) (n .shows))
 
     -- the record is there
     pub ends : {r : FeedResult} {t : RecordResult} {b : List ℕ} {M′ : Memory} → 4 ≤ p .have → want ≤ used → b ≡ take (p .have + used) carry → RecordTaken t used r

@@ -35,7 +35,7 @@ pub record Plants (s : List ℕ) (size : ℕ) : Type 0 where
 -- what the player becomes with a record's header, by whether that record is allowed
 abbrev pub headedTo : Player → Bool → Player
 headedTo p true = halted p 4 (p .fault)
-headedTo p false = halted p 0 refusal.run-record
+headedTo p false = halted p 0 refusal.bad-run-record
 
 -- a step that takes a record
 pub record RecordTaken (t : RecordResult) (n : ℕ) (r : FeedResult) : Type 0 where

@@ -86,7 +86,7 @@ fn headed(p: Player, bytes: &[u8]) -> Player
     if run_record::stands(p, bytes) {
         return holding(p, 4);
     }
-    run_state::stop(p, refusal::RUN_RECORD)
+    run_state::stop(p, refusal::BAD_RUN_RECORD)
 }
 
 // Bytes that show nothing.

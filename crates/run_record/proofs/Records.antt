@@ -94,7 +94,7 @@ module _ (F : File) (s : List ℕ) where
   unfolding plantTaken
   plant-taken few = rw (le-leb _ _ few)
 
-  pub plant-refused : 146 < length s → plantTaken F s ≡ stopped F refusal.run-record
+  pub plant-refused : 146 < length s → plantTaken F s ≡ stopped F refusal.bad-run-record
   unfolding plantTaken
   plant-refused many = rw (lt-leb _ _ many)
 
@@ -105,7 +105,7 @@ module _ {F : File} {p : Player} (T : PlayerOf p F) (s : List ℕ) where
       let (whole, may) = and-both (eqb (length s) (lengthIn s)) _ e in
       (allowed-as T (kindIn s) (lengthIn s) ∙ may, eqb-true _ _ whole)
 
-  pub not-due : dueTo p s ≡ false → recordTaken F s ≡ stopped F refusal.run-record
+  pub not-due : dueTo p s ≡ false → recordTaken F s ≡ stopped F refusal.bad-run-record
   unfolding recordTaken
   not-due e = rw (allowed-as T (kindIn s) (lengthIn s), e)
 

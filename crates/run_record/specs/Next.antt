@@ -23,11 +23,11 @@ allowedTo p s = allowedWhen (kindIn s) (p .begun) (firstOf p) (p .pending) (bare
 
 -- what the bytes s make of the file F, taken as a record: it is judged if it is whole and allowed, and stops the file with 13 otherwise
 unfoldable pub recordTaken : File → List ℕ → File
-recordTaken F s = cond (eqb (length s) (lengthIn s) && isAllowed (kindIn s) F (lengthIn s)) (judged (kindIn s) F s) (stopped F refusal.run-record)
+recordTaken F s = cond (eqb (length s) (lengthIn s) && isAllowed (kindIn s) F (lengthIn s)) (judged (kindIn s) F s) (stopped F refusal.bad-run-record)
 
 -- the same of bytes that are known to be a planted record, which has 146 at most
 unfoldable pub plantTaken : File → List ℕ → File
-plantTaken F s = cond (leb (length s) 146) (judged plant F s) (stopped F refusal.run-record)
+plantTaken F s = cond (leb (length s) 146) (judged plant F s) (stopped F refusal.bad-run-record)
 
 -- a record is taken, by which the file F becomes G: from the player p and its memory M to the player after it, its memory M′, and the text
 -- by which the listing grows. A record that is refused leaves the memory as it was, and the player but for its fault (D14b).

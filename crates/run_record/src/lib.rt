@@ -180,7 +180,7 @@ pub fn plant_record(
         (afterPlant p r (now (bytes .entry))) (withSlots M (now (planted .exit)) (now (lengths .exit)))) ⌝ }
 {
     if 146 < bytes.len() {
-        return refusal::RUN_RECORD;
+        return refusal::BAD_RUN_RECORD;
     }
     let fault = run_judge::plant_fault(bytes, n, m, struck, last);
     if fault != 0 {
@@ -245,7 +245,7 @@ fn take_allowed(
         run_judge::LISTENERS => take_listeners(p, bytes),
         run_judge::STRIKES => take_strikes(p, bytes),
         run_judge::START_ONE => take_start(Family::OneRound, p, bytes, positions),
-        _ => refuse(p, refusal::RUN_RECORD),
+        _ => refuse(p, refusal::BAD_RUN_RECORD),
     }
 }
 
@@ -290,7 +290,7 @@ pub fn take_record(
     ensures { λ r. ⌜ r .text .len ≤ 64 ⌝ }
 {
     if !is_due(p, bytes) {
-        return refuse(p, refusal::RUN_RECORD);
+        return refuse(p, refusal::BAD_RUN_RECORD);
     }
     take_allowed(p, bytes, positions, marks, lists, planted, lengths)
 }

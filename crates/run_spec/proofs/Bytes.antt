@@ -57,9 +57,9 @@ module _ (P : File → ℕ → Type 0)
     reads = go (ltb (length s) 4) (eqb (length s) 4 && not (stands F s)) (eqb (length s) (lengthIn s)) refl refl refl
       where
         go : (few out all : Bool) → ltb (length s) 4 ≡ few → (eqb (length s) 4 && not (stands F s)) ≡ out → eqb (length s) (lengthIn s) ≡ all
-            → P (cond few (withPart F s) (cond out (stopped F refusal.run-record) (cond all (judged (kindIn s) F s) (withPart F s)))) (suc k)
+            → P (cond few (withPart F s) (cond out (stopped F refusal.bad-run-record) (cond all (judged (kindIn s) F s) (withPart F s)))) (suc k)
         go true out all f o a = parts F s k one p
-        go false true all f o a = stops F refusal.run-record k p
+        go false true all f o a = stops F refusal.bad-run-record k p
         go false false true f o a = judges (is-allowed f o) (eqb-true (length s) (lengthIn s) a)
         go false false false f o a = parts F s k one p
 

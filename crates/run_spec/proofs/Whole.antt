@@ -80,14 +80,14 @@ module _ (F : File) (s : List ℕ) where
     where
       go : (few : Bool) → ltb (length s) 4 ≡ few
           → cond few (withPart F s)
-          (cond (eqb (length s) 4 && not (stands F s)) (stopped F refusal.run-record) (cond (eqb (length s) (lengthIn s)) (judged (kindIn s) F s) (withPart F s)))
+          (cond (eqb (length s) 4 && not (stands F s)) (stopped F refusal.bad-run-record) (cond (eqb (length s) (lengthIn s)) (judged (kindIn s) F s) (withPart F s)))
           ≡ withPart F s
       go true e = refl
       go false e =
           let (may, more) = c (ltb-false (length s) 4 e) in
           rw (may, and-false (eqb (length s) 4), ne-eqb (length s) (lengthIn s) (omega arith))
 
-  read-refused : length s ≡ 4 → stands F s ≡ false → readOn F s ≡ stopped F refusal.run-record
+  read-refused : length s ≡ 4 → stands F s ≡ false → readOn F s ≡ stopped F refusal.bad-run-record
   unfolding readOn
   read-refused four no-place = rw (no-place, le-ltb (length s) 4 (omega arith), eq-eqb (length s) 4 four)
 
@@ -146,7 +146,7 @@ module _ (F : File) (ok : F .fault ≡ 0) where
 
   module _ (xs : List ℕ) (some : 0 < length xs) where
     -- it is not allowed
-    pub feed-refused : let s = F .part ++ xs in length s ≡ 4 → stands F s ≡ false → feed F xs ≡ stopped F refusal.run-record
+    pub feed-refused : let s = F .part ++ xs in length s ≡ 4 → stands F s ≡ false → feed F xs ≡ stopped F refusal.bad-run-record
     feed-refused four no-place = reads-on (λ k l h. absurd (omega arith)) (F .part) xs refl some ∙ read-refused F (F .part ++ xs) four no-place
 
     -- it is whole
@@ -211,7 +211,7 @@ module _ (F : File) (kept : RoundsFit F) (x : ℕ) where
       s = F .part ++ (x ∷ [])
 
       go : (few out all : Bool) → ltb (length s) 4 ≡ few → (eqb (length s) 4 && not (stands F s)) ≡ out → eqb (length s) (lengthIn s) ≡ all
-          → RoundsFit (cond few (withPart F s) (cond out (stopped F refusal.run-record) (cond all (judged (kindIn s) F s) (withPart F s))))
+          → RoundsFit (cond few (withPart F s) (cond out (stopped F refusal.bad-run-record) (cond all (judged (kindIn s) F s) (withPart F s))))
       go true out all f o a h = absurd (omega (arith, ltb-true (length s) 4 f))
       go false true all f o a h = absurd (omega arith)
       go false false true f o a h = absurd (omega (arith, ap length (judged-empty (kindIn s) F s)))

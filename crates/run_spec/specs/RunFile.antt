@@ -122,9 +122,9 @@ positionsFit s (suc j) = positionsFit s j && isPosition (positionIn s j)
 -- P43, Q81
 abbrev pub startFault : Family → List ℕ → ℕ
 startFault K s =
-    check (eqb (length s) (6 + 4 * headCountIn s)) refusal.run-record
+    check (eqb (length s) (6 + 4 * headCountIn s)) refusal.bad-run-record
     (checkSize K (headCountIn s) (limitIn s)
-    (check (positionsFit s (headCountIn s)) refusal.position 0))
+    (check (positionsFit s (headCountIn s)) refusal.position-out-of-range 0))
 
 -- ---- a round: a mark word of struck heads, at most f of them and none at n or above
 
@@ -136,7 +136,7 @@ fewMarks n f m = marksBelow m n && leb (sum n (λ j. bit (bitOf m j))) f
 
 -- of n heads with the struck limit f; rounds: how many were given before (P45, Q49, Q84)
 abbrev pub roundFault : (K : Family) (n f rounds : ℕ) (s : List ℕ) → ℕ
-roundFault K n f rounds s = check (fewMarks n f (struckIn s)) refusal.struck (check (ltb rounds (mostRounds K)) refusal.ended 0)
+roundFault K n f rounds s = check (fewMarks n f (struckIn s)) refusal.too-many-struck (check (ltb rounds (mostRounds K)) refusal.run-has-ended 0)
 
 -- ---- the number of listeners, from 1 to 16 (document 02, A6)
 
@@ -145,7 +145,7 @@ listenerCountIn s = getD s 4 0
 
 -- Q41
 abbrev pub listenersFault : List ℕ → ℕ
-listenersFault s = check (leb 1 (listenerCountIn s) && leb (listenerCountIn s) 16) refusal.run-record 0
+listenersFault s = check (leb 1 (listenerCountIn s) && leb (listenerCountIn s) 16) refusal.bad-run-record 0
 
 -- ---- a round's struck listeners: a mark word, bit j for listener 32 + j, with no mark for one that does not exist
 
@@ -154,7 +154,7 @@ listenersIn s = at2 s 4
 
 -- of m listeners (Q45, Q47)
 abbrev pub strikesFault : ℕ → List ℕ → ℕ
-strikesFault m s = check (marksBelow (listenersIn s) m) refusal.run-record 0
+strikesFault m s = check (marksBelow (listenersIn s) m) refusal.bad-run-record 0
 
 -- ---- a planted record: sender, receiver, bytes; the sender a struck head, the receiver a head or listener that is not struck, pairs
 -- rising by sender, then receiver
@@ -180,7 +180,7 @@ pairFits n m struck last k i = ltb k n && isReceiver n m i && bitOf struck k && 
 
 -- of n heads and m listeners, in a round with the mark word struck, after the pair last
 abbrev pub plantFault : (n m struck : ℕ) (last : Pair) (s : List ℕ) → ℕ
-plantFault n m struck last s = check (pairFits n m struck last (senderIn s) (receiverIn s)) refusal.run-record 0
+plantFault n m struck last s = check (pairFits n m struck last (senderIn s) (receiverIn s)) refusal.bad-run-record 0
 
 -- ---- a whole record: the number of its fault, 0 for none; 13, then 1, 2 or 18, 4, 14, 26
 
@@ -191,7 +191,7 @@ recordFault round F s = roundFault (F .setup .family) (F .setup .n) (F .setup .f
 recordFault plant F s = plantFault (F .setup .n) (F .setup .listeners) (F .rounds .last .struck) (lastPair (F .rounds .last .plants)) s
 recordFault listeners F s = listenersFault s
 recordFault strikes F s = strikesFault (F .setup .listeners) s
-recordFault other F s = refusal.run-record
+recordFault other F s = refusal.bad-run-record
 
 -- the setup that a start record gives
 abbrev pub setupIn : Family → List ℕ → Setup
@@ -256,7 +256,7 @@ withPart F s = record { part = s; fault = F .fault; setup = F .setup; rounds = F
 unfoldable pub readOn : File → List ℕ → File
 readOn F s =
     cond (ltb (length s) 4) (withPart F s)
-    (cond (eqb (length s) 4 && not (isAllowed (kindIn s) F (lengthIn s))) (stopped F refusal.run-record)
+    (cond (eqb (length s) 4 && not (isAllowed (kindIn s) F (lengthIn s))) (stopped F refusal.bad-run-record)
     (cond (eqb (length s) (lengthIn s)) (judged (kindIn s) F s) (withPart F s)))
 
 -- after a fault nothing is read
@@ -284,7 +284,7 @@ accepted F = cond (F .setup .begun) (suc (bit (not (eqb (F .setup .listeners) 0)
 
 -- the first fault, or 13: no start, a record cut short, or inside a phase; 0 if the file is played to its end (P42, P55, Q83)
 unfoldable pub ending : File → ℕ
-ending F = check (eqb (F .fault) 0) (F .fault) (check (F .setup .begun && isEmpty (F .part) && endsPhase (F .setup .family) (roundsGiven F)) refusal.run-record 0)
+ending F = check (eqb (F .fault) 0) (F .fault) (check (F .setup .begun && isEmpty (F .part) && endsPhase (F .setup .family) (roundsGiven F)) refusal.bad-run-record 0)
 
 -- the ring of a setup after the rounds ws, and its phase ends
 abbrev pub ringFrom : Setup → List Round → Ring

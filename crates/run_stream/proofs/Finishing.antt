@@ -40,7 +40,7 @@ begun-by : (p : Player) → endingOf p ≡ 0 → p .begun ≡ true
 unfolding endingOf
 begun-by p e = go (p .begun) (eqb (p .fault) 0) refl e
   where
-    go : (b ok : Bool) → eqb (p .fault) 0 ≡ ok → check ok (p .fault) (check (b && eqb (p .have) 0 && endsPhase (p .family) (p .given)) refusal.run-record 0) ≡ 0 → b ≡ true
+    go : (b ok : Bool) → eqb (p .fault) 0 ≡ ok → check ok (p .fault) (check (b && eqb (p .have) 0 && endsPhase (p .family) (p .given)) refusal.bad-run-record 0) ≡ 0 → b ≡ true
     go true ok f e = refl
     go false true f e = absurd (omega arith)
     go false false f e = absurd (eqb-false (p .fault) 0 f e)

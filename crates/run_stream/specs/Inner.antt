@@ -14,7 +14,7 @@ use Rattle.run_piece.specs.Advances.{Advances}
 
 -- how the file ends, by the player's numbers
 unfoldable pub endingOf : Player → ℕ
-endingOf p = check (eqb (p .fault) 0) (p .fault) (check (p .begun && eqb (p .have) 0 && endsPhase (p .family) (p .given)) refusal.run-record 0)
+endingOf p = check (eqb (p .fault) 0) (p .fault) (check (p .begun && eqb (p .have) 0 && endsPhase (p .family) (p .given)) refusal.bad-run-record 0)
 
 -- after bytes b by which a player p₀ became p and which show a text, so many of these bytes are read too: the player is q then, and all of
 -- the text is text′. The memory is as it was.

@@ -179,7 +179,7 @@ fn ending(p: Player) -> u8
     if p.begun && p.have == 0 && run_state::ends_phase(family, p.given) {
         return 0;
     }
-    refusal::RUN_RECORD
+    refusal::BAD_RUN_RECORD
 }
 
 // The end of the file: the pending round is played if it ends well.

@@ -95,7 +95,7 @@ module _ (a : List ℕ) (F : File) (x : ℕ) (I : Kinds a F) where
               not-false (stands F s) (rw (eq-eqb (length s) 4 (omega (arith, length-append (F .part) (x ∷ []), ltb-false (length s) 4 long))) at place)
 
       go : (few out all : Bool) → ltb (length s) 4 ≡ few → (eqb (length s) 4 && not (stands F s)) ≡ out → eqb (length s) (lengthIn s) ≡ all
-          → Kinds a′ (cond few (withPart F s) (cond out (stopped F refusal.run-record) (cond all (judged (kindIn s) F s) (withPart F s))))
+          → Kinds a′ (cond few (withPart F s) (cond out (stopped F refusal.bad-run-record) (cond all (judged (kindIn s) F s) (withPart F s))))
       go true out all f o w = parted
       go false true all f o w = stops 12
       go false false true f o w = judges ok (eqb-true (length s) (lengthIn s) w) (may f o)

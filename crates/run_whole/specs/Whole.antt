@@ -65,11 +65,11 @@ pub record Whole (s : List ℕ) (r : PlayResult) (B B′ : Buffers) : Type 0 whe
 -- by whether the buffers have room: if not, 24, and they are as they were
 abbrev pub Plays : Bool → List ℕ → PlayResult → Buffers → Buffers → Type 0
 Plays true s r B B′ = Whole s r B B′
-Plays false s r B B′ = (r ≡ record { number = refusal.buffer; len = 0; ends = 0; since = replicate receivers 0 }) × (B′ ≡ B)
+Plays false s r B B′ = (r ≡ record { number = refusal.buffer-too-short; len = 0; ends = 0; since = replicate receivers 0 }) × (B′ ≡ B)
 
 -- the same from C, which lends room for the rest: how many bytes the listing has, how many phase ends were played, and the counts. If a
 -- buffer is too short, 24, and all that is lent is as it was.
 abbrev pub PlaysInto : (room : Bool) (s : List ℕ) (number len len′ ends ends′ : ℕ) (since since′ : List ℕ) (B B′ : Buffers) → Type 0
 PlaysInto true s number len len′ ends ends′ since since′ B B′ = Whole s (record { number = number; len = len′; ends = ends′; since = since′ }) B B′
 PlaysInto false s number len len′ ends ends′ since since′ B B′ =
-    (number ≡ refusal.buffer) × (len′ ≡ len) × (ends′ ≡ ends) × (since′ ≡ since) × (B′ ≡ B)
+    (number ≡ refusal.buffer-too-short) × (len′ ≡ len) × (ends′ ≡ ends) × (since′ ≡ since) × (B′ ≡ B)

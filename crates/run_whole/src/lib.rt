@@ -312,7 +312,7 @@ pub fn play(file: &[u8], out: &mut [u8], rows: &mut [i32], words: &mut [u64]) ->
     if !has_room(file, out.len(), rows.len(), words.len()) {
         let since = [0u8; RECEIVERS];
         return PlayResult {
-            number: refusal::BUFFER,
+            number: refusal::BUFFER_TOO_SHORT,
             len: 0,
             ends: 0,
             since,
@@ -356,7 +356,7 @@ pub extern "C" fn focus_play(
         (now (since .entry)) (now (since .exit)) (lent out rows words) (left out rows words) ⌝ }
 {
     if !has_room(file, out.len(), rows.len(), words.len()) {
-        return refusal::BUFFER;
+        return refusal::BUFFER_TOO_SHORT;
     }
     let played = play(file, out, rows, words);
     let counts = played.since;

@@ -54,14 +54,14 @@ limitsFit m s (suc j) = limitsFit m s j && fits (bitOf m j) (limitOf 0 s j) (lim
 unfoldable pub checkLimits : (n f phase marks : ℕ) (limits : List ℕ) (rest : ℕ) → ℕ
 checkLimits n f p m s rest =
     checkSize TwoRounds n f
-    (check (isPhase p) refusal.phase
-    (check (eqb (length s) (8 * n)) refusal.kind-length
-    (check (marksBelow m n) refusal.marks
-    (check (limitsFit m s n) refusal.limits rest))))
+    (check (isPhase p) refusal.phase-out-of-range
+    (check (eqb (length s) (8 * n)) refusal.wrong-length-for-kind
+    (check (marksBelow m n) refusal.bad-count-or-marks
+    (check (limitsFit m s n) refusal.bad-limits rest))))
 
 -- and then 25: "null entries are counted as before"
 unfoldable pub limitsRefusal : (n f phase marks : ℕ) (limits : List ℕ) → ℕ
-limitsRefusal n f p m s = checkLimits n f p m s (check (enough n (twoRounds f) (lowests m s)) refusal.trusted 0)
+limitsRefusal n f p m s = checkLimits n f p m s (check (enough n (twoRounds f) (lowests m s)) refusal.too-few-trusted 0)
 
 -- what is answered: the number of the first check that fails, and else the lowest and the highest new position
 pub data Answers (n f p m : ℕ) (s : List ℕ) : Ranged → Type 0 where
@@ -76,7 +76,7 @@ OneAnswer = (n f p m : ℕ) (s : List ℕ) (a b : Ranged) → Answers n f p m s 
 -- "refusal 25 in the same case": where limits are refused 25, each choice within them has too few entries too (Q95)
 abbrev pub TooFewAlike : Type 0
 TooFewAlike =
-    (n f p m : ℕ) (s : List ℕ) → Answers n f p m s (Ranged.Refused refusal.trusted)
+    (n f p m : ℕ) (s : List ℕ) → Answers n f p m s (Ranged.Refused refusal.too-few-trusted)
     → (E : ℕ → Entry) → Choice n (lowests m s) (highests m s) E → settled (rounding p) n (twoRounds f) E ≡ Null
 
 -- and only there: limits that pass the checks before 25 are refused 25 if each choice has too few (Q95)
@@ -84,7 +84,7 @@ abbrev pub TooFewOnly : Type 0
 TooFewOnly =
     (n f p m : ℕ) (s : List ℕ) → checkLimits n f p m s 0 ≡ 0
     → ((E : ℕ → Entry) → Choice n (lowests m s) (highests m s) E → settled (rounding p) n (twoRounds f) E ≡ Null)
-    → Answers n f p m s (Ranged.Refused refusal.trusted)
+    → Answers n f p m s (Ranged.Refused refusal.too-few-trusted)
 
 -- a choice within the limits, given to the midpoint call as a list that it takes, brings a new position from the one end to the other
 abbrev pub MidpointsWithin : Type 0

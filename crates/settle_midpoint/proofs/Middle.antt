@@ -57,7 +57,7 @@ module _ (a : List ℤ) (L n r : ℕ) (R : Rule) {c z : ℕ} (full : length a �
       go (yes h) = take-all c a (omega arith) ∙ sym (take-all L a (omega arith))
       go (no h) = let e : c ≡ L = omega arith in rw e
 
-  pub too-few-refuses : R .most < z → Settled.Refused refusal.trusted ≡ settlingFrom r n R l
+  pub too-few-refuses : R .most < z → Settled.Refused refusal.too-few-trusted ≡ settlingFrom r n R l
   unfolding settlingFrom
   too-few-refuses h = rw (front-length, ← nulls-are, lt-leb z (R .most) h)
 

@@ -29,9 +29,9 @@ settledEntry (Settled.New k) = Position (k .position)
 -- from n entries, by the rule R: r says how an odd sum is rounded (P27)
 unfoldable pub settling : ℕ → ℕ → Rule → (ℕ → Entry) → Settled
 settling r n R E =
-    cond (enough n R E) (Settled.New (kept r (R .trim (nulls n E)) (ordered n E))) (Settled.Refused refusal.trusted)
+    cond (enough n R E) (Settled.New (kept r (R .trim (nulls n E)) (ordered n E))) (Settled.Refused refusal.too-few-trusted)
 
 -- from the positions l among n entries: the others are null
 unfoldable pub settlingFrom : ℕ → ℕ → Rule → List ℤ → Settled
 settlingFrom r n R l =
-    cond (leb (n - length l) (R .most)) (Settled.New (kept r (R .trim (n - length l)) l)) (Settled.Refused refusal.trusted)
+    cond (leb (n - length l) (R .most)) (Settled.New (kept r (R .trim (n - length l)) l)) (Settled.Refused refusal.too-few-trusted)

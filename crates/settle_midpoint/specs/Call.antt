@@ -24,10 +24,10 @@ entriesGiven n m s = entryAt m (numbers s n)
 unfoldable pub listRefusal : (K : Family) (n f phase marks : ℕ) (entries : List ℕ) → ℕ
 listRefusal K n f p m s =
     checkSize K n f
-    (check (isPhase p) refusal.phase
-    (check (eqb (length s) (4 * n)) refusal.kind-length
-    (check (marksBelow m n) refusal.marks
-    (check (entriesFit m s n) refusal.entry 0))))
+    (check (isPhase p) refusal.phase-out-of-range
+    (check (eqb (length s) (4 * n)) refusal.wrong-length-for-kind
+    (check (marksBelow m n) refusal.bad-count-or-marks
+    (check (entriesFit m s n) refusal.entry-out-of-range 0))))
 
 -- rounded as in phase p (Q87)
 unfoldable pub midpointCall : (K : Family) (n f phase marks : ℕ) (entries : List ℕ) → Settled

@@ -32,16 +32,16 @@ othersFit j m s (suc k) = othersFit j m s k && (eqb k j || fits (bitOf m k) (sig
 unfoldable pub checkReach : (K : Family) (n f phase j marks : ℕ) (entries : List ℕ) (rest : ℕ) → ℕ
 checkReach K n f p j m s rest =
     checkSize K n f
-    (check (isPhase p) refusal.phase
-    (check (ltb j n) refusal.head-number
-    (check (eqb (length s) (4 * n)) refusal.kind-length
-    (check (marksBelow m n) refusal.marks
-    (check (othersFit j m s n) refusal.entry rest)))))
+    (check (isPhase p) refusal.phase-out-of-range
+    (check (ltb j n) refusal.number-too-high
+    (check (eqb (length s) (4 * n)) refusal.wrong-length-for-kind
+    (check (marksBelow m n) refusal.bad-count-or-marks
+    (check (othersFit j m s n) refusal.entry-out-of-range rest)))))
 
 -- and then 25: "the open entry is not null when nulls are counted" (Q98)
 unfoldable pub reachRefusal : (K : Family) (n f phase j marks : ℕ) (entries : List ℕ) → ℕ
 reachRefusal K n f p j m s =
-    checkReach K n f p j m s (check (enough n (ruleOf K f) (opened (entriesGiven n m s) j (pos 0))) refusal.trusted 0)
+    checkReach K n f p j m s (check (enough n (ruleOf K f) (opened (entriesGiven n m s) j (pos 0))) refusal.too-few-trusted 0)
 
 -- what is answered: the number of the first check that fails, and else what is found for the wanted position x
 pub data Answers (K : Family) (n f p j m : ℕ) (s : List ℕ) (x : ℤ) : Reached → Type 0 where

@@ -40,7 +40,7 @@ taken : (v x : ℤ) (a d : ℕ) → scaled v a d ≡ Scaled.Nanometres x → (is
 unfolding scaled scaleRefusal
 taken v x a d e = go (isScale a d) (isPosition v) e
   where
-    go : (s p : Bool) → unlessRefused Scaled.Refused (check s refusal.scale (check p refusal.position 0)) (Scaled.Nanometres (nanometres v a d)) ≡ Scaled.Nanometres x
+    go : (s p : Bool) → unlessRefused Scaled.Refused (check s refusal.bad-scale (check p refusal.position-out-of-range 0)) (Scaled.Nanometres (nanometres v a d)) ≡ Scaled.Nanometres x
         → (s ≡ true) × ((p ≡ true) × (nanometres v a d ≡ x))
     go true true h = (refl, (refl, ap readingOf h))
     go true false h = absurd (subst Refusal h tt)

@@ -22,7 +22,7 @@ nanometres v a d = floorDiv (v *ℤ pos a) d
 
 -- 12, then 4 (P40c)
 unfoldable pub scaleRefusal : ℤ → ℕ → ℕ → ℕ
-scaleRefusal v a d = check (isScale a d) refusal.scale (check (isPosition v) refusal.position 0)
+scaleRefusal v a d = check (isScale a d) refusal.bad-scale (check (isPosition v) refusal.position-out-of-range 0)
 
 -- a refusal gives only its number
 unfoldable pub scaled : ℤ → ℕ → ℕ → Scaled

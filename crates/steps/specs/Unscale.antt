@@ -25,7 +25,7 @@ OnlyOne x a d v = (w : ℤ) → nanometres w a d ≡ x → w ≡ v
 -- what is answered for the reading x: 12 if a and d make no scale; else the step in range whose reading it is, or none if no step in range
 -- reads so (Q15)
 pub data Answers (x : ℤ) (a d : ℕ) : Unscaled → Type 0 where
-  refused : isScale a d ≡ false → Answers x a d (Unscaled.Refused refusal.scale)
+  refused : isScale a d ≡ false → Answers x a d (Unscaled.Refused refusal.bad-scale)
   step : isScale a d ≡ true → (v : ℤ) → ReadsAs a d x v → Answers x a d (Unscaled.Step v)
   none : isScale a d ≡ true → ((v : ℤ) → ReadsAs a d x v → ⊥) → Answers x a d Unscaled.None
 

@@ -52,8 +52,8 @@ fn limit_number(family: Family) -> u8
     ensures { λ r. ⌜ r ≡ limitNumber family ⌝ }
 {
     match family {
-        Family::TwoRounds => refusal::STRUCK_LIMIT,
-        Family::OneRound => refusal::ONE_ROUND_LIMIT,
+        Family::TwoRounds => refusal::STRUCK_LIMIT_TOO_HIGH,
+        Family::OneRound => refusal::ONE_ROUND_LIMIT_TOO_HIGH,
     }
 }
 
@@ -63,10 +63,10 @@ pub fn size_refusal(family: Family, n: u32, f: u32) -> u8
     ensures { λ r. ⌜ r ≡ sizeRefusal family n f ⌝ }
 {
     if n == 0 {
-        return refusal::HEAD_COUNT;
+        return refusal::BAD_HEAD_COUNT;
     }
     if 32 < n {
-        return refusal::HEAD_COUNT;
+        return refusal::BAD_HEAD_COUNT;
     }
     if !is_limit(family, n, f) {
         return limit_number(family);

@@ -58,9 +58,9 @@ pub fn scale(steps: i32, numerator: u32, denominator: u32) -> Scaled
         if super::is_position(steps) {
             return Scaled::Nanometres(nanometres_of(steps, numerator, denominator));
         }
-        return Scaled::Refused(refusal::POSITION);
+        return Scaled::Refused(refusal::POSITION_OUT_OF_RANGE);
     }
-    Scaled::Refused(refusal::SCALE)
+    Scaled::Refused(refusal::BAD_SCALE)
 }
 
 // The only number of steps that can read so: the lowest that reads so or more, which is reading times denominator, divided by numerator,
@@ -106,5 +106,5 @@ pub fn unscale(nanometres: i64, numerator: u32, denominator: u32) -> Unscaled
         }
         return step_near(nanometres, numerator, denominator);
     }
-    Unscaled::Refused(refusal::SCALE)
+    Unscaled::Refused(refusal::BAD_SCALE)
 }

@@ -18,85 +18,85 @@ leaves zero new old = new
 leaves (suc number) new old = old
 
 -- head count
-abbrev pub head-count : ℕ
-head-count = 1
+abbrev pub bad-head-count : ℕ
+bad-head-count = 1
 
 -- struck limit too high
-abbrev pub struck-limit : ℕ
-struck-limit = 2
+abbrev pub struck-limit-too-high : ℕ
+struck-limit-too-high = 2
 
 -- head or link number n or more
-abbrev pub head-number : ℕ
-head-number = 3
+abbrev pub number-too-high : ℕ
+number-too-high = 3
 
 -- position out of range
-abbrev pub position : ℕ
-position = 4
+abbrev pub position-out-of-range : ℕ
+position-out-of-range = 4
 
 -- phase out of range, or round neither 0 (collection) nor 1 (confession)
-abbrev pub phase : ℕ
-phase = 5
+abbrev pub phase-out-of-range : ℕ
+phase-out-of-range = 5
 
 -- fewer than 4 bytes, or the length field differs from the bytes given
-abbrev pub stated-length : ℕ
-stated-length = 6
+abbrev pub stated-length-differs : ℕ
+stated-length-differs = 6
 
 -- unknown kind
-abbrev pub kind : ℕ
-kind = 7
+abbrev pub unknown-kind : ℕ
+unknown-kind = 7
 
 -- a length wrong for its kind and count
-abbrev pub kind-length : ℕ
-kind-length = 8
+abbrev pub wrong-length-for-kind : ℕ
+wrong-length-for-kind = 8
 
 -- sender is not the link
-abbrev pub sender : ℕ
-sender = 9
+abbrev pub sender-is-not-link : ℕ
+sender-is-not-link = 9
 
 -- list count not n, or a mark at n or above
-abbrev pub marks : ℕ
-marks = 10
+abbrev pub bad-count-or-marks : ℕ
+bad-count-or-marks = 10
 
 -- entry out of range, or not 0 where null
-abbrev pub entry : ℕ
-entry = 11
+abbrev pub entry-out-of-range : ℕ
+entry-out-of-range = 11
 
 -- scale
-abbrev pub scale : ℕ
-scale = 12
+abbrev pub bad-scale : ℕ
+bad-scale = 12
 
 -- run record cut short, of wrong length, of unknown kind or out of order, a planted pair against its rule or with a number n or more, or
 -- file ended before a start or inside a phase
-abbrev pub run-record : ℕ
-run-record = 13
+abbrev pub bad-run-record : ℕ
+bad-run-record = 13
 
 -- more than f struck, or a mark at n or above
-abbrev pub struck : ℕ
-struck = 14
+abbrev pub too-many-struck : ℕ
+too-many-struck = 14
 
 -- an entry's length field is missing, below 4 or runs past the end (document 02, A1)
-abbrev pub batch-entry : ℕ
-batch-entry = 15
+abbrev pub bad-batch-entry : ℕ
+bad-batch-entry = 15
 
 -- a write to another byte of the window than 10 and 11, or a read past byte 15 (document 02, A5)
-abbrev pub register : ℕ
-register = 16
+abbrev pub no-such-register : ℕ
+no-such-register = 16
 
 -- a listener is told to send (document 02, A6)
-abbrev pub listener : ℕ
-listener = 17
+abbrev pub listener-sends-nothing : ℕ
+listener-sends-nothing = 17
 
 -- n below 4f + 1, in a ring of one round, in place of 2 (document 02, A9)
-abbrev pub one-round-limit : ℕ
-one-round-limit = 18
+abbrev pub one-round-limit-too-high : ℕ
+one-round-limit-too-high = 18
 
 -- a lowest above its highest, either of them out of range, or either not 0 where null (document 02, A12)
-abbrev pub limits : ℕ
-limits = 19
+abbrev pub bad-limits : ℕ
+bad-limits = 19
 
 -- link already heard this round
-abbrev pub heard : ℕ
-heard = 21
+abbrev pub already-heard : ℕ
+already-heard = 21
 
 -- frame of the other round
 abbrev pub other-round : ℕ
@@ -107,16 +107,16 @@ abbrev pub other-phase : ℕ
 other-phase = 23
 
 -- buffer too short for the frame
-abbrev pub buffer : ℕ
-buffer = 24
+abbrev pub buffer-too-short : ℕ
+buffer-too-short = 24
 
 -- too few trusted
-abbrev pub trusted : ℕ
-trusted = 25
+abbrev pub too-few-trusted : ℕ
+too-few-trusted = 25
 
 -- phase 65,535 has ended
-abbrev pub ended : ℕ
-ended = 26
+abbrev pub run-has-ended : ℕ
+run-has-ended = 26
 
 -- adopting with no offer standing (document 02, A8)
 abbrev pub no-offer : ℕ

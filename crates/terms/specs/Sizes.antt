@@ -18,8 +18,8 @@ isLimit OneRound n f = leb (4 * f + 1) n
 
 -- its refusal: 2; in a ring of one round 18 (Q76)
 abbrev pub limitNumber : Family → ℕ
-limitNumber TwoRounds = refusal.struck-limit
-limitNumber OneRound = refusal.one-round-limit
+limitNumber TwoRounds = refusal.struck-limit-too-high
+limitNumber OneRound = refusal.one-round-limit-too-high
 
 -- phases are numbered 1 to 65,535
 abbrev pub isPhase : ℕ → Bool
@@ -31,7 +31,7 @@ isListener i = leb 32 i && leb i 47
 
 -- 1, then 2 or 18, before the checks that follow
 abbrev pub checkSize : (K : Family) (n f rest : ℕ) → ℕ
-checkSize K n f rest = check (isCount n) refusal.head-count (check (isLimit K n f) (limitNumber K) rest)
+checkSize K n f rest = check (isCount n) refusal.bad-head-count (check (isLimit K n f) (limitNumber K) rest)
 
 abbrev pub sizeRefusal : Family → ℕ → ℕ → ℕ
 sizeRefusal K n f = checkSize K n f 0

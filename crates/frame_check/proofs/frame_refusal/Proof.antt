@@ -17,14 +17,14 @@ use Rattle.frame_check.proofs.frame_refusal.Tie as tie
 
 -- the checks that are left once the length field is right
 left : (s : List ℕ) {stated kind : ℕ} → 4 ≤ length s → stated ≡ lengthField s → stated ≡ length s → kind ≡ at2 s 2
-    → frameRefusal s ≡ check (isKnown (kindOf kind)) refusal.kind (check (eqb (length s) (lengthOf (kindOf kind) (countField s))) refusal.kind-length 0)
+    → frameRefusal s ≡ check (isKnown (kindOf kind)) refusal.unknown-kind (check (eqb (length s) (lengthOf (kindOf kind) (countField s))) refusal.wrong-length-for-kind 0)
 unfolding checkFrame
 left s l a b k = rw (le-leb 4 _ l, eq-eqb _ _ (sym a ∙ b), k)
 
 at-kind : (c : tie.After-half-at2)
     → let s = now (c .before .before .before .before .before .args .frame) in
     let kind = c .half-at2 .result in
-    frameRefusal s ≡ check (isKnown (kindOf kind)) refusal.kind (check (eqb (length s) (lengthOf (kindOf kind) (countField s))) refusal.kind-length 0)
+    frameRefusal s ≡ check (isKnown (kindOf kind)) refusal.unknown-kind (check (eqb (length s) (lengthOf (kindOf kind) (countField s))) refusal.wrong-length-for-kind 0)
 at-kind c =
     let h = c .before .before in
     left _ (h .before .if1 .left) (h .half-at .ensures) (c .before .if2 .left) (c .half-at2 .ensures)
@@ -50,7 +50,7 @@ length-of-requires c κs = known (c .before)
 -- all but the last check
 at-length : (c : tie.After-length-of)
     → let s = now (c .before .before .before .before .before .before .before .before .before .args .frame) in
-    frameRefusal s ≡ check (eqb (length s) (c .length-of .result)) refusal.kind-length 0
+    frameRefusal s ≡ check (eqb (length s) (c .length-of .result)) refusal.wrong-length-for-kind 0
 at-length c =
     let k = c .before .before in
     rw (at-kind (k .before .before), known k, ← (c .before .byte-at .ensures), ← (c .length-of .ensures))

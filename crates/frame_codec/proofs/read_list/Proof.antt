@@ -21,7 +21,7 @@ returns-2 c =
 -- the row of checks, if count and marks passed
 last-check : (c : tie.After-entries-fit)
     → let a = c .before .before .before .before .before .before .before .before .args in
-    fromMarks list (a .n) (now (a .rest)) ≡ check (c .entries-fit .result) refusal.entry 0
+    fromMarks list (a .n) (now (a .rest)) ≡ check (c .entries-fit .result) refusal.entry-out-of-range 0
 last-check c =
     let e = c .before .before in
     let d = e .before .before .before in

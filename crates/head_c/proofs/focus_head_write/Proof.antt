@@ -37,8 +37,8 @@ module _ (h : Head) (buffer : List ℕ) where
   unfolding writeAnswer frame
   same-answer =
       ap
-      (λ (m : Meaning). cond (h .seat .ended) (Written.Refused refusal.ended)
-      (cond (isListener (h .seat .number)) (Written.Refused refusal.listener) (written (frame m) buffer))) same-spoken
+      (λ (m : Meaning). cond (h .seat .ended) (Written.Refused refusal.run-has-ended)
+      (cond (isListener (h .seat .number)) (Written.Refused refusal.listener-sends-nothing) (written (frame m) buffer))) same-spoken
 
   same-buffer : writeBuffer seated buffer ≡ writeBuffer h buffer
   unfolding writeBuffer frame

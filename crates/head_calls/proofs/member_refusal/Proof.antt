@@ -12,13 +12,13 @@ returns : tie.Need-returns
 returns c =
     let a = c .before .before .args in
     let e = c .before .size-refusal .ensures in
-    e ∙ size-refused (a .family) (a .n) (a .f) (check (isMember (a .listens) (a .n) (a .number)) refusal.head-number (a .rest)) (λ q. c .if1 .taken (e ∙ q))
+    e ∙ size-refused (a .family) (a .n) (a .f) (check (isMember (a .listens) (a .n) (a .number)) refusal.number-too-high (a .rest)) (λ q. c .if1 .taken (e ∙ q))
 
 returns-2 : tie.Need-returns-2
 returns-2 c =
     let d = c .before .before in
     let a = d .before .before .args in
-    rw (c .check .ensures, c .before .is-member .ensures) (sym (size-taken (a .family) (a .n) (a .f) (check (isMember (a .listens) (a .n) (a .number)) refusal.head-number (a .rest))
+    rw (c .check .ensures, c .before .is-member .ensures) (sym (size-taken (a .family) (a .n) (a .f) (check (isMember (a .listens) (a .n) (a .number)) refusal.number-too-high (a .rest))
     (sym (d .before .size-refusal .ensures) ∙ d .if1 .left)))
 
 pub member-refusal-spec : {M : Type 1} → statement M

@@ -16,7 +16,7 @@ use Rattle.head_calls.proofs.restart_as.Tie as tie
 -- what was checked
 checked : (c : tie.After-member-refusal)
     → let a = c .before .before .before .args in
-    c .member-refusal .result ≡ checkMember (a .family) (a .listens) (a .n) (a .f) (a .number) (check (isTime (a .family) (a .phase) (a .round)) refusal.phase 0)
+    c .member-refusal .result ≡ checkMember (a .family) (a .listens) (a .n) (a .f) (a .number) (check (isTime (a .family) (a .phase) (a .round)) refusal.phase-out-of-range 0)
 checked c = rw (c .member-refusal .ensures, c .before .check .ensures, c .before .before .is-time .ensures)
 
 returns : tie.Need-returns
@@ -28,7 +28,7 @@ module _ (c : tie.Else1) where
   abbrev first : tie.Start
   first = c .before .before .before .before
 
-  accepted : let a = first .args in checkMember (a .family) (a .listens) (a .n) (a .f) (a .number) (check (isTime (a .family) (a .phase) (a .round)) refusal.phase 0) ≡ 0
+  accepted : let a = first .args in checkMember (a .family) (a .listens) (a .n) (a .f) (a .number) (check (isTime (a .family) (a .phase) (a .round)) refusal.phase-out-of-range 0) ≡ 0
   accepted = sym (checked (c .before)) ∙ c .if1 .left
 
   proper : let a = first .args in ProperHead (restarted (a .family) (a .n) (a .f) (a .number) (a .phase) (a .round))

@@ -39,7 +39,7 @@ module _ {s : List ℕ} {at i : ℕ} (C : Cutting s at i) where
           count = omega (arith, ap length (cut-here s at w e), C .count);
         }
 
-    torn : n ≡ 0 → (room : ℕ) → (batchRefusal s room ≡ refusal.batch-entry) × (length (entriesOf s) ≡ i)
+    torn : n ≡ 0 → (room : ℕ) → (batchRefusal s room ≡ refusal.bad-batch-entry) × (length (entriesOf s) ≡ i)
     unfolding batchRefusal
     torn z room =
         let w = none-torn (drop at s) e z in
@@ -56,7 +56,7 @@ module _ {s : List ℕ} {at i : ℕ} (C : Cutting s at i) where
     unfolding isCutInto
     whole = let none : drop at s ≡ [] = drop-of-length-le s l in rw none at (sym (C .told))
 
-    short : (room : ℕ) → room < i → batchRefusal s room ≡ refusal.buffer
+    short : (room : ℕ) → room < i → batchRefusal s room ≡ refusal.buffer-too-short
     unfolding batchRefusal
     short room m = rw (whole, lt-leb (length (entriesOf s)) room (omega (arith, all)))
 

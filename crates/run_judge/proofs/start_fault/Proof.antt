@@ -20,9 +20,9 @@ use Rattle.run_judge.proofs.start_fault.Tie as tie
 -- the row of checks, of the counts read
 abbrev row : Family → List ℕ → ℕ → ℕ → ℕ
 row K s n f =
-    check (eqb (length s) (6 + 4 * n)) refusal.run-record
+    check (eqb (length s) (6 + 4 * n)) refusal.bad-run-record
     (checkSize K n f
-    (check (positionsFit s n) refusal.position 0))
+    (check (positionsFit s n) refusal.position-out-of-range 0))
 
 at-tests : (c : tie.After-byte-at2)
     → let a = c .before .before .before .args in
@@ -41,7 +41,7 @@ returns-2 c =
     let n = b .before .byte-at .result in
     let e = c .before .size-refusal .ensures in
     rw (at-tests b, eq-eqb _ _ (d .if1 .left))
-    (e ∙ size-refused (a .family) n (b .byte-at2 .result) (check (positionsFit (now (a .bytes)) n) refusal.position 0) (λ q. c .if2 .taken (e ∙ q)))
+    (e ∙ size-refused (a .family) n (b .byte-at2 .result) (check (positionsFit (now (a .bytes)) n) refusal.position-out-of-range 0) (λ q. c .if2 .taken (e ∙ q)))
 
 returns-3 : tie.Need-returns-3
 returns-3 c =

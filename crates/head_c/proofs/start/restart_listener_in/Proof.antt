@@ -27,7 +27,7 @@ returns c =
     let p = k .before in
     let a = p .before .args in
     let w = now (a .h) in
-    let time = k .check .ensures ∙ ap (λ (b : Bool). check b refusal.phase 0) (p .is-time .ensures) in
+    let time = k .check .ensures ∙ ap (λ (b : Bool). check b refusal.phase-out-of-range 0) (p .is-time .ensures) in
     let checks = m .member-refusal .ensures ∙ ap (checkMember (a .family) true (a .n) (a .f) (a .number)) time in
     fresh-left w (seat .restart-seat .result) (healedSeat (a .family) (a .n) (a .f) (a .number) (a .phase) (a .round)) (headOf w)
     (λ (x : ℕ). restartedRegisters x (registersOf w)) checks

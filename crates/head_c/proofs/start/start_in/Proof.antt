@@ -31,13 +31,13 @@ returns c =
     let a = s .args in
     let w = now (a .h) in
     let v = toZ-ofZ (s .fits .position) in
-    let range = k .check .ensures ∙ ap (λ (b : Bool). check b refusal.position 0) (p .is-position .ensures ∙ ap isPosition v) in
+    let range = k .check .ensures ∙ ap (λ (b : Bool). check b refusal.position-out-of-range 0) (p .is-position .ensures ∙ ap isPosition v) in
     let checks = m .member-refusal .ensures ∙ ap (checkMember (a .family) false (a .n) (a .f) (a .number)) range in
     fresh-left w (seat .first-seat .result) (firstSeat (a .family) (a .n) (a .f) (a .number) (a .position)) (headOf w) (λ (x : ℕ). startedRegisters x (registersOf w)) checks
     (after .after-start .ensures ∙ ap (startedRegisters (m .member-refusal .result)) (old .registers-in .ensures)) (c .put-fresh .ensures)
     (λ z.
     seat .first-seat .ensures
-    ∙ first-seat (a .family) false (a .n) (a .f) (a .number) (check (isPosition (a .position)) refusal.position 0) _ z
+    ∙ first-seat (a .family) false (a .n) (a .f) (a .number) (check (isPosition (a .position)) refusal.position-out-of-range 0) _ z
     ∙ ap (firstSeat (a .family) (a .n) (a .f) (a .number)) v)
 
 pub start-in-spec : {M : Type 1} → statement M
