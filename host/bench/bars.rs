@@ -14,10 +14,11 @@ pub const LISTENERS: (&str, f64) = ("(32,8) struck, other heads in each round, 1
 pub const ONE_ROUND: [(&str, f64); 1] = [("(29,7) one round, struck, other heads in each round", 1.0 / 4.0)];
 
 /// The name of a row, and its bar: in times of plain, and for limits and reach in times of the proved midpoint. A row that is not here has none.
-pub const BARS: [(&str, f64); 18] = [
+pub const BARS: [(&str, f64); 29] = [
     ("(5,1) struck, other heads in each round", 1.0 / 6.0),
     ("(5,1) struck, the same heads in all rounds", 1.0 / 6.0),
-    ("(32,8) quiet", 1.0 / 120.0),
+    ("(5,1) quiet", 1.0 / 25.0),
+    ("(32,8) quiet", 1.0 / 350.0),
     ("(32,8) struck, other heads in each round", 1.0 / 20.0),
     ("(32,8) struck, the same heads in all rounds", 1.0 / 20.0),
     ("frame check, all kinds, lists of 5", 1.3),
@@ -28,6 +29,16 @@ pub const BARS: [(&str, f64); 18] = [
     ("hearing a list, (32,8)", 1.0),
     ("hearing a batch of positions, (32,8)", 2.0),
     ("hearing a batch of lists, (32,8)", 2.0),
+    ("starting, (5,1)", 1.0),
+    ("restarting, (5,1)", 1.0),
+    ("starting, (32,8)", 1.0),
+    ("restarting, (32,8)", 1.0),
+    ("closing a collection round, (5,1)", 0.5),
+    ("closing a collection round, (32,8)", 0.3),
+    ("closing a confession round, lists that agree, (5,1)", 0.5),
+    ("closing a confession round, lists that agree, (32,8)", 0.15),
+    ("closing a confession round, f confessions and f liars, (5,1)", 0.7),
+    ("closing a confession round, f confessions and f liars, (32,8)", 0.25),
     ("limits, (5,1)", 3.0),
     ("limits, (32,8)", 3.0),
     ("reach, (5,1)", 3.0),

@@ -41,7 +41,7 @@ pub struct Run {
 /// All without listeners that are timed.
 pub fn runs() -> Vec<Run> {
     let mut runs = vec![Run { family: TwoRounds, n: 1, f: 0, strikes: Quiet, phases: 30_000, listeners: 0 }];
-    for (n, f, quiet, struck) in [(5, 1, 30_000, 30_000), (32, 8, 6_000, 1_000)] {
+    for (n, f, quiet, struck) in [(5, 1, 30_000, 30_000), (32, 8, 12_000, 1_000)] {
         for strikes in [Quiet, Others, Same, Alike, Lists, Mix] {
             let phases = if strikes == Quiet { quiet } else { struck };
             runs.push(Run { family: TwoRounds, n, f, strikes, phases, listeners: 0 });
@@ -60,7 +60,7 @@ pub fn with_listeners() -> [Run; 2] {
 /// an f of 1.
 pub fn of_one_round() -> Vec<(Run, Run)> {
     let mut pairs = Vec::new();
-    for (once, twice, quiet, struck) in [((5, 1), (5, 1), 30_000, 30_000), ((29, 7), (32, 8), 6_000, 1_000)] {
+    for (once, twice, quiet, struck) in [((5, 1), (5, 1), 30_000, 30_000), ((29, 7), (32, 8), 6_000, 3_000)] {
         for strikes in [Quiet, Others, Mix] {
             let phases = if strikes == Quiet { quiet } else { struck };
             let run = |family, (n, f)| Run { family, n, f, strikes, phases, listeners: 0 };
