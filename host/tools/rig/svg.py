@@ -228,8 +228,8 @@ def settled_marks(shown, axis, one_round):
     at_one = [at for at, column in enumerate(shown) if parts.settles(column, one_round)]
     words = 'phase %s: no head struck in the last round, all at one position'
     marks = [box(axis.x(at) - width / 2, foot + 6, width, 6, SETTLED, words % parts.phases(shown[at]) if width > 4 else '') for at in at_one]
-    x, y = LEFT + 224, SPREAD_TOP - 37
-    legend = [box(x, y, 12, 6, SETTLED), text(x + 18, y + 9, 'quiet last round: all at one', colour=FAINT)]
+    x, y = LEFT + 256, SPREAD_TOP - 37
+    legend = [box(x, y, 12, 6, SETTLED), text(x + 18, y + 9, 'quiet: all at one', colour=FAINT)]
     return marks + (legend if marks else [])
 
 
