@@ -102,7 +102,7 @@ pub fn ends_of(positions: &Positions, struck: u64, n: u8, m: u8) -> Ends
     Ends { low, high }
 }
 
-// The same where all places hold one position: that of the first of them.
+// The same where all places hold one position: that of the first of them. Where they do not, its answer is free.
 pub fn ends_held(positions: &Positions, struck: u64, n: u8, m: u8) -> Ends
     ensures { λ r. ⌜ ((u : ℤ) → Each receivers (λ i. getD (now (positions .entry)) i (pos 0) ≡ u)
         → Found receivers (endIn n m struck (now (positions .entry))) (r .low) (r .high)) ⌝ }

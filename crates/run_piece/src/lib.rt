@@ -262,7 +262,7 @@ fn is_settled(p: Player) -> bool
 }
 
 // Whether a piece begins with a whole round record that has no fault, in a ring that has agreed, when nothing is planted in the pending
-// round. Such a record changes the player alone.
+// round. Such a record changes the player alone. To answer no is free, and shows in the time alone.
 pub fn is_calm(p: Player, bytes: &[u8]) -> bool
     ensures { λ r. ⌜ (r ≡ true → Calm p (now (bytes .entry))) ⌝ }
 {
