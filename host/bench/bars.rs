@@ -9,9 +9,10 @@ pub const MEMORY: u64 = 16_000_000;
 pub const LISTENERS: (&str, f64) = ("(32,8) struck, other heads in each round, 16 listeners", 48.0 / 24.0);
 
 /// The proved player's time for a phase of a one-round ring, in times of its own for a phase of the two-round ring beside it, (32,8). Other sizes have no
-/// bar, and `--quick` leaves it out. Quiet rings have none: they agree at the first phase end, and from then on a phase of either family costs little
-/// more than its line.
+/// bar, and `--quick` leaves it out. Quiet rings agree at the first phase end, and from then on a phase of either family costs little more than its line: their
+/// bar is for the first phase, which settles.
 pub const ONE_ROUND: [(&str, f64); 1] = [("(29,7) one round, struck, other heads in each round", 1.0 / 4.0)];
+pub const FIRST_PHASE: (&str, f64) = ("(29,7) one round, quiet", 1.0 / 2.0);
 
 /// The name of a row, and its bar: in times of plain, and for limits and reach in times of the proved midpoint. A row that is not here has none.
 pub const BARS: [(&str, f64); 29] = [

@@ -122,6 +122,22 @@ fn print_one_round(players: &Players, missed: &mut bool) -> io::Result<()> {
         let (beside, times) = (beside.name(), bars::said(times));
         println!("| {name} | {} | {} | {ours:.1} | {others:.1} | {ratio} | {beside} | {times} | {bar} |", run.phases, timed.bytes);
     }
+    print_first_phases(missed)
+}
+
+fn print_first_phases(missed: &mut bool) -> io::Result<()> {
+    println!("\nThe first phase of a quiet ring, the only one that settles: nanoseconds of CPU time in `focus_play`.\n");
+    println!("| Run file | first phase | beside | first phase | ratio | bar |\n|---|--:|---|--:|--:|---|");
+    for (run, beside) in of_one_round().into_iter().filter(|(run, _)| run.strikes == Strikes::Quiet) {
+        let (ours, others) = (whole::first_phase(run)?, whole::first_phase(beside)?);
+        let mut bar = String::new();
+        if run.name() == bars::FIRST_PHASE.0 {
+            let (met, words) = bars::verdict(ours / others, bars::FIRST_PHASE.1, 1.0);
+            (*missed, bar) = (*missed | !met, words);
+        }
+        let (name, beside, ratio) = (run.name(), beside.name(), bars::said(ours / others));
+        println!("| {name} | {:.0} | {beside} | {:.0} | {ratio} | {bar} |", ours * 1e9, others * 1e9);
+    }
     Ok(())
 }
 

@@ -89,6 +89,28 @@ fn time(run: Run) -> io::Result<Timed> {
     Ok(timed)
 }
 
+/// How many files are played between two looks at the clock, where one takes less than a microsecond.
+const STRETCH: usize = 1_000;
+
+/// CPU seconds for the first phase of a run: its file up to there, less its start record alone.
+pub fn first_phase(run: Run) -> io::Result<f64> {
+    let mut file = Vec::new();
+    Run { phases: 1, ..run }.write(&mut file)?;
+    let start = u16::from_le_bytes([file[0], file[1]]) as usize;
+    let mut room = Room::of(&run, file.len());
+    let (mut with, mut without) = (f64::MAX, f64::MAX);
+    for _ in 0..TURNS {
+        for (time, bytes) in [(&mut with, &file[..]), (&mut without, &file[..start])] {
+            let before = now();
+            for _ in 0..STRETCH {
+                black_box(room.play(black_box(bytes))?);
+            }
+            *time = time.min((now() - before) / STRETCH as f64);
+        }
+    }
+    Ok(with - without)
+}
+
 pub fn rows() -> io::Result<Vec<Timed>> {
     in_memory().map(time).collect()
 }
