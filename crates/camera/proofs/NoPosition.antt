@@ -5,9 +5,8 @@ use mathlib.Core.List.{List}
 use Prim.Native.Nat.{ℕ}
 use native.Mathlib.Omega.{arith}
 use lib.IntN.{ℤ}
-use Rattle.steps.specs.Unscale.{Within}
-use Rattle.steps.proofs.Floor.{position-within}
-use Rattle.terms.specs.Positions.{rounding}
+use Rattle.terms.specs.Positions.{Within, rounding}
+use Rattle.terms.proofs.Whole.{position-within}
 use Rattle.settle_midpoint.specs.Call.{entriesGiven}
 use Rattle.terms.specs.declared.Family.{Family}
 use Rattle.settle_reach.specs.declared.Reached.{Reached}

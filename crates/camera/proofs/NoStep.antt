@@ -3,10 +3,11 @@ use mathlib.Core.Path.{_≡_, sym, subst}
 use Prim.Native.Nat.{ℕ}
 use native.Mathlib.Omega.{arith}
 use lib.IntN.{ℤ}
-use Rattle.steps.specs.Unscale.{Within, ReadsAs, Answers}
+use Rattle.terms.specs.Positions.{Within}
+use Rattle.steps.specs.Unscale.{ReadsAs, Answers}
 use Rattle.steps.specs.Unscale.Answers.{refused, step, none}
-use Rattle.steps.specs.declared.scale.Unscaled.{Unscaled}
-use Rattle.steps.proofs.Floor.{position-within}
+use Rattle.steps.specs.declared.Unscaled.{Unscaled}
+use Rattle.terms.proofs.Whole.{position-within}
 use Rattle.camera.specs.Out.{noStep, stepNumber, stepOr, StepLent}
 
 module _ (x : ℤ) (a d : ℕ) (old : ℤ) where

@@ -12,10 +12,10 @@ use Rattle.settle_limits.specs.Call as limits-call
 use Rattle.settle_reach.specs.declared.Reached.{Reached}
 use Rattle.settle_reach.specs.declared.Reached.the-variants as reach
 use Rattle.settle_reach.specs.Call as reach-call
-use Rattle.steps.specs.declared.scale.Scaled.{Scaled}
-use Rattle.steps.specs.declared.scale.Scaled.the-variants as scale
-use Rattle.steps.specs.declared.scale.Unscaled.{Unscaled}
-use Rattle.steps.specs.declared.scale.Unscaled.the-variants as unscale
+use Rattle.steps.specs.declared.Scaled.{Scaled}
+use Rattle.steps.specs.declared.Scaled.the-variants as scale
+use Rattle.steps.specs.declared.Unscaled.{Unscaled}
+use Rattle.steps.specs.declared.Unscaled.the-variants as unscale
 use Rattle.steps.specs.Unscale.{Answers}
 
 -- of the midpoint: the new position, or what was there (P40)

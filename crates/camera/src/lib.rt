@@ -13,8 +13,8 @@ use settle_limits::Ranged;
 use settle_midpoint::Settled;
 use settle_reach::Aim;
 use settle_reach::Reached;
-use steps::scale::Scaled;
-use steps::scale::Unscaled;
+use steps::Scaled;
+use steps::Unscaled;
 use terms::Family;
 
 // The version of the library, as the header has it in FOCUS_VERSION.
@@ -201,7 +201,7 @@ pub extern "C" fn focus_scale(
     ensures number { λ r. ⌜ r ≡ scaledNumber (scaled steps numerator denominator) ⌝ }
     ensures result { λ r. ⌜ now (nanometres .exit) ≡ scaledOr (scaled steps numerator denominator) (now (nanometres .entry)) ⌝ }
 {
-    let answer = steps::scale::scale(steps, numerator, denominator);
+    let answer = steps::scale(steps, numerator, denominator);
     match answer {
         Scaled::Refused(number) => number,
         Scaled::Nanometres(x) => {
@@ -221,7 +221,7 @@ pub extern "C" fn focus_unscale(
 ) -> u8
     ensures { λ r. ⌜ StepLent nanometres numerator denominator r (now (steps .entry)) (now (steps .exit)) ⌝ }
 {
-    let answer = steps::scale::unscale(nanometres, numerator, denominator);
+    let answer = steps::unscale(nanometres, numerator, denominator);
     match answer {
         Unscaled::Refused(number) => number,
         Unscaled::None => {

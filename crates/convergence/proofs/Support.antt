@@ -27,7 +27,7 @@ not-null p q = let z : _≡_ {A = ℕ} 0 1 = cc in omega arith
 
 -- ---- what was seen in a column
 
-abbrev Says : (ℤ → Bool) → ℕ → (ℕ → Entry) → Seen → Type 0
+abbrev pub Says : (ℤ → Bool) → ℕ → (ℕ → Entry) → Seen → Type 0
 Says ok n E none = Each n (λ k. (u : ℤ) → E k ≡ Position u → T (ok u) → ⊥)
 Says ok n E (one u) = T (ok u) × Each n (λ k. (w : ℤ) → E k ≡ Position w → T (ok w) → w ≡ u)
 Says ok n E many = (u : ℤ) × (w : ℤ) × T (ok u) × T (ok w) × (u ≢ w)
@@ -55,7 +55,7 @@ module _ (ok : ℤ → Bool) (n : ℕ) (E : ℕ → Entry) where
       go true r = says-see u s q (rw r tt) h
       go false r = says-skip s (λ w k t. rw (same-position q k, r) at t) h
 
-says : (ok : ℤ → Bool) (n : ℕ) (E : ℕ → Entry) → Says ok n E (seen ok n E)
+pub says : (ok : ℤ → Bool) (n : ℕ) (E : ℕ → Entry) → Says ok n E (seen ok n E)
 unfolding seen
 says ok zero E = λ k l. absurd (omega arith)
 says ok (suc n) E = says-entry ok n E (E n) (seen ok n E) refl (says ok n E)
@@ -68,6 +68,14 @@ is-same u = bit-yes (eqZ u u) (eqZ-refl u)
 pub is-other : (u : ℤ) (x : Entry) → (x ≡ Position u → ⊥) → is u x ≡ 0
 is-other u Null h = refl
 is-other u (Position w) h = bit-no (eqZ u w) (λ t. h (ap Position (sym (eqZ→eq u w t))))
+
+pub is-yes : (u : ℤ) (x : Entry) → 1 ≤ is u x → x ≡ Position u
+is-yes u Null h = absurd (omega arith)
+is-yes u (Position w) h = go (eqZ u w) (eqZ→eq u w) h
+  where
+    go : (b : Bool) → (T b → u ≡ w) → 1 ≤ bit b → Position w ≡ Position u
+    go true p l = ap Position (sym (p tt))
+    go false p l = absurd (omega arith)
 
 not-said : (j : ℕ) (u : ℤ) (g : Given) → (saysOf j g ≡ Position u → ⊥) → supports j u g ≤ bit (hasConfessed g)
 not-said j u nothing h = omega arith

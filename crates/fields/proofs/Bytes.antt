@@ -1,7 +1,7 @@
 -- Fields of bytes. A number is its lowest byte and 256 times the rest, so what is written reads back, and what was read is written again. A word
 -- and its number with a sign are each other's bits, as the machine has them (`toZ`, `ofZ`).
-use mathlib.Core.Path.{_≡_, refl, ap, sym, _∙_}
-use mathlib.Core.Bool.{Bool, true, false, and-true, cond}
+use mathlib.Core.Path.{_≡_, refl, ap}
+use mathlib.Core.Bool.{Bool, true, false, cond}
 use mathlib.Core.List.{List, [], _∷_}
 use Prim.Native.Nat.{ℕ, suc, _+_, _-_, _*_, _/_, _%_, _≤_, _<_}
 use native.Mathlib.Omega.{arith}
@@ -11,10 +11,11 @@ use lib.IntN.{ℤ, pos, negsuc}
 use lib.ListN.{length, getD, set, List·getD-eq-default}
 use lib.Seq.{set-out}
 use mir.Syntax.{w32}
-use mir.Val.{SFits, sel, toZ, ofZ}
+use mir.Val.{sel, toZ, ofZ}
 use mir.Facts.{toZ-ofZ, ofZ-toZ, fits-ofZ}
-use borrow.Author.Tests.{lt-ltb, le-ltb, leb-true}
+use borrow.Author.Tests.{lt-ltb, le-ltb}
 use Rattle.terms.specs.Positions.{isPosition}
+use Rattle.terms.proofs.Machine.{position-fits}
 use Rattle.fields.specs.Bytes.{put2, put4, signedOf, wordOf, over}
 
 -- ---- numbers of two and four bytes
@@ -88,11 +89,6 @@ pub ofZ-word : (v : ℤ) → ofZ w32 v ≡ wordOf v
 unfolding wordOf
 ofZ-word (pos n) = refl
 ofZ-word (negsuc n) = omega arith
-
-pub position-fits : (v : ℤ) → isPosition v ≡ true → SFits w32 v
-unfolding isPosition
-position-fits (pos n) h = record { sfits = omega (arith, leb-true n 1_000_000 h) }
-position-fits (negsuc n) h = record { sfits = omega (arith, leb-true n 999_999 (sym (and-true _) ∙ h)) }
 
 pub signed-back : (v : ℤ) → isPosition v ≡ true → signedOf (wordOf v) ≡ v
 signed-back v h = rw (← toZ-signed (wordOf v), ← ofZ-word v) (toZ-ofZ (position-fits v h))

@@ -25,7 +25,7 @@ fn settled_in(h: &[u32]) -> Settled
 {
     let seat = seat_in(h);
     let family = seat.family;
-    let up = steps::rounds_up(seat.phase);
+    let up = terms::rounds_up(seat.phase);
     match family {
         Family::TwoRounds => {
             let links = links_in(h);

@@ -46,7 +46,7 @@ pub fn start_in(h: &mut Block, family: Family, n: u32, f: u32, number: u32, posi
         × (now (h .exit) ≡ blockAfter (now (h .entry)) (starts family n f number position)) ⌝ }
 {
     let last = head_calls::check(
-        steps::is_position(position),
+        terms::is_position(position),
         refusal::POSITION_OUT_OF_RANGE,
         0,
     );

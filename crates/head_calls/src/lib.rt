@@ -171,7 +171,7 @@ fn is_member(listens: bool, n: u32, number: u32) -> bool
 pub fn member_refusal(family: Family, listens: bool, n: u32, f: u32, number: u32, rest: u8) -> u8
     ensures { λ r. ⌜ r ≡ checkMember family listens n f number rest ⌝ }
 {
-    let size = steps::size_refusal(family, n, f);
+    let size = terms::size_refusal(family, n, f);
     if size != 0 {
         return size;
     }
@@ -186,7 +186,7 @@ pub fn member_refusal(family: Family, listens: bool, n: u32, f: u32, number: u32
 pub fn is_time(family: Family, phase: u32, round: u32) -> bool
     ensures { λ r. ⌜ r ≡ isTime family phase round ⌝ }
 {
-    if !steps::is_phase(phase) {
+    if !terms::is_phase(phase) {
         return false;
     }
     round < rounds_of(family)
@@ -232,7 +232,7 @@ pub fn start(h: Head, family: Family, n: u32, f: u32, number: u32, position: i32
     ensures { λ r. ⌜ r ≡ start h family n f number position ⌝ }
 {
     let last = check(
-        steps::is_position(position),
+        terms::is_position(position),
         refusal::POSITION_OUT_OF_RANGE,
         0,
     );
@@ -398,7 +398,7 @@ fn settled_by(h: Head) -> Settled
 {
     let seat = h.seat;
     let family = seat.family;
-    let up = steps::rounds_up(seat.phase);
+    let up = terms::rounds_up(seat.phase);
     match family {
         Family::TwoRounds => {
             let lists = h.lists;

@@ -48,8 +48,8 @@ fn position(x: First, k: usize) -> i32 {
 
 // Half of the sum of numbers a and b, rounded by the phase that is number p.
 fn half(x: First, a: usize, b: usize, p: usize) -> u64 {
-    let up = steps::rounds_up((word(x, p) % 65536) as u16);
-    show::position(steps::half_sum(position(x, a), position(x, b), up))
+    let up = terms::rounds_up((word(x, p) % 65536) as u16);
+    show::position(terms::half_sum(position(x, a), position(x, b), up))
 }
 
 // The position that was answered.
@@ -163,7 +163,7 @@ fn settled(x: First, r: Brackets) -> u64 {
         links(r, true),
         byte(x, 0),
         byte(x, 1),
-        steps::rounds_up(1),
+        terms::rounds_up(1),
     ))
 }
 
@@ -196,11 +196,11 @@ fn of_numbers(x: First, b: u8) -> u64 {
     let n = word(x, 0);
     let f = word(x, 1);
     match b {
-        b'S' => show::code(steps::size_refusal(Family::TwoRounds, n, f)),
+        b'S' => show::code(terms::size_refusal(Family::TwoRounds, n, f)),
         b'H' => promise(n, f),
         b'L' => list_frame(x),
         b'B' => show::check(&io::large_buffer()),
-        b'N' => show::scaled(steps::scale::scale(position(x, 0), f, word(x, 2))),
+        b'N' => show::scaled(steps::scale(position(x, 0), f, word(x, 2))),
         b'h' => half(x, 0, 1, 2),
         b'd' => half(x, 1, 2, 0),
         _ => half(x, 3, 4, 0),

@@ -1,7 +1,7 @@
 // Answers, printed. Each gives back one number for what it printed: a number's own word, and others for words.
 use libc::STDOUT_FILENO;
 use settle_midpoint::Settled;
-use steps::scale::Scaled;
+use steps::Scaled;
 use terms::Entry;
 
 pub(crate) fn text(words: &[u8]) {

@@ -47,10 +47,10 @@ fn range_of(lowest: i32, highest: i32) -> KeptRange
 fn reading_between(lowest: i32, highest: i32) -> Reading
     ensures { λ r. ⌜ r ≡ readingBetween lowest highest ⌝ }
 {
-    if !steps::is_position(lowest) {
+    if !terms::is_position(lowest) {
         return Reading::Unknown;
     }
-    if !steps::is_position(highest) {
+    if !terms::is_position(highest) {
         return Reading::Unknown;
     }
     if lowest == highest {

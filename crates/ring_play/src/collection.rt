@@ -226,7 +226,7 @@ fn position_of(s: Stage, list: Table) -> i32
     ensures { λ r. ⌜ r ≡ settledFrom s (tableAt list) ⌝ }
 {
     let n = round::head_count(s);
-    let up = steps::rounds_up(s.phase);
+    let up = terms::rounds_up(s.phase);
     match settle_midpoint::settle_table(list, Family::OneRound, n, s.f, up) {
         Settled::Refused(_) => 0,
         Settled::New(kept) => kept.position,

@@ -116,7 +116,7 @@ fn settled(s: Stage, rows: &Lists, links: Links, reference: usize) -> i32
     ensures { λ r. ⌜ r ≡ positionSettled s (givenBy links (now (rows .entry))) ⌝ }
 {
     let n = round::head_count(s);
-    let up = steps::rounds_up(s.phase);
+    let up = terms::rounds_up(s.phase);
     match settle_position::settle_by(rows, links, reference, n, s.f, up) {
         Settled::Refused(_) => 0,
         Settled::New(kept) => kept.position,

@@ -104,5 +104,5 @@ pub(crate) fn position_inside(s: Stage, order: Order, c: Counts) -> i32
     let f = s.f as usize;
     let low = order.positions[f - c.low];
     let high = order.positions[order.len - 1 - (f - c.high)];
-    steps::half_sum(low, high, steps::rounds_up(s.phase))
+    terms::half_sum(low, high, terms::rounds_up(s.phase))
 }

@@ -100,7 +100,7 @@ fn position_from(s: Stage, codes: &Numbers, same: &Words, need: usize, confessed
     ensures { λ r. ⌜ r ≡ settledBy s (entryTaken (now (codes .entry)) (now (same .entry)) need confessed) ⌝ }
 {
     let n = round::head_count(s);
-    let up = steps::rounds_up(s.phase);
+    let up = terms::rounds_up(s.phase);
     match codes::settle_counted(codes, same, need, confessed, n, s.f, up) {
         Settled::Refused(_) => 0,
         Settled::New(kept) => kept.position,

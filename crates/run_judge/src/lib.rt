@@ -86,7 +86,7 @@ pub fn start_fault(family: Family, bytes: &[u8]) -> u8
     if bytes.len() != 6 + 4 * (n as usize) {
         return refusal::BAD_RUN_RECORD;
     }
-    let size = steps::size_refusal(family, n as u32, f as u32);
+    let size = terms::size_refusal(family, n as u32, f as u32);
     if size != 0 {
         return size;
     }

@@ -7,7 +7,7 @@ use Prim.Native.Nat.{ℕ, zero, suc, _+_, _-_, _≤_, min}
 use native.Mathlib.Omega.{arith}
 use lib.Dec.{eqb, leb}
 use lib.IntN.{ℤ}
-use borrow.Author.Tests.{eq-eqb, ne-eqb}
+use borrow.Author.Tests.{ne-eqb}
 use Rattle.terms.specs.declared.Entry.{Entry}
 use Rattle.terms.specs.declared.Entry.the-variants.{Null}
 use Rattle.marks.specs.Marks.{bitOf, markedTo}
@@ -53,9 +53,6 @@ decided-trusted n f G j =
 module _ {confesses : Bool} (n need : ℕ) (E : ℕ → Entry) where
   pub decided-confessed : confesses ≡ true → decided confesses n need E ≡ Null
   decided-confessed e = rw e
-
-  pub decided-by-all : confesses ≡ false → need ≡ 0 → decided confesses n need E ≡ Null
-  decided-by-all e q = rw (e, eq-eqb need 0 q)
 
   pub decided-by-lists : confesses ≡ false → (need ≡ 0 → ⊥) → decided confesses n need E ≡ choose false false (agreed n need E)
   decided-by-lists e q = rw (e, ne-eqb need 0 q)

@@ -1,129 +1,63 @@
--- The vote among cells: each cell that is not null leads, joins the leader, or takes one from its lead. So any other position than the leader's is met by as many
--- others, and stands in at most half of the cells that are not null.
-use mathlib.Core.Path.{_≡_, refl, ap, sym, _∙_}
-use mathlib.Core.Bool.{true, false}
+-- The vote among cells: each cell that is not 0 leads, joins the leader, or takes one from its lead. So any other than the leader is met by as many others, and
+-- is at most half of the cells that are not 0.
+use mathlib.Core.Path.{_≡_, sym, _∙_}
 use mathlib.Core.List.{List}
+use mathlib.Core.Logic.{_≢_}
 use Prim.Native.Nat.{ℕ, _+_, _-_, _*_, _/_, _≤_, _<_}
 use native.Mathlib.Omega.{arith}
-use lib.IntN.{ℤ, ℤ-discrete}
-use borrow.Author.Tests.{leb-true, le-leb, lt-leb}
-use Rattle.terms.specs.declared.Entry.{Entry}
-use Rattle.terms.specs.declared.Entry.the-variants.{Null, Position}
+use native.Mathlib.Decide.{ℕ-discrete}
+use lib.ListN.{getD}
 use Rattle.terms.specs.Counting.{sum}
-use Rattle.convergence.specs.Trust.{is, choose}
-use Rattle.convergence.proofs.Support.{same-position, not-null, is-other}
-use Rattle.convergence.proofs.Links.{is-le}
-use Rattle.marks.proofs.Counts.{sum-next}
 use Rattle.settle_trust.specs.declared.Vote.{Vote}
-use Rattle.settle_trust.specs.Cells.{cellFor, cellEntry, CellOf, HoldsEach, equalTo, standsIn, agreed}
-use Rattle.settle_trust.specs.Voting.{times, Leads}
-use Rattle.settle_trust.proofs.Cells.{holds-null, holds-same, equal-held}
-use Rattle.settle_trust.proofs.Search.{only-seen, none-seen}
+use Rattle.settle_trust.specs.Cells.{equalTo, AgreedCell}
+use Rattle.settle_trust.specs.Cells.AgreedCell.{no-such}
+use Rattle.settle_trust.specs.Voting.{Leads}
+use Rattle.settle_trust.proofs.Search.{cell-other, cell-more, agree-on}
 
-is-position : (e : Entry) (w : ℤ) → Dec (e ≡ Position w)
-is-position Null w = no (λ p. not-null refl p)
-is-position (Position u) w = go (ℤ-discrete u w)
-  where
-    go : Dec (u ≡ w) → Dec (Position u ≡ Position w)
-    go (yes q) = yes (ap Position q)
-    go (no d) = no (λ p. d (same-position p refl))
+pub none-leads : (cells : List ℕ) → Leads 0 cells (record { leader = 0; lead = 0; some = 0 })
+unfolding sum
+none-leads cells = record { any = λ y s. omega arith; other = λ y s d. omega arith }
 
 -- ---- one cell more
 
-module _ (E : ℕ → Entry) (k : ℕ) (v : Vote) (L : Leads k E v) where
-  any : (w : ℤ) → 2 * times k E w ≤ v .some + v .lead
-  any w = go (is-position (cellEntry (v .leader)) w)
+module _ {x : ℕ} (cells : List ℕ) (k : ℕ) (e : x ≡ getD cells k 0) (v : Vote) (L : Leads k cells v) where
+  pub passes : x ≡ 0 → Leads (k + 1) cells v
+  passes z = record { any = λ y s. omega (arith, still y s, L .any y s); other = λ y s d. omega (arith, still y s, L .other y s d) }
     where
-      go : Dec (cellEntry (v .leader) ≡ Position w) → 2 * times k E w ≤ v .some + v .lead
-      go (yes p) = L .ahead w p
-      go (no d) = omega (arith, L .behind w d)
+      still : (y : ℕ) → y ≢ 0 → equalTo (k + 1) cells y ≡ equalTo k cells y
+      still y s = cell-other cells k y (λ q. s (sym q ∙ sym e ∙ z))
 
-  more : (w : ℤ) → times k E w + is w (E k) ≡ times (k + 1) E w
-  more w = sum-next (λ i. is w (E i)) k refl refl
+  pub leads : v .lead ≡ 0 → Leads (k + 1) cells (record { leader = x; lead = 1; some = v .some + 1 })
+  leads z = record {
+    any = λ y s. omega (arith, cell-more cells k y, L .any y s);
+    other = λ y s d. omega (arith, cell-other cells k y (λ q. d (sym q ∙ sym e)), L .any y s);
+  }
 
-  module _ {x : ℕ} (held : CellOf x (E k)) where
-    -- it is not w
-    other : (w : ℤ) → (cellEntry x ≡ Position w → ⊥) → is w (E k) ≡ 0
-    other w d = is-other w (E k) (λ p. d (held .entry ∙ p))
+  pub joins : x ≡ v .leader → Leads (k + 1) cells (record { leader = v .leader; lead = v .lead + 1; some = v .some + 1 })
+  joins z = record {
+    any = λ y s. omega (arith, cell-more cells k y, L .any y s);
+    other = λ y s d. omega (arith, cell-other cells k y (λ q. d (sym q ∙ sym e ∙ z)), L .other y s d);
+  }
 
-    pub passes : x ≡ 0 → Leads (k + 1) E v
-    passes e =
-        record {
-          leader = L .leader;
-          ahead = λ w p. omega (arith, more w, other w (null w), L .ahead w p);
-          behind = λ w d. omega (arith, more w, other w (null w), L .behind w d);
-        }
-      where
-        null : (w : ℤ) → cellEntry x ≡ Position w → ⊥
-        null w p = not-null (ap cellEntry e) p
-
-    pub leads : v .lead ≡ 0 → Leads (k + 1) E (record { leader = x; lead = 1; some = v .some + 1 })
-    leads z =
-        record {
-          leader = holds-same held (sym (held .entry));
-          ahead = λ w p. omega (arith, more w, is-le w (E k), any w);
-          behind = λ w d. omega (arith, more w, other w d, any w);
-        }
-
-    pub joins : x ≡ v .leader → Leads (k + 1) E (record { leader = v .leader; lead = v .lead + 1; some = v .some + 1 })
-    joins e =
-        record {
-          leader = L .leader;
-          ahead = λ w p. omega (arith, more w, is-le w (E k), L .ahead w p);
-          behind = λ w d. omega (arith, more w, other w (λ p. d (ap cellEntry (sym e) ∙ p)), L .behind w d);
-        }
-
-    pub takes : (x ≡ v .leader → ⊥) → (v .lead ≡ 0 → ⊥) → Leads (k + 1) E (record { leader = v .leader; lead = v .lead - 1; some = v .some + 1 })
-    takes d z =
-        record {
-          leader = L .leader;
-          ahead = λ w p. omega (arith, more w, other w (apart w p), L .ahead w p);
-          behind = λ w q. omega (arith, more w, is-le w (E k), L .behind w q);
-        }
-      where
-        apart : (w : ℤ) → cellEntry (v .leader) ≡ Position w → cellEntry x ≡ Position w → ⊥
-        apart w p q = d (held .cell ∙ ap cellFor (sym (held .entry) ∙ q ∙ sym p) ∙ sym (L .leader .cell))
+  pub takes : x ≢ v .leader → v .lead ≢ 0 → Leads (k + 1) cells (record { leader = v .leader; lead = v .lead - 1; some = v .some + 1 })
+  takes a z = record { any = λ y s. go y s (ℕ-discrete y (v .leader)); other = λ y s d. omega (arith, cell-more cells k y, L .other y s d) }
+    where
+      go : (y : ℕ) → y ≢ 0 → Dec (y ≡ v .leader) → 2 * equalTo (k + 1) cells y ≤ v .some + 1 + (v .lead - 1)
+      go y s (yes q) = omega (arith, cell-other cells k y (λ p. a (e ∙ p ∙ q)), L .any y s)
+      go y s (no d) = omega (arith, cell-more cells k y, L .other y s d)
 
 -- ---- all cells
 
-module _ (n need : ℕ) (cells : List ℕ) (E : ℕ → Entry) (held : HoldsEach n cells E) (v : Vote) (L : Leads n E v) (half : v .some / 2 < need) where
-  abbrev ok : ℤ → Type 0
-  ok w = standsIn n need E w ≡ true
-
-  -- what stands so often is the leader's
-  leader-alone : (w : ℤ) → need ≤ times n E w → cellEntry (v .leader) ≡ Position w
-  leader-alone w h = go (is-position (cellEntry (v .leader)) w)
+module _ (n need : ℕ) (cells : List ℕ) (v : Vote) (L : Leads n cells v) (half : v .some / 2 < need) where
+  leader-alone : (y : ℕ) → y ≢ 0 → need ≤ equalTo n cells y → y ≡ v .leader
+  leader-alone y s r = go (ℕ-discrete y (v .leader))
     where
-      go : Dec (cellEntry (v .leader) ≡ Position w) → cellEntry (v .leader) ≡ Position w
-      go (yes p) = p
-      go (no d) = absurd (omega (arith, L .behind w d))
+      go : Dec (y ≡ v .leader) → y ≡ v .leader
+      go (yes q) = q
+      go (no d) = absurd (omega (arith, L .other y s d))
 
-  no-other : ((w : ℤ) → cellEntry (v .leader) ≡ Position w → times n E w < need) → choose false false (agreed n need E) ≡ Null
-  no-other few = ap (choose false false) (none-seen (standsIn n need E) E (λ w. lt-leb need (times n E w) (go w (is-position (cellEntry (v .leader)) w))) n)
-    where
-      go : (w : ℤ) → Dec (cellEntry (v .leader) ≡ Position w) → times n E w < need
-      go w (yes p) = few w p
-      go w (no d) = omega (arith, L .behind w d)
+  pub elected : need ≤ equalTo n cells (v .leader) → AgreedCell n need cells (v .leader)
+  elected r = agree-on n need cells (v .leader) (λ s. r) leader-alone
 
-  counted : (w : ℤ) → cellEntry (v .leader) ≡ Position w → equalTo n cells (v .leader) ≡ times n E w
-  counted w p = equal-held n cells E (holds-same (L .leader) p) held
-
-  pub elected : need ≤ equalTo n cells (v .leader) → CellOf (v .leader) (choose false false (agreed n need E))
-  elected h = holds-same (L .leader) (go (cellEntry (v .leader)) refl)
-    where
-      go : (e : Entry) → cellEntry (v .leader) ≡ e → cellEntry (v .leader) ≡ choose false false (agreed n need E)
-      go Null q = q ∙ sym (no-other (λ w p. absurd (not-null q p)))
-      go (Position u) q =
-          let enough : need ≤ times n E u = omega (arith, counted u q) in
-          q
-          ∙ sym (ap (choose false false)
-          (only-seen (standsIn n need E) E u (λ w t. same-position q (leader-alone w (leb-true need (times n E w) t))) n (le-leb need (times n E u) enough) (omega arith)))
-
-  pub not-elected : equalTo n cells (v .leader) < need → choose false false (agreed n need E) ≡ Null
-  not-elected h = no-other (λ w p. omega (arith, counted w p))
-
--- ---- no cell yet
-
-pub none-leads : (E : ℕ → Entry) → Leads 0 E (record { leader = 0; lead = 0; some = 0 })
-unfolding sum
-none-leads E = record { leader = holds-null; ahead = λ w p. omega arith; behind = λ w d. omega arith }
+  pub not-elected : equalTo n cells (v .leader) < need → AgreedCell n need cells 0
+  not-elected few = no-such (λ x o. let r : need ≤ equalTo n cells (v .leader) = rw (leader-alone x (o .some) (o .reaches)) at (o .reaches) in omega arith)

@@ -2,8 +2,9 @@
 -- null. Nothing here is needed to read what `support`, `trusted_entry` and `trusted_table` promise.
 use mathlib.Core.Path.{_≡_}
 use mathlib.Core.Bool.{Bool, true, false, not, _&&_}
+use mathlib.Core.Logic.{_≢_}
 use mathlib.Core.List.{List, []}
-use Prim.Native.Nat.{ℕ, zero, suc, _%_}
+use Prim.Native.Nat.{ℕ, zero, suc, _%_, _≤_}
 use lib.Dec.{eqb, leb}
 use lib.IntN.{ℤ}
 use lib.ListN.{getD, set, replicate}
@@ -60,6 +61,17 @@ equalTo n cells x = sum n (λ k. bit (eqb (getD cells k 0) x))
 -- a cell that is not null, not the one found, and is in `need` lists or more
 abbrev pub isAnother : ℕ → ℕ → List ℕ → ℕ → ℕ → Bool
 isAnother n need cells found x = not (eqb x 0) && (not (eqb x found) && leb need (equalTo n cells x))
+
+-- x is the only number but 0 that is `need` times or more among the first n cells
+pub record OnlyCell (n need : ℕ) (cells : List ℕ) (x : ℕ) : Type 0 where
+  pub some : x ≢ 0
+  pub reaches : need ≤ equalTo n cells x
+  pub alone : (y : ℕ) → y ≢ 0 → need ≤ equalTo n cells y → y ≡ x
+
+-- what the first n cells agree on, whatever they hold: that number, or 0 if there is none (`one-answer`, proofs/Search.antt: no two)
+pub data AgreedCell (n need : ℕ) (cells : List ℕ) : ℕ → Type 0 where
+  only : (x : ℕ) → OnlyCell n need cells x → AgreedCell n need cells x
+  no-such : ((x : ℕ) → OnlyCell n need cells x → ⊥) → AgreedCell n need cells 0
 
 -- whether u is `need` times or more among the first n entries
 abbrev pub standsIn : ℕ → ℕ → (ℕ → Entry) → ℤ → Bool

@@ -2,14 +2,14 @@
 // its cell.
 ghost use mathlib.Core.Path.{_≡_};
 ghost use Prim.Native.Nat.{_+_, _-_, _≤_, _<_, min, ℕ};
-ghost use lib.ListN.{length};
+ghost use lib.ListN.{length, getD};
+ghost use mathlib.Core.List.{List};
 ghost use Rattle.marks.specs.Marks.{markedTo, bitOf};
 ghost use Rattle.entries.specs.Entries.{entryAt};
 ghost use Rattle.entries.specs.Tables.{mark, number, tableOf};
-ghost use Rattle.settle_trust.specs.Cells.{marksGiven, marksTo, cellFor, cellEntry, CellOf, columnOf, HoldsEach, equalTo, isAnother, agreed, decided};
+ghost use Rattle.settle_trust.specs.Cells.{marksGiven, marksTo, cellFor, cellEntry, CellOf, columnOf, HoldsEach, equalTo, isAnother, AgreedCell, decided};
 ghost use Rattle.settle_trust.specs.Voting.{Leads};
-ghost use mathlib.Core.Bool.{false};
-ghost use Rattle.convergence.specs.Trust.{support, trusted, choose};
+ghost use Rattle.convergence.specs.Trust.{support, trusted};
 ghost use Rattle.settle_trust.specs.Received.{givenBy};
 use terms::Entry;
 use terms::HEADS;
@@ -163,7 +163,7 @@ struct Vote {
 fn after_cell(v: Vote, x: u64) -> Vote
     requires { ⌜ (v .lead < 32) × (v .some < 32) ⌝ }
     ensures { λ r. ⌜ (r .lead ≤ v .lead + 1) × (r .some ≤ v .some + 1)
-        × ((E : ℕ → Entry) (k : ℕ) → CellOf x (E k) → Leads k E v → Leads (k + 1) E r) ⌝ }
+        × ((cells : List ℕ) (k : ℕ) → x ≡ getD cells k 0 → Leads k cells v → Leads (k + 1) cells r) ⌝ }
 {
     if x == 0 {
         return v;
@@ -194,7 +194,7 @@ fn after_cell(v: Vote, x: u64) -> Vote
 // The vote among the first n cells.
 fn voted(cells: &[u64; HEADS], n: usize) -> Vote
     requires { ⌜ n ≤ 32 ⌝ }
-    ensures { λ r. ⌜ ((E : ℕ → Entry) → HoldsEach n (now (cells .entry)) E → Leads n E r) ⌝ }
+    ensures { λ r. ⌜ Leads n (now (cells .entry)) r ⌝ }
 {
     let mut v = Vote {
         leader: 0,
@@ -209,11 +209,11 @@ fn voted(cells: &[u64; HEADS], n: usize) -> Vote
     v
 }
 
-// The cell of the only position that is in `need` lists or more; 0 if there is none, or several. What is in `need` lists is in an early
-// one, so the search ends if fewer than `need` are left.
+// The only number but 0 that is `need` times or more among the first n cells; 0 if there is none, or several. What is there so often is
+// an early one, so the search ends if fewer than `need` are left.
 fn searched(cells: &[u64; HEADS], n: usize, need: usize) -> u64
     requires { ⌜ (n ≤ 32) × (0 < need) ⌝ }
-    ensures { λ r. ⌜ ((E : ℕ → Entry) → HoldsEach n (now (cells .entry)) E → CellOf r (choose false false (agreed n need E))) ⌝ }
+    ensures { λ r. ⌜ AgreedCell n need (now (cells .entry)) r ⌝ }
 {
     let mut found: u64 = 0;
     let mut k: usize = 0;
@@ -230,10 +230,10 @@ fn searched(cells: &[u64; HEADS], n: usize, need: usize) -> u64
     found
 }
 
-// The same by a vote: if `need` is more than half of the cells that are not null, only the leader can stand in so many.
+// The same by a vote: if `need` is more than half of the cells that are not 0, only the leader can be so many.
 fn only(cells: &[u64; HEADS], n: usize, need: usize) -> u64
     requires { ⌜ (n ≤ 32) × (0 < need) ⌝ }
-    ensures { λ r. ⌜ ((E : ℕ → Entry) → HoldsEach n (now (cells .entry)) E → CellOf r (choose false false (agreed n need E))) ⌝ }
+    ensures { λ r. ⌜ AgreedCell n need (now (cells .entry)) r ⌝ }
 {
     let v = voted(cells, n);
     if need <= v.some / 2 {
@@ -245,9 +245,9 @@ fn only(cells: &[u64; HEADS], n: usize, need: usize) -> u64
     0
 }
 
-// The cell of the entry that the first n cells decide, if `need` of them have to agree.
+// What the first n cells agree on, whatever they hold, if `need` of them have to: the only number but 0 that is so often among them, or 0.
 pub fn agreed_cell(cells: &[u64; HEADS], n: usize, need: usize) -> u64
-    ensures { λ r. ⌜ ((E : ℕ → Entry) → HoldsEach (min n 32) (now (cells .entry)) E → CellOf r (decided false (min n 32) need E)) ⌝ }
+    ensures { λ r. ⌜ AgreedCell (min n 32) need (now (cells .entry)) r ⌝ }
 {
     if need == 0 {
         return 0;

@@ -1,18 +1,17 @@
 -- `floorDiv` is the floor: x lies between the quotient times the divisor and one divisor more. A floor lies no farther from zero than what is
 -- divided, and a position times the numerator of a scale lies within 10^12 either way, so nanometres lie between -10^12 and 10^12.
-use mathlib.Core.Path.{_≡_, refl, _∙_, ap}
-use mathlib.Core.Bool.{Bool, true, false, _&&_}
+use mathlib.Core.Path.{_≡_, _∙_, ap}
+use mathlib.Core.Bool.{true, _&&_}
 use Prim.Native.Nat.{ℕ, suc, _+_, _*_, _/_, _≤_, _<_}
 use native.Mathlib.Nat.{suc-mul, mul-le-mul, div-le-self, div-mul-le-self, lt-div-mul-add}
-use lib.Dec.{T, leb}
+use lib.Dec.{leb}
 use lib.IntN.{ℤ, pos, negsuc, negℤ, _+ℤ_, _*ℤ_, +ℤ-one, +ℤ-invr, sucℤ-*ℤ}
-use lib.Signed.{leZ, _≤ℤ_, _<ℤ_, leZ-yes}
+use lib.Signed.{_≤ℤ_, _<ℤ_}
 use mir.Facts.{and-yes, leb-yes}
 use denote.Floats.{passes}
-use Rattle.terms.specs.Positions.{isPosition, floorDiv}
-use Rattle.terms.proofs.Whole.{plus, minus, arithZ, sum-lin, pos-lin}
+use Rattle.terms.specs.Positions.{isPosition, Within, floorDiv}
+use Rattle.terms.proofs.Whole.{plus, minus, arithZ, sum-lin, pos-lin, position-within}
 use Rattle.steps.specs.Scale.{inScale, isScale, nanometres}
-use Rattle.steps.specs.Unscale.{Within}
 
 -- the negative of a natural number, for `omega`
 pub negative-lin : (m : ℕ) → plus (negℤ (pos m)) + m ≡ minus (negℤ (pos m))
@@ -42,21 +41,6 @@ product-within b c (pos n) a h l =
 product-within b c (negsuc n) a h l =
     let k : suc n ≤ b = omega (arithZ, negative-lin b) in
     omega (arithZ, negative-lin (b * c), negative-lin (suc n * a), mul-le-mul k l)
-
-pub position-within : (v : ℤ) → isPosition v ≡ true → Within 1_000_000 v
-unfolding isPosition
-position-within v p =
-    let h = and-yes (leZ (negsuc 999_999) v) (leZ v (pos 1_000_000)) (passes _ p) in
-    (leZ-yes (h .0), leZ-yes (h .1))
-
-pub within-position : (v : ℤ) → Within 1_000_000 v → isPosition v ≡ true
-unfolding isPosition
-within-position v h = go (leZ (negsuc 999_999) v) (leZ v (pos 1_000_000)) (h .0 .le) (h .1 .le)
-  where
-    go : (s t : Bool) → T s → T t → (s && t) ≡ true
-    go true true p q = refl
-    go true false p q = absurd q
-    go false t p q = absurd p
 
 pub scale-within : (a d : ℕ) → isScale a d ≡ true → (a ≤ 1_000_000) × (0 < d)
 unfolding isScale

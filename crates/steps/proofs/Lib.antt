@@ -3,4 +3,4 @@ pub mod Floor
 pub mod Machine
 pub mod OneStep
 pub mod NoStep
-pub mod Unscale
+pub mod Answers

@@ -7,10 +7,10 @@ use lib.IntN.{ℤ, pos, negsuc}
 use lib.Signed.{leZ, ltZ, leZ-yes, ltZ-yes, clashℤ}
 use borrow.Author.Tests.{ltb-true, ltb-false, le-leb, lt-leb}
 use denote.Floats.{passes}
-use Rattle.terms.specs.Positions.{isPosition}
+use Rattle.terms.specs.Positions.{isPosition, Within}
 use Rattle.steps.specs.Scale.{isScale, nanometres}
-use Rattle.steps.specs.declared.scale.Unscaled.{Unscaled}
-use Rattle.steps.specs.Unscale.{Within, OnlyOne, Answers}
+use Rattle.steps.specs.declared.Unscaled.{Unscaled}
+use Rattle.steps.specs.Unscale.{OnlyOne, Answers}
 use Rattle.steps.specs.Unscale.Answers.{none}
 use Rattle.steps.proofs.Floor.{nanometres-bound}
 

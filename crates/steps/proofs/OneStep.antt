@@ -10,10 +10,10 @@ use lib.IntN.{ℤ, pos, negsuc, _+ℤ_, _*ℤ_}
 use lib.Signed.{_≤ℤ_, _<ℤ_}
 use mir.Facts.{and-yes, leb-yes}
 use denote.Floats.{passes}
-use Rattle.terms.specs.Positions.{floorDiv}
+use Rattle.terms.specs.Positions.{Within, floorDiv}
 use Rattle.terms.proofs.Whole.{plus, minus, arithZ, sum-lin, pos-lin, not-le, decLeZ}
 use Rattle.steps.specs.Scale.{inScale, isScale, nanometres}
-use Rattle.steps.specs.Unscale.{Within, OnlyOne}
+use Rattle.steps.specs.Unscale.{OnlyOne}
 use Rattle.steps.proofs.Floor.{negative-lin, one-more-times, floor-is, product-within, scale-within}
 
 -- ---- multiples

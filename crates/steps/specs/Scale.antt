@@ -1,12 +1,12 @@
 -- Document 01, "The step scale".
 use mathlib.Core.Bool.{Bool, _&&_}
-use Prim.Native.Nat.{ℕ, zero, suc}
+use Prim.Native.Nat.{ℕ}
 use lib.Dec.{leb}
 use lib.IntN.{ℤ, pos, _*ℤ_}
 use Rattle.terms.specs.Refusals as refusal
 use Rattle.terms.specs.Refusals.{check, unlessRefused}
 use Rattle.terms.specs.Positions.{isPosition, floorDiv}
-use Rattle.steps.specs.declared.scale.Scaled.{Scaled}
+use Rattle.steps.specs.declared.Scaled.{Scaled}
 
 -- from 1 to 1,000,000
 abbrev pub inScale : ℕ → Bool

@@ -2,17 +2,12 @@
 use mathlib.Core.Path.{_≡_}
 use mathlib.Core.Bool.{true, false}
 use Prim.Native.Nat.{ℕ}
-use lib.IntN.{ℤ, pos, negℤ}
-use lib.Signed.{_≤ℤ_}
+use lib.IntN.{ℤ}
 use Rattle.terms.specs.Refusals as refusal
 use Rattle.terms.specs.Positions.{isPosition}
 use Rattle.steps.specs.Scale.{isScale, nanometres, scaled}
-use Rattle.steps.specs.declared.scale.Scaled.{Scaled}
-use Rattle.steps.specs.declared.scale.Unscaled.{Unscaled}
-
--- from -b to b
-abbrev pub Within : ℕ → ℤ → Type 0
-Within b x = (negℤ (pos b) ≤ℤ x) × (x ≤ℤ pos b)
+use Rattle.steps.specs.declared.Scaled.{Scaled}
+use Rattle.steps.specs.declared.Unscaled.{Unscaled}
 
 -- v is a step in range, and its reading is x
 abbrev pub ReadsAs : ℕ → ℕ → ℤ → ℤ → Type 0

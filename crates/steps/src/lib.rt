@@ -1,75 +1,110 @@
-// Positions in whole steps: which numbers are positions, half a sum, the size of a ring, the step scale.
+// The step scale: nanometres are steps times numerator, divided by denominator, rounded down. And back from nanometres to steps.
 ghost use mathlib.Core.Path.{_≡_};
-ghost use lib.IntN.{_+ℤ_};
-ghost use Rattle.terms.specs.Positions.{isPosition, half, rounding};
-ghost use Rattle.terms.specs.Sizes.{isLimit, limitNumber, sizeRefusal, isPhase};
-ghost use Rattle.terms.specs.Counting.{bit};
-use terms::Family;
+ghost use mathlib.Core.Bool.{true};
+ghost use Prim.Native.Nat.{_<_};
+ghost use Rattle.terms.specs.Positions.{isPosition, Within, floorDiv};
+ghost use Rattle.steps.specs.Scale.{isScale, nanometres, scaled};
+ghost use Rattle.steps.specs.Unscale.{OnlyOne, Answers};
 use terms::refusal;
 
-pub mod scale;
-
-// Whether v is a position: from -1,000,000 to 1,000,000.
-pub fn is_position(v: i32) -> bool
-    ensures { λ r. ⌜ r ≡ isPosition v ⌝ }
-{
-    -1000000 <= v && v <= 1000000
+// What the scale answers.
+pub enum Scaled {
+    Refused(u8),
+    Nanometres(i64),
 }
 
-// Whether an odd sum is rounded up in a phase: down in odd phases, up in even ones (document 02, A7).
-pub fn rounds_up(phase: u16) -> bool
-    ensures { λ r. ⌜ bit r ≡ rounding phase ⌝ }
-{
-    phase % 2 == 0
+// What is answered for a reading: the step whose reading it is, or none.
+pub enum Unscaled {
+    Refused(u8),
+    None,
+    Step(i32),
 }
 
-// Half of a + b; an odd sum is rounded up, towards plus infinity, if `up`, else down, towards minus infinity.
-pub fn half_sum(a: i32, b: i32, up: bool) -> i32
-    ensures { λ r. ⌜ r ≡ half (bit up) (a +ℤ b) ⌝ }
+// Whether numerator and denominator make a scale: from 1 to 1,000,000, the numerator at least the denominator.
+fn is_scale(numerator: u32, denominator: u32) -> bool
+    ensures { λ r. ⌜ r ≡ isScale numerator denominator ⌝ }
 {
-    ((a as i64 + b as i64 + up as i64) >> 1) as i32
-}
-
-// Whether there is such a phase: from 1 to 65,535.
-pub fn is_phase(phase: u32) -> bool
-    ensures { λ r. ⌜ r ≡ isPhase phase ⌝ }
-{
-    1 <= phase && phase <= 65535
-}
-
-// Whether f is a struck limit for n heads: 2n at least 7f + 2, and in a ring of one round n at least 4f + 1.
-fn is_limit(family: Family, n: u32, f: u32) -> bool
-    ensures { λ r. ⌜ r ≡ isLimit family n f ⌝ }
-{
-    match family {
-        Family::TwoRounds => 7 * (f as u64) + 2 <= 2 * (n as u64),
-        Family::OneRound => 4 * (f as u64) + 1 <= n as u64,
+    if denominator == 0 {
+        return false;
     }
+    if numerator < denominator {
+        return false;
+    }
+    numerator <= 1000000
 }
 
-// Its refusal.
-fn limit_number(family: Family) -> u8
-    ensures { λ r. ⌜ r ≡ limitNumber family ⌝ }
+// x / d, rounded down.
+fn floor_div(x: i64, d: u32) -> i64
+    requires { ⌜ 0 < d ⌝ }
+    ensures { λ r. ⌜ r ≡ floorDiv x d ⌝ }
 {
-    match family {
-        Family::TwoRounds => refusal::STRUCK_LIMIT_TOO_HIGH,
-        Family::OneRound => refusal::ONE_ROUND_LIMIT_TOO_HIGH,
-    }
+    let by = d as i64;
+    if x < 0 { -1 - (-1 - x) / by } else { x / by }
 }
 
-// Whether a ring of n heads with the struck limit f is taken: 0, or 1 for the head count, or for the limit 2, and 18 in a ring of one
-// round.
-pub fn size_refusal(family: Family, n: u32, f: u32) -> u8
-    ensures { λ r. ⌜ r ≡ sizeRefusal family n f ⌝ }
+// The nanometres of a position.
+fn nanometres_of(steps: i32, numerator: u32, denominator: u32) -> i64
+    requires { ⌜ (isPosition steps ≡ true) × (isScale numerator denominator ≡ true) ⌝ }
+    ensures { λ r. ⌜ r ≡ nanometres steps numerator denominator ⌝ }
 {
-    if n == 0 {
-        return refusal::BAD_HEAD_COUNT;
+    floor_div((steps as i64) * (numerator as i64), denominator)
+}
+
+// Refusals 12, then 4.
+pub fn scale(steps: i32, numerator: u32, denominator: u32) -> Scaled
+    ensures { λ r. ⌜ r ≡ scaled steps numerator denominator ⌝ }
+{
+    if is_scale(numerator, denominator) {
+        if terms::is_position(steps) {
+            return Scaled::Nanometres(nanometres_of(steps, numerator, denominator));
+        }
+        return Scaled::Refused(refusal::POSITION_OUT_OF_RANGE);
     }
-    if 32 < n {
-        return refusal::BAD_HEAD_COUNT;
+    Scaled::Refused(refusal::BAD_SCALE)
+}
+
+// The only number of steps that can read so: the lowest that reads so or more, which is reading times denominator, divided by numerator,
+// rounded up.
+fn candidate(reading: i64, numerator: u32, denominator: u32) -> i64
+    requires { ⌜ Within 1_000_000_000_000 reading × (isScale numerator denominator ≡ true) ⌝ }
+    ensures { λ r. ⌜ OnlyOne reading numerator denominator r ⌝ }
+{
+    let product = reading * (denominator as i64);
+    floor_div(product + (numerator - 1) as i64, numerator)
+}
+
+// The step in range whose reading it is, or none, for a reading no farther from zero than 10^12.
+fn step_near(reading: i64, numerator: u32, denominator: u32) -> Unscaled
+    requires { ⌜ Within 1_000_000_000_000 reading × (isScale numerator denominator ≡ true) ⌝ }
+    ensures { λ r. ⌜ Answers reading numerator denominator r ⌝ }
+{
+    let only = candidate(reading, numerator, denominator);
+    if only < -1000000 {
+        return Unscaled::None;
     }
-    if !is_limit(family, n, f) {
-        return limit_number(family);
+    if 1000000 < only {
+        return Unscaled::None;
     }
-    0
+    let steps = only as i32;
+    let reads = nanometres_of(steps, numerator, denominator);
+    if reads == reading {
+        return Unscaled::Step(steps);
+    }
+    Unscaled::None
+}
+
+// The step in range whose reading it is, or none. Refused 12 for a bad scale, and nothing else is refused.
+pub fn unscale(nanometres: i64, numerator: u32, denominator: u32) -> Unscaled
+    ensures { λ r. ⌜ Answers nanometres numerator denominator r ⌝ }
+{
+    if is_scale(numerator, denominator) {
+        if nanometres < -1000000000000 {
+            return Unscaled::None;
+        }
+        if 1000000000000 < nanometres {
+            return Unscaled::None;
+        }
+        return step_near(nanometres, numerator, denominator);
+    }
+    Unscaled::Refused(refusal::BAD_SCALE)
 }

@@ -4,7 +4,7 @@ use mathlib.Core.List.{List, [], _∷_}
 use mathlib.Core.Bool.{Bool, true, false}
 use Prim.Native.Nat.{ℕ, zero, suc, _+_, _≤_, _<_}
 use native.Mathlib.Omega.{arith}
-use native.Mathlib.Decide.{decLt}
+use native.Mathlib.Decide.{decLt, decLe}
 use native.Mathlib.Nat.{le-refl}
 use lib.Dec.{T}
 use Rattle.terms.specs.Counting.{Each, sum, bit}
@@ -63,6 +63,16 @@ pub sum-none : (n : ℕ) → sum n (λ j. 0) ≡ 0
 unfolding sum
 sum-none zero = refl
 sum-none (suc n) = omega (arith, sum-none n)
+
+-- a sum that is not 0 has a part that is not
+pub some-of : (n : ℕ) (g : ℕ → ℕ) → 1 ≤ sum n g → (k : ℕ) × (k < n) × (1 ≤ g k)
+unfolding sum
+some-of zero g h = absurd (omega arith)
+some-of (suc n) g h = go (decLe 1 (g n)) h (some-of n g)
+  where
+    go : Dec (1 ≤ g n) → 1 ≤ sum n g + g n → (1 ≤ sum n g → (k : ℕ) × (k < n) × (1 ≤ g k)) → (k : ℕ) × (k < suc n) × (1 ≤ g k)
+    go (yes l) q r = (n, omega arith, l)
+    go (no l) q r = let (k, i, p) = r (omega arith) in (k, omega arith, p)
 
 pub bit-le : (b : Bool) → bit b ≤ 1
 bit-le true = omega arith

@@ -4,10 +4,12 @@ use mathlib.Core.Path.{_≡_, refl, ap}
 use mathlib.Core.Bool.{Bool, true, false, not, cond}
 use Prim.Native.Nat.{ℕ, zero, suc, _+_, _-_, _*_, _/_, _≤_, _<_}
 use native.Mathlib.Omega.{arith}
-use lib.Dec.{T, leb, ltb, eqb, leb→le, le→leb, ltb→lt, lt→ltb, nleb→lt, nltb→le, eqb→eq, eqb-refl}
+use lib.Dec.{T, ltb, leb→le, le→leb, ltb→lt, lt→ltb, nleb→lt, nltb→le, eqb→eq, eqb-refl}
 use lib.IntN.{ℤ, pos, negsuc, _+ℤ_, _-ℤ_, subℕ, negℤ, natAbs}
 use lib.Signed.{leZ, _≤ℤ_, _<ℤ_}
-use Rattle.terms.specs.Positions.{floorDiv, half, gap, eqZ}
+use denote.Floats.{passes, is-true}
+use Rattle.terms.specs.Positions.{isPosition, Within, floorDiv, half, gap, eqZ}
+use Rattle.terms.proofs.Booleans.{and-both}
 
 unfoldable pub plus : ℤ → ℕ
 plus (pos n) = n
@@ -159,3 +161,15 @@ eqZ-refl (negsuc a) = eqb-refl a
 
 pub other : (a : ℤ) → (a +ℤ pos 1) ≡ a → ⊥
 other a h = omega (arithZ, sum-lin a (pos 1), pos-lin 1)
+
+-- ---- positions are the whole numbers within 1,000,000
+
+pub position-within : (v : ℤ) → isPosition v ≡ true → Within 1_000_000 v
+unfolding isPosition
+position-within v p =
+    let (low, high) = and-both (leZ (negsuc 999_999) v) (leZ v (pos 1_000_000)) p in
+    (record { le = passes _ low }, record { le = passes _ high })
+
+pub within-position : (v : ℤ) → Within 1_000_000 v → isPosition v ≡ true
+unfolding isPosition
+within-position v h = rw (is-true (leZ (negsuc 999_999) v) (h .0 .le), is-true (leZ v (pos 1_000_000)) (h .1 .le))

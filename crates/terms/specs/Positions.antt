@@ -2,12 +2,16 @@
 use mathlib.Core.Bool.{Bool, false, _&&_}
 use Prim.Native.Nat.{ℕ, _/_, _+_, _%_}
 use lib.Dec.{eqb}
-use lib.IntN.{ℤ, pos, negsuc, natAbs, _+ℤ_, _-ℤ_}
-use lib.Signed.{leZ}
+use lib.IntN.{ℤ, pos, negsuc, negℤ, natAbs, _+ℤ_, _-ℤ_}
+use lib.Signed.{leZ, _≤ℤ_}
 
 -- from -1,000,000 to 1,000,000
 unfoldable pub isPosition : ℤ → Bool
 isPosition v = leZ (negsuc 999_999) v && leZ v (pos 1_000_000)
+
+-- from -b to b
+abbrev pub Within : ℕ → ℤ → Type 0
+Within b x = (negℤ (pos b) ≤ℤ x) × (x ≤ℤ pos b)
 
 -- x / d, rounded down, towards minus infinity
 unfoldable pub floorDiv : ℤ → ℕ → ℤ

@@ -5,7 +5,7 @@ use lib.IntN.{ℤ}
 use mir.Facts.{toZ-ofZ}
 use borrow.Author.Needs.{needs}
 use Rattle.steps.specs.Unscale.{Answers}
-use Rattle.steps.specs.declared.scale.Unscaled.{Unscaled}
+use Rattle.steps.specs.declared.Unscaled.{Unscaled}
 use Rattle.camera.specs.Out.{stepNumber, stepOr, StepLent}
 use Rattle.camera.proofs.focus_unscale.Statement.{statement}
 use Rattle.camera.proofs.focus_unscale.Tie as tie

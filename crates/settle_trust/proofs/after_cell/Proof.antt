@@ -6,16 +6,16 @@ use Rattle.settle_trust.proofs.after_cell.Statement.{statement}
 use Rattle.settle_trust.proofs.after_cell.Tie as tie
 
 returns : tie.Need-returns
-returns c = (omega arith, omega arith, λ E k h L. passes E k _ L h (c .if1 .taken))
+returns c = (omega arith, omega arith, λ cells k e L. passes cells k e _ L (c .if1 .taken))
 
 returns-2 : tie.Need-returns-2
-returns-2 c = (omega arith, omega arith, λ E k h L. leads E k _ L h (c .if2 .taken))
+returns-2 c = (omega arith, omega arith, λ cells k e L. leads cells k e _ L (c .if2 .taken))
 
 returns-3 : tie.Need-returns-3
-returns-3 c = (omega arith, omega arith, λ E k h L. joins E k _ L h (c .before .if3 .taken))
+returns-3 c = (omega arith, omega arith, λ cells k e L. joins cells k e _ L (c .before .if3 .taken))
 
 returns-4 : tie.Need-returns-4
-returns-4 c = (omega arith, omega arith, λ E k h L. takes E k _ L h (c .before .if3 .left) (c .before .before .if2 .left))
+returns-4 c = (omega arith, omega arith, λ cells k e L. takes cells k e _ L (c .before .if3 .left) (c .before .before .if2 .left))
 
 pub after-cell-spec : {M : Type 1} → statement M
 after-cell-spec =

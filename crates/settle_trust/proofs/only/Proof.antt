@@ -1,9 +1,6 @@
 -- `settle_trust::only` meets its contract: the search, or the leader of the vote.
-use mathlib.Core.Path.{sym}
 use native.Mathlib.Omega.{arith}
-use denote.Ref.{now}
 use borrow.Author.Needs.{needs}
-use Rattle.settle_trust.proofs.Cells.{holds-null, holds-same}
 use Rattle.settle_trust.proofs.Voting.{elected, not-elected}
 use Rattle.settle_trust.proofs.only.Statement.{statement}
 use Rattle.settle_trust.proofs.only.Tie as tie
@@ -12,19 +9,16 @@ returns : tie.Need-returns
 returns c = c .searched .ensures
 
 returns-2 : tie.Need-returns-2
-returns-2 c = λ E h.
+returns-2 c =
     let e = c .before .before in
     let v = e .before .before in
-    let a = v .before .args in
-    elected (a .n) (a .need) (now (a .cells)) E h (v .voted .result) (v .voted .ensures E h) (omega (arith, e .if1 .left)) (omega (arith, c .if2 .taken, c .before .equal-to .ensures))
+    elected _ _ _ _ (v .voted .ensures) (omega (arith, e .if1 .left)) (omega (arith, c .if2 .taken, c .before .equal-to .ensures))
 
 returns-3 : tie.Need-returns-3
-returns-3 c = λ E h.
+returns-3 c =
     let e = c .before .before in
     let v = e .before .before in
-    let a = v .before .args in
-    holds-same holds-null
-    (sym (not-elected (a .n) (a .need) (now (a .cells)) E h (v .voted .result) (v .voted .ensures E h) (omega (arith, e .if1 .left)) (omega (arith, c .if2 .left, c .before .equal-to .ensures))))
+    not-elected _ _ _ _ (v .voted .ensures) (omega (arith, e .if1 .left)) (omega (arith, c .if2 .left, c .before .equal-to .ensures))
 
 pub only-spec : {M : Type 1} → statement M
 only-spec = tie.close (tie.spec (λ c κs. search needs) (λ c κs. search needs) returns (λ c κs. search needs) returns-2 returns-3)

@@ -6,6 +6,7 @@ use borrow.Author.Needs.{needs}
 use Rattle.terms.specs.declared.Entry.{Entry}
 use Rattle.settle_trust.specs.Cells.{columnOf}
 use Rattle.settle_trust.proofs.Cells.{holds-null, holds-same}
+use Rattle.settle_trust.proofs.Search.{agreed-decided}
 use Rattle.settle_trust.proofs.Trusted.{decided-confessed}
 use Rattle.settle_trust.proofs.trusted_cell.Statement.{statement}
 use Rattle.settle_trust.proofs.trusted_cell.Tie as tie
@@ -25,7 +26,7 @@ returns-2 c =
     let e = k .before in
     let m = e .before in
     let s = m .before in
-    rw (sym (m .marked .ensures) ∙ e .if1 .left) (c .agreed-cell .ensures (E s) (rw (← k .at-most-32 .ensures) (c .before .before .column .ensures)))
+    rw (sym (m .marked .ensures) ∙ e .if1 .left) (agreed-decided _ _ _ (E s) (rw (← k .at-most-32 .ensures) (c .before .before .column .ensures)) (c .agreed-cell .ensures))
 
 pub trusted-cell-spec : {M : Type 1} → statement M
 trusted-cell-spec = tie.close (tie.spec (λ c κs. search needs) returns (λ c κs. search needs) (λ c κs. search needs) (λ c κs. search needs) returns-2)

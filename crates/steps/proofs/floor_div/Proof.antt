@@ -1,4 +1,4 @@
--- `steps::scale::floor_div` meets its contract: a negative x is divided as -1 - x, which is not negative.
+-- `steps::floor_div` meets its contract: a negative x is divided as -1 - x, which is not negative.
 use mathlib.Core.Path.{_≡_, _∙_, ap}
 use lib.IntN.{ℤ}
 use mir.Syntax.{w64}
@@ -8,8 +8,8 @@ use borrow.Author.Needs.{needs}
 use Rattle.terms.specs.Positions.{floorDiv}
 use Rattle.terms.proofs.Machine.{read}
 use Rattle.steps.proofs.Machine.{minus-fits, quotient-fits, negative-floor-fits, negative-floor-is, natural-floor-fits, natural-floor-is}
-use Rattle.steps.proofs.scale.floor_div.Statement.{statement}
-use Rattle.steps.proofs.scale.floor_div.Tie as tie
+use Rattle.steps.proofs.floor_div.Statement.{statement}
+use Rattle.steps.proofs.floor_div.Tie as tie
 
 -- x as the machine reads it
 read-fits : (c : tie.Start) → SFits w64 (read w64 (c .args .x))

@@ -1,4 +1,4 @@
--- `steps::scale::nanometres_of` meets its contract: steps times numerator fits 64 bits by far.
+-- `steps::nanometres_of` meets its contract: steps times numerator fits 64 bits by far.
 use mathlib.Core.Path.{_≡_, _∙_, ap, ap₂}
 use borrow.Author.Needs.{needs}
 use lib.IntN.{ℤ, pos, _*ℤ_}
@@ -9,10 +9,9 @@ use Rattle.terms.specs.Positions.{floorDiv}
 use Rattle.terms.proofs.Whole.{plus, minus, arithZ}
 use Rattle.steps.specs.Scale.{nanometres}
 use Rattle.steps.proofs.Floor.{scale-within, scale-product-bound}
-use Rattle.terms.proofs.Machine.{read, fits-as, read-as}
-use Rattle.steps.proofs.Machine.{wide-fits, wide-is, wide-natural-is, range-fits}
-use Rattle.steps.proofs.scale.nanometres_of.Statement.{statement}
-use Rattle.steps.proofs.scale.nanometres_of.Tie as tie
+use Rattle.terms.proofs.Machine.{read, fits-as, read-as, wide-fits, wide-is, wide-natural-is, range-fits}
+use Rattle.steps.proofs.nanometres_of.Statement.{statement}
+use Rattle.steps.proofs.nanometres_of.Tie as tie
 
 product-is : (c : tie.Start) → read w64 (read w32 (c .args .steps)) *ℤ toZ w64 (c .args .numerator) ≡ c .args .steps *ℤ pos (c .args .numerator)
 product-is c = ap₂ _*ℤ_ (wide-is (c .fits .steps)) (wide-natural-is (c .fits .numerator))

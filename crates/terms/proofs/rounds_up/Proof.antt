@@ -1,15 +1,15 @@
--- `steps::rounds_up` meets its contract: the phase after an even one is odd.
+-- `terms::rounds_up` meets its contract: the phase after an even one is odd.
 use mathlib.Core.Path.{_≡_}
 use mathlib.Core.Logic.{by-cases}
-use Prim.Native.Nat.{ℕ, _+_, _%_}
+use Prim.Native.Nat.{ℕ, _%_}
 use native.Mathlib.Decide.{ℕ-discrete}
 use native.Mathlib.Omega.{arith}
 use borrow.Author.Tests.{eq-eqb, ne-eqb}
 use lib.Dec.{eqb}
 use Rattle.terms.specs.Counting.{bit}
 use Rattle.terms.specs.Positions.{rounding}
-use Rattle.steps.proofs.rounds_up.Statement.{statement}
-use Rattle.steps.proofs.rounds_up.Tie as tie
+use Rattle.terms.proofs.rounds_up.Statement.{statement}
+use Rattle.terms.proofs.rounds_up.Tie as tie
 
 even-up : (p : ℕ) → bit (eqb (p % 2) 0) ≡ rounding p
 unfolding rounding

@@ -1,4 +1,4 @@
--- `steps::scale::scale` meets its contract: its two tests are those of the definition, in the same order.
+-- `steps::scale` meets its contract: its two tests are those of the definition, in the same order.
 use mathlib.Core.Path.{_≡_, sym, _∙_, ap}
 use mathlib.Core.Bool.{true, false}
 use Prim.Native.Nat.{ℕ}
@@ -8,10 +8,10 @@ use mir.Syntax.{w32}
 use mir.Facts.{toZ-ofZ}
 use Rattle.terms.specs.Positions.{isPosition}
 use Rattle.steps.specs.Scale.{isScale, nanometres, scaleRefusal, scaled}
-use Rattle.steps.specs.declared.scale.Scaled.{Scaled}
+use Rattle.steps.specs.declared.Scaled.{Scaled}
 use Rattle.terms.proofs.Machine.{read}
-use Rattle.steps.proofs.scale.scale.Statement.{statement}
-use Rattle.steps.proofs.scale.scale.Tie as tie
+use Rattle.steps.proofs.scale.Statement.{statement}
+use Rattle.steps.proofs.scale.Tie as tie
 
 module _ (v : ℤ) (a d : ℕ) where
   no-scale : isScale a d ≡ false → Scaled.Refused 12 ≡ scaled v a d

@@ -1,12 +1,12 @@
--- `steps::size_refusal` meets its contract: each of its tests is one of the definition's, in the same order.
+-- `terms::size_refusal` meets its contract: each of its tests is one of the definition's, in the same order.
 use mathlib.Core.Path.{sym, _∙_}
 use Prim.Native.Nat.{_≤_}
 use native.Mathlib.Nat.{pos-of-ne-zero}
 use borrow.Author.Needs.{needs}
 use borrow.Author.Tests.{le-leb, lt-leb, not-true, not-false}
 use Rattle.terms.specs.Sizes.{isCount}
-use Rattle.steps.proofs.size_refusal.Statement.{statement}
-use Rattle.steps.proofs.size_refusal.Tie as tie
+use Rattle.terms.proofs.size_refusal.Statement.{statement}
+use Rattle.terms.proofs.size_refusal.Tie as tie
 
 returns : tie.Need-returns
 unfolding isCount

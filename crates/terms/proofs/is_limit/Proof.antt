@@ -1,8 +1,8 @@
--- `steps::is_limit` meets its contract: arm by arm, each the definition's test.
+-- `terms::is_limit` meets its contract: arm by arm, each the definition's test.
 use borrow.Author.Needs.{needs}
 use Rattle.terms.specs.Sizes.{isLimit}
-use Rattle.steps.proofs.is_limit.Statement.{statement}
-use Rattle.steps.proofs.is_limit.Tie as tie
+use Rattle.terms.proofs.is_limit.Statement.{statement}
+use Rattle.terms.proofs.is_limit.Tie as tie
 
 returns : tie.Need-returns
 unfolding isLimit

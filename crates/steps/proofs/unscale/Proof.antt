@@ -1,4 +1,4 @@
--- `steps::scale::unscale` meets its contract: no step in range reads farther from zero than 10^12.
+-- `steps::unscale` meets its contract: no step in range reads farther from zero than 10^12.
 use mathlib.Core.Path.{_≡_, sym, _∙_, subst}
 use mathlib.Core.Bool.{true}
 use borrow.Author.Needs.{needs}
@@ -8,11 +8,11 @@ use mir.Facts.{toZ-ofZ}
 use Rattle.steps.specs.Scale.{isScale}
 use Rattle.steps.specs.Unscale.{Answers}
 use Rattle.steps.specs.Unscale.Answers.{refused}
-use Rattle.steps.specs.declared.scale.Unscaled.{Unscaled}
+use Rattle.steps.specs.declared.Unscaled.{Unscaled}
 use Rattle.terms.proofs.Machine.{read}
 use Rattle.steps.proofs.NoStep.{near, far-below, far-above}
-use Rattle.steps.proofs.scale.unscale.Statement.{statement}
-use Rattle.steps.proofs.scale.unscale.Tie as tie
+use Rattle.steps.proofs.unscale.Statement.{statement}
+use Rattle.steps.proofs.unscale.Tie as tie
 
 scale-holds : (c : tie.Then1) → isScale (c .before .before .args .numerator) (c .before .before .args .denominator) ≡ true
 scale-holds c = sym (c .before .is-scale .ensures) ∙ c .if1 .taken

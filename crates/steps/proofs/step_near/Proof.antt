@@ -1,4 +1,4 @@
--- `steps::scale::step_near` meets its contract: no other number of steps than the candidate reads so, and it is asked for its own reading if it is in range.
+-- `steps::step_near` meets its contract: no other number of steps than the candidate reads so, and it is asked for its own reading if it is in range.
 use mathlib.Core.Path.{_≡_, sym, _∙_, ap}
 use mathlib.Core.Bool.{true}
 use borrow.Author.Needs.{needs}
@@ -7,15 +7,12 @@ use mir.Syntax.{w32, w64}
 use mir.Val.{SFits, toZ, ofZ}
 use mir.Facts.{toZ-ofZ}
 use Rattle.terms.specs.Positions.{isPosition}
-use Rattle.terms.proofs.Machine.{read}
+use Rattle.terms.proofs.Machine.{read, position-fits}
 use Rattle.steps.specs.Unscale.{OnlyOne}
 use Rattle.steps.specs.Unscale.Answers.{step}
-use Rattle.terms.proofs.Whole.{plus, minus, arithZ}
-use Rattle.steps.proofs.Floor.{position-within}
-use Rattle.steps.proofs.Machine.{range-fits}
 use Rattle.steps.proofs.NoStep.{below-range, above-range, in-range, out-of-range, reads-otherwise}
-use Rattle.steps.proofs.scale.step_near.Statement.{statement}
-use Rattle.steps.proofs.scale.step_near.Tie as tie
+use Rattle.steps.proofs.step_near.Statement.{statement}
+use Rattle.steps.proofs.step_near.Tie as tie
 
 only : (c : tie.After-candidate) → OnlyOne (c .before .args .reading) (c .before .args .numerator) (c .before .args .denominator) (read w64 (c .candidate .result))
 only c w e = c .candidate .ensures w (e ∙ sym (toZ-ofZ (c .before .fits .reading))) ∙ sym (toZ-ofZ (record { sfits = c .candidate .ok }))
@@ -29,8 +26,7 @@ module _ (c : tie.Else2) where
   in-range-here = in-range _ (c .before .if1 .left) (c .if2 .left)
 
   steps-fit : SFits w32 candidate
-  unfolding plus minus
-  steps-fit = range-fits (omega (arithZ, position-within candidate in-range-here))
+  steps-fit = position-fits candidate in-range-here
 
   steps-are : read w32 candidate ≡ candidate
   steps-are = toZ-ofZ steps-fit

@@ -1,4 +1,4 @@
--- `steps::scale::candidate` meets its contract: a reading within 10^12 times the denominator fits 64 bits, with a numerator added too.
+-- `steps::candidate` meets its contract: a reading within 10^12 times the denominator fits 64 bits, with a numerator added too.
 use mathlib.Core.Path.{_≡_, _∙_, sym, ap, ap₂}
 use Prim.Native.Nat.{_-_}
 use native.Mathlib.Omega.{arith}
@@ -9,12 +9,11 @@ use mir.Val.{SFits, toZ}
 use mir.Facts.{toZ-ofZ}
 use Rattle.terms.specs.Positions.{floorDiv}
 use Rattle.terms.proofs.Whole.{plus, minus, arithZ, sum-lin, pos-lin}
-use Rattle.terms.proofs.Machine.{read, fits-as, read-as}
+use Rattle.terms.proofs.Machine.{read, fits-as, read-as, wide-natural-is, range-fits}
 use Rattle.steps.proofs.Floor.{scale-within}
-use Rattle.steps.proofs.Machine.{wide-natural-is, range-fits}
 use Rattle.steps.proofs.OneStep.{scale-above, reading-product-bound, only-rounded-up}
-use Rattle.steps.proofs.scale.candidate.Statement.{statement}
-use Rattle.steps.proofs.scale.candidate.Tie as tie
+use Rattle.steps.proofs.candidate.Statement.{statement}
+use Rattle.steps.proofs.candidate.Tie as tie
 
 module _ (c : tie.Start) where
   abbrev product : ℤ

@@ -1,4 +1,4 @@
--- `steps::scale::is_scale` meets its contract: a numerator up to the limit bounds the denominator too.
+-- `steps::is_scale` meets its contract: a numerator up to the limit bounds the denominator too.
 use mathlib.Core.Path.{_≡_, refl, sym}
 use mathlib.Core.Bool.{Bool, true, false, _&&_, and-false, and-true}
 use Prim.Native.Nat.{ℕ, _≤_, _<_}
@@ -7,8 +7,8 @@ use native.Mathlib.Omega.{arith}
 use lib.Dec.{leb}
 use borrow.Author.Tests.{le-leb, lt-leb, leb-true}
 use Rattle.steps.specs.Scale.{isScale}
-use Rattle.steps.proofs.scale.is_scale.Statement.{statement}
-use Rattle.steps.proofs.scale.is_scale.Tie as tie
+use Rattle.steps.proofs.is_scale.Statement.{statement}
+use Rattle.steps.proofs.is_scale.Tie as tie
 
 no-denominator : (a d : ℕ) → d ≡ 0 → false ≡ isScale a d
 unfolding isScale

@@ -1,7 +1,7 @@
--- `steps::limit_number` meets its contract: arm by arm.
+-- `terms::limit_number` meets its contract: arm by arm.
 use borrow.Author.Needs.{needs}
-use Rattle.steps.proofs.limit_number.Statement.{statement}
-use Rattle.steps.proofs.limit_number.Tie as tie
+use Rattle.terms.proofs.limit_number.Statement.{statement}
+use Rattle.terms.proofs.limit_number.Tie as tie
 
 returns : tie.Need-returns
 returns c = rw (c .enum-told .given .1)

@@ -1,7 +1,7 @@
--- `steps::is_phase` meets its contract: its two tests are those of the definition.
+-- `terms::is_phase` meets its contract: its two tests are those of the definition.
 use borrow.Author.Tests.{le-leb, lt-leb}
-use Rattle.steps.proofs.is_phase.Statement.{statement}
-use Rattle.steps.proofs.is_phase.Tie as tie
+use Rattle.terms.proofs.is_phase.Statement.{statement}
+use Rattle.terms.proofs.is_phase.Tie as tie
 
 returns : tie.Need-returns
 returns c = simp (le-leb 1 _ (c .if1 .taken))

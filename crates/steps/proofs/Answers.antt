@@ -7,10 +7,10 @@ use Rattle.terms.specs.Refusals as refusal
 use Rattle.terms.specs.Refusals.{check, unlessRefused}
 use Rattle.terms.specs.Positions.{isPosition}
 use Rattle.steps.specs.Scale.{isScale, nanometres, scaleRefusal, scaled}
-use Rattle.steps.specs.declared.scale.Scaled.{Scaled}
-use Rattle.steps.specs.declared.scale.Scaled.the-variants as scale
-use Rattle.steps.specs.declared.scale.Unscaled.{Unscaled}
-use Rattle.steps.specs.Unscale.{ReadsAs, Answers, OneAnswer, ThroughAndBack, GivenItsReading}
+use Rattle.steps.specs.declared.Scaled.{Scaled}
+use Rattle.steps.specs.declared.Scaled.the-variants as scale
+use Rattle.steps.specs.declared.Unscaled.{Unscaled}
+use Rattle.steps.specs.Unscale.{ReadsAs, OneAnswer, ThroughAndBack, GivenItsReading}
 use Rattle.steps.specs.Unscale.Answers.{refused, step, none}
 use Rattle.steps.proofs.OneStep.{only-rounded-up}
 

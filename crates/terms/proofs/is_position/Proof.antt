@@ -1,14 +1,14 @@
--- `steps::is_position` meets its contract: its two tests are those of the definition.
+-- `terms::is_position` meets its contract: its two tests are those of the definition.
 use mathlib.Core.Path.{sym, _∙_, ap}
 use mathlib.Core.Bool.{Bool, _&&_}
 use lib.IntN.{pos}
 use lib.Signed.{leZ}
 use mir.Syntax.{w32}
 use mir.Facts.{toZ-ofZ}
 use Rattle.terms.specs.Positions.{isPosition}
 use Rattle.terms.proofs.Machine.{read}
-use Rattle.steps.proofs.is_position.Statement.{statement}
-use Rattle.steps.proofs.is_position.Tie as tie
+use Rattle.terms.proofs.is_position.Statement.{statement}
+use Rattle.terms.proofs.is_position.Tie as tie
 
 returns : tie.Need-returns
 unfolding isPosition

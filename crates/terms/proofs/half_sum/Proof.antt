@@ -1,8 +1,8 @@
--- `steps::half_sum` meets its contract: the sum is taken and halved in 64 bits, where it fits, and the half fits 32.
+-- `terms::half_sum` meets its contract: the sum is taken and halved in 64 bits, where it fits, and the half fits 32.
 use borrow.Author.Needs.{needs}
-use Rattle.steps.proofs.Machine.{wide-fits, wide-sum-fits, to-halve-fits, shifted-fits, half-sum-is}
-use Rattle.steps.proofs.half_sum.Statement.{statement}
-use Rattle.steps.proofs.half_sum.Tie as tie
+use Rattle.terms.proofs.Machine.{wide-fits, wide-sum-fits, to-halve-fits, shifted-fits, half-sum-is}
+use Rattle.terms.proofs.half_sum.Statement.{statement}
+use Rattle.terms.proofs.half_sum.Tie as tie
 
 cast-result : tie.Need-cast-result
 cast-result c = wide-fits (c .fits .a)
