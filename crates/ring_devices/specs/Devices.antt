@@ -1,6 +1,6 @@
--- Demand 3 of what ships: devices, each a record that calls drive. The cable may bring frames in any order, twice, damaged or forged, as long
--- as the first acceptable one on the link of each unmarked head is that head's own (`Carries`). Document 01, "Strikes" and the rounds, by
--- calls. proofs/Devices.antt proves it.
+-- Demand 3 of what ships: devices, each a record that calls drive. The cable may bring frames in any order, twice, damaged or forged. But the
+-- first acceptable one on the link of each unmarked head is that head's own (`Carries`). Document 01, "Strikes" and the rounds, by calls.
+-- proofs/Devices.antt proves it.
 use mathlib.Core.Path.{_≡_}
 use mathlib.Core.Bool.{Bool, true, false, cond, _&&_}
 use mathlib.Core.List.{List, [], _∷_, _++_}

@@ -147,8 +147,8 @@ isReceiver n m i = ltb i n || (leb 32 i && ltb i (32 + m))
 abbrev pub isOut : (n m marks i : ℕ) → Bool
 isOut n m marks i = not (isReceiver n m i) || bitOf marks i
 
--- a phase end as demand 3 sees it: who was struck in the round that ended the phase, or is not there, and the position that each record
--- holds (P59, Q56)
+-- A phase end as demand 3 sees it. struck: in the round that ended the phase, or not there; at: the position that each record holds (P59,
+-- Q56).
 abbrev pub asEnd : ℕ → ℕ → PhaseEnd → End
 asEnd n m e = record { struck = isOut n m (e .struck); at = λ i. e .heads i .seat .position }
 
