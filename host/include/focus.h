@@ -5,8 +5,8 @@
  *
  *   a head, all shift       start      focus_head_start, focus_listener_start; in a one-round ring focus_one_round_start,
  *                                      focus_one_round_listener_start
- *                           a round    focus_head_write to send; focus_head_hear for each link, or focus_head_hear_batch for all;
- *                                      focus_head_close
+ *                           a round    focus_head_write to send; focus_head_hear for each link, its own too, or
+ *                                      focus_head_hear_batch for all; focus_head_close
  *                           phase end  focus_head_close offers, focus_head_offer shows it, focus_head_adopt takes it
  *                           strikes    focus_head_window_reset, then focus_head_restart, focus_listener_restart, focus_one_round_restart or
  *                                      focus_one_round_listener_restart
@@ -318,7 +318,9 @@ FOCUS_MUST_USE uint8_t focus_play(const uint8_t *file, size_t bytes, uint8_t *ou
  * no heads, in phase 0: hearing is refused 3, and closing is taken (0), so a forgotten start is not noticed there.
  * Promised of each call: crates/head_c/specs/Blocks.antt says which record a block is, crates/head_c/specs/Events.antt
  * what stands beside it after a call, and crates/head_c/src which words change. Promised of n + m blocks that are driven as
- * docs/TRUST.md says, on a cable that brings anything: `BlocksConverge` (crates/ring_blocks/specs/Blocks.antt). */
+ * docs/TRUST.md says: `BlocksConverge` (crates/ring_blocks/specs/Blocks.antt). The cable may bring frames in any order, twice,
+ * damaged or forged. But on the link of each head that does not count as struck, the first acceptable frame must be that
+ * head's own. Where it is not, that head or the one who hears it counts as struck, within f. */
 typedef struct focus_head {
     uint32_t opaque[1116];
 } focus_head;
@@ -332,7 +334,7 @@ FOCUS_MUST_USE uint8_t focus_head_start(focus_head *head, uint32_t n, uint32_t f
 
 /* Restarts a head whose strike is over, in the phase and round (0 collection, 1 confession) that are told it, with no
  * position. Sets the event of a strike that is over. Events and mask stay as they are in the block: after a strike that took
- * its memory, call focus_head_window_reset first.
+ * its memory, call focus_head_window_reset first. A restart without a strike counts as one (docs/TRUST.md, "Restarts").
  * Refusals 1, 2, 3, 5. */
 FOCUS_MUST_USE uint8_t focus_head_restart(focus_head *head, uint32_t n, uint32_t f, uint32_t number, uint32_t phase,
                                           uint32_t round);
@@ -366,9 +368,11 @@ FOCUS_MUST_USE uint8_t focus_one_round_listener_start(focus_head *head, uint32_t
 FOCUS_MUST_USE uint8_t focus_one_round_listener_restart(focus_head *head, uint32_t n, uint32_t f, uint32_t number, uint32_t phase,
                                                         uint32_t round);
 
-/* Hears the bytes of one frame on a link. An accepted frame ends an offer. Refusals 26, 3, 21, 6, 7, 8, 22, 9, 23, 10,
- * 11. (A block that no start made may say n above 32: a frame on a link from 32 on is accepted then and changes
- * nothing, since a block has no words for it.) */
+/* Hears the bytes of one frame on a link. In every round a head is handed all n links, its own too: what it wrote comes back
+ * to it on the link that has its number. It is not noticed if that is left out. Of each link the first frame that is
+ * accepted counts, and it ends an offer.
+ * Refusals 26, 3, 21, 6, 7, 8, 22, 9, 23, 10, 11. (A block that no start made may say n above 32: a frame on a link from 32
+ * on is accepted then and changes nothing, since a block has no words for it.) */
 FOCUS_MUST_USE uint8_t focus_head_hear(focus_head *head, uint32_t link, const uint8_t *frame, size_t length);
 
 /* Hears a round's frames in one call, each as a link byte and then the frame, in order, going on past a refused one:

@@ -40,7 +40,8 @@ abbrev pub Halves : Family → ℕ → ℕ → Type 0
 Halves TwoRounds n f = 11 * f + 3 ≤ 3 * n
 Halves OneRound n f = Unit {0}
 
--- Two phase ends of receivers 0 .. N - 1, e the earlier and e′ the later, k phases apart; halves: what gives the right to halve.
+-- Two phase ends of receivers 0 .. N - 1, e the earlier and e′ the later, k phases apart. halves is a statement, the premise of `halving`:
+-- that halving is promised at this size (`Halves`).
 pub record Demand3 (N : ℕ) (halves : Type 0) (k : ℕ) (e e′ : End) : Type 0 where
   pub range : Each N (λ i. e′ .struck i ≡ false → HeldBetween (lowest N e) (highest N e) (e′ .at i))
   pub halving : halves → spread N e′ ≤ halved k (spread N e)
@@ -51,7 +52,7 @@ FewStruck n f F = (p : ℕ) → AtMost f n (F p .struckInCollection) × AtMost f
 
 -- Receivers 0 .. N - 1, of which the first n send. At every accepted size, whatever the first positions, whichever heads each round
 -- strikes, at most f of them, and whatever these send to each receiver: any two phase ends, the start among them. A receiver from n on is a
--- listener; one that is struck, or does not exist, is marked in `struckInConfession`, and does not count in f.
+-- listener. A listener that is struck, or does not exist, is marked in `struckInConfession`; listeners do not count in f.
 abbrev pub Converges : Type 0
 Converges =
     (K : Family) (n f N : ℕ) → n ≤ N → AcceptedSize K n f → (v : ℕ → ℤ) (F : ℕ → Faults) → FewStruck n f F

@@ -25,14 +25,16 @@ pub record End : Type 0 where
 unfoldable pub startEnd : ℕ → (ℕ → ℤ) → End
 startEnd n v = record { struck = λ j. not (ltb j n); at = λ j. Position (v j) }
 
--- A phase's strikes, and what the struck heads send, which is the adversary's choice: anything, something else to each receiver, or nothing
--- (a null entry, `nothing`). A listener sends nothing: of it only `struckInConfession` matters. The one round of a phase of one round counts as its
--- confession round: its strikes are `struckInConfession`, and what the struck heads send in it is `sent` (document 02, A9).
+-- A phase's strikes, and what the struck heads send, which is the adversary's choice: anything, something else to each receiver, or nothing.
+-- Nothing is a null entry in `sent`, and the value `nothing` of Trust.antt in `replied`. In both the sender's number is first and the
+-- receiver's second; in the definitions below the receiver i is first and the link k second. A listener sends nothing: of it only
+-- `struckInConfession` matters. The one round of a phase of one round counts as its confession round: its strikes are `struckInConfession`,
+-- and what the struck heads send in it is `sent` (document 02, A9).
 pub record Faults : Type 0 where
   pub struckInCollection : ℕ → Bool  -- struck in the collection round
-  pub sent : ℕ → ℕ → Entry  -- what such a sender then gives a receiver
+  pub sent : ℕ → ℕ → Entry  -- sender, receiver: what a sender struck then gives a receiver
   pub struckInConfession : ℕ → Bool  -- struck in the confession round
-  pub replied : ℕ → ℕ → Given
+  pub replied : ℕ → ℕ → Given  -- sender, receiver: the same in the confession round
 
 -- What a link gives, by whether its head is struck in this round, and whether it was in the round before: a struck head what it likes; one
 -- that is healed, struck in the round before only, that it is; a healthy one, struck in neither, what it has to say.

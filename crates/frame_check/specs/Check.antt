@@ -16,7 +16,7 @@ pub data Kind : Type 0 where
   confession : Kind
   unknown : Kind
 
--- P05
+-- the kind that bytes 2 and 3 of a frame name, both together (P05)
 abbrev pub kindOf : ℕ → Kind
 kindOf k =
     cond (eqb k 1) position (cond (eqb k 2) silence (cond (eqb k 3) list (cond (eqb k 4) confession unknown)))

@@ -91,7 +91,7 @@ said n p r k s = unlessRefused refused (refusalOf n p r k s) (meaning (kindField
 
 -- ---- as the code has it: an enum, and apart from it the table of a list
 
--- D16d
+-- the enum's value of a meaning; the table of a list stands beside it (D16d)
 abbrev pub saidOf : Meaning → Said
 saidOf (refused c) = Said.Refused c
 saidOf (collected e) = Said.Collection e

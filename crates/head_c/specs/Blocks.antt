@@ -85,7 +85,7 @@ seatOf w =
       since = getD w place.since 0 % 256;
     }
 
--- D11
+-- the record that a block is: words become numbers, flags, tables and lists; every block has one (D11)
 unfoldable pub headOf : List ℕ → Head
 headOf w =
     record {
@@ -136,7 +136,7 @@ withAnswer w a = leaves (a .refusal) (withHead (a .head) w) w
 
 -- ---- events and mask (document 02, A5)
 
--- Q22
+-- the events and the mask of a block, whatever it holds (Q22)
 abbrev pub registersOf : List ℕ → Registers
 registersOf w = record { events = getD w place.events 0; mask = getD w place.mask 0 }
 
@@ -149,7 +149,7 @@ abbrev pub offerIn : ℕ → ℤ → ℤ → ℕ → ℤ → Offer
 offerIn zero low high trim middle = Offer.Nothing
 offerIn (suc x) low high trim middle = Offer.Standing (record { low = low; high = high; trim = trim; position = middle })
 
--- Q69
+-- the offer that stands in a block, or none; it is no part of the record (Q69)
 unfoldable pub offerOf : List ℕ → Offer
 offerOf w =
     offerIn (getD w place.offered 0) (signedOf (getD w place.offer-low 0)) (signedOf (getD w place.offer-high 0)) (getD w place.offer-trim 0 % 256)

@@ -45,7 +45,7 @@ pub data Made : List ℕ → Type 0 where
   opens : (w : List ℕ) (c : Call) → IsBlock w → Opens c → numberAfter w c ≡ 0 → Made (blockAfter w c)
   calls : (w : List ℕ) (c : Call) → IsBlock w → Bytes c → Made w → Made (blockAfter w c)
 
--- D11
+-- the record of a block that calls made is one that calls by value can reach (D11)
 abbrev pub MadeReachable : Type 0
 MadeReachable = (w : List ℕ) → Made w → Reachable (headOf w)
 
@@ -61,7 +61,7 @@ pub record ClosesTwice (w : List ℕ) (k : Kept) : Type 0 where
   pub registers : registersOf (blockAfter (blockAfter w closes) adopts) ≡ withEvent phaseOver (registersOf w)
   pub offer : offerOf (blockAfter (blockAfter w closes) adopts) ≡ Offer.Nothing
 
--- Q68
+-- such a block, closed and then adopted, has ended its round as in one step (Q68)
 abbrev pub MadeCloses : Type 0
 MadeCloses =
     (w : List ℕ) (k : Kept) → Made w → IsBlock w → IsBlock (blockAfter w closes) → close (headOf w) .closed ≡ Closed.Settled k → ClosesTwice w k

@@ -51,7 +51,7 @@ pub extern "C" fn focus_head_start(h: &mut Block, n: u32, f: u32, number: u32, p
     start_in(h, Family::TwoRounds, n, f, number, position)
 }
 
-// Starts a head that was healed, in the phase and round given, with no position: 0, or 1, 2, 3, 5.
+// Starts a head again whose strike is over, in the phase and round given, with no position: 0, or 1, 2, 3, 5.
 #[no_mangle]
 pub extern "C" fn focus_head_restart(
     h: &mut Block,
@@ -76,7 +76,7 @@ pub extern "C" fn focus_listener_start(h: &mut Block, n: u32, f: u32, number: u3
     start_listener_in(h, Family::TwoRounds, n, f, number)
 }
 
-// Starts a listener that was healed, in the phase and round given, with no position: 0, or 1, 2, 3, 5.
+// Starts a listener again whose strike is over, in the phase and round given, with no position: 0, or 1, 2, 3, 5.
 #[no_mangle]
 pub extern "C" fn focus_listener_restart(
     h: &mut Block,
@@ -110,7 +110,7 @@ pub extern "C" fn focus_one_round_start(
     start_in(h, Family::OneRound, n, f, number, position)
 }
 
-// Starts a head that was healed, in the phase and round given, with no position: 0, or 1, 18, 3, 5.
+// Starts a head again whose strike is over, in the phase and round given, with no position: 0, or 1, 18, 3, 5.
 #[no_mangle]
 pub extern "C" fn focus_one_round_restart(
     h: &mut Block,
@@ -135,7 +135,7 @@ pub extern "C" fn focus_one_round_listener_start(h: &mut Block, n: u32, f: u32, 
     start_listener_in(h, Family::OneRound, n, f, number)
 }
 
-// Starts a listener that was healed, in the phase and round given, with no position: 0, or 1, 18, 3, 5.
+// Starts a listener again whose strike is over, in the phase and round given, with no position: 0, or 1, 18, 3, 5.
 #[no_mangle]
 pub extern "C" fn focus_one_round_listener_restart(
     h: &mut Block,

@@ -292,7 +292,7 @@ fn restart_as(
     Answer { refusal: 0, head }
 }
 
-// The record of a head that was healed, in the phase and round given, with no position.
+// The record of a head whose strike is over, in the phase and round given, with no position.
 pub fn restart(
     h: Head,
     family: Family,
@@ -307,7 +307,7 @@ pub fn restart(
     restart_as(family, false, h, n, f, number, phase, round)
 }
 
-// The record of a listener that was healed, likewise.
+// The record of a listener whose strike is over, likewise.
 pub fn restart_listener(
     h: Head,
     family: Family,

@@ -22,7 +22,7 @@ pub fn start(h: &mut Head, family: Family, n: u32, f: u32, number: u32, position
     out.refusal
 }
 
-// Starts the record of a head that was healed, in the phase and round given, with no position: 0, or 1, 2 or 18, 3, 5.
+// Starts the record of a head again whose strike is over, in the phase and round given, with no position: 0, or 1, 2 or 18, 3, 5.
 pub fn restart(
     h: &mut Head,
     family: Family,
@@ -48,7 +48,7 @@ pub fn start_listener(h: &mut Head, family: Family, n: u32, f: u32, number: u32)
     out.refusal
 }
 
-// Starts the record of a listener that was healed, in the phase and round given, with no position: 0, or 1, 2 or 18, 3, 5.
+// Starts the record of a listener again whose strike is over, in the phase and round given, with no position: 0, or 1, 2 or 18, 3, 5.
 pub fn restart_listener(
     h: &mut Head,
     family: Family,

@@ -51,7 +51,7 @@ isBatch s = isCutInto (length s) s
 
 -- ---- the call; room: for how many answers there is room
 
--- Q03, Q04, Q05
+-- the number of the whole call: an entry is cut wrongly, or there is too little room; no frames at all are taken (Q03, Q04, Q05)
 unfoldable pub batchRefusal : List ℕ → ℕ → ℕ
 batchRefusal s room = check (isBatch s) refusal.bad-batch-entry (check (leb (length (entriesOf s)) room) refusal.buffer-too-short 0)
 

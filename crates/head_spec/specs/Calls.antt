@@ -41,11 +41,11 @@ answer (suc c) new old = record { refusal = suc c; head = old }
 
 -- ---- a start gives n, f, number and position, and opens phase 1; checks 1, 2 (in a ring of one round 18), 3, 4
 
--- P34, Q76
+-- the number that a start answers; 0 if it is taken (P34, Q76)
 unfoldable pub startRefusal : (K : Family) (n f number : ℕ) (position : ℤ) → ℕ
 startRefusal K n f i v = checkSize K n f (check (ltb i n) refusal.number-too-high (check (isPosition v) refusal.position-out-of-range 0))
 
--- P37
+-- the record of a head that is started, whatever it was (P37)
 unfoldable pub started : (K : Family) (n f number : ℕ) (position : ℤ) → Head
 started K n f i v = opened (firstSeat K n f i v) noEntries
 
@@ -58,7 +58,7 @@ start h K n f i v = answer (startRefusal K n f i v) (started K n f i v) h
 abbrev pub isTime : Family → ℕ → ℕ → Bool
 isTime K p r = isPhase p && ltb r (roundsOf K)
 
--- P34, Q76
+-- the number that a restart answers; 0 if it is taken (P34, Q76)
 unfoldable pub restartRefusal : (K : Family) (n f number phase round : ℕ) → ℕ
 restartRefusal K n f i p r = checkSize K n f (check (ltb i n) refusal.number-too-high (check (isTime K p r) refusal.phase-out-of-range 0))
 
@@ -71,18 +71,18 @@ restart h K n f i p r = answer (restartRefusal K n f i p r) (restarted K n f i p
 -- ---- a listener (document 02, A6) is a record with a number from 32 to 47. Its start gives no position; checks 1, 2 or 18, 3. Its restart
 -- checks 1, 2 or 18, 3, 5 and makes the record that a head's makes. It hears and closes as a head does.
 
--- Q31, Q32
+-- as a start, with a listener's number, 32 to 47, and without 4 (Q31, Q32)
 unfoldable pub startListenerRefusal : (K : Family) (n f number : ℕ) → ℕ
 startListenerRefusal K n f i = checkSize K n f (check (isListener i) refusal.number-too-high 0)
 
--- Q34
+-- the record of a listener that is started: phase 1, no position (Q34)
 unfoldable pub startedListener : (K : Family) (n f number : ℕ) → Head
 startedListener K n f i = opened (listenerSeat K n f i) noEntries
 
 unfoldable pub startListener : (h : Head) (K : Family) (n f number : ℕ) → Answer
 startListener h K n f i = answer (startListenerRefusal K n f i) (startedListener K n f i) h
 
--- Q33
+-- as a restart, with a listener's number (Q33)
 unfoldable pub restartListenerRefusal : (K : Family) (n f number phase round : ℕ) → ℕ
 restartListenerRefusal K n f i p r = checkSize K n f (check (isListener i) refusal.number-too-high (check (isTime K p r) refusal.phase-out-of-range 0))
 
@@ -98,7 +98,7 @@ saidTo x k s = said (x .n) (x .phase) (x .round) k s
 abbrev pub refusalTo : Seat → ℕ → List ℕ → ℕ
 refusalTo x k s = refusalOf (x .n) (x .phase) (x .round) k s
 
--- P09, P12, P16, Q35
+-- the number that hearing bytes s on link k answers, a head's own link too; 0 if they are taken (P09, P12, P16, Q35)
 unfoldable pub hearRefusal : Head → ℕ → List ℕ → ℕ
 hearRefusal h k s =
     check (not (h .seat .ended)) refusal.run-has-ended
@@ -121,14 +121,14 @@ withConfession g k = record { confessed = withMark (g .confessed) k; listed = g 
 abbrev pub withList : Links → ℕ → Table → Links
 withList g k t = record { confessed = g .confessed; listed = withMark (g .listed) k; marks = set (g .marks) k (t .marks) }
 
--- D16d
+-- the record when link k gave what is meant: an entry, a list or a confession (D16d)
 abbrev pub taken : Head → ℕ → Meaning → Head
 taken h k (refused c) = h
 taken h k (collected e) = hold h k (withEntry (h .list) k e) (h .links) (h .lists)
 taken h k (listed t) = hold h k (h .list) (withList (h .links) k t) (set (h .lists) k (record { entries = t .entries }))
 taken h k confessed = hold h k (h .list) (withConfession (h .links) k) (h .lists)
 
--- P11
+-- hearing bytes s on link k; only an accepted frame uses the link up (P11)
 unfoldable pub hear : Head → ℕ → List ℕ → Answer
 hear h k s = answer (hearRefusal h k s) (taken h k (saidTo (h .seat) k s)) h
 
@@ -170,7 +170,7 @@ spoken h = spokenIn (h .seat .round) h
 abbrev pub frameFor : Head → List ℕ
 frameFor h = frameOf (h .seat .n) (h .seat .number) (h .seat .phase) (spoken h)
 
--- P20, Q36
+-- what writing a frame answers, its length or a number; the record is not changed (P20, Q36)
 unfoldable pub writeAnswer : Head → List ℕ → Written
 writeAnswer h buffer =
     cond (h .seat .ended) (Written.Refused refusal.run-has-ended)
@@ -196,12 +196,12 @@ closing c h = record { closed = c; head = h }
 abbrev pub settlingOf : Head → Settled
 settlingOf h = settling (rounding (h .seat .phase)) (h .seat .n) (ruleOf (h .seat .family) (h .seat .f)) (entriesBy (h .seat .family) h)
 
--- P32
+-- the end of the last round of a phase: refused, and all stays, or the phase has ended (P32)
 abbrev pub endSettled : Settled → Head → Closing
 endSettled (settled.Refused c) h = closing (Closed.Refused c) h
 endSettled (settled.New k) h = closing (Closed.Settled k) (closedPhase h k)
 
--- last: the round is the last of its phase (P29, P31)
+-- the end of a round in one step, closing and adopting together; last: the round is the last of its phase (P29, P31)
 abbrev pub endIn : Bool → Head → Closing
 endIn false h = closing Closed.Listed (closedCollection h)
 endIn true h = endSettled (settlingOf h) h
@@ -215,23 +215,23 @@ endRound h = cond (h .seat .ended) (closing (Closed.Refused refusal.run-has-ende
 -- ---- closing; checks 26, 25. It ends a collection round; in the last round of a phase it only offers the position, and the record stays
 -- as it is (document 02, A8)
 
--- Q69
+-- closing the last round of a phase: refused, or an offer; the record stays as it is either way (Q69)
 abbrev pub offerSettled : Settled → Head → Closing
 offerSettled (settled.Refused c) h = closing (Closed.Refused c) h
 offerSettled (settled.New k) h = closing (Closed.Settled k) h
 
--- Q64
+-- closing; last: the round is the last of its phase (Q64)
 abbrev pub closeIn : Bool → Head → Closing
 closeIn false h = closing Closed.Listed (closedCollection h)
 closeIn true h = offerSettled (settlingOf h) h
 
--- Q65
+-- closing a round; again, it offers the same again (Q65)
 unfoldable pub close : Head → Closing
 close h = cond (h .seat .ended) (closing (Closed.Refused refusal.run-has-ended) h) (closeIn (isLastRound (h .seat)) h)
 
 -- ---- adopting; checks 27, 26. What is offered becomes the head's position, and the phase ends
 
--- Q67
+-- the number that adopting answers: no offer stands, or phase 65,535 has ended (Q67)
 abbrev pub adoptRefusal : Head → Offer → ℕ
 adoptRefusal h Offer.Nothing = refusal.no-offer
 adoptRefusal h (Offer.Standing k) = check (not (h .seat .ended)) refusal.run-has-ended 0
@@ -240,6 +240,6 @@ abbrev pub adopted : Head → Offer → Head
 adopted h Offer.Nothing = h
 adopted h (Offer.Standing k) = closedPhase h k
 
--- Q68
+-- adopting what is offered (Q68)
 unfoldable pub adopt : Head → Offer → Answer
 adopt h o = answer (adoptRefusal h o) (adopted h o) h

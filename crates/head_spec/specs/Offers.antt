@@ -41,7 +41,7 @@ thenAdopt (Closed.Refused c) h = closing (Closed.Refused c) h
 thenAdopt Closed.Listed h = closing Closed.Listed h
 thenAdopt (Closed.Settled k) h = closing (Closed.Settled k) (adopt h (Offer.Standing k) .head)
 
--- Q68
+-- closing and then adopting is the end of a round in one step (Q68)
 abbrev pub OfferThenAdopt : Type 0
 OfferThenAdopt = (h : Head) → thenAdopt (close h .closed) (close h .head) ≡ endRound h
 

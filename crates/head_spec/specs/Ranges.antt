@@ -31,7 +31,7 @@ pub data Passed : Head → LastKept → Type 0 where
   hears : {h : Head} {x : LastKept} (k : ℕ) (s : List ℕ) → AllBytes s → Passed h x → Passed (hear h k s .head) x
   ends : {h : Head} {x : LastKept} → Passed h x → Passed (endRound h .head) (passing (endRound h .closed) x)
 
--- Q11
+-- a record holds what was passed on last (Q11)
 abbrev pub HoldsPassed : Type 0
 HoldsPassed = (h : Head) (x : LastKept) → Passed h x → h .seat .last ≡ x
 

@@ -73,7 +73,7 @@ statusBits s zero = isHeld (s .position)
 statusBits s (suc zero) = s .healed && not (s .ended)
 statusBits s (suc (suc k)) = not (eqb (s .round) 0)
 
--- Q30
+-- the sixteen bytes, of a listener too (Q30)
 unfoldable pub window : Seat → Registers → List ℕ
 window s b =
     s .n ∷ s .f ∷ s .number ∷ three (statusBits s)
@@ -81,7 +81,7 @@ window s b =
 
 -- ---- reading a byte: 16 past byte 15
 
--- Q18
+-- the number that reading the byte at this address answers (Q18)
 abbrev pub readRefusal : ℕ → ℕ
 readRefusal at = check (ltb at 16) refusal.no-such-register 0
 
@@ -91,7 +91,7 @@ byteRead s b at old = leaves (readRefusal at) (getD (window s b) at 0) old
 
 -- ---- writing a byte: 16 but for bytes 10 and 11
 
--- Q19
+-- the number that writing there answers (Q19)
 abbrev pub setRefusal : ℕ → ℕ
 setRefusal at = check (eqb at 10 || eqb at 11) refusal.no-such-register 0
 
@@ -103,6 +103,6 @@ setRegisters at x b =
 
 -- ---- the interrupt line is up exactly when a pending event is in the mask
 
--- Q28
+-- by the two bytes alone, without memory (Q28)
 unfoldable pub isUp : Registers → Bool
 isUp b = not (eqb (three (λ k. bitOf (b .events) k && bitOf (b .mask) k)) 0)

@@ -41,7 +41,7 @@ readingText Reading.Unknown = ended unknown
 readingText (Reading.Point x) = spaced point (ended (floatText x))
 readingText (Reading.Range k) = rangeText k
 
--- Q105
+-- the line of a head: its number, and its reading (Q105)
 unfoldable pub lineOf : ℕ → Reading → List ℕ
 lineOf head r = spaced (decimal head) (readingText r)
 

@@ -24,8 +24,9 @@ use Rattle.ring_devices.specs.Devices.{HearCall, broughtBy, firstFrame}
 
 -- ---- what is done with a block in a round, after it opened
 
--- A call before the one that ends the round: one that hears; a write to the window (document 02, A5); or a closing in the last round of a
--- phase, which offers a position that later frames end (A8). Calls that read a block or write a frame change no block.
+-- A call before the one that ends the round. heard: one that hears. wrote: a write of a byte to the window (document 02, A5). offered: a
+-- closing; in the last round of a phase it offers a position, and the offer ends if a later frame is accepted (A8). Calls that read a block
+-- or write a frame change no block.
 pub data BlockCall : Type 0 where
   heard : HearCall → BlockCall
   wrote : (at byte : ℕ) → BlockCall
@@ -37,7 +38,8 @@ callOf (heard (device.hearsBatch s room)) = hearsBatch s room
 callOf (wrote at x) = sets at x
 callOf offered = closes
 
--- The contracts of C's functions have `blockAfter` of these calls; those of the two that hear say what it is of them.
+-- That a step here is what the contract of C's function says. The contracts of the other functions have `blockAfter` in them. Those of the
+-- two that hear are `Hears` and `HearsBatch`; from each of these the block after the call is the one that `blockAfter` gives.
 pub record HearingsStep : Type 0 where
   pub one : (w : List ℕ) (k : ℕ) (s : List ℕ) (r : ℕ) (w′ : List ℕ) → Hears w k s r w′ → w′ ≡ blockAfter w (hears k s)
   pub batch : (w s a : List ℕ) (c r : ℕ) (w′ a′ : List ℕ) (c′ : ℕ) → HearsBatch w s a c r w′ a′ c′
@@ -74,7 +76,8 @@ EndsBy true b C = numberAfter (blockBy b C) adopts ≡ 0
 
 -- ---- a round of blocks
 
--- as `DeviceRound`, with blocks: who is struck in it or late; what these are left with, any blocks at all; the calls on the others
+-- As `DeviceRound`, with blocks. marks: who is struck in it, late, or blamed for a loss. left: what these are left with, any blocks at all.
+-- calls: the calls on the others.
 pub record BlockRound : Type 0 where
   pub marks : ℕ
   pub left : ℕ → List ℕ

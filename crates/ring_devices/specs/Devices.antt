@@ -1,5 +1,6 @@
--- Demand 3 of what ships: devices, each a record that calls drive, on a cable that brings each of them what it will: frames in any order,
--- twice, damaged or forged. Document 01, "Strikes" and the rounds, by calls. proofs/Devices.antt proves it.
+-- Demand 3 of what ships: devices, each a record that calls drive. The cable may bring frames in any order, twice, damaged or forged. But the
+-- first acceptable one on the link of each unmarked head is that head's own (`Carries`). Document 01, "Strikes" and the rounds, by calls.
+-- proofs/Devices.antt proves it.
 use mathlib.Core.Path.{_≡_}
 use mathlib.Core.Bool.{Bool, true, false, cond, _&&_}
 use mathlib.Core.List.{List, [], _∷_, _++_}
@@ -57,8 +58,9 @@ firstFrame x k (d ∷ D) = cond (eqb (d .link) k && isAccepted (saidTo x k (d .b
 
 -- ---- a round of devices
 
--- marks: who is struck in it or, being late, does not end it (document 02, A8), heads and listeners by their bits as in `Round`; left: what
--- these are left with, any records at all; calls: how each of the others hears, with any bytes, on any links, in any order
+-- marks: who is struck in it, does not end it, being late (document 02, A8), or is blamed for a loss; heads and listeners by their bits as in
+-- `Round`. left: what these are left with, any records at all. calls: how each of the others hears, with any bytes, on any links, in any
+-- order.
 pub record DeviceRound : Type 0 where
   pub marks : ℕ
   pub left : ℕ → Head

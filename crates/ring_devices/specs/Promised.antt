@@ -1,6 +1,5 @@
--- What a ring of devices is promised: the theorems of ring_spec's Converges.antt, of the phase ends and the records of n heads and m
--- listeners that were not played in one place. marks: the mark words of the rounds so far, of which, as of the ends, the latest is first;
--- now: the records after them.
+-- What a ring of devices is promised: the theorems of ring_spec's Converges.antt, of n heads and m listeners on boards of their own. marks:
+-- the mark words of the rounds so far; es: their phase ends; both have the latest first. now: the records after these rounds.
 use mathlib.Core.Path.{_≡_}
 use mathlib.Core.Bool.{true, false}
 use mathlib.Core.List.{List, [], _∷_}

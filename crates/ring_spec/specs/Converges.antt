@@ -25,7 +25,7 @@ FewStruckIn n f (w ∷ ws) = AtMost f n (bitOf (w .struck)) × FewStruckIn n f w
 abbrev pub noEnd : PhaseEnd
 noEnd = record { collect = 0; confess = 0; struck = 0; heads = λ i. lost }
 
--- any two of a list of ends, which has the latest first, k apart (P71)
+-- any two of a list of ends, k apart: the list has the latest first, so the earlier end is the one at i + k (P71)
 abbrev pub AnyTwo : (K : Family) (n m f : ℕ) (es : List PhaseEnd) → Type 0
 AnyTwo K n m f es =
     (i k : ℕ) → i + k < length es → Demand3 receivers (Halves K n f) k (asEnd n m (getD es (i + k) noEnd)) (asEnd n m (getD es i noEnd))

@@ -1,5 +1,6 @@
 -- Document 02, A8: a receiver that has not adopted when the first frame of the next round is sent counts as struck in the round that it did
--- not end, in its mark word and within f, and is restarted like one. In that round it was sound: it sent what it had to say, and heard.
+-- not end, in its mark word and within f, and is restarted like one. In that round it was not struck in truth: it sent what it had to say,
+-- and heard.
 -- proofs/Late.antt proves demand 3 with such receivers.
 use mathlib.Core.Bool.{Bool, not, cond, _&&_}
 use mathlib.Core.List.{List, [], _∷_}

@@ -26,7 +26,7 @@ pub record Plant : Type 0 where
   pub bytes : List ℕ
 
 -- A round: who is struck, and what is planted. Bits 0 to 31 of the mark word are for heads, bits 32 to 47 for the listeners of these
--- numbers (document 02, A6). amended: a record gave the listeners' marks.
+-- numbers (document 02, A6). amended: the run file had a record of struck listeners for this round (kind 0013), whose marks are in the word.
 pub record Round : Type 0 where
   pub struck : ℕ
   pub amended : Bool
@@ -37,7 +37,7 @@ abbrev pub planted : List Plant → ℕ → ℕ → List ℕ
 planted [] k i = []
 planted (x ∷ xs) k i = cond (eqb (x .from) k && eqb (x .to) i) (x .bytes) (planted xs k i)
 
--- a record whose memory is lost, and its seat
+-- the seat of a record whose memory is lost
 abbrev pub noSeat : Seat
 noSeat =
     record {
@@ -54,7 +54,7 @@ noSeat =
       since = 0;
     }
 
--- P60
+-- the record of a head or listener as long as it is struck: nothing that it holds is used (P60)
 unfoldable pub lost : Head
 lost = opened noSeat noEntries
 
@@ -121,7 +121,8 @@ afterRound K n f R w =
 
 -- ---- a run: positions v at the start, then rounds; a list of rounds or of ends has the latest first
 
--- a phase end: the two mark words of which the listing prints the heads' bits; that of the round that ended the phase; and the records
+-- A phase end. collect, confess: the two mark words that the listing's columns of these names show, as to the heads' bits. struck: the mark
+-- word of the round that ended the phase, by which receivers are sound. heads: the records of heads and listeners by their numbers.
 pub record PhaseEnd : Type 0 where
   pub collect : ℕ
   pub confess : ℕ
@@ -138,7 +139,7 @@ phaseEnd OneRound before struck heads = record { collect = struck; confess = 0; 
 abbrev pub receivers : ℕ
 receivers = 48
 
--- Q40
+-- whether number i is a head or listener of n heads and m listeners: n to 31 name nobody (Q40)
 abbrev pub isReceiver : (n m i : ℕ) → Bool
 isReceiver n m i = ltb i n || (leb 32 i && ltb i (32 + m))
 
@@ -146,7 +147,8 @@ isReceiver n m i = ltb i n || (leb 32 i && ltb i (32 + m))
 abbrev pub isOut : (n m marks i : ℕ) → Bool
 isOut n m marks i = not (isReceiver n m i) || bitOf marks i
 
--- what is compared: who was struck in the round that ended the phase, or is not there, and the position that each record holds (P59, Q56)
+-- A phase end as demand 3 sees it. struck: in the round that ended the phase, or not there; at: the position that each record holds (P59,
+-- Q56).
 abbrev pub asEnd : ℕ → ℕ → PhaseEnd → End
 asEnd n m e = record { struck = isOut n m (e .struck); at = λ i. e .heads i .seat .position }
 
@@ -167,7 +169,7 @@ module _ (K : Family) (n f : ℕ) (v : ℕ → ℤ) where
   abbrev pub firstEnd : PhaseEnd
   firstEnd = record { collect = 0; confess = 0; struck = allListeners; heads = firstHeads }
 
-  -- P62
+  -- the ring after these rounds; before the first nobody was struck (P62)
   unfoldable pub ringAfter : List Round → Ring
   ringAfter [] = record { phase = 1; round = 0; before = 0; heads = firstHeads }
   ringAfter (w ∷ ws) = afterRound K n f (ringAfter ws) w

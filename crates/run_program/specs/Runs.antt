@@ -28,7 +28,7 @@ pub data Ran : List ℕ → List ℕ → Program → List ℕ → List ℕ → L
       → Ran a out p piece page carry M → Left (askOf p) piece piece′ → fits did p (length piece′) ≡ true → Steps p did piece′ page carry M r page′ carry′ M′
       → Ran (readThen did a piece′) (writtenThen did out (unwritten p page)) (r .program) piece′ page′ carry′ M′
 
--- D15
+-- a run that has come to its end wrote the listing of what it read (D15)
 abbrev pub AnyRun : Type 0
 AnyRun =
     (a out : List ℕ) (p : Program) (piece page carry : List ℕ) (M : Memory) → Ran a out p piece page carry M → p .stage ≡ Stage.Last → askOf p ≡ Ask.Stop

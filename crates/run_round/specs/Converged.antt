@@ -1,7 +1,7 @@
 -- Demand 3 of what the player holds. When the rounds ws were played and the last of them ended a phase, or there was none, the positions in
 -- memory are a phase end, and it keeps demand 3 with each phase end played, k phases before it, the start among them. Whoever is out at the
 -- latest end is out in memory: at the start that is every listener. It speaks of the heads and the first m listeners: of the heads alone (m
--- = 0), as the order has it, up to all listeners.
+-- = 0), as the customer's order asks, up to all listeners.
 use mathlib.Core.Bool.{true}
 use mathlib.Core.List.{List}
 use mathlib.Core.Path.{_≡_}
@@ -15,7 +15,7 @@ use Rattle.ring_spec.specs.Converges.{noEnd}
 use Rattle.run_spec.specs.RunFile.{File}
 use Rattle.run_listing.specs.Held.{endIn}
 
--- D14
+-- after the rounds ws, of n heads and the first m listeners (D14)
 abbrev pub Converged : (K : Family) (n m f : ℕ) (v : ℕ → ℤ) (ws : List Round) (positions : List ℤ) → Type 0
 Converged K n m f v ws positions =
     let es = endsAfter K n f v ws in

@@ -5,7 +5,7 @@ use Rattle.ring_spec.specs.Converges.{AnyTwo}
 use Rattle.run_spec.specs.RunFile.{File, readFile, endsPlayed}
 
 -- any two phase ends that were played, the start among them, of the heads and, from phase 1 on, the first m listeners: of the heads alone
--- (m = 0), as the order has it, and with all listeners, as document 02, A6, has it
+-- (m = 0), as the customer's order asks, and with all listeners, as document 02, A6, does
 abbrev pub Demand3Of : File → Type 0
 Demand3Of F = (m : ℕ) → m ≤ F .setup .listeners → AnyTwo (F .setup .family) (F .setup .n) m (F .setup .f) (endsPlayed F)
 

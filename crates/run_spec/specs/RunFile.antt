@@ -69,7 +69,7 @@ pub data RecordKind : Type 0 where
   strikes : RecordKind
   other : RecordKind
 
--- P50c, Q81
+-- the kind of a record by its number; the kinds of frames are none (P50c, Q81)
 abbrev pub recordKind : ℕ → RecordKind
 recordKind k =
     cond (eqb k 0x10) (start TwoRounds) (cond (eqb k 0x11) round (cond (eqb k 0x12) plant
@@ -119,7 +119,7 @@ unfoldable pub positionsFit : List ℕ → ℕ → Bool
 positionsFit s zero = true
 positionsFit s (suc j) = positionsFit s j && isPosition (positionIn s j)
 
--- P43, Q81
+-- the number of a start's first fault: its length by its own n, then size and positions (P43, Q81)
 abbrev pub startFault : Family → List ℕ → ℕ
 startFault K s =
     check (eqb (length s) (6 + 4 * headCountIn s)) refusal.bad-run-record
@@ -143,7 +143,7 @@ roundFault K n f rounds s = check (fewMarks n f (struckIn s)) refusal.too-many-s
 abbrev pub listenerCountIn : List ℕ → ℕ
 listenerCountIn s = getD s 4 0
 
--- Q41
+-- the fault of a number of listeners that is not 1 to 16 (Q41)
 abbrev pub listenersFault : List ℕ → ℕ
 listenersFault s = check (leb 1 (listenerCountIn s) && leb (listenerCountIn s) 16) refusal.bad-run-record 0
 
@@ -174,7 +174,7 @@ lastPair (x ∷ xs) = record { some = true; from = x .from; to = x .to }
 abbrev pub rises : Pair → ℕ → ℕ → Bool
 rises last k i = not (last .some) || (ltb (last .from) k || eqb (last .from) k && ltb (last .to) i)
 
--- P46, P50, Q50, Q52
+-- whether bytes may be planted from k to i, by who there is, who is struck, and the pair before (P46, P50, Q50, Q52)
 unfoldable pub pairFits : (n m struck : ℕ) (last : Pair) (k i : ℕ) → Bool
 pairFits n m struck last k i = ltb k n && isReceiver n m i && bitOf struck k && not (bitOf struck i) && rises last k i
 
@@ -184,7 +184,7 @@ plantFault n m struck last s = check (pairFits n m struck last (senderIn s) (rec
 
 -- ---- a whole record: the number of its fault, 0 for none; 13, then 1, 2 or 18, 4, 14, 26
 
--- P50b
+-- by the kind of the record; every fault of form is 13 (P50b)
 abbrev pub recordFault : RecordKind → File → List ℕ → ℕ
 recordFault (start K) F s = startFault K s
 recordFault round F s = roundFault (F .setup .family) (F .setup .n) (F .setup .f) (roundsGiven F) s

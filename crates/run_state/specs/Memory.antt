@@ -5,7 +5,7 @@ use lib.IntN.{ℤ}
 use denote.Ref.{RefT, now}
 use denote.Triple.Both.{Both}
 
--- D12
+-- of each receiver its position, of each head the list that it filled, by marks and numbers, and what is planted for each link (D12)
 pub record Memory : Type 0 where
   pub positions : List ℤ
   pub marks : List ℕ

@@ -40,7 +40,7 @@ abbrev pub endAt : ℕ → ℕ → Buffers → ℕ → End
 endAt n m B e = endIn n m (getD (B .words) e 0) (row e (B .rows))
 
 -- the file s is played: how it ends; its listing, with the bytes behind it as they were; its phase ends, with what is behind them as it
--- was; and any two of these, k phases apart, keep demand 3: of the heads alone (m = 0), as the order has it, and with the first m
+-- was; and any two of these, k phases apart, keep demand 3: of the heads alone (m = 0), as the customer's order asks, and with the first m
 -- listeners, all of them too (document 02, A6). The counts are those of the phases since the last strike (A10), and the record of each head
 -- and listener that is not struck in the last round played holds its count. quiet: if the word of a phase end, the start apart, has no
 -- head, its row has one number for all that are sound (A11; specs/Quiet.antt has the request's sentence; D14).

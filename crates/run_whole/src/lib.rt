@@ -123,7 +123,8 @@ fn fill_row(rows: &mut [i32], base: usize, positions: &Positions, n: u8, m: u8, 
     }
 }
 
-// The mark word of the phase end with this number: at the start, which is the first, every listener counts as struck.
+// The mark word of the phase end with this number: at the start, which is the first, every listener counts as struck (`allListeners`, in
+// crates/ring_spec/specs/Rounds.antt).
 fn word_at(count: usize, struck: u64) -> u64
     ensures { λ r. ⌜ r ≡ wordAt count struck ⌝ }
 {
@@ -303,7 +304,7 @@ fn run(
     )
 }
 
-// Plays a whole file: its listing at the front of out, and for each phase end a row of ends and a word of words. Refused 24 if one of the
+// Plays a whole file: its listing at the front of out, and for each phase end a row of rows and a word of words. Refused 24 if one of the
 // three is too short for the most phase ends that a file of this length and kind can have.
 pub fn play(file: &[u8], out: &mut [u8], rows: &mut [i32], words: &mut [u64]) -> PlayResult
     ensures { λ r. ⌜ Plays (hasRoom (now (file .entry)) (length (now (out .entry))) (length (now (rows .entry))) (length (now (words .entry))))

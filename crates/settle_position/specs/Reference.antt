@@ -33,7 +33,7 @@ apartFrom n marks reference = sum n (λ k. bit (isApart (getD marks k 0) (getD m
 abbrev pub agreeing : ℕ → List ℕ → List (List ℤ) → ℕ → ℕ → ℕ
 agreeing n marks lists reference j = sum n (λ k. bit (agrees marks lists reference j k))
 
--- D16
+-- what comparing n lists with one of them, the reference, answers (D16)
 pub record Compares (n : ℕ) (marks : List ℕ) (lists : List (List ℤ)) (reference : ℕ) (r : Comparison) : Type 0 where
   pub alike : r .alike ≡ alikeTo n marks reference
   pub apart : r .apart ≡ apartFrom n marks reference
