@@ -258,7 +258,7 @@ static void closes(void) {
 /* What is offered, as it is to be. */
 static void offers(const char *what, const focus_head *head, int stands) {
     focus_kept kept = {-777, -777, -777, -777};
-    same(what, focus_head_offer(head, &kept), stands);
+    same(what, focus_head_has_offer(head, &kept), stands);
     same(what, kept.position, stands ? 7 : -777);
 }
 
@@ -272,7 +272,7 @@ static void offered(void) {
     answered("adopt too early", focus_head_adopt(&head), FOCUS_NO_OFFER, &head, &before);
     same("close", focus_head_close(&head), 0);
     offers("the offer", &head, 1);
-    same("no position yet", focus_head_position(&head, &at), 0);
+    same("no position yet", focus_head_has_position(&head, &at), 0);
     before = head;
     same("close again", focus_head_close(&head), 0);
     same("the same is offered", memcmp(&head, &before, sizeof head), 0);
@@ -286,7 +286,7 @@ static void offered(void) {
     same("offer anew", focus_head_close(&head), 0);
     same("adopt", focus_head_adopt(&head), 0);
     offers("it is adopted", &head, 0);
-    same("the position", focus_head_position(&head, &at), 1);
+    same("the position", focus_head_has_position(&head, &at), 1);
     same("it is what was offered", at, 7);
     same("adopt twice", focus_head_adopt(&head), FOCUS_NO_OFFER);
     for (int again = 0; again < 2; again++) {
@@ -300,11 +300,11 @@ static void offered(void) {
 static void positions(void) {
     focus_head head = ended();
     int32_t at = -777;
-    same("a position is held", focus_head_position(&head, &at), 1);
+    same("a position is held", focus_head_has_position(&head, &at), 1);
     same("the last position", at, 7);
     head = in_confession(3, 0);
     at = -777;
-    same("no position is held", focus_head_position(&head, &at), 0);
+    same("no position is held", focus_head_has_position(&head, &at), 0);
     same("what is lent for a position", at, -777);
 }
 
@@ -316,17 +316,17 @@ static void kept_ranges(void) {
     focus_kept kept = {-777, -777, -777, -777};
     focus_head head = in_confession(3, 0);
     tried = 0;
-    same("no range after a restart", focus_head_kept(&head, &kept), 0);
+    same("no range after a restart", focus_head_has_kept(&head, &kept), 0);
     same("what is lent for a range", kept.lowest == -777 && kept.highest == -777 && kept.trim == -777 && kept.position == -777, 1);
     for (unsigned k = 0; k < 5; k++)
         same("hear", focus_head_hear(&head, k, frame, put_list(frame, k, 3, 5, 0x1f, entries)), 0);
     same("close", focus_head_close(&head), 0);
-    same("no range while it is only offered", focus_head_kept(&head, &kept), 0);
+    same("no range while it is only offered", focus_head_has_kept(&head, &kept), 0);
     same("adopt", focus_head_adopt(&head), 0);
     for (int more = 0; more < 2; more++) { /* at the phase end, and after a closing refused 25 */
         tried = more;
         kept = (focus_kept){-777, -777, -777, -777};
-        same("a range is held", focus_head_kept(&head, &kept), 1);
+        same("a range is held", focus_head_has_kept(&head, &kept), 1);
         same("the lowest kept", kept.lowest, 20);
         same("the highest kept", kept.highest, 40);
         same("the trim", kept.trim, 1);
@@ -337,7 +337,7 @@ static void kept_ranges(void) {
         }
     }
     same("start", focus_head_start(&head, 5, 1, 0, 7), 0);
-    same("no range after a start", focus_head_kept(&head, &kept), 0);
+    same("no range after a start", focus_head_has_kept(&head, &kept), 0);
 }
 
 /* A listener holds no position before its first phase end, and then the one that a head holds that heard the same. It has no link of its own. */
@@ -357,7 +357,7 @@ static void listens(void) {
             same("a listener hears", focus_head_hear(&listener, k, frame, length), 0);
             same("no link of its own", focus_head_hear(&listener, 36, frame, length), FOCUS_NUMBER_TOO_HIGH);
         }
-        same("no position before the phase end", focus_head_position(&listener, &at), 0);
+        same("no position before the phase end", focus_head_has_position(&listener, &at), 0);
         same("what is lent for it", at, -777);
         same("close", focus_head_close(&head), 0);
         same("a listener closes", focus_head_close(&listener), 0);
@@ -366,12 +366,12 @@ static void listens(void) {
     }
     int32_t at = -777, heard = -777;
     focus_kept kept, range;
-    same("a position", focus_head_position(&head, &at), 1);
-    same("a listener's position", focus_head_position(&listener, &heard), 1);
+    same("a position", focus_head_has_position(&head, &at), 1);
+    same("a listener's position", focus_head_has_position(&listener, &heard), 1);
     same("it is the head's", heard, at);
     same("it is the midpoint", heard, 30);
-    same("a kept range", focus_head_kept(&head, &kept), 1);
-    same("a listener's kept range", focus_head_kept(&listener, &range), 1);
+    same("a kept range", focus_head_has_kept(&head, &kept), 1);
+    same("a listener's kept range", focus_head_has_kept(&listener, &range), 1);
     same("it is the head's", memcmp(&kept, &range, sizeof kept), 0);
 }
 
@@ -451,7 +451,7 @@ static void one_round_closes(void) {
                 same("silence", focus_head_hear(&head, k, frame, put_frame(frame, 2, k, 3, NULL, 0)), 0);
             before = head;
             uint8_t got = focus_head_close(&head);
-            same("an offer", focus_head_offer(&head, &kept), want == 0);
+            same("an offer", focus_head_has_offer(&head, &kept), want == 0);
             if (want != 0) { /* all that it leaves is its event */
                 same("clear the event", focus_head_set_register(&head, FOCUS_WINDOW_EVENTS, FOCUS_EVENT_TOO_FEW), 0);
                 answered("close", got, want, &head, &before);
@@ -501,9 +501,9 @@ static void one_round_phases(uint32_t number) {
         same("the same is offered", same_block(&head, &before), 1);
         same("adopt", focus_head_adopt(&head), 0);
         /* 30; then half of 6 and 7, up in the even phase and down in the odd one */
-        same("a position", focus_head_position(&head, &position), 1);
+        same("a position", focus_head_has_position(&head, &position), 1);
         same("it is the midpoint", position, phase == 65533 ? 30 : phase == 65534 ? 7 : 6);
-        same("a range", focus_head_kept(&head, &kept), 1);
+        same("a range", focus_head_has_kept(&head, &kept), 1);
         same("it is what was offered", kept.position == position && kept.trim == 1 && kept.lowest == (phase == 65533 ? 20 : 6), 1);
         healed = 0, held = 1;
         window_is("adopted", &head, phase < 65535 ? phase + 1 : 65535, held);
@@ -527,15 +527,15 @@ static void one_round_offers(void) {
     answered("a frame of the next phase", focus_head_hear(&head, 4, frame, position_frame(frame, 4, 4, 7)), FOCUS_OTHER_PHASE, &head, &before);
     answered("a list", focus_head_hear(&head, 4, frame, sevens(frame, 4, 3)), FOCUS_OTHER_ROUND, &head, &before);
     answered("a restart in round 1", focus_one_round_restart(&head, 5, 1, 0, 3, 1), FOCUS_PHASE_OUT_OF_RANGE, &head, &before);
-    same("the offer stands", focus_head_offer(&head, &kept), 1);
+    same("the offer stands", focus_head_has_offer(&head, &kept), 1);
     same("half of 20 and 30", kept.position, 25);
     same("an accepted frame", focus_head_hear(&head, 4, frame, position_frame(frame, 4, 3, 50)), 0);
     same("it has lapsed", focus_head_adopt(&head), FOCUS_NO_OFFER);
     same("offer anew", focus_head_close(&head), 0);
-    same("the new offer", focus_head_offer(&head, &kept), 1);
+    same("the new offer", focus_head_has_offer(&head, &kept), 1);
     same("the middle of five", kept.position, 30);
     same("restart", focus_one_round_restart(&head, 5, 1, 0, 3, 0), 0);
-    same("no offer is left", focus_head_offer(&head, &kept), 0);
+    same("no offer is left", focus_head_has_offer(&head, &kept), 0);
 }
 
 /* A block is of the family in which it was started or restarted last, with what it writes and how it closes. */

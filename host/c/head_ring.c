@@ -84,7 +84,7 @@ static void play(struct ring *r, uint64_t struck, liar lies) {
 
 static void at(const struct ring *r, uint32_t i, int32_t want) {
     int32_t position = -777;
-    same("a position is held", focus_head_position(&r->heads[i], &position), 1);
+    same("a position is held", focus_head_has_position(&r->heads[i], &position), 1);
     same("position", position, want);
 }
 
@@ -101,7 +101,7 @@ static void range(const struct ring *r, int32_t *low, int32_t *high) {
         int32_t v = 0;
         if (!is_member(r, i) || r->before >> i & 1)
             continue;
-        same("a position is held", focus_head_position(&r->heads[i], &v), 1);
+        same("a position is held", focus_head_has_position(&r->heads[i], &v), 1);
         *low = v < *low ? v : *low;
         *high = v > *high ? v : *high;
     }
@@ -132,7 +132,7 @@ static void five(struct ring *r) {
     play(r, 0x10, NULL);
     for (uint32_t i = 32; i < 48; i++) {
         int32_t none = -777;
-        same("no position before the first phase end", focus_head_position(&r->heads[i], &none), 0);
+        same("no position before the first phase end", focus_head_has_position(&r->heads[i], &none), 0);
     }
     play(r, 0, NULL);
     all_at(r, 0, 25);
@@ -165,7 +165,7 @@ static void once_late(struct ring *r) {
     play_late(r, 0, UINT64_C(0x200000010), NULL);
     all_at(r, UINT64_C(0x200000010), 30);
     at(r, 4, 50); /* it only looked */
-    same("a late listener holds none", focus_head_position(&r->heads[33], &none), 0);
+    same("a late listener holds none", focus_head_has_position(&r->heads[33], &none), 0);
     play(r, 0, NULL);
     all_at(r, 0, 30);
 }

@@ -330,8 +330,8 @@ static void leave(struct ring *r, uint32_t i) {
 static int32_t position_of(const struct ring *r, uint32_t i) {
     int32_t v = 0;
     focus_kept kept = {0, 0, 0, 0};
-    same("a position is held", focus_head_position(&r->blocks[i], &v), 1);
-    same("a range is kept", focus_head_kept(&r->blocks[i], &kept), 1);
+    same("a position is held", focus_head_has_position(&r->blocks[i], &v), 1);
+    same("a range is kept", focus_head_has_kept(&r->blocks[i], &kept), 1);
     same("in the range", r->low <= v && v <= r->high, 1);
     same("the kept range too", r->low <= kept.lowest && kept.lowest <= kept.highest && kept.highest <= r->high, 1);
     same("and its position", kept.position, v);

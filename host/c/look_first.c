@@ -14,8 +14,8 @@ static uint32_t phase = 1, round_now = 0, before = 0; /* before: who was struck 
 static void show(uint32_t i, int32_t held) {
     focus_kept kept;
     int32_t position = 0;
-    same("an offer stands", focus_head_offer(&heads[i], &kept), 1);
-    same("the head holds what it held", focus_head_position(&heads[i], &position), 1);
+    same("an offer stands", focus_head_has_offer(&heads[i], &kept), 1);
+    same("the head holds what it held", focus_head_has_position(&heads[i], &position), 1);
     same("its position", position, held);
     same("the offer lies in its range", kept.lowest <= kept.position && kept.position <= kept.highest, 1);
     printf("phase %u: head %u at %d is offered %d, kept %d to %d, trim %d\n", phase, i, position, kept.position, kept.lowest, kept.highest, kept.trim);
@@ -38,7 +38,7 @@ static void wait_for_a_person(uint32_t i, const uint8_t *heard, size_t length) {
 static void heard_late(uint32_t i, const uint8_t *frame, size_t length) {
     focus_kept kept;
     same("a frame that comes late", focus_head_hear(&heads[i], BEHIND, frame, length), 0);
-    same("the offer has lapsed", focus_head_offer(&heads[i], &kept), 0);
+    same("the offer has lapsed", focus_head_has_offer(&heads[i], &kept), 0);
     same("nothing to adopt", focus_head_adopt(&heads[i]), FOCUS_NO_OFFER);
     same("close again", focus_head_close(&heads[i]), 0);
 }
@@ -84,7 +84,7 @@ static void phase_of(uint32_t late) {
     round_now = 1;
     play(frames, lengths);
     for (uint32_t i = 0; i < N; i++) {
-        uint8_t has = focus_head_position(&heads[i], &held[i]);
+        uint8_t has = focus_head_has_position(&heads[i], &held[i]);
         if (has && (i == ASKS || i == LATE)) {
             show(i, held[i]);
             wait_for_a_person(i, frames[0], lengths[0]);
@@ -102,7 +102,7 @@ static void phase_of(uint32_t late) {
 
 static void at(uint32_t i, int32_t want) {
     int32_t position = -777;
-    same("a position is held", focus_head_position(&heads[i], &position), 1);
+    same("a position is held", focus_head_has_position(&heads[i], &position), 1);
     same("position", position, want);
 }
 

@@ -208,7 +208,7 @@ static void print_node(const struct ring *r, uint32_t i, const focus_kept *settl
     focus_kept kept;
     focus_reading reading = {0};
     const focus_head *head = &r->heads[i];
-    same("kept", focus_head_kept(head, &kept), 1);
+    same("kept", focus_head_has_kept(head, &kept), 1);
     same("the position of the table", kept.position, settled->position);
     if (!r->once)
         same("what is kept of the table", memcmp(&kept, settled, sizeof kept), 0);
@@ -247,7 +247,7 @@ static void print_start(const struct ring *r) {
     puts("phase 0");
     for (uint32_t i = 0; i < r->n; i++) {
         int32_t position = 0;
-        same("a position", focus_head_position(&r->heads[i], &position), 1);
+        same("a position", focus_head_has_position(&r->heads[i], &position), 1);
         printf("node %u %d\n", i, position);
     }
 }

@@ -111,7 +111,7 @@ static size_t wanted(char *page, uint32_t n) {
     size_t length = 0;
     for (uint32_t i = 0; i < n; i++) {
         focus_kept kept;
-        if (!focus_head_kept(&ring[i], &kept))
+        if (!focus_head_has_kept(&ring[i], &kept))
             length += (size_t)sprintf(page + length, "%u unknown\n", i);
         else if (kept.lowest == kept.highest)
             length += (size_t)sprintf(page + length, "%u point %08x\n", i, exact(kept.lowest));

@@ -142,7 +142,7 @@ static inline void as_row(const struct ring *r, const int32_t *row, uint64_t str
         int32_t position = 0;
         if (!is_member(r, i) || struck >> i & 1)
             continue;
-        same("a position", focus_head_position(&r->heads[i], &position), 1);
+        same("a position", focus_head_has_position(&r->heads[i], &position), 1);
         same("position", position, row[i]);
     }
 }

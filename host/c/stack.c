@@ -71,9 +71,9 @@ static void hear_batch(void) { number = focus_head_hear_batch(heads, batch, batc
 static void written(void) { number = focus_head_write(heads, frame, sizeof frame, &frame_length); }
 static void closes(void) { number = focus_head_close(heads); }
 static void adopt(void) { number = focus_head_adopt(heads); }
-static void offer(void) { number = focus_head_offer(heads, &kept); }
-static void held(void) { number = focus_head_position(heads, &position); }
-static void last_kept(void) { number = focus_head_kept(heads, &kept); }
+static void offer(void) { number = focus_head_has_offer(heads, &kept); }
+static void held(void) { number = focus_head_has_position(heads, &position); }
+static void last_kept(void) { number = focus_head_has_kept(heads, &kept); }
 static void counted(void) { number = focus_head_since(heads); }
 static void readings(void) { number = focus_head_reading(heads, &reading); }
 static void host_page(void) { number = focus_host_page(heads[0].opaque, sizeof heads / 4, N, page, sizeof page, &length); }
@@ -81,7 +81,7 @@ static void reads_register(void) { number = focus_head_register(heads, 6, &byte)
 static void reads_window(void) { focus_head_window(heads, window); }
 static void sets_register(void) { number = focus_head_set_register(heads, FOCUS_WINDOW_MASK, 7); }
 static void resets_window(void) { focus_head_window_reset(heads, 7); }
-static void line(void) { number = focus_head_interrupt(heads); }
+static void line(void) { number = focus_head_has_interrupt(heads); }
 static void version(void) { number = (uint8_t)focus_version(); }
 
 static uint8_t *file, *out;
@@ -176,10 +176,10 @@ static void of_a_head(void) {
     put_batch(1);
     taken("focus_head_hear_batch, lists", hear_batch);
     taken("focus_head_close, confession", closes);
-    answers_only("focus_head_offer", offer);
+    answers_only("focus_head_has_offer", offer);
     taken("focus_head_adopt", adopt);
-    answers_only("focus_head_position", held);
-    answers_only("focus_head_kept", last_kept);
+    answers_only("focus_head_has_position", held);
+    answers_only("focus_head_has_kept", last_kept);
     answers_only("focus_head_since", counted);
     answers_only("focus_head_reading", readings);
     for (int k = 1; k < N; k++)
@@ -189,7 +189,7 @@ static void of_a_head(void) {
     answers_only("focus_head_window", reads_window);
     taken("focus_head_set_register", sets_register);
     answers_only("focus_head_window_reset", resets_window);
-    answers_only("focus_head_interrupt", line);
+    answers_only("focus_head_has_interrupt", line);
 }
 
 /* a block that no start made */

@@ -29,7 +29,7 @@ static void shows(const focus_head *head, struct seen want) {
         same("a byte of the window", byte, all[at]);
         same("the same byte among all", bytes[at], all[at]);
     }
-    same("the line", focus_head_interrupt(head), (want.events & want.mask) != 0);
+    same("the line", focus_head_has_interrupt(head), (want.events & want.mask) != 0);
     same("the block after reading", memcmp(head, &before, sizeof before), 0);
 }
 
@@ -77,10 +77,10 @@ static void bits(const focus_head *head, struct seen now) {
 /* The driver: waits for the line, reads what is pending, clears it, and the line falls. */
 static uint8_t served(focus_head *head, struct seen *now) {
     uint8_t pending = 0;
-    same("the line is up", focus_head_interrupt(head), 1);
+    same("the line is up", focus_head_has_interrupt(head), 1);
     same("read the events", focus_head_register(head, FOCUS_WINDOW_EVENTS, &pending), 0);
     same("clear them", focus_head_set_register(head, FOCUS_WINDOW_EVENTS, pending), 0);
-    same("the line is down", focus_head_interrupt(head), 0);
+    same("the line is down", focus_head_has_interrupt(head), 0);
     now->events = 0;
     shows(head, *now);
     return pending;
@@ -162,7 +162,7 @@ int main(void) {
     struct seen now = started(&head, -7);
     collected(&head, &now);
     confessed(&head, &now, -1000000);
-    same("nothing is masked in", focus_head_interrupt(&head), 0);
+    same("nothing is masked in", focus_head_has_interrupt(&head), 0);
     masks(&head, &now, PHASE_END);
     same("a phase end", served(&head, &now), PHASE_END);
     collected(&head, &now);

@@ -30,15 +30,21 @@ mod c {
         pub fn focus_head_write(head: *const Block, buffer: *mut u8, room: usize, length: *mut usize) -> u8;
         pub fn focus_head_close(head: *mut Block) -> u8;
         pub fn focus_head_adopt(head: *mut Block) -> u8;
-        pub fn focus_head_offer(head: *const Block, kept: *mut [i32; 4]) -> u8;
-        pub fn focus_head_position(head: *const Block, position: *mut i32) -> u8;
-        pub fn focus_head_kept(head: *const Block, kept: *mut [i32; 4]) -> u8;
+        pub fn focus_head_has_offer(head: *const Block, kept: *mut [i32; 4]) -> u8;
+        pub fn focus_head_has_position(head: *const Block, position: *mut i32) -> u8;
+        pub fn focus_head_has_kept(head: *const Block, kept: *mut [i32; 4]) -> u8;
         pub fn focus_head_since(head: *const Block) -> u8;
         pub fn focus_head_reading(head: *const Block, floats: *mut [f32; 3]) -> u8;
         pub fn focus_host_page(blocks: *const Block, words: usize, n: u32, buffer: *mut u8, room: usize, length: *mut usize) -> u8;
         pub fn focus_head_register(head: *const Block, at: u32, byte: *mut u8) -> u8;
         pub fn focus_head_window(head: *const Block, bytes: *mut [u8; 16]);
         pub fn focus_head_set_register(head: *mut Block, at: u32, byte: u8) -> u8;
+        pub fn focus_head_has_interrupt(head: *const Block) -> u8;
+        pub fn focus_head_window_reset(head: *mut Block, mask: u8);
+        pub fn focus_version() -> u32;
+        pub fn focus_head_offer(head: *const Block, kept: *mut [i32; 4]) -> u8;
+        pub fn focus_head_position(head: *const Block, position: *mut i32) -> u8;
+        pub fn focus_head_kept(head: *const Block, kept: *mut [i32; 4]) -> u8;
         pub fn focus_head_interrupt(head: *const Block) -> u8;
     }
 }
@@ -47,9 +53,11 @@ mod c {
 pub const WORDS: usize = 1116;
 pub const SIZE: usize = 4 * WORDS;
 
-/// Whether the header has blocks of this size.
+/// Whether the header has blocks of this size, and the version that the library says.
 pub fn as_in_header() -> bool {
-    include_str!("../include/focus.h").contains(&format!("opaque[{WORDS}]"))
+    let (header, version) = (include_str!("../include/focus.h"), unsafe { c::focus_version() });
+    let text = format!("\"{}.{}.{}\"", version / 10_000, version / 100 % 100, version % 100);
+    header.contains(&format!("opaque[{WORDS}]")) && header.contains(&format!("FOCUS_VERSION_TEXT {text}"))
 }
 
 /// The bytes of a block, word 23, that no call changes; those of its count of phase ends; those of its pending events, which a closing refused 25
@@ -163,15 +171,15 @@ impl Block {
     }
 
     pub fn offer(&mut self, kept: &mut [i32; 4]) -> u8 {
-        unsafe { c::focus_head_offer(self, kept) }
+        unsafe { c::focus_head_has_offer(self, kept) }
     }
 
     pub fn position(&mut self, position: &mut i32) -> u8 {
-        unsafe { c::focus_head_position(self, position) }
+        unsafe { c::focus_head_has_position(self, position) }
     }
 
     pub fn kept(&mut self, kept: &mut [i32; 4]) -> u8 {
-        unsafe { c::focus_head_kept(self, kept) }
+        unsafe { c::focus_head_has_kept(self, kept) }
     }
 
     pub fn since(&mut self) -> u8 {
@@ -195,6 +203,22 @@ impl Block {
     }
 
     pub fn interrupt(&mut self) -> u8 {
-        unsafe { c::focus_head_interrupt(self) }
+        unsafe { c::focus_head_has_interrupt(self) }
+    }
+
+    pub fn window_reset(&mut self, mask: u8) {
+        unsafe { c::focus_head_window_reset(self, mask) }
+    }
+
+    /// Whether the four calls that have former names do the same under them, with what is lent holding this number.
+    pub fn is_as_formerly(&mut self, lent: i32) -> bool {
+        let mut now = ([lent; 4], lent, [lent; 4]);
+        let mut formerly = now;
+        let numbers = [self.offer(&mut now.0), self.position(&mut now.1), self.kept(&mut now.2), self.interrupt()];
+        let (offer, position, kept) = (&mut formerly.0, &mut formerly.1, &mut formerly.2);
+        let others = unsafe {
+            [c::focus_head_offer(self, offer), c::focus_head_position(self, position), c::focus_head_kept(self, kept), c::focus_head_interrupt(self)]
+        };
+        numbers == others && now == formerly
     }
 }

@@ -53,6 +53,7 @@ pub enum Call {
     Register { at: u32, out: u8 },
     Window { out: [u8; 16] },
     SetRegister { at: u32, byte: u8 },
+    WindowReset { mask: u8 },
     Interrupt,
 }
 
@@ -98,6 +99,7 @@ impl Call {
             Call::Window { .. } => 16,
             Call::SetRegister { .. } => 17,
             Call::Interrupt => 18,
+            Call::WindowReset { .. } => 31,
             Call::Adopt => 19,
             Call::Offer { .. } => 20,
             Call::Limits { .. } => 25,
@@ -168,6 +170,10 @@ impl Call {
                 (0, 0)
             }
             Call::SetRegister { at, byte } => (block.set_register(at, byte), 0),
+            Call::WindowReset { mask } => {
+                block.window_reset(mask);
+                (0, 0)
+            }
             Call::Interrupt => (block.interrupt(), 0),
         };
         let reads = self.reads();
@@ -254,6 +260,7 @@ impl Call {
                 (Ok(()), 0)
             }
             Call::SetRegister { at, byte } => (device.write(at as usize, byte), 0),
+            Call::WindowReset { mask } => (device.write(10, 7).and(device.write(11, mask)), 0),
             Call::Interrupt => (if device.is_up() { Err(1) } else { Ok(()) }, 0),
         };
         Answer { number: done.err().unwrap_or(0), out, kept, floats: floats.map(f32::to_bits), lent: Bytes(lent), disturbed: false }

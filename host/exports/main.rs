@@ -85,14 +85,14 @@ impl Pair {
         let known = tally.count(call.index(), plain.number);
         let guarded = [0, 2].iter().all(|&at| self.blocks[at] == Block([0xa5; SIZE]));
         let beside = self.blocks[1].0[BESIDE].iter().all(|&byte| byte == self.calls as u8);
-        let alike = self.alike();
+        let alike = self.alike() && self.blocks[1].is_as_formerly(self.calls as i32);
         if export == plain && known && guarded && beside && alike {
             return Ok(plain.number);
         }
         let name = CALLS[call.index()].0;
         let beside = match (guarded, alike) {
             (false, _) => "\nmemory beside the block was changed",
-            (_, false) => "\nanother window, another interrupt line, or another count",
+            (_, false) => "\nanother window, another interrupt line, another count, or another answer under a former name",
             _ => "",
         };
         Err(format!("call {}, focus_{name}: {call:?}\nexport: {export:?}\nplain:  {plain:?}{beside}", self.calls))

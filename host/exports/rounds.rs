@@ -280,6 +280,9 @@ impl Writer<'_> {
         let bits = 1 << self.random.below(4);
         let byte = self.random.pick(&[bits, bits, 7 - bits % 8, 0xff]) ^ if self.random.chance(1, 4) { self.random.next() as u8 } else { 0 };
         (self.ask)(Call::SetRegister { at, byte })?;
+        if self.random.chance(1, 8) {
+            (self.ask)(Call::WindowReset { mask: byte })?;
+        }
         (self.ask)(Call::Interrupt).map(drop)
     }
 

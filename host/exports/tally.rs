@@ -2,7 +2,7 @@
 
 /// Each call with the numbers it can give, in the order of its checks. A position, a kept range or an offer is answered 1 if there is one, else 0; the interrupt
 /// line 1 if it is up; a reading 0, 1 or 2 for unknown, a point or a range.
-pub const CALLS: [(&str, &[u8]); 31] = [
+pub const CALLS: [(&str, &[u8]); 32] = [
     ("frame_check", &[0, 6, 7, 8]),
     ("midpoint", &[0, 1, 2, 5, 8, 10, 11, 25]),
     ("midpoint_kept", &[0, 1, 2, 5, 8, 10, 11, 25]),
@@ -16,14 +16,14 @@ pub const CALLS: [(&str, &[u8]); 31] = [
     ("head_hear_batch", &[0, 15, 24]),
     ("head_write", &[0, 26, 17, 24]),
     ("head_close", &[0, 26, 25]),
-    ("head_position", &[0, 1]),
-    ("head_kept", &[0, 1]),
+    ("head_has_position", &[0, 1]),
+    ("head_has_kept", &[0, 1]),
     ("head_register", &[0, 16]),
     ("head_window", &[0]),
     ("head_set_register", &[0, 16]),
-    ("head_interrupt", &[0, 1]),
+    ("head_has_interrupt", &[0, 1]),
     ("head_adopt", &[0, 27]),
-    ("head_offer", &[0, 1]),
+    ("head_has_offer", &[0, 1]),
     ("one_round_start", &[0, 1, 18, 3, 4]),
     ("one_round_restart", &[0, 1, 18, 3, 5]),
     ("one_round_listener_start", &[0, 1, 18, 3]),
@@ -34,6 +34,7 @@ pub const CALLS: [(&str, &[u8]); 31] = [
     ("one_round_reach", &[0, 1, 18, 5, 3, 8, 10, 11, 25]),
     ("head_reading", &[0, 1, 2]),
     ("host_page", &[0, 1, 24]),
+    ("head_window_reset", &[0]),
 ];
 
 #[derive(Default)]

@@ -7,12 +7,12 @@
  *                                      focus_one_round_listener_start
  *                           a round    focus_head_write to send; focus_head_hear for each link, its own too, or
  *                                      focus_head_hear_batch for all; focus_head_close
- *                           phase end  focus_head_close offers, focus_head_offer shows it, focus_head_adopt takes it
+ *                           phase end  focus_head_close offers, focus_head_has_offer shows it, focus_head_adopt takes it
  *                           strikes    focus_head_window_reset, then focus_head_restart, focus_listener_restart, focus_one_round_restart or
  *                                      focus_one_round_listener_restart
- *   what a head holds       numbers    focus_head_position, focus_head_kept, focus_head_since
+ *   what a head holds       numbers    focus_head_has_position, focus_head_has_kept, focus_head_since
  *                           floats     focus_head_reading; focus_host_page for n heads, as text
- *                           registers  focus_head_register, focus_head_window, focus_head_set_register, focus_head_interrupt
+ *                           registers  focus_head_register, focus_head_window, focus_head_set_register, focus_head_has_interrupt
  *   without a head          frames     focus_frame_check
  *                           settling   focus_midpoint, focus_midpoint_kept, focus_one_round_midpoint
  *                           fitting    focus_limits, focus_reach, focus_one_round_reach
@@ -20,10 +20,13 @@
  *   a run file              playing    focus_play
  *   an answer               in words   focus_refusal_text
  *   the library             version    focus_version
+ *                           up to 1.14.1, four calls under other names: focus_head_offer, focus_head_position, focus_head_kept,
+ *                                      focus_head_interrupt
  *
  * Each function returns 0 (FOCUS_OK), or the number of the refusal, and puts a result where the caller lends room for it. Seven answer
- * otherwise, and refuse nothing: focus_head_offer, focus_head_position and focus_head_kept 1 if there is one and 0 if there is none,
- * focus_head_interrupt 1 if the line is up, focus_head_since a count, focus_head_reading a kind, focus_version a version.
+ * otherwise, and refuse nothing. Those that say `has` in their name answer a question, 1 for yes and 0 for no: focus_head_has_offer,
+ * focus_head_has_position, focus_head_has_kept, focus_head_has_interrupt. focus_head_since answers a count, focus_head_reading a kind,
+ * focus_version a version.
  * focus_head_window and focus_head_window_reset return nothing.
  *
  * If a call has several faults, the first check that fails decides, in the order given at each call. A refusal writes nothing, but
@@ -83,8 +86,8 @@ extern "C" {
 /* Which interface this is. 1.14 has document 01, and of document 02 A1 to A14. A later one with the same first number has all of it. */
 #define FOCUS_VERSION_MAJOR 1
 #define FOCUS_VERSION_MINOR 14
-#define FOCUS_VERSION_PATCH 1
-#define FOCUS_VERSION_TEXT "1.14.1"
+#define FOCUS_VERSION_PATCH 2
+#define FOCUS_VERSION_TEXT "1.14.2"
 #define FOCUS_VERSION (FOCUS_VERSION_MAJOR * 10000 + FOCUS_VERSION_MINOR * 100 + FOCUS_VERSION_PATCH)
 
 /* No refusal: the version of the library that is linked, as FOCUS_VERSION is that of the header. */
@@ -409,14 +412,14 @@ FOCUS_MUST_USE uint8_t focus_head_adopt(focus_head *head);
 
 /* For the person who looks: 1 and what is offered in *kept, the new position with its kept range and trim; or 0 if no
  * offer stands, with *kept as it was. No refusal. */
-FOCUS_MUST_USE uint8_t focus_head_offer(const focus_head *head, focus_kept *kept);
+FOCUS_MUST_USE uint8_t focus_head_has_offer(const focus_head *head, focus_kept *kept);
 
 /* No refusal: 1 and the head's position in *position, or 0 if it holds none, with *position as it was. */
-FOCUS_MUST_USE uint8_t focus_head_position(const focus_head *head, int32_t *position);
+FOCUS_MUST_USE uint8_t focus_head_has_position(const focus_head *head, int32_t *position);
 
 /* No refusal: 1 and what the head's last phase end kept in *kept, or 0 if it passed none since it was started or
  * restarted, with *kept as it was. An offer does not show here until it is adopted. */
-FOCUS_MUST_USE uint8_t focus_head_kept(const focus_head *head, focus_kept *kept);
+FOCUS_MUST_USE uint8_t focus_head_has_kept(const focus_head *head, focus_kept *kept);
 
 /* No refusal: how many phase ends the head has passed since it was started or restarted, up to 255, where the count rests
  * (document 02, A10). A start and a restart set it to 0, and an adoption, which ends a phase, adds one. Nothing else
@@ -502,7 +505,20 @@ FOCUS_MUST_USE uint8_t focus_head_set_register(focus_head *head, uint32_t addres
 void focus_head_window_reset(focus_head *head, uint8_t mask);
 
 /* No refusal: 1 if the interrupt line is up, that is, if a pending event is also in the mask, else 0. */
-FOCUS_MUST_USE uint8_t focus_head_interrupt(const focus_head *head);
+FOCUS_MUST_USE uint8_t focus_head_has_interrupt(const focus_head *head);
+
+/* ---- the names that four calls had up to version 1.14.1: each is the call named with it, and new programs call that */
+#ifndef FOCUS_FORMER
+#if defined(__GNUC__)
+#define FOCUS_FORMER(name) __attribute__((deprecated("call " name)))
+#else
+#define FOCUS_FORMER(name)
+#endif
+#endif
+FOCUS_MUST_USE uint8_t focus_head_offer(const focus_head *head, focus_kept *kept) FOCUS_FORMER("focus_head_has_offer");
+FOCUS_MUST_USE uint8_t focus_head_position(const focus_head *head, int32_t *position) FOCUS_FORMER("focus_head_has_position");
+FOCUS_MUST_USE uint8_t focus_head_kept(const focus_head *head, focus_kept *kept) FOCUS_FORMER("focus_head_has_kept");
+FOCUS_MUST_USE uint8_t focus_head_interrupt(const focus_head *head) FOCUS_FORMER("focus_head_has_interrupt");
 
 /* ---- a quiet phase (document 02, A11): when all heads stand at one position
  *

@@ -30,6 +30,7 @@ use terms::refusal;
 
 mod block;
 mod close;
+pub mod former;
 pub mod page;
 pub mod place;
 mod settle;
@@ -215,7 +216,7 @@ pub extern "C" fn focus_head_adopt(h: &mut Block) -> u8
 
 // What is offered, where it was lent: the lowest kept entry, the highest, the trim and the position. 1, or 0 if there is no offer.
 #[no_mangle]
-pub extern "C" fn focus_head_offer(h: &Block, kept: &mut [i32; 4]) -> u8
+pub extern "C" fn focus_head_has_offer(h: &Block, kept: &mut [i32; 4]) -> u8
     ensures { λ r. ⌜ (r ≡ offerNumber (offerOf (now (h .entry)))) × (now (kept .exit) ≡ offerOr (offerOf (now (h .entry))) (now (kept .entry))) ⌝ }
 {
     match offer_in(h) {
@@ -239,7 +240,7 @@ pub extern "C" fn focus_head_write(h: &Block, buffer: &mut [u8], length: &mut us
 
 // The position that the head holds: 1, or 0 if it holds none.
 #[no_mangle]
-pub extern "C" fn focus_head_position(h: &Block, position: &mut i32) -> u8
+pub extern "C" fn focus_head_has_position(h: &Block, position: &mut i32) -> u8
     ensures { λ r. ⌜ (r ≡ heldNumber (headOf (now (h .entry)) .seat .position))
         × (now (position .exit) ≡ heldOr (headOf (now (h .entry)) .seat .position) (now (position .entry))) ⌝ }
 {
@@ -256,7 +257,7 @@ pub extern "C" fn focus_head_position(h: &Block, position: &mut i32) -> u8
 
 // The kept range that the head holds: 1, and its lowest entry, its highest, its trim and its position; or 0 if it holds none.
 #[no_mangle]
-pub extern "C" fn focus_head_kept(h: &Block, kept: &mut [i32; 4]) -> u8
+pub extern "C" fn focus_head_has_kept(h: &Block, kept: &mut [i32; 4]) -> u8
     ensures { λ r. ⌜ (r ≡ rangeNumber (headOf (now (h .entry)) .seat .last))
         × (now (kept .exit) ≡ rangeOr (headOf (now (h .entry)) .seat .last) (now (kept .entry))) ⌝ }
 {

@@ -64,7 +64,7 @@ pub extern "C" fn focus_head_window_reset(h: &mut Block, mask: u8)
 
 // Whether the interrupt line is up: 1, or 0.
 #[no_mangle]
-pub extern "C" fn focus_head_interrupt(h: &Block) -> u8
+pub extern "C" fn focus_head_has_interrupt(h: &Block) -> u8
     ensures { λ r. ⌜ r ≡ bit (isUp (registersOf (now (h .entry)))) ⌝ }
 {
     head_window::is_up(registers_in(h)) as u8

@@ -4,8 +4,8 @@ use Rattle.settle_midpoint.proofs.Stored.{stored}
 use Rattle.terms.proofs.Refusals.{given-out}
 use Rattle.head_lent.specs.Answers.{offerNumber, offerOr}
 use borrow.Author.Needs.{needs}
-use Rattle.head_c.proofs.focus_head_offer.Statement.{statement}
-use Rattle.head_c.proofs.focus_head_offer.Tie as tie
+use Rattle.head_c.proofs.focus_head_has_offer.Statement.{statement}
+use Rattle.head_c.proofs.focus_head_has_offer.Tie as tie
 
 returns : tie.Need-returns
 returns c = given-out offerNumber offerOr refl refl (c .before .before .offer-in .ensures) (c .enum-told .given .1)
@@ -18,8 +18,8 @@ returns-2 c =
     (stored _ (record { sfits = told .0 .1 }) (record { sfits = told .1 .0 .1 }) (search needs) (record { sfits = told .1 .1 .1 .0 .1 }))
     (l .before .before .offer-in .ensures) (l .o .given .1)
 
-pub focus-head-offer-spec : {M : Type 1} → statement M
-focus-head-offer-spec =
+pub focus-head-has-offer-spec : {M : Type 1} → statement M
+focus-head-has-offer-spec =
     tie.close
     (tie.spec
     (λ c κs. search needs)

@@ -8,8 +8,8 @@ use Rattle.head_spec.specs.declared.Seat.{Seat}
 use Rattle.head_lent.specs.Answers.{heldNumber, heldOr}
 use Rattle.head_c.specs.Blocks.{headOf}
 use borrow.Author.Needs.{needs}
-use Rattle.head_c.proofs.focus_head_position.Statement.{statement}
-use Rattle.head_c.proofs.focus_head_position.Tie as tie
+use Rattle.head_c.proofs.focus_head_has_position.Statement.{statement}
+use Rattle.head_c.proofs.focus_head_has_position.Tie as tie
 
 -- s was read, and its position found to be e
 found : {s t : Seat} {e : Entry} {n : ℕ} {v : ℤ} (old : ℤ) → s ≡ t → s .position ≡ e → n ≡ heldNumber e → v ≡ heldOr e old
@@ -28,8 +28,8 @@ returns-2 c =
     let s = c .before .before .before in
     found _ (s .seat-in .ensures) (c .before .e .given .1) refl (toZ-ofZ (record { sfits = c .known-told .given .0 .1 }))
 
-pub focus-head-position-spec : {M : Type 1} → statement M
-focus-head-position-spec =
+pub focus-head-has-position-spec : {M : Type 1} → statement M
+focus-head-has-position-spec =
     tie.close
     (tie.spec
     (λ c κs. search needs)

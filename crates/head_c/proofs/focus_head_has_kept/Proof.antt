@@ -9,8 +9,8 @@ use Rattle.head_spec.specs.declared.Seat.{Seat}
 use Rattle.head_lent.specs.Answers.{rangeNumber, rangeOr}
 use Rattle.head_c.specs.Blocks.{headOf}
 use borrow.Author.Needs.{needs}
-use Rattle.head_c.proofs.focus_head_kept.Statement.{statement}
-use Rattle.head_c.proofs.focus_head_kept.Tie as tie
+use Rattle.head_c.proofs.focus_head_has_kept.Statement.{statement}
+use Rattle.head_c.proofs.focus_head_has_kept.Tie as tie
 
 -- s was read, and its range found to be x
 found : {s t : Seat} {x : LastKept} {n : ℕ} {v : List ℤ} (old : List ℤ) → s ≡ t → s .last ≡ x → n ≡ rangeNumber x → v ≡ rangeOr x old
@@ -31,8 +31,8 @@ returns-2 c =
     found _ (l .before .before .seat-in .ensures) (l .last .given .1) refl
     (stored _ (record { sfits = told .0 .1 }) (record { sfits = told .1 .0 .1 }) (search needs) (record { sfits = told .1 .1 .1 .0 .1 }))
 
-pub focus-head-kept-spec : {M : Type 1} → statement M
-focus-head-kept-spec =
+pub focus-head-has-kept-spec : {M : Type 1} → statement M
+focus-head-has-kept-spec =
     tie.close
     (tie.spec
     (λ c κs. search needs)
