@@ -1,35 +1,28 @@
 -- The entries of a table that was made of entries are these.
-use mathlib.Core.Path.{_≡_, refl, ap, sym, _∙_}
+use mathlib.Core.Path.{_≡_, refl, ap, _∙_}
 use mathlib.Core.Bool.{Bool, true, false, cond}
-use mathlib.Core.List.{List}
-use Prim.Native.Nat.{ℕ, zero, suc, _+_, _-_, _*_, _^_, _≤_, _<_}
+use Prim.Native.Nat.{ℕ, zero, suc, _-_, _^_, _≤_}
 use native.Mathlib.Omega.{arith}
 use native.Mathlib.Nat.{mul-comm}
-use lib.IntN.{ℤ, pos}
-use lib.ListN.{length, getD, set, length-set}
+use lib.IntN.{pos}
+use lib.ListN.{getD}
 use lib.Seq.{getD-set-same, getD-set-other}
 use Rattle.terms.specs.declared.Entry.{Entry}
 use Rattle.terms.specs.declared.Entry.the-variants.{Null, Position}
 use Rattle.marks.specs.Marks.{bitOf}
-use Rattle.marks.proofs.Marks.{bit-none}
 use Rattle.marks.proofs.Words.{bit-low, bit-high}
 use Rattle.terms.specs.Counting.{Each}
 use Rattle.terms.proofs.Sums.{each-more}
-use Rattle.entries.specs.Entries.{entryAt, zeros}
+use Rattle.entries.specs.Entries.{entryAt}
 use Rattle.entries.specs.Tables.{tableAt, mark, number, marksOf, numbersOf, tableOf}
-use Rattle.entries.proofs.Tables.{marks-below}
+use Rattle.entries.proofs.Tables.{marks-below, numbers-long}
 
-numbers-long : (n : ℕ) (E : ℕ → Entry) → length (numbersOf n E) ≡ 32
-unfolding numbersOf zeros
-numbers-long zero E = refl
-numbers-long (suc n) E = length-set (numbersOf n E) n (number (E n)) ∙ numbers-long n E
-
-numbers-at : (n : ℕ) (E : ℕ → Entry) → n ≤ 32 → Each n (λ j. getD (numbersOf n E) j (pos 0) ≡ number (E j))
+pub numbers-at : (n : ℕ) (E : ℕ → Entry) → n ≤ 32 → Each n (λ j. getD (numbersOf n E) j (pos 0) ≡ number (E j))
 unfolding numbersOf
 numbers-at zero E l = λ j h. absurd (omega arith)
 numbers-at (suc n) E l =
     each-more (λ j h. getD-set-other (numbersOf n E) n j (number (E n)) (pos 0) (omega arith) ∙ numbers-at n E (omega arith) j h)
-    (getD-set-same (numbersOf n E) n (number (E n)) (pos 0) (omega (arith, numbers-long n E)))
+    (getD-set-same (numbersOf n E) n (number (E n)) (pos 0) (omega (arith, numbers-long E n)))
 
 abbrev isHeld : Entry → Bool
 isHeld Null = false

@@ -54,7 +54,7 @@ pub numbers-next : (E : ℕ → Entry) (j : ℕ) {out : List ℤ} {v : ℤ} → 
 unfolding numbersOf
 numbers-next E j p q = rw (add-one j, p, q)
 
-numbers-long : (E : ℕ → Entry) (n : ℕ) → length (numbersOf n E) ≡ 32
+pub numbers-long : (E : ℕ → Entry) (n : ℕ) → length (numbersOf n E) ≡ 32
 unfolding numbersOf zeros
 numbers-long E zero = refl
 numbers-long E (suc n) = length-set (numbersOf n E) n (number (E n)) ∙ numbers-long E n

@@ -5,7 +5,7 @@ use mathlib.Core.Path.{_≡_, refl, sym}
 use mathlib.Core.Bool.{true, cond, true≢false}
 use mathlib.Core.Logic.{_≢_}
 use mathlib.Core.List.{List, []}
-use Prim.Native.Nat.{ℕ, _+_, _*_, _≤_}
+use Prim.Native.Nat.{ℕ, _≤_}
 use native.Mathlib.Omega.{arith}
 use lib.Dec.{eqb, leb}
 use lib.ListN.{length, drop}
@@ -51,10 +51,6 @@ module _ (s : List ℕ) (accepted : frameRefusal s ≡ 0) where
 
   pub accepted-long : 7 ≤ length s
   accepted-long = rw accepted-length (known-long (kindField s) (countField s) accepted-known)
-
-  -- a list has its marks and all its entries
-  pub accepted-list : kindField s ≡ list → length s ≡ 12 + 4 * countField s
-  accepted-list h = rw h at accepted-length
 
   pub accepted-rest : restOf s ≡ drop 7 s
   unfolding restOf

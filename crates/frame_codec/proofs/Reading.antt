@@ -11,7 +11,7 @@ use Rattle.frame_check.specs.Check.{kindField, senderField, phaseField, frameRe
 use Rattle.terms.proofs.Checks.{followed}
 use Rattle.frame_check.proofs.Laws.{checkFrame-refuses}
 use Rattle.frame_spec.specs.declared.Said.{Said}
-use Rattle.frame_spec.specs.Said.{Meaning, refused, roundOf, restField, refusalOf, said, saidOf}
+use Rattle.frame_spec.specs.Said.{refused, roundOf, restField, refusalOf, said, saidOf}
 use Rattle.frame_codec.specs.Steps.{fromMarks, commonRefusal, saidUnless}
 
 module _ (n p r k : ℕ) (s : List ℕ) where

@@ -5,5 +5,4 @@ pub mod FieldByField
 pub mod Fronts
 pub mod ReadsBack
 pub mod OneMeaning
-pub mod Senders
 pub mod Tables

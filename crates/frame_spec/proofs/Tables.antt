@@ -10,8 +10,8 @@ use native.Mathlib.Decide.{decLt}
 use lib.Arith.{mod-mul}
 use lib.Dec.{eqb}
 use lib.Pow.{pow-pos}
-use lib.ListN.{length, getD, length-set}
-use lib.Seq.{ext-getD, getD-set-same, getD-set-other}
+use lib.ListN.{length, getD}
+use lib.Seq.{ext-getD, getD-set-other}
 use lib.IntN.{ℤ, pos}
 use Rattle.terms.specs.declared.Entry.{Entry}
 use Rattle.terms.specs.declared.Entry.the-variants.{Null, Position}
@@ -19,9 +19,9 @@ use Rattle.terms.specs.declared.Table.{Table}
 use Rattle.marks.specs.Marks.{bitOf}
 use Rattle.entries.specs.Entries.{fits, entryAt, numbers}
 use Rattle.entries.specs.Tables.{tableAt, mark, number, marksOf, numbersOf, tableOf}
-use Rattle.entries.proofs.Entries.{numbers-length}
+use Rattle.entries.proofs.Tables.{numbers-long}
+use Rattle.entries.proofs.TableAt.{numbers-at}
 use Rattle.terms.specs.Counting.{Each}
-use Rattle.terms.proofs.Sums.{each-more}
 use Rattle.frame_spec.specs.Proper.{ProperTable}
 use Rattle.frame_spec.proofs.Listing.{numbers-none, unmarked-zero}
 
@@ -50,19 +50,13 @@ record FillResult (n : ℕ) (E : ℕ → Entry) (l : List ℤ) : Type 0 where
   read : Each n (λ j. getD l j (pos 0) ≡ number (E j))
   none : (j : ℕ) → n ≤ j → getD l j (pos 0) ≡ pos 0
 
-filled : (E : ℕ → Entry) (n : ℕ) → n ≤ 32 → FillResult n E (numbersOf n E)
+past : (E : ℕ → Entry) (n j : ℕ) → n ≤ j → getD (numbersOf n E) j (pos 0) ≡ pos 0
 unfolding numbersOf numbers
-filled E zero h = record { long = numbers-length [] 0; read = λ j l. absurd (omega arith); none = λ j l. numbers-none [] 0 j (omega arith) }
-filled E (suc n) h =
-    let F = filled E n (omega arith) in
-    let x = number (E n) in
-    record {
-      long = length-set (numbersOf n E) n x ∙ F .long;
-      read =
-          each-more (λ j l. getD-set-other (numbersOf n E) n j x (pos 0) (omega arith) ∙ F .read j l)
-          (getD-set-same (numbersOf n E) n x (pos 0) (omega (arith, F .long)));
-      none = λ j l. getD-set-other (numbersOf n E) n j x (pos 0) (omega arith) ∙ F .none j (omega arith);
-    }
+past E zero j l = numbers-none [] 0 j (omega arith)
+past E (suc n) j l = getD-set-other (numbersOf n E) n j (number (E n)) (pos 0) (omega arith) ∙ past E n j (omega arith)
+
+filled : (E : ℕ → Entry) (n : ℕ) → n ≤ 32 → FillResult n E (numbersOf n E)
+filled E n h = record { long = numbers-long E n; read = numbers-at n E h; none = past E n }
 
 filled-same : {n : ℕ} {E : ℕ → Entry} {l l′ : List ℤ} → FillResult n E l → FillResult n E l′ → l ≡ l′
 filled-same {n} {E} {l} {l′} F F′ = ext-getD (pos 0) l l′ (F .long ∙ sym (F′ .long)) (λ j h. go j (decLt j n))
