@@ -29,7 +29,7 @@ use Rattle.head_spec.specs.declared.Head.{Head}
 use Rattle.head_spec.specs.declared.Closed.{Closed}
 use Rattle.head_spec.specs.declared.Offer.{Offer}
 use Rattle.head_spec.specs.Record.{noEntries, opened}
-use Rattle.head_spec.specs.Seats.{firstSeat, listenerSeat, healedSeat, confessionSeat, isLast, nextSeat}
+use Rattle.head_spec.specs.Seats.{firstSeat, healedSeat, confessionSeat, isLast, nextSeat}
 use Rattle.head_spec.specs.Calls.{answer, startRefusal, started, start, restartRefusal, restarted, restart}
 use Rattle.head_spec.specs.Calls.{startListenerRefusal, startedListener, startListener, restartListenerRefusal, restartListener}
 use Rattle.head_spec.specs.Calls.{closedCollection, closedPhase, close, adopt}
@@ -91,7 +91,7 @@ seat-fits s P =
       phase = omega (arith, P .to-last);
       round = omega (arith, P .round, rounds-few (s .family));
       position = entry-fits (s .n) (s .position) (P .position);
-      last = last-fits (s .f) (s .last) (omega arith) (P .last);
+      kept = last-fits (s .f) (s .kept) (omega arith) (P .kept);
       since = omega (arith, P .since);
     }
 
@@ -100,7 +100,7 @@ next-fits : (s : Seat) (k : Kept) → ProperSeat s → FitLast (LastKept.Range k
 next-fits s k P F =
     let S = seat-fits s P in
     let (phase, round) = times (isLast s) refl in
-    record { n = S .n; f = S .f; number = S .number; phase = phase; round = round; position = F .3; last = F; since = omega arith }
+    record { n = S .n; f = S .f; number = S .number; phase = phase; round = round; position = F .3; kept = F; since = omega arith }
   where
     times : (b : Bool) → isLast s ≡ b → (cond b (s .phase) (s .phase + 1) < 65536) × (cond b (s .round) 0 < 256)
     times true e = (omega (arith, P .to-last), seat-fits s P .round)
@@ -121,7 +121,7 @@ module _ (w : List ℕ) (block : IsBlock w) where
 
   pub after-start : (K : Family) (n f i : ℕ) (v : ℤ) → headOf (withAnswer w (start (headOf w) K n f i v)) ≡ start (headOf w) K n f i v .head
   unfolding start started
-  after-start K n f i v = after-answer (startRefusal K n f i v) (firstSeat K n f i v) (proper-started K n f i v)
+  after-start K n f i v = after-answer (startRefusal K n f i v) (firstSeat K n f i (Entry.Position v)) (proper-started K n f i v)
 
   pub after-restart : (K : Family) (n f i p r : ℕ) → headOf (withAnswer w (restart (headOf w) K n f i p r)) ≡ restart (headOf w) K n f i p r .head
   unfolding restart restarted
@@ -129,7 +129,7 @@ module _ (w : List ℕ) (block : IsBlock w) where
 
   pub after-start-listener : (K : Family) (n f i : ℕ) → headOf (withAnswer w (startListener (headOf w) K n f i)) ≡ startListener (headOf w) K n f i .head
   unfolding startListener startedListener
-  after-start-listener K n f i = after-answer (startListenerRefusal K n f i) (listenerSeat K n f i) (proper-started-listener K n f i)
+  after-start-listener K n f i = after-answer (startListenerRefusal K n f i) (firstSeat K n f i Entry.Null) (proper-started-listener K n f i)
 
   pub after-restart-listener : (K : Family) (n f i p r : ℕ) → headOf (withAnswer w (restartListener (headOf w) K n f i p r)) ≡ restartListener (headOf w) K n f i p r .head
   unfolding restartListener restarted

@@ -42,7 +42,7 @@ module _ (w w′ : List ℕ) where
         healed = flag (h 5 (omega arith) i);
         ended = flag (h 6 (omega arith) i);
         position = entryIn (h 7 (omega arith) i) (signedOf (h 8 (omega arith) i));
-        last =
+        kept =
             rangeIn (h 9 (omega arith) i) (signedOf (h 10 (omega arith) i)) (signedOf (h 11 (omega arith) i)) (h 12 (omega arith) i % 256)
             (signedOf (h 13 (omega arith) i));
         since = h 15 (omega arith) i % 256;

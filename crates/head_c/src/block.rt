@@ -73,7 +73,7 @@ pub fn seat_in(h: &[u32]) -> Seat
 {
     let family = family_in(h[place::FAMILY]);
     let position = entry_in(h[place::HELD], h[place::POSITION]);
-    let last = range_in(
+    let kept = range_in(
         h[place::RANGED],
         h[place::LOW],
         h[place::HIGH],
@@ -90,7 +90,7 @@ pub fn seat_in(h: &[u32]) -> Seat
         healed: h[place::HEALED] != 0,
         ended: h[place::ENDED] != 0,
         position,
-        last,
+        kept,
         since: (h[place::SINCE] % 256) as u8,
     }
 }
@@ -194,20 +194,20 @@ fn word_of(e: Entry) -> u32
 }
 
 // Whether a kept range is held.
-fn is_ranged(last: LastKept) -> u32
-    ensures { λ r. ⌜ r ≡ rangeNumber last ⌝ }
+fn is_ranged(kept: LastKept) -> u32
+    ensures { λ r. ⌜ r ≡ rangeNumber kept ⌝ }
 {
-    match last {
+    match kept {
         LastKept::Nothing => 0,
         LastKept::Range(_) => 1,
     }
 }
 
 // It, with zeros if none is held.
-fn kept_of(last: LastKept) -> Kept
-    ensures { λ r. ⌜ r ≡ keptOf last ⌝ }
+fn kept_of(held: LastKept) -> Kept
+    ensures { λ r. ⌜ r ≡ keptOf held ⌝ }
 {
-    match last {
+    match held {
         LastKept::Nothing => Kept {
             low: 0,
             high: 0,
@@ -235,8 +235,8 @@ pub fn put_seat(h: &mut [u32], s: Seat)
 {
     let family = s.family;
     let e = s.position;
-    let last = s.last;
-    let kept = kept_of(last);
+    let range = s.kept;
+    let kept = kept_of(range);
     h[place::N] = s.n as u32;
     h[place::F] = s.f as u32;
     h[place::NUMBER] = s.number as u32;
@@ -246,7 +246,7 @@ pub fn put_seat(h: &mut [u32], s: Seat)
     h[place::ENDED] = s.ended as u32;
     h[place::HELD] = is_held(e);
     h[place::POSITION] = word_of(e);
-    h[place::RANGED] = is_ranged(last);
+    h[place::RANGED] = is_ranged(range);
     h[place::LOW] = fields::unsigned(kept.low);
     h[place::HIGH] = fields::unsigned(kept.high);
     h[place::TRIM] = kept.trim as u32;

@@ -6,11 +6,11 @@ ghost use Prim.Native.Nat.{_+_, min};
 ghost use Rattle.terms.specs.Sizes.{roundsOf};
 ghost use Rattle.terms.specs.Refusals.{check};
 ghost use Rattle.head_spec.specs.Record.{noEntries, opened, rows};
-ghost use Rattle.head_spec.specs.Seats.{mostCounted, healedSeat, confessionSeat, nextSeat};
+ghost use Rattle.head_spec.specs.Seats.{mostCounted, firstSeat, healedSeat, confessionSeat, nextSeat};
 ghost use Rattle.head_spec.specs.Calls.{isTime, start, restart, startListener, restartListener, writeAnswer, writeBuffer};
 ghost use Rattle.head_spec.specs.Calls.{closedCollection, closedPhase, settlingOf, closeIn, isLastRound, close, adopt};
 ghost use Rattle.head_spec.specs.Offers.{lapsed, offered};
-ghost use Rattle.head_calls.specs.Steps.{isMember, checkMember, openingSeat, startAs, restartAs, saidBy};
+ghost use Rattle.head_calls.specs.Steps.{isMember, checkMember, startAs, restartAs, saidBy};
 use frame_spec::Said;
 use frame_spec::Written;
 use head_spec::Answer;
@@ -64,8 +64,8 @@ pub fn opened(seat: Seat, list: Table) -> Head
 // ---- The seats that calls make.
 
 // A start: phase 1 opens.
-pub fn opening_seat(family: Family, n: u8, f: u8, number: u8, held: Entry) -> Seat
-    ensures { λ r. ⌜ r ≡ openingSeat family n f number held ⌝ }
+pub fn first_seat(family: Family, n: u8, f: u8, number: u8, held: Entry) -> Seat
+    ensures { λ r. ⌜ r ≡ firstSeat family n f number held ⌝ }
 {
     Seat {
         family,
@@ -77,7 +77,7 @@ pub fn opening_seat(family: Family, n: u8, f: u8, number: u8, held: Entry) -> Se
         healed: false,
         ended: false,
         position: held,
-        last: LastKept::Nothing,
+        kept: LastKept::Nothing,
         since: 0,
     }
 }
@@ -86,20 +86,11 @@ pub fn opening_seat(family: Family, n: u8, f: u8, number: u8, held: Entry) -> Se
 pub fn healed_seat(family: Family, n: u8, f: u8, number: u8, phase: u16, round: u8) -> Seat
     ensures { λ r. ⌜ r ≡ healedSeat family n f number phase round ⌝ }
 {
-    let none = Entry::Null;
-    Seat {
-        family,
-        n,
-        f,
-        number,
-        phase,
-        round,
-        healed: true,
-        ended: false,
-        position: none,
-        last: LastKept::Nothing,
-        since: 0, // a restart clears it
-    }
+    let mut seat = first_seat(family, n, f, number, Entry::Null);
+    seat.phase = phase;
+    seat.round = round;
+    seat.healed = true;
+    seat
 }
 
 // The collection round is closed.
@@ -125,9 +116,9 @@ pub fn next_seat(seat: Seat, kept: Kept) -> Seat
     ensures { λ r. ⌜ r ≡ nextSeat seat kept ⌝ }
 {
     let held = Entry::Position(kept.position);
-    let last = LastKept::Range(kept);
+    let range = LastKept::Range(kept);
     let family = seat.family;
-    let mut next = Seat {
+    let mut later = Seat {
         family,
         n: seat.n,
         f: seat.f,
@@ -135,17 +126,18 @@ pub fn next_seat(seat: Seat, kept: Kept) -> Seat
         phase: seat.phase,
         round: seat.round,
         healed: false,
-        ended: true,
+        ended: false,
         position: held,
-        last,
+        kept: range,
         since: one_more(seat.since),
     };
     if seat.phase < 65535 {
-        next.phase = seat.phase + 1;
-        next.round = 0;
-        next.ended = false;
+        later.phase = seat.phase + 1;
+        later.round = 0;
+    } else {
+        later.ended = true;
     }
-    next
+    later
 }
 
 // ---- The calls.
@@ -222,7 +214,7 @@ fn start_as(
             head: h,
         };
     }
-    let seat = opening_seat(family, n as u8, f as u8, number as u8, held);
+    let seat = first_seat(family, n as u8, f as u8, number as u8, held);
     let head = opened(seat, no_entries());
     Answer { refusal: 0, head }
 }

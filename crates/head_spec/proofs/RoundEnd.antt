@@ -98,9 +98,9 @@ pub settled-held : (h : Head) {k : Kept} → endRound h .closed ≡ Closed.Settl
 unfolding closedPhase
 settled-held h e = ap (λ (x : Head). x .seat .position) (rw e at (answers h))
 
-pub settled-range : (h : Head) {k : Kept} → endRound h .closed ≡ Closed.Settled k → endRound h .head .seat .last ≡ LastKept.Range k
+pub settled-range : (h : Head) {k : Kept} → endRound h .closed ≡ Closed.Settled k → endRound h .head .seat .kept ≡ LastKept.Range k
 unfolding closedPhase
-settled-range h e = ap (λ (x : Head). x .seat .last) (rw e at (answers h))
+settled-range h e = ap (λ (x : Head). x .seat .kept) (rw e at (answers h))
 
 pub refused-kept : (h : Head) {c : ℕ} → endRound h .closed ≡ Closed.Refused c → endRound h .head ≡ h
 refused-kept h e = rw e at (answers h)
@@ -123,7 +123,7 @@ proper-confession {s} c P =
       round = rw (not-last (s .family) (s .round) c .0) (omega arith);
       position = P .position;
       holds = λ o r. absurd (omega arith);
-      last = P .last;
+      kept = P .kept;
       since = P .since;
     }
 
@@ -138,7 +138,7 @@ proper-next {s} k P K =
       round = round;
       position = K .position;
       holds = λ o r t q. not-null q refl;
-      last = K;
+      kept = K;
       since = omega arith;
     }
   where

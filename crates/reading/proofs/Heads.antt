@@ -26,11 +26,11 @@ use Rattle.reading.specs.Heads.{FollowsAdoption, ReadsAdopted, ReadingHo
 -- ---- of any record
 
 -- closing leaves what the head holds of its last phase end
-closing-keeps : (c : Closed) (h h′ : Head) → Closes c h h′ → h′ .seat .last ≡ h .seat .last
+closing-keeps : (c : Closed) (h h′ : Head) → Closes c h h′ → h′ .seat .kept ≡ h .seat .kept
 unfolding closedCollection
-closing-keeps (Closed.Refused c) h h′ e = ap (λ (y : Head). y .seat .last) (e .0)
-closing-keeps Closed.Listed h h′ e = ap (λ (y : Head). y .seat .last) (e .0)
-closing-keeps (Closed.Settled k) h h′ e = ap (λ (y : Head). y .seat .last) (e .0)
+closing-keeps (Closed.Refused c) h h′ e = ap (λ (y : Head). y .seat .kept) (e .0)
+closing-keeps Closed.Listed h h′ e = ap (λ (y : Head). y .seat .kept) (e .0)
+closing-keeps (Closed.Settled k) h h′ e = ap (λ (y : Head). y .seat .kept) (e .0)
 
 -- what a call answers, by its number
 accepted : (c : ℕ) (new old : Head) → answer c new old .refusal ≡ 0 → answer c new old .head ≡ new
@@ -48,7 +48,7 @@ follows-adoption =
       started = λ K n f i v. refl;
       restarted = λ K n f i p r. refl;
       listening = λ K n f i. refl;
-      heard = λ h k s. ap (λ (x : Seat). readingOf (x .last)) (hear-keeps h k s);
+      heard = λ h k s. ap (λ (x : Seat). readingOf (x .kept)) (hear-keeps h k s);
       closed = λ h. ap readingOf (closing-keeps (close h .closed) h (close h .head) (closes h));
       adopted = λ h k e. ap headReading (accepted (adoptRefusal h (Offer.Standing k)) (closedPhase h k) h e);
       refused = λ h o c e. ap headReading (stays (adoptRefusal h o) c (adopted h o) h e);
@@ -72,4 +72,4 @@ pub reading-holds : ReadingHolds
 reading-holds h o x R =
     let (reached, passed) = offering-reached h o x R in
     let e = holds-passed h x passed in
-    reads-as x (ap readingOf e) (reads (h .seat .f) x (rw e at (demand-2 .proper h reached .seat .last)))
+    reads-as x (ap readingOf e) (reads (h .seat .f) x (rw e at (demand-2 .proper h reached .seat .kept)))

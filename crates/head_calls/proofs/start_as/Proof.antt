@@ -25,20 +25,20 @@ module _ (c : tie.Else1) where
   size : Sized (first .args .family) (first .args .n) (first .args .f)
   size = member-sized (first .args .family) (first .args .listens) _ _ _ _ accepted
 
-cast-opening-seat : tie.Need-cast-opening-seat
-cast-opening-seat c = omega (arith, size c .most)
+cast-first-seat : tie.Need-cast-first-seat
+cast-first-seat c = omega (arith, size c .most)
 
-cast-opening-seat-2 : tie.Need-cast-opening-seat-2
-cast-opening-seat-2 c = omega (arith, size c .most, size-large (first c .args .family) _ _ (size c .limit))
+cast-first-seat-2 : tie.Need-cast-first-seat-2
+cast-first-seat-2 c = omega (arith, size c .most, size-large (first c .args .family) _ _ (size c .limit))
 
-cast-opening-seat-3 : tie.Need-cast-opening-seat-3
-cast-opening-seat-3 c = omega (arith, member-small (first c .args .family) (first c .args .listens) _ _ _ _ (accepted c))
+cast-first-seat-3 : tie.Need-cast-first-seat-3
+cast-first-seat-3 c = omega (arith, member-small (first c .args .family) (first c .args .listens) _ _ _ _ (accepted c))
 
 returns-2 : tie.Need-returns-2
 unfolding startAs
 returns-2 c =
     let d = c .before .before in
-    rw (c .opened .ensures, c .before .no-entries .ensures, d .opening-seat .ensures) (sym (answer-taken _ _ (accepted (d .before))))
+    rw (c .opened .ensures, c .before .no-entries .ensures, d .first-seat .ensures) (sym (answer-taken _ _ (accepted (d .before))))
 
 pub start-as-spec : {M : Type 1} → statement M
 start-as-spec =
@@ -46,9 +46,9 @@ start-as-spec =
     (tie.spec
     (λ c κs. search needs)
     returns
-    cast-opening-seat
-    cast-opening-seat-2
-    cast-opening-seat-3
+    cast-first-seat
+    cast-first-seat-2
+    cast-first-seat-3
     (λ c κs. search needs)
     (λ c κs. search needs)
     (λ c κs. search needs)
