@@ -40,7 +40,14 @@ fn restart_seat(family: Family, n: u32, f: u32, number: u32, phase: u32, round: 
     )
 }
 
-pub fn start_in(h: &mut Block, family: Family, n: u32, f: u32, number: u32, position: i32) -> u8
+pub(crate) fn start_in(
+    h: &mut Block,
+    family: Family,
+    n: u32,
+    f: u32,
+    number: u32,
+    position: i32,
+) -> u8
     ensures { λ r. ⌜ (r ≡ start (headOf (now (h .entry))) family n f number position .refusal)
         × (now (h .exit) ≡ blockAfter (now (h .entry)) (starts family n f number position)) ⌝ }
 {
@@ -56,7 +63,7 @@ pub fn start_in(h: &mut Block, family: Family, n: u32, f: u32, number: u32, posi
     refused
 }
 
-pub fn restart_in(
+pub(crate) fn restart_in(
     h: &mut Block,
     family: Family,
     n: u32,
@@ -80,7 +87,7 @@ pub fn restart_in(
     refused
 }
 
-pub fn start_listener_in(h: &mut Block, family: Family, n: u32, f: u32, number: u32) -> u8
+pub(crate) fn start_listener_in(h: &mut Block, family: Family, n: u32, f: u32, number: u32) -> u8
     ensures { λ r. ⌜ (r ≡ startListener (headOf (now (h .entry))) family n f number .refusal)
         × (now (h .exit) ≡ blockAfter (now (h .entry)) (startsListener family n f number)) ⌝ }
 {
@@ -91,7 +98,7 @@ pub fn start_listener_in(h: &mut Block, family: Family, n: u32, f: u32, number: 
     refused
 }
 
-pub fn restart_listener_in(
+pub(crate) fn restart_listener_in(
     h: &mut Block,
     family: Family,
     n: u32,
