@@ -1,5 +1,6 @@
 -- The blocks that calls make: each call does to the block what the call by value does to its record and to the offer beside it.
 use mathlib.Core.Path.{_≡_, refl, ap, sym, _∙_}
+use mathlib.Core.Logic.{_≢_}
 use mathlib.Core.Bool.{Bool, true, false, cond}
 use mathlib.Core.List.{List, [], _∷_}
 use Prim.Native.Nat.{ℕ, zero, suc, _+_}
@@ -43,41 +44,36 @@ moved p q H = rw (p, q) H
 proper-of : {h : Head} {o : Offer} → (x : LastKept) × Offering h o x → ProperHead h
 proper-of {h} {o} H = demand-2 .proper h (offering-reached h o (H .0) (H .1) .0)
 
--- ---- starts and restarts
+-- ---- starts and restarts: taken, the record is new; refused, all is as it was
 
--- accepted
-fresh : (c : ℕ) (new old : Head) (o : Offer) → answer c new old .refusal ≡ 0 → (c ≡ 0 → Offering new Offer.Nothing LastKept.Nothing)
+left : (c : ℕ) (new old : Head) (o : Offer) → (answer c new old .refusal ≢ 0 → (x : LastKept) × Offering old o x) → (c ≡ 0 → Offering new Offer.Nothing LastKept.Nothing)
     → (x : LastKept) × Offering (answer c new old .head) (lapsed (answer c new old .refusal) o) x
-fresh zero new old o e N = (LastKept.Nothing, N refl)
-fresh (suc c) new old o e N = absurd (omega arith)
-
--- or not
-either : (c : ℕ) (new old : Head) (o : Offer) → (x : LastKept) × Offering old o x → (c ≡ 0 → Offering new Offer.Nothing LastKept.Nothing)
-    → (x : LastKept) × Offering (answer c new old .head) (lapsed (answer c new old .refusal) o) x
-either zero new old o H N = (LastKept.Nothing, N refl)
-either (suc c) new old o H N = H
+left zero new old o H N = (LastKept.Nothing, N refl)
+left (suc c) new old o H N = H (λ e. omega arith)
 
 module _ (w : List ℕ) (block : IsBlock w) where
   abbrev h : Head
   h = headOf w
 
-  opened-holds : (c : Call) → Opens c → numberAfter w c ≡ 0 → Holds (blockAfter w c)
+  opening-holds : (c : Call) → Opens c → (numberAfter w c ≢ 0 → Holds w) → Holds (blockAfter w c)
   unfolding blockAfter start restart startListener restartListener
-  opened-holds (starts K n f i v) o e =
-      moved (head-started w block K n f i v) (offer-after w block _ (start h K n f i v)) (fresh (startRefusal K n f i v) _ h (offerOf w) e (offering.starts K n f i v))
-  opened-holds (restarts K n f i p r) o e =
+  opening-holds (starts K n f i v) o H =
+      moved (head-started w block K n f i v) (offer-after w block _ (start h K n f i v))
+      (left (startRefusal K n f i v) _ h (offerOf w) H (offering.starts K n f i v))
+  opening-holds (restarts K n f i p r) o H =
       moved (head-restarted w block K n f i p r) (offer-after w block _ (restart h K n f i p r))
-      (fresh (restartRefusal K n f i p r) _ h (offerOf w) e (offering.restarts K n f i p r))
-  opened-holds (startsListener K n f i) o e =
-      moved (listener-started w block K n f i) (offer-after w block _ (startListener h K n f i)) (fresh (startListenerRefusal K n f i) _ h (offerOf w) e (offering.listens K n f i))
-  opened-holds (restartsListener K n f i p r) o e =
+      (left (restartRefusal K n f i p r) _ h (offerOf w) H (offering.restarts K n f i p r))
+  opening-holds (startsListener K n f i) o H =
+      moved (listener-started w block K n f i) (offer-after w block _ (startListener h K n f i))
+      (left (startListenerRefusal K n f i) _ h (offerOf w) H (offering.listens K n f i))
+  opening-holds (restartsListener K n f i p r) o H =
       moved (listener-restarted w block K n f i p r) (offer-after w block _ (restartListener h K n f i p r))
-      (fresh (restartListenerRefusal K n f i p r) _ h (offerOf w) e (offering.listens-again K n f i p r))
-  opened-holds (hears k s) o e = absurd o
-  opened-holds (hearsBatch s room) o e = absurd o
-  opened-holds closes o e = absurd o
-  opened-holds adopts o e = absurd o
-  opened-holds (sets at x) o e = absurd o
+      (left (restartListenerRefusal K n f i p r) _ h (offerOf w) H (offering.listens-again K n f i p r))
+  opening-holds (hears k s) o H = absurd o
+  opening-holds (hearsBatch s room) o H = absurd o
+  opening-holds closes o H = absurd o
+  opening-holds adopts o H = absurd o
+  opening-holds (sets at x) o H = absurd o
 
 -- ---- hearing many
 
@@ -129,17 +125,11 @@ module _ (w : List ℕ) (block : IsBlock w) (H : Holds w) where
       (LastKept.Range k, rw (offer-holds g k (K .0) (K .1) .1) (offering.adopts (K .1)))
 
   called-holds : (c : Call) → Bytes c → Holds (blockAfter w c)
-  unfolding blockAfter start restart startListener restartListener
-  called-holds (starts K n f i v) B =
-      moved (head-started w block K n f i v) (offer-after w block _ (start g K n f i v)) (either (startRefusal K n f i v) _ g (offerOf w) H (offering.starts K n f i v))
-  called-holds (restarts K n f i p r) B =
-      moved (head-restarted w block K n f i p r) (offer-after w block _ (restart g K n f i p r))
-      (either (restartRefusal K n f i p r) _ g (offerOf w) H (offering.restarts K n f i p r))
-  called-holds (startsListener K n f i) B =
-      moved (listener-started w block K n f i) (offer-after w block _ (startListener g K n f i)) (either (startListenerRefusal K n f i) _ g (offerOf w) H (offering.listens K n f i))
-  called-holds (restartsListener K n f i p r) B =
-      moved (listener-restarted w block K n f i p r) (offer-after w block _ (restartListener g K n f i p r))
-      (either (restartListenerRefusal K n f i p r) _ g (offerOf w) H (offering.listens-again K n f i p r))
+  unfolding blockAfter
+  called-holds (starts K n f i v) B = opening-holds w block (starts K n f i v) tt (λ d. H)
+  called-holds (restarts K n f i p r) B = opening-holds w block (restarts K n f i p r) tt (λ d. H)
+  called-holds (startsListener K n f i) B = opening-holds w block (startsListener K n f i) tt (λ d. H)
+  called-holds (restartsListener K n f i p r) B = opening-holds w block (restartsListener K n f i p r) tt (λ d. H)
   called-holds (hears k s) B = moved (head-heard w block k s) (only-these-change w (hears k s) block .1 P) (H .0, offering.hears k s B (H .1))
   called-holds (hearsBatch s room) B = go (batchRefusal s room)
     where
@@ -154,7 +144,7 @@ module _ (w : List ℕ) (block : IsBlock w) (H : Holds w) where
   called-holds (sets at x) B = moved (head-set w block at x) (only-these-change w (sets at x) block .1 P) H
 
 pub made-offers : MadeOffers
-made-offers w (made.opens v c block o e) = opened-holds v block c o e
+made-offers w (made.opens v c block o e) = opening-holds v block c o (λ d. absurd (d e))
 made-offers w (made.calls v c block B M) = called-holds v block (made-offers v M) c B
 
 pub made-reachable : MadeReachable
