@@ -1,6 +1,6 @@
 -- What a start, a restart and an adoption leave in a block: a record with nothing heard and no entries, in the seat that the call by value makes, or the block as it was.
 use mathlib.Core.Path.{_≡_, refl, ap, sym, _∙_}
-use mathlib.Core.Bool.{Bool, true, false}
+use mathlib.Core.Bool.{Bool}
 use mathlib.Core.List.{List}
 use Prim.Native.Nat.{ℕ, zero, suc, _%_, _<_}
 use native.Mathlib.Omega.{arith}

@@ -3,7 +3,7 @@
 use mathlib.Core.Path.{_≡_, refl, sym, _∙_}
 use mathlib.Core.Bool.{Bool, true, false, not, cond, and-true, true≢false}
 use mathlib.Core.List.{List}
-use Prim.Native.Nat.{ℕ, zero, suc, _+_, _≤_, _<_}
+use Prim.Native.Nat.{ℕ, zero, suc, _+_, _<_}
 use native.Mathlib.Omega.{arith}
 use native.Mathlib.Decide.{decLt}
 use lib.ListN.{getD}
@@ -12,14 +12,12 @@ use borrow.Author.Tests.{leb-true, leb-false, eqb-true}
 use Rattle.terms.specs.Refusals as refusal
 use Rattle.terms.specs.Refusals.{check}
 use Rattle.terms.specs.Positions.{isPosition, eqZ}
-use Rattle.terms.specs.Sizes.{roundsOf}
 use Rattle.terms.specs.declared.Entry.{Entry}
 use Rattle.terms.specs.declared.Family.{Family}
-use Rattle.terms.specs.declared.Family.the-variants.{TwoRounds, OneRound}
 use Rattle.terms.specs.declared.Table.{Table}
 use Rattle.marks.specs.Marks.{bitOf}
 use Rattle.entries.specs.Entries.{fits}
-use Rattle.convergence.specs.Demand3.{AcceptedSize}
+use Rattle.convergence.proofs.Demand3.{size-large}
 use Rattle.frame_spec.specs.Said.{collected}
 use Rattle.frame_spec.specs.Proper.{ProperTable, Proper}
 use Rattle.settle_midpoint.specs.declared.Kept.{Kept}
@@ -33,7 +31,7 @@ use Rattle.head_spec.specs.Seats.{firstSeat, healedSeat, confessionSeat, isLast
 use Rattle.head_spec.specs.Calls.{answer, startRefusal, started, start, restartRefusal, restarted, restart}
 use Rattle.head_spec.specs.Calls.{startListenerRefusal, startedListener, startListener, restartListenerRefusal, restartListener}
 use Rattle.head_spec.specs.Calls.{closedCollection, closedPhase, close, adopt}
-use Rattle.head_spec.proofs.Proper.{Sized, ProperLast, ProperSeat, ProperHead, number-small, no-entries, proper-started, proper-restarted, proper-started-listener, proper-restarted-listener}
+use Rattle.head_spec.proofs.Proper.{ProperLast, ProperSeat, ProperHead, rounds-few, number-small, no-entries, proper-started, proper-restarted, proper-started-listener, proper-restarted-listener}
 use Rattle.head_spec.proofs.RoundClose.{Closes, closes, proper-close}
 use Rattle.head_c.specs.Blocks.{IsBlock, headOf, withHead, withAnswer, offerOf, withClosing}
 use Rattle.head_c.proofs.Blocks.{Fits32, FitNumbers, FitEntry, FitLast, FitSeat, head-back}
@@ -68,22 +66,10 @@ last-fits f LastKept.Nothing l P = tt
 last-fits f (LastKept.Range k) l P =
     (position-fits (k .low) (P .low), position-fits (k .high) (P .high), omega (arith, P .trim), position-fits (k .position) (P .position))
 
--- the struck limit of an accepted size is small, and so is a phase's number of rounds
-limit-small : {K : Family} {n f : ℕ} → Sized K n f → f < 256
-limit-small {K} {n} {f} S = go K (S .limit)
-  where
-    go : (K : Family) → AcceptedSize K n f → f < 256
-    go TwoRounds l = omega (arith, S .most)
-    go OneRound l = omega (arith, S .most)
-
-rounds-few : (K : Family) → roundsOf K ≤ 2
-rounds-few TwoRounds = omega arith
-rounds-few OneRound = omega arith
-
 pub seat-fits : (s : Seat) → ProperSeat s → FitSeat s
 seat-fits s P =
     let most = P .size .most in
-    let f = limit-small (P .size) in
+    let f = size-large (s .family) (s .n) (s .f) (P .size .limit) in
     record {
       n = omega arith;
       f = omega arith;

@@ -3,7 +3,7 @@ use mathlib.Core.Path.{_≡_, ap, sym, _∙_}
 use mathlib.Core.Logic.{_≢_}
 use mathlib.Core.Bool.{cond}
 use mathlib.Core.List.{List}
-use Prim.Native.Nat.{ℕ, _+_, _*_, _%_, _≤_, _<_}
+use Prim.Native.Nat.{ℕ, _+_, _*_, _≤_, _<_}
 use native.Mathlib.Omega.{arith}
 use native.Mathlib.Decide.{decLt}
 use lib.ListN.{length, getD, set, length-set}
@@ -18,8 +18,7 @@ use Rattle.entries.specs.Entries.{zeros}
 use Rattle.frame_spec.specs.Said.{collected, listed, confessed}
 use Rattle.head_spec.specs.declared.Row.{Row}
 use Rattle.head_spec.specs.Calls.{taken}
-use Rattle.head_spec.specs.Seats.{familyIn}
-use Rattle.head_c.specs.Blocks.{IsBlock, flag, entryIn, rangeIn, upTo, numbersAt, listAt, seatOf, headOf, wordsOf, marked}
+use Rattle.head_c.specs.Blocks.{IsBlock, upTo, numbersAt, listAt, seatOf, headOf, wordsOf, marked}
 use Rattle.head_c.proofs.Copying.{upTo-same, upTo-set, copied-before, copied-there, copied-behind}
 use Rattle.head_c.proofs.Putting.{words-long, word-at}
 use Rattle.head_c.proofs.Blocks.{Fits32, signed-back, FitNumbers, numbers-back}

@@ -6,7 +6,6 @@ use mathlib.Core.List.{List, [], _∷_}
 use Prim.Native.Nat.{ℕ, zero, suc, _+_}
 use native.Mathlib.Omega.{arith}
 use lib.ListN.{length, take, drop}
-use Rattle.terms.specs.Refusals.{leaves}
 use Rattle.frame_spec.specs.Proper.{AllBytes}
 use Rattle.frame_spec.proofs.FieldByField.{drop-bytes}
 use Rattle.head_spec.specs.declared.LastKept.{LastKept}
@@ -15,23 +14,23 @@ use Rattle.head_spec.specs.declared.Answer.{Answer}
 use Rattle.head_spec.specs.declared.Closed.{Closed}
 use Rattle.head_spec.specs.declared.Closing.{Closing}
 use Rattle.head_spec.specs.declared.Offer.{Offer}
-use Rattle.head_spec.specs.Calls.{answer, startRefusal, start, restartRefusal, restart, startListenerRefusal, startListener, restartListenerRefusal, restartListener, Delivery, hear, saidTo, hearEach, answersTo, close, adopt}
+use Rattle.head_spec.specs.Calls.{answer, startRefusal, start, restartRefusal, restart, startListenerRefusal, startListener, restartListenerRefusal, restartListener, Delivery, hearEach, answersTo, close, adopt}
 use Rattle.head_spec.specs.Batch.{frameLength, isWhole, firstEntry, behindFirst, cutInto, entriesOf, batchRefusal}
 use Rattle.head_spec.specs.Offers.{lapsed, lapsedBy, offered, thenAdopt, Offering}
 use Rattle.head_spec.specs.Offers as offering
 use Rattle.head_spec.proofs.Proper.{ProperHead}
 use Rattle.head_spec.proofs.Demand2.{demand-2}
 use Rattle.head_spec.proofs.Offers.{offer-then-adopt, offer-holds, offering-reached}
-use Rattle.head_c.proofs.Lapsing.{offer-each}
+use Rattle.head_c.proofs.Lapsing.{heard-block′, offer-each}
 use Rattle.head_spec.proofs.Stops.{adopts-nothing}
 use Rattle.head_spec.proofs.RoundClose.{offer-stays}
 use Rattle.head_window.specs.Window.{closedRegisters, adoptedRegisters}
-use Rattle.head_c.specs.Blocks.{IsBlock, headOf, registersOf, offerOf, heardIn, heardEach}
+use Rattle.head_c.specs.Blocks.{IsBlock, headOf, registersOf, offerOf, heardEach}
 use Rattle.head_c.specs.Events.{Call, starts, restarts, startsListener, restartsListener, hears, hearsBatch, closes, adopts, sets, numberAfter, blockAfter}
 use Rattle.head_c.specs.Made.{Opens, Bytes, MadeReachable, MadeOffers, MadeCloses}
 use Rattle.head_c.specs.Made as made
 use Rattle.head_c.proofs.Hearing.{head-heard}
-use Rattle.head_c.proofs.Registers.{heard-block}
+use Rattle.head_c.proofs.Registers.{either-way}
 use Rattle.head_c.proofs.Events.{offer-after, only-these-change, head-started, head-restarted, listener-started, listener-restarted, head-closed, head-adopted, head-set}
 
 -- a block whose record and offer these are
@@ -104,11 +103,7 @@ each-offers (d ∷ D) h o x A O = each-offers D _ _ x (A .1) (offering.hears (d 
 head-each : (D : List Delivery) (w : List ℕ) → IsBlock w → headOf (heardEach w D) ≡ hearEach (headOf w) D
 unfolding heardEach hearEach
 head-each [] w block = refl
-head-each (d ∷ D) w block = head-each D _ (stays (hear (headOf w) (d .link) (d .bytes) .refusal)) ∙ ap (λ (y : Head). hearEach y D) (head-heard w block (d .link) (d .bytes))
-  where
-    stays : (c : ℕ) → IsBlock (leaves c (heardIn w (d .link) (saidTo (headOf w .seat) (d .link) (d .bytes))) w)
-    stays zero = heard-block w block (d .link) _
-    stays (suc c) = block
+head-each (d ∷ D) w block = head-each D _ (heard-block′ w block (d .link) (d .bytes)) ∙ ap (λ (y : Head). hearEach y D) (head-heard w block (d .link) (d .bytes))
 
 -- ---- any call
 
@@ -131,14 +126,10 @@ module _ (w : List ℕ) (block : IsBlock w) (H : Holds w) where
   called-holds (startsListener K n f i) B = opening-holds w block (startsListener K n f i) tt (λ d. H)
   called-holds (restartsListener K n f i p r) B = opening-holds w block (restartsListener K n f i p r) tt (λ d. H)
   called-holds (hears k s) B = moved (head-heard w block k s) (only-these-change w (hears k s) block .1 P) (H .0, offering.hears k s B (H .1))
-  called-holds (hearsBatch s room) B = go (batchRefusal s room)
-    where
-      D : List Delivery
-      D = entriesOf s
-
-      go : (c : ℕ) → Holds (leaves c (heardEach w D) w)
-      go zero = moved (head-each D w block) (offer-each D w block (P .seat .size .most)) (H .0, each-offers D g (offerOf w) (H .0) (cut-bytes (length s) s B) (H .1))
-      go (suc c) = H
+  called-holds (hearsBatch s room) B =
+      let D = entriesOf s in
+      either-way Holds (batchRefusal s room)
+      (moved (head-each D w block) (offer-each D w block (P .seat .size .most)) (H .0, each-offers D g (offerOf w) (H .0) (cut-bytes (length s) s B) (H .1))) H
   called-holds closes B = moved (head-closed w block P) (only-these-change w closes block .1 P) (H .0, offering.closes (H .1))
   called-holds adopts B = moved (head-adopted w block P) (only-these-change w adopts block .1 P) (adopts-holds (offerOf w) H)
   called-holds (sets at x) B = moved (head-set w block at x) (only-these-change w (sets at x) block .1 P) H

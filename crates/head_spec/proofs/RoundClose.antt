@@ -1,7 +1,7 @@
 -- Closing a round. It ends a collection round. In the last round of a phase it answers what the end of the round would, and the record stays as it is.
 use mathlib.Core.Path.{_≡_, refl}
 use mathlib.Core.Bool.{Bool, true, false, cond}
-use Prim.Native.Nat.{ℕ, zero, suc}
+use Prim.Native.Nat.{ℕ}
 use Rattle.terms.specs.Refusals as refusal
 use Rattle.settle_midpoint.specs.Answers.{settling}
 use Rattle.settle_midpoint.specs.declared.Kept.{Kept}

@@ -1,11 +1,10 @@
 -- The reading of a head follows what is adopted: only an adoption puts a kept range into the record, and what was kept are positions.
-use mathlib.Core.Path.{_≡_, refl, ap, sym, _∙_}
+use mathlib.Core.Path.{_≡_, refl, ap, _∙_}
 use mathlib.Core.Bool.{true}
 use Prim.Native.Nat.{ℕ, zero, suc}
 use native.Mathlib.Omega.{arith}
 use lib.IntN.{ℤ}
 use Rattle.terms.specs.Positions.{isPosition}
-use Rattle.settle_midpoint.specs.declared.Kept.{Kept}
 use Rattle.head_spec.specs.declared.LastKept.{LastKept}
 use Rattle.head_spec.specs.declared.Seat.{Seat}
 use Rattle.head_spec.specs.declared.Head.{Head}
@@ -13,7 +12,6 @@ use Rattle.head_spec.specs.declared.Closed.{Closed}
 use Rattle.head_spec.specs.declared.Offer.{Offer}
 use Rattle.head_spec.specs.Proper.{ProperLast}
 use Rattle.head_spec.specs.Calls.{started, restarted, startedListener, answer, closedCollection, closedPhase, close, adoptRefusal, adopted, adopt}
-use Rattle.head_spec.specs.Offers.{Offering}
 use Rattle.head_spec.proofs.Taking.{hear-keeps}
 use Rattle.head_spec.proofs.RoundClose.{Closes, closes}
 use Rattle.head_spec.proofs.Offers.{offering-reached}

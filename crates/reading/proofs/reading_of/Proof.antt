@@ -1,5 +1,5 @@
 -- `reading::reading_of` meets its contract: of what is kept the two numbers are read back as they were held.
-use mathlib.Core.Path.{_≡_, sym, ap, _∙_}
+use mathlib.Core.Path.{sym, ap, _∙_}
 use lib.IntN.{ℤ}
 use mir.Syntax.{w32}
 use mir.Val.{SFits}
