@@ -70,7 +70,7 @@ pub fn next_seat(seat: Seat, kept: Kept) -> Seat
         number: seat.number,
         phase: seat.phase,
         round: seat.round,
-        healed: false,
+        healed: false, // that was for one round
         ended: false,
         position: held,
         kept: range,

@@ -54,15 +54,9 @@ closes h = go (h .seat .ended) (isLastRound (h .seat)) refl refl
     go false false e q = (refl, end-by h e q)
     go false true e q = settles (settlingOf h) e (end-by h e q)
 
--- a closing that is refused, and one that offers, leave the record; one that offers says what the round settles
-pub refused-stays : (h : Head) {c : ℕ} → close h .closed ≡ Closed.Refused c → close h .head ≡ h
-refused-stays h e = (rw e at (closes h)) .0
-
+-- a closing that offers leaves the record
 pub offer-stays : (h : Head) {k : Kept} → close h .closed ≡ Closed.Settled k → close h .head ≡ h
 offer-stays h e = (rw e at (closes h)) .0
-
-pub offer-stands : (h : Head) {k : Kept} → close h .closed ≡ Closed.Settled k → Stands h k
-offer-stands h e = (rw e at (closes h)) .1
 
 -- ---- a proper record stays proper, and what it offers is proper
 
