@@ -14,8 +14,6 @@
 // trim and the position), a colon, the call's number, then what the host holds: phase, round, position or `none`, and the offer or `none`.
 // The last line is `end`, or `cut` if the script ends inside a record.
 ghost use mathlib.Core.Path.{_≡_};
-ghost use mathlib.Core.List.{List};
-ghost use Prim.Native.Nat.{ℕ};
 ghost use lib.IntN.{pos};
 ghost use lib.ListN.{length, take};
 ghost use Rattle.terms.specs.declared.Family.the-variants.{TwoRounds};
