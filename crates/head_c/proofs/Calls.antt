@@ -131,7 +131,7 @@ module _ (w : List ℕ) (block : IsBlock w) where
       go : (c : Closed) (h′ : Head) → Closes c h h′ → ProperHead h′ → headOf (withClosing c h′ w) ≡ h′
       go (Closed.Refused c) h′ e Q = sym (e .0)
       go Closed.Listed h′ e Q = rw (e .0) (put-back (confessionSeat (h .seat)) (h .list) (rw (e .0) at Q))
-      go (Closed.Settled k) h′ e Q = offer-apart (Offer.Standing k) w ∙ sym (e .0)
+      go (Closed.Settled k) h′ e Q = offer-apart k w block ∙ sym (e .0)
 
   -- whatever words stand for the offer
   pub after-adopt : ProperHead (headOf w) → let a = adopt (headOf w) (offerOf w) in headOf (withAnswer w a) ≡ a .head

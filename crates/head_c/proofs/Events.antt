@@ -9,8 +9,6 @@ use lib.Seq.{getD-set-same, getD-set-other}
 use lib.IntN.{ℤ}
 use Rattle.terms.specs.Refusals.{leaves}
 use Rattle.terms.specs.declared.Family.{Family}
-use Rattle.fields.specs.Bytes.{wordOf}
-use Rattle.frame_check.specs.Check.{position}
 use Rattle.head_spec.specs.declared.LastKept.{LastKept}
 use Rattle.head_spec.specs.declared.Head.{Head}
 use Rattle.head_spec.specs.declared.Answer.{Answer}
@@ -26,7 +24,7 @@ use Rattle.head_c.specs.Blocks.{IsBlock, headOf, withHead, withAnswer, r
 use Rattle.head_c.specs.Events.{Call, starts, restarts, startsListener, restartsListener, hears, hearsBatch, closes, adopts, sets, blockAfter, OnlyTheseChange}
 use Rattle.head_c.proofs.Putting.{second, third, second-long}
 use Rattle.head_c.proofs.Changes.{set-apart}
-use Rattle.head_c.proofs.Offers.{same-offer, FitOffer, offer-back, offer-ended, ended-apart}
+use Rattle.head_c.proofs.Offers.{same-offer, FitOffer, put-behind, offer-back, offer-ended, ended-apart}
 use Rattle.head_c.proofs.Lapsing.{offer-heard, offer-each}
 use Rattle.head_c.proofs.Registers.{either-way, put-registers, after-registers, heard-registers, each-registers}
 use Rattle.head_c.proofs.Calls.{last-fits, seat-fits, after-start, after-restart, after-start-listener, after-restart-listener, after-close, after-adopt}
@@ -165,15 +163,7 @@ module _ (w : List ℕ) (block : IsBlock w) where
   closing-stays : (c : Closed) (h : Head) → Stays (withClosing c h w)
   closing-stays (Closed.Refused c) h = refl
   closing-stays Closed.Listed h = put-registers w block 23 (omega arith) (omega arith) h
-  closing-stays (Closed.Settled k) h =
-      let w₁ = set w 18 1 in
-      let w₂ = set w₁ 19 (wordOf (k .low)) in
-      let w₃ = set w₂ 20 (wordOf (k .high)) in
-      let w₄ = set w₃ 21 (k .trim) in
-      set-stays 22 (wordOf (k .position)) w₄ (omega arith)
-      (set-stays 21 (k .trim) w₃ (omega arith)
-      (set-stays 20 (wordOf (k .high)) w₂ (omega arith)
-      (set-stays 19 (wordOf (k .low)) w₁ (omega arith) (set-stays 18 1 w (omega arith) refl))))
+  closing-stays (Closed.Settled k) h = put-behind k w block 23 (omega arith)
 
   pub others-stay : (c : Call) → Stays (blockAfter w c)
   unfolding blockAfter
