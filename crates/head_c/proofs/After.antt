@@ -1,6 +1,6 @@
 -- What a start, a restart and an adoption leave in a block: a record with nothing heard and no entries, in the seat that the call by value makes, or the block as it was.
 use mathlib.Core.Path.{_≡_, refl, ap, sym, _∙_}
-use mathlib.Core.Bool.{Bool, true, false}
+use mathlib.Core.Bool.{Bool}
 use mathlib.Core.List.{List}
 use Prim.Native.Nat.{ℕ, zero, suc, _%_, _<_}
 use native.Mathlib.Omega.{arith}
@@ -12,25 +12,25 @@ use Rattle.terms.specs.declared.Family.{Family}
 use Rattle.head_spec.specs.declared.Seat.{Seat}
 use Rattle.head_spec.specs.declared.Head.{Head}
 use Rattle.head_spec.specs.Record.{noEntries, opened}
-use Rattle.head_spec.specs.Seats.{healedSeat}
+use Rattle.head_spec.specs.Seats.{firstSeat, healedSeat}
 use Rattle.head_spec.specs.Calls.{answer, isTime, restarted}
 use Rattle.head_spec.proofs.Proper.{rounds-few, number-small}
 use Rattle.head_spec.proofs.Stops.{answer-refusal}
 use Rattle.convergence.proofs.Demand3.{size-large}
-use Rattle.head_calls.specs.Steps.{checkMember, openingSeat}
+use Rattle.head_calls.specs.Steps.{checkMember}
 use Rattle.head_calls.proofs.Answers.{member-sized, member-small, proper-restarted-as}
 use Rattle.head_window.specs.declared.Registers.{Registers}
 use Rattle.head_c.specs.Blocks.{withHead, withAnswer, withRegisters, withoutOffer}
 
 -- the seats are those of the definitions where the checks pass: each number has room in its byte
 pub first-seat : (K : Family) (listens : Bool) (n f i rest : ℕ) (e : Entry) → checkMember K listens n f i rest ≡ 0
-    → openingSeat K (n % 256) (f % 256) (i % 256) e ≡ openingSeat K n f i e
+    → firstSeat K (n % 256) (f % 256) (i % 256) e ≡ firstSeat K n f i e
 first-seat K listens n f i rest e ok =
     let S = member-sized K listens n f i rest ok in
     let a : n < 256 = omega (arith, S .most) in
     let b : f < 256 = omega (arith, S .most, size-large K n f (S .limit)) in
     let c : i < 256 = omega (arith, member-small K listens n f i rest ok) in
-    λ t. openingSeat K (mod-eq-of-lt a t) (mod-eq-of-lt b t) (mod-eq-of-lt c t) e
+    λ t. firstSeat K (mod-eq-of-lt a t) (mod-eq-of-lt b t) (mod-eq-of-lt c t) e
 
 pub restart-seat : (K : Family) (listens : Bool) (n f i p r : ℕ) → checkMember K listens n f i (check (isTime K p r) refusal.phase-out-of-range 0) ≡ 0
     → healedSeat K (n % 256) (f % 256) (i % 256) (p % 65536) (r % 256) ≡ healedSeat K n f i p r

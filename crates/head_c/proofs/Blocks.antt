@@ -2,7 +2,7 @@
 use mathlib.Core.Path.{_≡_, refl, ap, sym, _∙_}
 use mathlib.Core.Bool.{Bool, true, false}
 use mathlib.Core.List.{List, [], _∷_, _++_, append-assoc}
-use Prim.Native.Nat.{ℕ, zero, suc, _+_, _-_, _*_, _%_, _<_}
+use Prim.Native.Nat.{ℕ, suc, _+_, _-_, _%_, _<_}
 use native.Mathlib.Omega.{arith}
 use native.Mathlib.Nat.{mod-eq-of-lt}
 use native.Mathlib.Decide.{decLt}
@@ -71,7 +71,7 @@ pub record FitSeat (s : Seat) : Type 0 where
   pub phase : s .phase < 65536
   pub round : s .round < 256
   pub position : FitEntry (s .position)
-  pub last : FitLast (s .last)
+  pub kept : FitLast (s .kept)
   pub since : s .since < 256
 
 -- ---- what was put is read
@@ -182,7 +182,7 @@ module _ (s : Seat) (t : Table) (w : List ℕ) (block : IsBlock w) (S : FitSeat 
         healed = flag-back (s .healed) i;
         ended = flag-back (s .ended) i;
         position = entry-back (s .position) (S .position) i;
-        last = range-back (s .last) (S .last) i;
+        kept = range-back (s .kept) (S .kept) i;
         since = mod-eq-of-lt (S .since) i;
       }
 

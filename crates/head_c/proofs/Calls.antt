@@ -3,7 +3,7 @@
 use mathlib.Core.Path.{_≡_, refl, sym, _∙_}
 use mathlib.Core.Bool.{Bool, true, false, not, cond, and-true, true≢false}
 use mathlib.Core.List.{List}
-use Prim.Native.Nat.{ℕ, zero, suc, _+_, _≤_, _<_}
+use Prim.Native.Nat.{ℕ, zero, suc, _+_, _<_}
 use native.Mathlib.Omega.{arith}
 use native.Mathlib.Decide.{decLt}
 use lib.ListN.{getD}
@@ -12,14 +12,12 @@ use borrow.Author.Tests.{leb-true, leb-false, eqb-true}
 use Rattle.terms.specs.Refusals as refusal
 use Rattle.terms.specs.Refusals.{check}
 use Rattle.terms.specs.Positions.{isPosition, eqZ}
-use Rattle.terms.specs.Sizes.{roundsOf}
 use Rattle.terms.specs.declared.Entry.{Entry}
 use Rattle.terms.specs.declared.Family.{Family}
-use Rattle.terms.specs.declared.Family.the-variants.{TwoRounds, OneRound}
 use Rattle.terms.specs.declared.Table.{Table}
 use Rattle.marks.specs.Marks.{bitOf}
 use Rattle.entries.specs.Entries.{fits}
-use Rattle.convergence.specs.Demand3.{AcceptedSize}
+use Rattle.convergence.proofs.Demand3.{size-large}
 use Rattle.frame_spec.specs.Said.{collected}
 use Rattle.frame_spec.specs.Proper.{ProperTable, Proper}
 use Rattle.settle_midpoint.specs.declared.Kept.{Kept}
@@ -29,11 +27,11 @@ use Rattle.head_spec.specs.declared.Head.{Head}
 use Rattle.head_spec.specs.declared.Closed.{Closed}
 use Rattle.head_spec.specs.declared.Offer.{Offer}
 use Rattle.head_spec.specs.Record.{noEntries, opened}
-use Rattle.head_spec.specs.Seats.{firstSeat, listenerSeat, healedSeat, confessionSeat, isLast, nextSeat}
+use Rattle.head_spec.specs.Seats.{firstSeat, healedSeat, confessionSeat, isLast, nextSeat}
 use Rattle.head_spec.specs.Calls.{answer, startRefusal, started, start, restartRefusal, restarted, restart}
 use Rattle.head_spec.specs.Calls.{startListenerRefusal, startedListener, startListener, restartListenerRefusal, restartListener}
 use Rattle.head_spec.specs.Calls.{closedCollection, closedPhase, close, adopt}
-use Rattle.head_spec.proofs.Proper.{Sized, ProperLast, ProperSeat, ProperHead, number-small, no-entries, proper-started, proper-restarted, proper-started-listener, proper-restarted-listener}
+use Rattle.head_spec.proofs.Proper.{ProperLast, ProperSeat, ProperHead, rounds-few, number-small, no-entries, proper-started, proper-restarted, proper-started-listener, proper-restarted-listener}
 use Rattle.head_spec.proofs.RoundClose.{Closes, closes, proper-close}
 use Rattle.head_c.specs.Blocks.{IsBlock, headOf, withHead, withAnswer, offerOf, withClosing}
 use Rattle.head_c.proofs.Blocks.{Fits32, FitNumbers, FitEntry, FitLast, FitSeat, head-back}
@@ -68,22 +66,10 @@ last-fits f LastKept.Nothing l P = tt
 last-fits f (LastKept.Range k) l P =
     (position-fits (k .low) (P .low), position-fits (k .high) (P .high), omega (arith, P .trim), position-fits (k .position) (P .position))
 
--- the struck limit of an accepted size is small, and so is a phase's number of rounds
-limit-small : {K : Family} {n f : ℕ} → Sized K n f → f < 256
-limit-small {K} {n} {f} S = go K (S .limit)
-  where
-    go : (K : Family) → AcceptedSize K n f → f < 256
-    go TwoRounds l = omega (arith, S .most)
-    go OneRound l = omega (arith, S .most)
-
-rounds-few : (K : Family) → roundsOf K ≤ 2
-rounds-few TwoRounds = omega arith
-rounds-few OneRound = omega arith
-
 pub seat-fits : (s : Seat) → ProperSeat s → FitSeat s
 seat-fits s P =
     let most = P .size .most in
-    let f = limit-small (P .size) in
+    let f = size-large (s .family) (s .n) (s .f) (P .size .limit) in
     record {
       n = omega arith;
       f = omega arith;
@@ -91,7 +77,7 @@ seat-fits s P =
       phase = omega (arith, P .to-last);
       round = omega (arith, P .round, rounds-few (s .family));
       position = entry-fits (s .n) (s .position) (P .position);
-      last = last-fits (s .f) (s .last) (omega arith) (P .last);
+      kept = last-fits (s .f) (s .kept) (omega arith) (P .kept);
       since = omega (arith, P .since);
     }
 
@@ -100,7 +86,7 @@ next-fits : (s : Seat) (k : Kept) → ProperSeat s → FitLast (LastKept.Range k
 next-fits s k P F =
     let S = seat-fits s P in
     let (phase, round) = times (isLast s) refl in
-    record { n = S .n; f = S .f; number = S .number; phase = phase; round = round; position = F .3; last = F; since = omega arith }
+    record { n = S .n; f = S .f; number = S .number; phase = phase; round = round; position = F .3; kept = F; since = omega arith }
   where
     times : (b : Bool) → isLast s ≡ b → (cond b (s .phase) (s .phase + 1) < 65536) × (cond b (s .round) 0 < 256)
     times true e = (omega (arith, P .to-last), seat-fits s P .round)
@@ -121,7 +107,7 @@ module _ (w : List ℕ) (block : IsBlock w) where
 
   pub after-start : (K : Family) (n f i : ℕ) (v : ℤ) → headOf (withAnswer w (start (headOf w) K n f i v)) ≡ start (headOf w) K n f i v .head
   unfolding start started
-  after-start K n f i v = after-answer (startRefusal K n f i v) (firstSeat K n f i v) (proper-started K n f i v)
+  after-start K n f i v = after-answer (startRefusal K n f i v) (firstSeat K n f i (Entry.Position v)) (proper-started K n f i v)
 
   pub after-restart : (K : Family) (n f i p r : ℕ) → headOf (withAnswer w (restart (headOf w) K n f i p r)) ≡ restart (headOf w) K n f i p r .head
   unfolding restart restarted
@@ -129,7 +115,7 @@ module _ (w : List ℕ) (block : IsBlock w) where
 
   pub after-start-listener : (K : Family) (n f i : ℕ) → headOf (withAnswer w (startListener (headOf w) K n f i)) ≡ startListener (headOf w) K n f i .head
   unfolding startListener startedListener
-  after-start-listener K n f i = after-answer (startListenerRefusal K n f i) (listenerSeat K n f i) (proper-started-listener K n f i)
+  after-start-listener K n f i = after-answer (startListenerRefusal K n f i) (firstSeat K n f i Entry.Null) (proper-started-listener K n f i)
 
   pub after-restart-listener : (K : Family) (n f i p r : ℕ) → headOf (withAnswer w (restartListener (headOf w) K n f i p r)) ≡ restartListener (headOf w) K n f i p r .head
   unfolding restartListener restarted
@@ -145,7 +131,7 @@ module _ (w : List ℕ) (block : IsBlock w) where
       go : (c : Closed) (h′ : Head) → Closes c h h′ → ProperHead h′ → headOf (withClosing c h′ w) ≡ h′
       go (Closed.Refused c) h′ e Q = sym (e .0)
       go Closed.Listed h′ e Q = rw (e .0) (put-back (confessionSeat (h .seat)) (h .list) (rw (e .0) at Q))
-      go (Closed.Settled k) h′ e Q = offer-apart (Offer.Standing k) w ∙ sym (e .0)
+      go (Closed.Settled k) h′ e Q = offer-apart k w block ∙ sym (e .0)
 
   -- whatever words stand for the offer
   pub after-adopt : ProperHead (headOf w) → let a = adopt (headOf w) (offerOf w) in headOf (withAnswer w a) ≡ a .head

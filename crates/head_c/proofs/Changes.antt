@@ -3,7 +3,7 @@ use mathlib.Core.Path.{_≡_, ap, sym, _∙_}
 use mathlib.Core.Logic.{_≢_}
 use mathlib.Core.Bool.{cond}
 use mathlib.Core.List.{List}
-use Prim.Native.Nat.{ℕ, _+_, _*_, _%_, _≤_, _<_}
+use Prim.Native.Nat.{ℕ, _+_, _*_, _≤_, _<_}
 use native.Mathlib.Omega.{arith}
 use native.Mathlib.Decide.{decLt}
 use lib.ListN.{length, getD, set, length-set}
@@ -16,9 +16,9 @@ use Rattle.marks.specs.Marks.{bitOf, withMark}
 use Rattle.marks.proofs.Marks.{with-same, with-other}
 use Rattle.entries.specs.Entries.{zeros}
 use Rattle.frame_spec.specs.Said.{collected, listed, confessed}
+use Rattle.head_spec.specs.declared.Row.{Row}
 use Rattle.head_spec.specs.Calls.{taken}
-use Rattle.head_spec.specs.Seats.{familyIn}
-use Rattle.head_c.specs.Blocks.{IsBlock, flag, entryIn, rangeIn, upTo, numbersAt, listAt, seatOf, headOf, wordsOf, marked}
+use Rattle.head_c.specs.Blocks.{IsBlock, upTo, numbersAt, listAt, seatOf, headOf, wordsOf, marked}
 use Rattle.head_c.proofs.Copying.{upTo-same, upTo-set, copied-before, copied-there, copied-behind}
 use Rattle.head_c.proofs.Putting.{words-long, word-at}
 use Rattle.head_c.proofs.Blocks.{Fits32, signed-back, FitNumbers, numbers-back}
@@ -30,23 +30,8 @@ module _ (w w′ : List ℕ) where
   Same i = getD w′ i 0 ≡ getD w i 0
 
   seat-same : ((i : ℕ) → i < 16 → Same i) → seatOf w′ ≡ seatOf w
-  unfolding seatOf
-  seat-same h = λ i.
-      record {
-        family = familyIn (h 14 (omega arith) i);
-        n = h 0 (omega arith) i % 256;
-        f = h 1 (omega arith) i % 256;
-        number = h 2 (omega arith) i % 256;
-        phase = h 3 (omega arith) i % 65536;
-        round = h 4 (omega arith) i % 256;
-        healed = flag (h 5 (omega arith) i);
-        ended = flag (h 6 (omega arith) i);
-        position = entryIn (h 7 (omega arith) i) (signedOf (h 8 (omega arith) i));
-        last =
-            rangeIn (h 9 (omega arith) i) (signedOf (h 10 (omega arith) i)) (signedOf (h 11 (omega arith) i)) (h 12 (omega arith) i % 256)
-            (signedOf (h 13 (omega arith) i));
-        since = h 15 (omega arith) i % 256;
-      }
+  unfolding seatOf upTo
+  seat-same h = ap seatOf (upTo-same 16 (λ i. getD w′ i 0) (λ i. getD w i 0) h)
 
   numbers-same : (i : ℕ) → ((j : ℕ) → j < 32 → Same (i + j)) → numbersAt w′ i ≡ numbersAt w i
   unfolding numbersAt
@@ -62,22 +47,33 @@ module _ (w w′ : List ℕ) where
   marks-same : ((i : ℕ) → 60 ≤ i → i < 92 → Same i) → upTo 32 (λ k. getD w′ (60 + k) 0) ≡ upTo 32 (λ k. getD w (60 + k) 0)
   marks-same h = upTo-same 32 _ _ (λ k l. h (60 + k) (omega arith) (omega arith))
 
-  -- the record is read from the words before 16 and from 24 on
-  pub head-same : ((i : ℕ) → i < 16 → Same i) → ((i : ℕ) → 24 ≤ i → Same i) → headOf w′ ≡ headOf w
+  -- the seat is read from the words before 16, and all else from those from 24 on
+  head-by : ((i : ℕ) → i < 16 → Same i) → {heard marks confessed listed : ℕ} {entries : List ℤ} {list-marks : List ℕ} {lists : List Row}
+      → getD w′ 24 0 ≡ heard → getD w′ 25 0 ≡ marks → numbersAt w′ 26 ≡ entries → getD w′ 58 0 ≡ confessed → getD w′ 59 0 ≡ listed
+      → upTo 32 (λ k. getD w′ (60 + k) 0) ≡ list-marks → upTo 32 (listAt w′) ≡ lists
+      → headOf w′
+      ≡ record {
+        seat = headOf w .seat;
+        heard = heard;
+        list = record { marks = marks; entries = entries };
+        links = record { confessed = confessed; listed = listed; marks = list-marks };
+        lists = lists;
+      }
   unfolding headOf
-  head-same front back = λ i.
+  head-by front a b c d e f g = λ i.
       record {
         seat = seat-same front i;
-        heard = back 24 (omega arith) i;
-        list = record { marks = back 25 (omega arith) i; entries = numbers-same 26 (λ j l. back (26 + j) (omega arith)) i };
-        links =
-            record {
-              confessed = back 58 (omega arith) i;
-              listed = back 59 (omega arith) i;
-              marks = marks-same (λ j l m. back j (omega arith)) i;
-            };
-        lists = lists-same (back 59 (omega arith)) (λ j l. back j (omega arith)) i;
+        heard = a i;
+        list = record { marks = b i; entries = c i };
+        links = record { confessed = d i; listed = e i; marks = f i };
+        lists = g i;
       }
+
+  pub head-same : ((i : ℕ) → i < 16 → Same i) → ((i : ℕ) → 24 ≤ i → Same i) → headOf w′ ≡ headOf w
+  unfolding headOf
+  head-same front back =
+      head-by front (back 24 (omega arith)) (back 25 (omega arith)) (numbers-same 26 (λ j l. back (26 + j) (omega arith))) (back 58 (omega arith)) (back 59 (omega arith))
+      (marks-same (λ j l m. back j (omega arith))) (lists-same (back 59 (omega arith)) (λ j l. back j (omega arith)))
 
 -- so it is no other for a word from 16 to 23
 pub set-apart : (w : List ℕ) (i x : ℕ) → 16 ≤ i → i < 24 → headOf (set w i x) ≡ headOf w
@@ -124,42 +120,17 @@ module _ (w : List ℕ) (block : IsBlock w) (k : ℕ) (below : k < 32) where
   null-is =
       let w′ = marked 24 k w in
       let same : (i : ℕ) → i ≢ 24 → getD w′ i 0 ≡ getD w i 0 = once-other w block k in
-      λ i.
-      record {
-        seat = seat-same w w′ (λ j l. same j (omega arith)) i;
-        heard = once-there w block k i;
-        list = record { marks = same 25 (omega arith) i; entries = numbers-same w w′ 26 (λ j l. same (26 + j) (omega arith)) i };
-        links =
-            record {
-              confessed = same 58 (omega arith) i;
-              listed = same 59 (omega arith) i;
-              marks = marks-same w w′ (λ j l m. same j (omega arith)) i;
-            };
-        lists = lists-same w w′ (same 59 (omega arith)) (λ j l. same j (omega arith)) i;
-      }
+      head-by w w′ (λ j l. same j (omega arith)) (once-there w block k) (same 25 (omega arith)) (numbers-same w w′ 26 (λ j l. same (26 + j) (omega arith)))
+      (same 58 (omega arith)) (same 59 (omega arith)) (marks-same w w′ (λ j l m. same j (omega arith))) (lists-same w w′ (same 59 (omega arith)) (λ j l. same j (omega arith)))
 
   pub confession-is : headOf (marked 58 k (marked 24 k w)) ≡ taken (headOf w) k confessed
   unfolding headOf
   confession-is =
       let w′ = marked 58 k (marked 24 k w) in
       let same : (i : ℕ) → (i ≢ 24) × (i ≢ 58) → getD w′ i 0 ≡ getD w i 0 = twice-other w block k 58 (omega arith) (omega arith) in
-      λ i.
-      record {
-        seat = seat-same w w′ (λ j l. same j (omega arith)) i;
-        heard = twice-heard w block k 58 (omega arith) (omega arith) i;
-        list =
-            record {
-              marks = same 25 (omega arith) i;
-              entries = numbers-same w w′ 26 (λ j l. same (26 + j) (omega arith)) i;
-            };
-        links =
-            record {
-              confessed = twice-there w block k 58 (omega arith) (omega arith) i;
-              listed = same 59 (omega arith) i;
-              marks = marks-same w w′ (λ j l m. same j (omega arith)) i;
-            };
-        lists = lists-same w w′ (same 59 (omega arith)) (λ j l. same j (omega arith)) i;
-      }
+      head-by w w′ (λ j l. same j (omega arith)) (twice-heard w block k 58 (omega arith) (omega arith)) (same 25 (omega arith))
+      (numbers-same w w′ 26 (λ j l. same (26 + j) (omega arith))) (twice-there w block k 58 (omega arith) (omega arith)) (same 59 (omega arith))
+      (marks-same w w′ (λ j l m. same j (omega arith))) (lists-same w w′ (same 59 (omega arith)) (λ j l. same j (omega arith)))
 
   module _ (v : ℤ) (fits : Fits32 v) where
     abbrev before : List ℕ
@@ -185,19 +156,9 @@ module _ (w : List ℕ) (block : IsBlock w) (k : ℕ) (below : k < 32) where
     position-is =
         let two = twice-heard w block k 25 (omega arith) (omega arith) in
         let mark = twice-there w block k 25 (omega arith) (omega arith) in
-        λ i.
-        record {
-          seat = seat-same w placed (λ j l. placed-other j (omega arith)) i;
-          heard = (getD-set-other before (26 + k) 24 (wordOf v) 0 (omega arith) ∙ two) i;
-          list = record { marks = (getD-set-other before (26 + k) 25 (wordOf v) 0 (omega arith) ∙ mark) i; entries = numbers-placed i };
-          links =
-              record {
-                confessed = placed-other 58 (omega arith) i;
-                listed = placed-other 59 (omega arith) i;
-                marks = marks-same w placed (λ j l m. placed-other j (omega arith)) i;
-              };
-          lists = lists-same w placed (placed-other 59 (omega arith)) (λ j l. placed-other j (omega arith)) i;
-        }
+        head-by w placed (λ j l. placed-other j (omega arith)) (getD-set-other before (26 + k) 24 (wordOf v) 0 (omega arith) ∙ two)
+        (getD-set-other before (26 + k) 25 (wordOf v) 0 (omega arith) ∙ mark) numbers-placed (placed-other 58 (omega arith)) (placed-other 59 (omega arith))
+        (marks-same w placed (λ j l m. placed-other j (omega arith))) (lists-same w placed (placed-other 59 (omega arith)) (λ j l. placed-other j (omega arith)))
 
   module _ (t : Table) (fits : FitNumbers (t .entries)) where
     abbrev marked-list : List ℕ
@@ -271,20 +232,6 @@ module _ (w : List ℕ) (block : IsBlock w) (k : ℕ) (below : k < 32) where
     unfolding headOf
     list-is =
         let two = twice-heard w block k 59 (omega arith) (omega arith) in
-        λ i.
-        record {
-          seat = seat-same w stored (λ j l. low-other j (omega arith)) i;
-          heard = (stored-before 24 (omega arith) ∙ getD-set-other marked-list (60 + k) 24 (t .marks) 0 (omega arith) ∙ two) i;
-          list =
-              record {
-                marks = low-other 25 (omega arith) i;
-                entries = numbers-same w stored 26 (λ j l. low-other (26 + j) (omega arith)) i;
-              };
-          links =
-              record {
-                confessed = low-other 58 (omega arith) i;
-                listed = listed-there i;
-                marks = marks-stored i;
-              };
-          lists = lists-stored i;
-        }
+        head-by w stored (λ j l. low-other j (omega arith))
+        (stored-before 24 (omega arith) ∙ getD-set-other marked-list (60 + k) 24 (t .marks) 0 (omega arith) ∙ two) (low-other 25 (omega arith))
+        (numbers-same w stored 26 (λ j l. low-other (26 + j) (omega arith))) (low-other 58 (omega arith)) listed-there marks-stored lists-stored

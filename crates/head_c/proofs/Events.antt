@@ -1,7 +1,6 @@
 -- What stands beside the head after a call (document 02, A5), and the offer (A8), and that neither the record nor any other word is another for them: words
 -- 16 to 23 are no part of the record.
 use mathlib.Core.Path.{_≡_, refl, _∙_}
-use mathlib.Core.Logic.{_≢_}
 use mathlib.Core.List.{List, _∷_}
 use Prim.Native.Nat.{ℕ, zero, suc, _≤_, _<_}
 use native.Mathlib.Omega.{arith}
@@ -10,8 +9,6 @@ use lib.Seq.{getD-set-same, getD-set-other}
 use lib.IntN.{ℤ}
 use Rattle.terms.specs.Refusals.{leaves}
 use Rattle.terms.specs.declared.Family.{Family}
-use Rattle.fields.specs.Bytes.{wordOf}
-use Rattle.frame_check.specs.Check.{position}
 use Rattle.head_spec.specs.declared.LastKept.{LastKept}
 use Rattle.head_spec.specs.declared.Head.{Head}
 use Rattle.head_spec.specs.declared.Answer.{Answer}
@@ -27,9 +24,9 @@ use Rattle.head_c.specs.Blocks.{IsBlock, headOf, withHead, withAnswer, r
 use Rattle.head_c.specs.Events.{Call, starts, restarts, startsListener, restartsListener, hears, hearsBatch, closes, adopts, sets, blockAfter, OnlyTheseChange}
 use Rattle.head_c.proofs.Putting.{second, third, second-long}
 use Rattle.head_c.proofs.Changes.{set-apart}
-use Rattle.head_c.proofs.Offers.{same-offer, FitOffer, offer-back, offer-ended, ended-apart}
+use Rattle.head_c.proofs.Offers.{same-offer, FitOffer, put-behind, offer-back, offer-ended, ended-apart}
 use Rattle.head_c.proofs.Lapsing.{offer-heard, offer-each}
-use Rattle.head_c.proofs.Registers.{put-registers, after-registers, heard-registers, each-registers}
+use Rattle.head_c.proofs.Registers.{either-way, put-registers, after-registers, heard-registers, each-registers}
 use Rattle.head_c.proofs.Calls.{last-fits, seat-fits, after-start, after-restart, after-start-listener, after-restart-listener, after-close, after-adopt}
 
 same-registers : (w′ w : List ℕ) → getD w′ 16 0 ≡ getD w 16 0 → getD w′ 17 0 ≡ getD w 17 0 → registersOf w′ ≡ registersOf w
@@ -73,11 +70,7 @@ put-long w h block =
 
 after-long : (w : List ℕ) (a : Answer) → IsBlock w → 22 < length (withAnswer w a)
 unfolding withAnswer
-after-long w a block = go (a .refusal)
-  where
-    go : (c : ℕ) → 22 < length (leaves c (withHead (a .head) w) w)
-    go zero = put-long w (a .head) block
-    go (suc c) = omega arith
+after-long w a block = either-way (λ x. 22 < length x) (a .refusal) (put-long w (a .head) block) (omega arith)
 
 closing-long : (w : List ℕ) (c : Closed) (h : Head) → IsBlock w → 22 < length (withClosing c h w)
 closing-long w (Closed.Refused c) h block = omega arith
@@ -127,24 +120,22 @@ only-these-change w closes block =
       λ P. offer-kept _ w′ ∙ offer-closed w block (q .closed) (q .head)
           (proper-fits w block (headOf w .seat .f) (q .closed) (seat-fits (headOf w .seat) (P .seat) .f) (proper-closed (headOf w) P)),
     )
-only-these-change w (hears k s) block = (go (hear (headOf w) k s .refusal), λ P. offer-heard w block k s (P .seat .size .most))
-  where
-    go : (c : ℕ) → registersOf (leaves c (heardIn w k (saidTo (headOf w .seat) k s)) w) ≡ registersOf w
-    go zero =
-        let m = saidTo (headOf w .seat) k s in
-        same-registers (heardIn w k m) w (heard-registers w block 16 (omega arith) (omega arith) (omega arith) k m)
-        (heard-registers w block 17 (omega arith) (omega arith) (omega arith) k m)
-    go (suc c) = refl
-only-these-change w (hearsBatch s room) block = (go (batchRefusal s room), λ P. all (batchRefusal s room) (P .seat .size .most))
+only-these-change w (hears k s) block =
+    let m = saidTo (headOf w .seat) k s in (
+      either-way (λ x. registersOf x ≡ registersOf w) (hear (headOf w) k s .refusal)
+          (same-registers (heardIn w k m) w (heard-registers w block 16 (omega arith) (omega arith) (omega arith) k m)
+          (heard-registers w block 17 (omega arith) (omega arith) (omega arith) k m)) refl,
+      λ P. offer-heard w block k s (P .seat .size .most),
+    )
+only-these-change w (hearsBatch s room) block = (
+  either-way (λ x. registersOf x ≡ registersOf w) (batchRefusal s room)
+      (same-registers (heardEach w D) w (each-registers D w block 16 (omega arith) (omega arith) (omega arith))
+      (each-registers D w block 17 (omega arith) (omega arith) (omega arith))) refl,
+  λ P. all (batchRefusal s room) (P .seat .size .most),
+)
   where
     D : List Delivery
     D = entriesOf s
-
-    go : (c : ℕ) → registersOf (leaves c (heardEach w D) w) ≡ registersOf w
-    go zero =
-        same-registers (heardEach w D) w (each-registers D w block 16 (omega arith) (omega arith) (omega arith))
-        (each-registers D w block 17 (omega arith) (omega arith) (omega arith))
-    go (suc c) = refl
 
     all : (c : ℕ) → headOf w .seat .n ≤ 32
         → offerOf (leaves c (heardEach w D) w) ≡ leaves c (lapsedBy (answersTo (headOf w) D) (offerOf w)) (offerOf w)
@@ -165,24 +156,14 @@ module _ (w : List ℕ) (block : IsBlock w) where
       set-stays 17 (b .mask) (set w′ 16 (b .events)) (omega arith) (set-stays 16 (b .events) w′ (omega arith) e)
 
   call-stays : (b : Registers) (a : Answer) → Stays (withoutOffer (a .refusal) (withRegisters b (withAnswer w a)))
-  call-stays b a = go (a .refusal) (withRegisters b (withAnswer w a)) (registers-stays b (withAnswer w a) (after-registers w block 23 (omega arith) (omega arith) a))
-    where
-      go : (c : ℕ) (w′ : List ℕ) → Stays w′ → Stays (withoutOffer c w′)
-      go zero w′ e = set-stays 18 0 w′ (omega arith) e
-      go (suc c) w′ e = e
+  call-stays b a =
+      let e : Stays (withRegisters b (withAnswer w a)) = registers-stays b (withAnswer w a) (after-registers w block 23 (omega arith) (omega arith) a) in
+      either-way Stays (a .refusal) (set-stays 18 0 (withRegisters b (withAnswer w a)) (omega arith) e) e
 
   closing-stays : (c : Closed) (h : Head) → Stays (withClosing c h w)
   closing-stays (Closed.Refused c) h = refl
   closing-stays Closed.Listed h = put-registers w block 23 (omega arith) (omega arith) h
-  closing-stays (Closed.Settled k) h =
-      let w₁ = set w 18 1 in
-      let w₂ = set w₁ 19 (wordOf (k .low)) in
-      let w₃ = set w₂ 20 (wordOf (k .high)) in
-      let w₄ = set w₃ 21 (k .trim) in
-      set-stays 22 (wordOf (k .position)) w₄ (omega arith)
-      (set-stays 21 (k .trim) w₃ (omega arith)
-      (set-stays 20 (wordOf (k .high)) w₂ (omega arith)
-      (set-stays 19 (wordOf (k .low)) w₁ (omega arith) (set-stays 18 1 w (omega arith) refl))))
+  closing-stays (Closed.Settled k) h = put-behind k w block 23 (omega arith)
 
   pub others-stay : (c : Call) → Stays (blockAfter w c)
   unfolding blockAfter
@@ -193,16 +174,11 @@ module _ (w : List ℕ) (block : IsBlock w) where
   others-stay adopts = call-stays _ (adopt (headOf w) (offerOf w))
   others-stay closes = let q = close (headOf w) in registers-stays _ (withClosing (q .closed) (q .head) w) (closing-stays (q .closed) (q .head))
   others-stay (sets at x) = registers-stays _ w refl
-  others-stay (hears k s) = go (hear (headOf w) k s .refusal)
-    where
-      go : (c : ℕ) → Stays (leaves c (heardIn w k (saidTo (headOf w .seat) k s)) w)
-      go zero = heard-registers w block 23 (omega arith) (omega arith) (omega arith) k (saidTo (headOf w .seat) k s)
-      go (suc c) = refl
-  others-stay (hearsBatch s room) = go (batchRefusal s room)
-    where
-      go : (c : ℕ) → Stays (leaves c (heardEach w (entriesOf s)) w)
-      go zero = each-registers (entriesOf s) w block 23 (omega arith) (omega arith) (omega arith)
-      go (suc c) = refl
+  others-stay (hears k s) =
+      either-way Stays (hear (headOf w) k s .refusal)
+      (heard-registers w block 23 (omega arith) (omega arith) (omega arith) k (saidTo (headOf w .seat) k s)) refl
+  others-stay (hearsBatch s room) =
+      either-way Stays (batchRefusal s room) (each-registers (entriesOf s) w block 23 (omega arith) (omega arith) (omega arith)) refl
 
 -- so after each call the block is the record that the call by value makes
 module _ (w : List ℕ) (block : IsBlock w) where

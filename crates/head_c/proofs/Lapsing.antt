@@ -24,18 +24,14 @@ use Rattle.head_c.specs.Blocks.{IsBlock, headOf, offerOf, changed, heard
 use Rattle.head_c.specs.Steps.{numberOf}
 use Rattle.head_c.proofs.Offers.{no-offer}
 use Rattle.head_c.proofs.Hearing.{head-heard, heard-below, heard-refused, number-said, link-block}
-use Rattle.head_c.proofs.Registers.{changed-registers, heard-block}
+use Rattle.head_c.proofs.Registers.{either-way, changed-registers, heard-block}
 
 module _ (w : List ℕ) (block : IsBlock w) (k : ℕ) (s : List ℕ) where
   abbrev heard : List ℕ
   heard = leaves (hear (headOf w) k s .refusal) (heardIn w k (saidTo (headOf w .seat) k s)) w
 
-  heard-block′ : IsBlock heard
-  heard-block′ = go (hear (headOf w) k s .refusal)
-    where
-      go : (c : ℕ) → IsBlock (leaves c (heardIn w k (saidTo (headOf w .seat) k s)) w)
-      go zero = heard-block w block k _
-      go (suc c) = block
+  pub heard-block′ : IsBlock heard
+  heard-block′ = either-way IsBlock (hear (headOf w) k s .refusal) (heard-block w block k _) block
 
   -- what is said and accepted ends an offer
   lapses : k < 32 → (m : Meaning) → AcceptedMeaning m → offerOf (heardIn w k m) ≡ Offer.Nothing

@@ -1,11 +1,11 @@
 -- The blocks that calls make: each call does to the block what the call by value does to its record and to the offer beside it.
 use mathlib.Core.Path.{_≡_, refl, ap, sym, _∙_}
+use mathlib.Core.Logic.{_≢_}
 use mathlib.Core.Bool.{Bool, true, false, cond}
 use mathlib.Core.List.{List, [], _∷_}
 use Prim.Native.Nat.{ℕ, zero, suc, _+_}
 use native.Mathlib.Omega.{arith}
 use lib.ListN.{length, take, drop}
-use Rattle.terms.specs.Refusals.{leaves}
 use Rattle.frame_spec.specs.Proper.{AllBytes}
 use Rattle.frame_spec.proofs.FieldByField.{drop-bytes}
 use Rattle.head_spec.specs.declared.LastKept.{LastKept}
@@ -14,23 +14,23 @@ use Rattle.head_spec.specs.declared.Answer.{Answer}
 use Rattle.head_spec.specs.declared.Closed.{Closed}
 use Rattle.head_spec.specs.declared.Closing.{Closing}
 use Rattle.head_spec.specs.declared.Offer.{Offer}
-use Rattle.head_spec.specs.Calls.{answer, startRefusal, start, restartRefusal, restart, startListenerRefusal, startListener, restartListenerRefusal, restartListener, Delivery, hear, saidTo, hearEach, answersTo, close, adopt}
+use Rattle.head_spec.specs.Calls.{answer, startRefusal, start, restartRefusal, restart, startListenerRefusal, startListener, restartListenerRefusal, restartListener, Delivery, hearEach, answersTo, close, adopt}
 use Rattle.head_spec.specs.Batch.{frameLength, isWhole, firstEntry, behindFirst, cutInto, entriesOf, batchRefusal}
 use Rattle.head_spec.specs.Offers.{lapsed, lapsedBy, offered, thenAdopt, Offering}
 use Rattle.head_spec.specs.Offers as offering
 use Rattle.head_spec.proofs.Proper.{ProperHead}
 use Rattle.head_spec.proofs.Demand2.{demand-2}
 use Rattle.head_spec.proofs.Offers.{offer-then-adopt, offer-holds, offering-reached}
-use Rattle.head_c.proofs.Lapsing.{offer-each}
+use Rattle.head_c.proofs.Lapsing.{heard-block′, offer-each}
 use Rattle.head_spec.proofs.Stops.{adopts-nothing}
 use Rattle.head_spec.proofs.RoundClose.{offer-stays}
 use Rattle.head_window.specs.Window.{closedRegisters, adoptedRegisters}
-use Rattle.head_c.specs.Blocks.{IsBlock, headOf, registersOf, offerOf, heardIn, heardEach}
+use Rattle.head_c.specs.Blocks.{IsBlock, headOf, registersOf, offerOf, heardEach}
 use Rattle.head_c.specs.Events.{Call, starts, restarts, startsListener, restartsListener, hears, hearsBatch, closes, adopts, sets, numberAfter, blockAfter}
 use Rattle.head_c.specs.Made.{Opens, Bytes, MadeReachable, MadeOffers, MadeCloses}
 use Rattle.head_c.specs.Made as made
 use Rattle.head_c.proofs.Hearing.{head-heard}
-use Rattle.head_c.proofs.Registers.{heard-block}
+use Rattle.head_c.proofs.Registers.{either-way}
 use Rattle.head_c.proofs.Events.{offer-after, only-these-change, head-started, head-restarted, listener-started, listener-restarted, head-closed, head-adopted, head-set}
 
 -- a block whose record and offer these are
@@ -43,41 +43,36 @@ moved p q H = rw (p, q) H
 proper-of : {h : Head} {o : Offer} → (x : LastKept) × Offering h o x → ProperHead h
 proper-of {h} {o} H = demand-2 .proper h (offering-reached h o (H .0) (H .1) .0)
 
--- ---- starts and restarts
+-- ---- starts and restarts: taken, the record is new; refused, all is as it was
 
--- accepted
-fresh : (c : ℕ) (new old : Head) (o : Offer) → answer c new old .refusal ≡ 0 → (c ≡ 0 → Offering new Offer.Nothing LastKept.Nothing)
+left : (c : ℕ) (new old : Head) (o : Offer) → (answer c new old .refusal ≢ 0 → (x : LastKept) × Offering old o x) → (c ≡ 0 → Offering new Offer.Nothing LastKept.Nothing)
     → (x : LastKept) × Offering (answer c new old .head) (lapsed (answer c new old .refusal) o) x
-fresh zero new old o e N = (LastKept.Nothing, N refl)
-fresh (suc c) new old o e N = absurd (omega arith)
-
--- or not
-either : (c : ℕ) (new old : Head) (o : Offer) → (x : LastKept) × Offering old o x → (c ≡ 0 → Offering new Offer.Nothing LastKept.Nothing)
-    → (x : LastKept) × Offering (answer c new old .head) (lapsed (answer c new old .refusal) o) x
-either zero new old o H N = (LastKept.Nothing, N refl)
-either (suc c) new old o H N = H
+left zero new old o H N = (LastKept.Nothing, N refl)
+left (suc c) new old o H N = H (λ e. omega arith)
 
 module _ (w : List ℕ) (block : IsBlock w) where
   abbrev h : Head
   h = headOf w
 
-  opened-holds : (c : Call) → Opens c → numberAfter w c ≡ 0 → Holds (blockAfter w c)
+  opening-holds : (c : Call) → Opens c → (numberAfter w c ≢ 0 → Holds w) → Holds (blockAfter w c)
   unfolding blockAfter start restart startListener restartListener
-  opened-holds (starts K n f i v) o e =
-      moved (head-started w block K n f i v) (offer-after w block _ (start h K n f i v)) (fresh (startRefusal K n f i v) _ h (offerOf w) e (offering.starts K n f i v))
-  opened-holds (restarts K n f i p r) o e =
+  opening-holds (starts K n f i v) o H =
+      moved (head-started w block K n f i v) (offer-after w block _ (start h K n f i v))
+      (left (startRefusal K n f i v) _ h (offerOf w) H (offering.starts K n f i v))
+  opening-holds (restarts K n f i p r) o H =
       moved (head-restarted w block K n f i p r) (offer-after w block _ (restart h K n f i p r))
-      (fresh (restartRefusal K n f i p r) _ h (offerOf w) e (offering.restarts K n f i p r))
-  opened-holds (startsListener K n f i) o e =
-      moved (listener-started w block K n f i) (offer-after w block _ (startListener h K n f i)) (fresh (startListenerRefusal K n f i) _ h (offerOf w) e (offering.listens K n f i))
-  opened-holds (restartsListener K n f i p r) o e =
+      (left (restartRefusal K n f i p r) _ h (offerOf w) H (offering.restarts K n f i p r))
+  opening-holds (startsListener K n f i) o H =
+      moved (listener-started w block K n f i) (offer-after w block _ (startListener h K n f i))
+      (left (startListenerRefusal K n f i) _ h (offerOf w) H (offering.listens K n f i))
+  opening-holds (restartsListener K n f i p r) o H =
       moved (listener-restarted w block K n f i p r) (offer-after w block _ (restartListener h K n f i p r))
-      (fresh (restartListenerRefusal K n f i p r) _ h (offerOf w) e (offering.listens-again K n f i p r))
-  opened-holds (hears k s) o e = absurd o
-  opened-holds (hearsBatch s room) o e = absurd o
-  opened-holds closes o e = absurd o
-  opened-holds adopts o e = absurd o
-  opened-holds (sets at x) o e = absurd o
+      (left (restartListenerRefusal K n f i p r) _ h (offerOf w) H (offering.listens-again K n f i p r))
+  opening-holds (hears k s) o H = absurd o
+  opening-holds (hearsBatch s room) o H = absurd o
+  opening-holds closes o H = absurd o
+  opening-holds adopts o H = absurd o
+  opening-holds (sets at x) o H = absurd o
 
 -- ---- hearing many
 
@@ -108,11 +103,7 @@ each-offers (d ∷ D) h o x A O = each-offers D _ _ x (A .1) (offering.hears (d 
 head-each : (D : List Delivery) (w : List ℕ) → IsBlock w → headOf (heardEach w D) ≡ hearEach (headOf w) D
 unfolding heardEach hearEach
 head-each [] w block = refl
-head-each (d ∷ D) w block = head-each D _ (stays (hear (headOf w) (d .link) (d .bytes) .refusal)) ∙ ap (λ (y : Head). hearEach y D) (head-heard w block (d .link) (d .bytes))
-  where
-    stays : (c : ℕ) → IsBlock (leaves c (heardIn w (d .link) (saidTo (headOf w .seat) (d .link) (d .bytes))) w)
-    stays zero = heard-block w block (d .link) _
-    stays (suc c) = block
+head-each (d ∷ D) w block = head-each D _ (heard-block′ w block (d .link) (d .bytes)) ∙ ap (λ (y : Head). hearEach y D) (head-heard w block (d .link) (d .bytes))
 
 -- ---- any call
 
@@ -129,32 +120,22 @@ module _ (w : List ℕ) (block : IsBlock w) (H : Holds w) where
       (LastKept.Range k, rw (offer-holds g k (K .0) (K .1) .1) (offering.adopts (K .1)))
 
   called-holds : (c : Call) → Bytes c → Holds (blockAfter w c)
-  unfolding blockAfter start restart startListener restartListener
-  called-holds (starts K n f i v) B =
-      moved (head-started w block K n f i v) (offer-after w block _ (start g K n f i v)) (either (startRefusal K n f i v) _ g (offerOf w) H (offering.starts K n f i v))
-  called-holds (restarts K n f i p r) B =
-      moved (head-restarted w block K n f i p r) (offer-after w block _ (restart g K n f i p r))
-      (either (restartRefusal K n f i p r) _ g (offerOf w) H (offering.restarts K n f i p r))
-  called-holds (startsListener K n f i) B =
-      moved (listener-started w block K n f i) (offer-after w block _ (startListener g K n f i)) (either (startListenerRefusal K n f i) _ g (offerOf w) H (offering.listens K n f i))
-  called-holds (restartsListener K n f i p r) B =
-      moved (listener-restarted w block K n f i p r) (offer-after w block _ (restartListener g K n f i p r))
-      (either (restartListenerRefusal K n f i p r) _ g (offerOf w) H (offering.listens-again K n f i p r))
+  unfolding blockAfter
+  called-holds (starts K n f i v) B = opening-holds w block (starts K n f i v) tt (λ d. H)
+  called-holds (restarts K n f i p r) B = opening-holds w block (restarts K n f i p r) tt (λ d. H)
+  called-holds (startsListener K n f i) B = opening-holds w block (startsListener K n f i) tt (λ d. H)
+  called-holds (restartsListener K n f i p r) B = opening-holds w block (restartsListener K n f i p r) tt (λ d. H)
   called-holds (hears k s) B = moved (head-heard w block k s) (only-these-change w (hears k s) block .1 P) (H .0, offering.hears k s B (H .1))
-  called-holds (hearsBatch s room) B = go (batchRefusal s room)
-    where
-      D : List Delivery
-      D = entriesOf s
-
-      go : (c : ℕ) → Holds (leaves c (heardEach w D) w)
-      go zero = moved (head-each D w block) (offer-each D w block (P .seat .size .most)) (H .0, each-offers D g (offerOf w) (H .0) (cut-bytes (length s) s B) (H .1))
-      go (suc c) = H
+  called-holds (hearsBatch s room) B =
+      let D = entriesOf s in
+      either-way Holds (batchRefusal s room)
+      (moved (head-each D w block) (offer-each D w block (P .seat .size .most)) (H .0, each-offers D g (offerOf w) (H .0) (cut-bytes (length s) s B) (H .1))) H
   called-holds closes B = moved (head-closed w block P) (only-these-change w closes block .1 P) (H .0, offering.closes (H .1))
   called-holds adopts B = moved (head-adopted w block P) (only-these-change w adopts block .1 P) (adopts-holds (offerOf w) H)
   called-holds (sets at x) B = moved (head-set w block at x) (only-these-change w (sets at x) block .1 P) H
 
 pub made-offers : MadeOffers
-made-offers w (made.opens v c block o e) = opened-holds v block c o e
+made-offers w (made.opens v c block o e) = opening-holds v block c o (λ d. absurd (d e))
 made-offers w (made.calls v c block B M) = called-holds v block (made-offers v M) c B
 
 pub made-reachable : MadeReachable

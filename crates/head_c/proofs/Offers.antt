@@ -1,19 +1,20 @@
 -- The offer beside a head: it is read from words 18 to 22 alone, it is read as it was put, and the record is no other for it.
-use mathlib.Core.Path.{_≡_, refl, _∙_}
-use mathlib.Core.List.{List}
-use Prim.Native.Nat.{ℕ, zero, suc, _%_, _≤_, _<_}
+use mathlib.Core.Path.{_≡_, refl, sym, _∙_}
+use mathlib.Core.List.{List, [], _∷_}
+use Prim.Native.Nat.{ℕ, zero, suc, _+_, _%_, _≤_, _<_}
 use native.Mathlib.Omega.{arith}
 use native.Mathlib.Nat.{mod-eq-of-lt}
-use lib.ListN.{length, getD, set, length-set}
-use lib.Seq.{getD-set-same, getD-set-other}
+use lib.ListN.{length, getD, set}
+use lib.Seq.{getD-set-same, sets-eq, paste}
 use Rattle.fields.specs.Bytes.{signedOf, wordOf}
 use Rattle.settle_midpoint.specs.declared.Kept.{Kept}
 use Rattle.head_spec.specs.declared.LastKept.{LastKept}
 use Rattle.head_spec.specs.declared.Offer.{Offer}
 use Rattle.head_spec.specs.Offers.{lapsed}
 use Rattle.head_c.specs.Blocks.{IsBlock, headOf, offerIn, offerOf, withOffer, withoutOffer}
+use Rattle.head_c.proofs.Copying.{copied-before, copied-there, copied-behind}
 use Rattle.head_c.proofs.Blocks.{signed-back, signed-fits, FitLast}
-use Rattle.head_c.proofs.Changes.{set-apart}
+use Rattle.head_c.proofs.Changes.{head-same, set-apart}
 
 -- ---- what is read
 
@@ -44,58 +45,49 @@ offer-fits w = go (getD w 18 0)
 
 -- ---- what was put
 
-pub offer-back : (k : Kept) (w : List ℕ) → IsBlock w → FitOffer (Offer.Standing k) → offerOf (withOffer (Offer.Standing k) w) ≡ Offer.Standing k
-unfolding offerOf
-offer-back k w block F =
-    let a = set w 18 1 in
-    let b = set a 19 (wordOf (k .low)) in
-    let c = set b 20 (wordOf (k .high)) in
-    let d = set c 21 (k .trim) in
-    let m = wordOf (k .position) in
-    let la : length a ≡ 1116 = length-set w 18 1 ∙ block in
-    let lb : length b ≡ 1116 = length-set a 19 _ ∙ la in
-    let lc : length c ≡ 1116 = length-set b 20 _ ∙ lb in
-    let ld : length d ≡ 1116 = length-set c 21 _ ∙ lc in
-    let stands : getD (set d 22 m) 18 0 ≡ 1 =
-    getD-set-other d 22 18 m 0 (omega arith) ∙ getD-set-other c 21 18 (k .trim) 0 (omega arith) ∙ getD-set-other b 20 18 _ 0 (omega arith)
-    ∙ getD-set-other a 19 18 _ 0 (omega arith)
-    ∙ getD-set-same w 18 1 0 (omega arith) in
-    let low : getD (set d 22 m) 19 0 ≡ wordOf (k .low) =
-    getD-set-other d 22 19 m 0 (omega arith) ∙ getD-set-other c 21 19 (k .trim) 0 (omega arith) ∙ getD-set-other b 20 19 _ 0 (omega arith)
-    ∙ getD-set-same a 19 _ 0 (omega arith) in
-    let high : getD (set d 22 m) 20 0 ≡ wordOf (k .high) =
-    getD-set-other d 22 20 m 0 (omega arith) ∙ getD-set-other c 21 20 (k .trim) 0 (omega arith) ∙ getD-set-same b 20 _ 0 (omega arith) in
-    let trim : getD (set d 22 m) 21 0 ≡ k .trim = getD-set-other d 22 21 m 0 (omega arith) ∙ getD-set-same c 21 (k .trim) 0 (omega arith) in
-    let middle : getD (set d 22 m) 22 0 ≡ m = getD-set-same d 22 m 0 (omega arith) in
-    (λ i. offerIn (stands i) (signedOf (low i)) (signedOf (high i)) (trim i % 256) (signedOf (middle i)))
-    ∙ (λ i.
-    Offer.Standing
-    (record {
-      low = signed-back (k .low) (F .0) i;
-      high = signed-back (k .high) (F .1) i;
-      trim = mod-eq-of-lt (F .2) i;
-      position = signed-back (k .position) (F .3) i;
-    }))
+-- five words, from word 18 on
+abbrev pub offerWords : Kept → List ℕ
+offerWords k = 1 ∷ wordOf (k .low) ∷ wordOf (k .high) ∷ k .trim ∷ wordOf (k .position) ∷ []
+
+module _ (k : Kept) (w : List ℕ) (block : IsBlock w) where
+  abbrev w′ : List ℕ
+  w′ = withOffer (Offer.Standing k) w
+
+  put-offer : paste w 18 (offerWords k) 5 ≡ w′
+  put-offer = sym (sets-eq (offerWords k) w 18 (omega arith))
+
+  put-there : (j : ℕ) → j < 5 → getD w′ (18 + j) 0 ≡ getD (offerWords k) j 0
+  put-there j l = rw (← put-offer) (copied-there w (offerWords k) 18 5 0 refl (omega arith) j l)
+
+  put-before : (i : ℕ) → i < 18 → getD w′ i 0 ≡ getD w i 0
+  put-before i l = rw (← put-offer) (copied-before w (offerWords k) 18 5 0 refl (omega arith) i l)
+
+  pub put-behind : (i : ℕ) → 23 ≤ i → getD w′ i 0 ≡ getD w i 0
+  put-behind i l = rw (← put-offer) (copied-behind w (offerWords k) 18 5 0 refl (omega arith) i l)
+
+  pub offer-back : FitOffer (Offer.Standing k) → offerOf w′ ≡ Offer.Standing k
+  unfolding offerOf
+  offer-back F =
+      (λ i.
+      offerIn (put-there 0 (omega arith) i) (signedOf (put-there 1 (omega arith) i)) (signedOf (put-there 2 (omega arith) i)) (put-there 3 (omega arith) i % 256)
+      (signedOf (put-there 4 (omega arith) i)))
+      ∙ (λ i.
+      Offer.Standing
+      (record {
+        low = signed-back (k .low) (F .0) i;
+        high = signed-back (k .high) (F .1) i;
+        trim = mod-eq-of-lt (F .2) i;
+        position = signed-back (k .position) (F .3) i;
+      }))
+
+  -- the record is no other for it
+  pub offer-apart : headOf w′ ≡ headOf w
+  offer-apart = head-same w w′ (λ i l. put-before i (omega arith)) (λ i l. put-behind i (omega arith))
 
 pub offer-ended : (c : ℕ) (w′ w : List ℕ) → 22 < length w′ → offerOf w′ ≡ offerOf w → offerOf (withoutOffer c w′) ≡ lapsed c (offerOf w)
 offer-ended zero w′ w long e = no-offer (set w′ 18 0) (getD-set-same w′ 18 0 0 (omega arith))
 offer-ended (suc c) w′ w long e = e
 
--- ---- the record is no other for it
-
-pub offer-apart : (o : Offer) (w : List ℕ) → headOf (withOffer o w) ≡ headOf w
-offer-apart Offer.Nothing w = set-apart w 18 0 (omega arith) (omega arith)
-offer-apart (Offer.Standing k) w =
-    let a = set w 18 1 in
-    let b = set a 19 (wordOf (k .low)) in
-    let c = set b 20 (wordOf (k .high)) in
-    let d = set c 21 (k .trim) in
-    set-apart d 22 (wordOf (k .position)) (omega arith) (omega arith)
-    ∙ set-apart c 21 (k .trim) (omega arith) (omega arith)
-    ∙ set-apart b 20 (wordOf (k .high)) (omega arith) (omega arith)
-    ∙ set-apart a 19 (wordOf (k .low)) (omega arith) (omega arith)
-    ∙ set-apart w 18 1 (omega arith) (omega arith)
-
 pub ended-apart : (c : ℕ) (w : List ℕ) → headOf (withoutOffer c w) ≡ headOf w
-ended-apart zero w = offer-apart Offer.Nothing w
+ended-apart zero w = set-apart w 18 0 (omega arith) (omega arith)
 ended-apart (suc c) w = refl

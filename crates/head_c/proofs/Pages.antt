@@ -20,9 +20,9 @@ use Rattle.head_c.proofs.Made.{made-offers}
 
 -- ---- a head's reading
 
-pub reads : {s : Seat} {r : Reading} (w : List ℕ) → s ≡ seatOf w → r ≡ readingOf (s .last) → r ≡ headReading (headOf w)
+pub reads : {s : Seat} {r : Reading} (w : List ℕ) → s ≡ seatOf w → r ≡ readingOf (s .kept) → r ≡ headReading (headOf w)
 unfolding headOf
-reads w e q = q ∙ ap (λ (x : Seat). readingOf (x .last)) e
+reads w e q = q ∙ ap (λ (x : Seat). readingOf (x .kept)) e
 
 -- r was read and found to be x
 pub shown : {r x y : Reading} {n : ℕ} {v : List Float} (old : List Float) → r ≡ y → r ≡ x → n ≡ kindOf x → v ≡ floatsOr x old

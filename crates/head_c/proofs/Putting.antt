@@ -69,8 +69,8 @@ set-paste {A = A} w s i n a h =
 pub put-words : (s : Seat) (w : List ℕ) → IsBlock w → {healed ended held position ranged low high trim middle family : ℕ}
     → healed ≡ bit (s .healed) → ended ≡ bit (s .ended)
     → held ≡ heldNumber (s .position) → position ≡ wordOf (heldOr (s .position) (pos 0))
-    → ranged ≡ rangeNumber (s .last) → low ≡ wordOf (keptOf (s .last) .low) → high ≡ wordOf (keptOf (s .last) .high)
-    → trim ≡ keptOf (s .last) .trim → middle ≡ wordOf (keptOf (s .last) .position) → family ≡ familyNumber (s .family)
+    → ranged ≡ rangeNumber (s .kept) → low ≡ wordOf (keptOf (s .kept) .low) → high ≡ wordOf (keptOf (s .kept) .high)
+    → trim ≡ keptOf (s .kept) .trim → middle ≡ wordOf (keptOf (s .kept) .position) → family ≡ familyNumber (s .family)
     → sets w 0
     (s .n ∷ s .f ∷ s .number ∷ s .phase ∷ s .round ∷ healed ∷ ended ∷ held ∷ position ∷ ranged ∷ low ∷ high ∷ trim ∷ middle ∷ family ∷ s .since ∷ [])
     ≡ paste w 0 (seatWords s) 16

@@ -20,6 +20,11 @@ use Rattle.head_c.proofs.Copying.{copied-before}
 use Rattle.head_c.proofs.Putting.{words-long, first, second, third, first-long, second-long}
 use Rattle.head_c.proofs.Hearing.{heard-below, heard-past}
 
+-- what holds of a block whether a call is taken or refused
+pub either-way : (P : List ℕ → Type 0) (c : ℕ) {new old : List ℕ} → P new → P old → P (leaves c new old)
+either-way P zero n o = n
+either-way P (suc c) n o = o
+
 module _ (w : List ℕ) (block : IsBlock w) (i : ℕ) (from : 16 ≤ i) (to : i < 24) where
   pub put-registers : (h : Head) → getD (withHead h w) i 0 ≡ getD w i 0
   unfolding withHead
@@ -39,11 +44,7 @@ module _ (w : List ℕ) (block : IsBlock w) (i : ℕ) (from : 16 ≤ i) (to : i 
   -- start, restart and adopting
   pub after-registers : (a : Answer) → getD (withAnswer w a) i 0 ≡ getD w i 0
   unfolding withAnswer
-  after-registers a = go (a .refusal)
-    where
-      go : (c : ℕ) → getD (leaves c (withHead (a .head) w) w) i 0 ≡ getD w i 0
-      go zero = put-registers (a .head)
-      go (suc c) = refl
+  after-registers a = either-way (λ x. getD x i 0 ≡ getD w i 0) (a .refusal) (put-registers (a .head)) refl
 
   -- hearing: but for word 18, since an accepted frame ends an offer
   abbrev w₀ : List ℕ
@@ -100,10 +101,6 @@ unfolding heardEach
 each-registers [] w block i from to other = refl
 each-registers (d ∷ D) w block i from to other =
     let m = saidTo (headOf w .seat) (d .link) (d .bytes) in
-    go (hear (headOf w) (d .link) (d .bytes) .refusal) (heardIn w (d .link) m) (each-registers D w block i from to other)
+    either-way (λ x. getD (heardEach x D) i 0 ≡ getD w i 0) (hear (headOf w) (d .link) (d .bytes) .refusal)
     (each-registers D (heardIn w (d .link) m) (heard-block w block (d .link) m) i from to other ∙ heard-registers w block i from to other (d .link) m)
-  where
-    go : (c : ℕ) (w′ : List ℕ) → getD (heardEach w D) i 0 ≡ getD w i 0 → getD (heardEach w′ D) i 0 ≡ getD w i 0
-        → getD (heardEach (leaves c w′ w) D) i 0 ≡ getD w i 0
-    go zero w′ old new = new
-    go (suc c) w′ old new = old
+    (each-registers D w block i from to other)

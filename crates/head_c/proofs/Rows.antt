@@ -26,7 +26,6 @@ use Rattle.settle_trust.proofs.Tests.{same-test}
 use Rattle.settle_position.specs.Reference.{sameNumber}
 use Rattle.head_spec.specs.declared.Row.{Row}
 use Rattle.head_spec.specs.Record.{rows}
-use Rattle.head_c.specs.Places as place
 use Rattle.head_c.specs.Blocks.{IsBlock, upTo, numbersAt, listAt}
 use Rattle.head_c.specs.Steps.{rowWords, rowsIn}
 use Rattle.head_c.proofs.Copying.{upTo-long, upTo-at}

@@ -1,17 +1,16 @@
 -- After a strike both bytes of the window are written anew: nothing that the strike left beside the head is seen again.
-use mathlib.Core.Path.{_≡_, refl, ap, _∙_}
+use mathlib.Core.Path.{_≡_, ap, _∙_}
 use mathlib.Core.Bool.{Bool, false, not, _&&_, and-false}
 use mathlib.Core.List.{List}
 use Prim.Native.Nat.{ℕ, _+_, _*_}
 use lib.ListN.{set, length-set}
 use Rattle.terms.specs.Counting.{bit}
 use Rattle.marks.specs.Marks.{bitOf, withMark}
-use Rattle.head_spec.specs.declared.Offer.{Offer}
 use Rattle.head_window.specs.declared.Registers.{Registers}
 use Rattle.head_window.specs.Window.{three, setRegisters, restartedRegisters}
-use Rattle.head_c.specs.Blocks.{IsBlock, headOf, registersOf, withRegisters}
+use Rattle.head_c.specs.Blocks.{IsBlock, registersOf}
 use Rattle.head_c.specs.Events.{Call, starts, restarts, startsListener, restartsListener, hears, hearsBatch, closes, adopts, sets, numberAfter, blockAfter}
-use Rattle.head_c.specs.Events.{windowReset, Restarts, ResetsWindow, AfterStrike}
+use Rattle.head_c.specs.Events.{windowReset, Restarts, AfterStrike}
 use Rattle.head_c.proofs.Events.{only-these-change, head-set}
 
 -- all three events are cleared

@@ -79,7 +79,7 @@ seatOf w =
       healed = flag (getD w place.healed 0);
       ended = flag (getD w place.ended 0);
       position = entryIn (getD w place.held 0) (signedOf (getD w place.position 0));
-      last =
+      kept =
           rangeIn (getD w place.ranged 0) (signedOf (getD w place.low 0)) (signedOf (getD w place.high 0)) (getD w place.trim 0 % 256)
           (signedOf (getD w place.middle 0));
       since = getD w place.since 0 % 256;
@@ -119,8 +119,8 @@ familyNumber OneRound = 1
 abbrev pub seatWords : Seat → List ℕ
 seatWords s =
     s .n ∷ s .f ∷ s .number ∷ s .phase ∷ s .round ∷ bit (s .healed) ∷ bit (s .ended) ∷ heldNumber (s .position)
-    ∷ wordOf (heldOr (s .position) (pos 0)) ∷ rangeNumber (s .last) ∷ wordOf (keptOf (s .last) .low) ∷ wordOf (keptOf (s .last) .high)
-    ∷ keptOf (s .last) .trim ∷ wordOf (keptOf (s .last) .position) ∷ familyNumber (s .family) ∷ s .since ∷ []
+    ∷ wordOf (heldOr (s .position) (pos 0)) ∷ rangeNumber (s .kept) ∷ wordOf (keptOf (s .kept) .low) ∷ wordOf (keptOf (s .kept) .high)
+    ∷ keptOf (s .kept) .trim ∷ wordOf (keptOf (s .kept) .position) ∷ familyNumber (s .family) ∷ s .since ∷ []
 
 -- a record to which no link gave a list: what stands in the places of lists stays
 unfoldable pub withHead : Head → List ℕ → List ℕ

@@ -67,13 +67,13 @@ fn range_in(ranged: u32, low: u32, high: u32, trim: u32, position: u32) -> LastK
 }
 
 // The seat.
-pub fn seat_in(h: &[u32]) -> Seat
+pub(crate) fn seat_in(h: &[u32]) -> Seat
     requires { ⌜ IsBlock (now h) ⌝ }
     ensures { λ r. ⌜ r ≡ seatOf (now (h .entry)) ⌝ }
 {
     let family = family_in(h[place::FAMILY]);
     let position = entry_in(h[place::HELD], h[place::POSITION]);
-    let last = range_in(
+    let kept = range_in(
         h[place::RANGED],
         h[place::LOW],
         h[place::HIGH],
@@ -90,7 +90,7 @@ pub fn seat_in(h: &[u32]) -> Seat
         healed: h[place::HEALED] != 0,
         ended: h[place::ENDED] != 0,
         position,
-        last,
+        kept,
         since: (h[place::SINCE] % 256) as u8,
     }
 }
@@ -111,7 +111,7 @@ fn numbers_in(h: &[u32], from: usize) -> [i32; HEADS]
 }
 
 // The list.
-pub fn list_in(h: &[u32]) -> Table
+pub(crate) fn list_in(h: &[u32]) -> Table
     requires { ⌜ IsBlock (now h) ⌝ }
     ensures { λ r. ⌜ r ≡ headOf (now (h .entry)) .list ⌝ }
 {
@@ -123,7 +123,7 @@ pub fn list_in(h: &[u32]) -> Table
 }
 
 // Which links confessed or gave a list, and the mark words of the lists.
-pub fn links_in(h: &[u32]) -> Links
+pub(crate) fn links_in(h: &[u32]) -> Links
     requires { ⌜ IsBlock (now h) ⌝ }
     ensures { λ r. ⌜ r ≡ headOf (now (h .entry)) .links ⌝ }
 {
@@ -141,7 +141,7 @@ pub fn links_in(h: &[u32]) -> Links
 }
 
 // The record with nothing heard that has the block's seat and list. No call but hearing and closing looks at what else was heard.
-pub fn bare_in(h: &[u32]) -> Head
+pub(crate) fn bare_in(h: &[u32]) -> Head
     requires { ⌜ IsBlock (now h) ⌝ }
     ensures { λ r. ⌜ r ≡ bare (headOf (now (h .entry))) ⌝ }
 {
@@ -153,7 +153,7 @@ pub fn bare_in(h: &[u32]) -> Head
 // ---- A record put into a block.
 
 // Puts 32 numbers from a word on.
-pub fn put_numbers(h: &mut [u32], from: usize, numbers: &[i32; HEADS])
+pub(crate) fn put_numbers(h: &mut [u32], from: usize, numbers: &[i32; HEADS])
     requires { ⌜ from + 32 ≤ length (now h) ⌝ }
     ensures { λ _. ⌜ now (h .exit) ≡ paste (now (h .entry)) from (wordsOf (now (numbers .entry))) 32 ⌝ }
 {
@@ -194,20 +194,20 @@ fn word_of(e: Entry) -> u32
 }
 
 // Whether a kept range is held.
-fn is_ranged(last: LastKept) -> u32
-    ensures { λ r. ⌜ r ≡ rangeNumber last ⌝ }
+fn is_ranged(kept: LastKept) -> u32
+    ensures { λ r. ⌜ r ≡ rangeNumber kept ⌝ }
 {
-    match last {
+    match kept {
         LastKept::Nothing => 0,
         LastKept::Range(_) => 1,
     }
 }
 
 // It, with zeros if none is held.
-fn kept_of(last: LastKept) -> Kept
-    ensures { λ r. ⌜ r ≡ keptOf last ⌝ }
+fn kept_of(held: LastKept) -> Kept
+    ensures { λ r. ⌜ r ≡ keptOf held ⌝ }
 {
-    match last {
+    match held {
         LastKept::Nothing => Kept {
             low: 0,
             high: 0,
@@ -229,14 +229,14 @@ fn family_number(family: Family) -> u32
 }
 
 // Puts the seat.
-pub fn put_seat(h: &mut [u32], s: Seat)
+pub(crate) fn put_seat(h: &mut [u32], s: Seat)
     requires { ⌜ IsBlock (now h) ⌝ }
     ensures { λ _. ⌜ now (h .exit) ≡ paste (now (h .entry)) 0 (seatWords s) 16 ⌝ }
 {
     let family = s.family;
     let e = s.position;
-    let last = s.last;
-    let kept = kept_of(last);
+    let range = s.kept;
+    let kept = kept_of(range);
     h[place::N] = s.n as u32;
     h[place::F] = s.f as u32;
     h[place::NUMBER] = s.number as u32;
@@ -246,7 +246,7 @@ pub fn put_seat(h: &mut [u32], s: Seat)
     h[place::ENDED] = s.ended as u32;
     h[place::HELD] = is_held(e);
     h[place::POSITION] = word_of(e);
-    h[place::RANGED] = is_ranged(last);
+    h[place::RANGED] = is_ranged(range);
     h[place::LOW] = fields::unsigned(kept.low);
     h[place::HIGH] = fields::unsigned(kept.high);
     h[place::TRIM] = kept.trim as u32;
@@ -257,7 +257,7 @@ pub fn put_seat(h: &mut [u32], s: Seat)
 
 // Clears what the links gave: who confessed, who gave a list, and the mark words. A list that no link gave is no part of the record, so
 // the lists stay.
-pub fn clear_links(h: &mut [u32])
+pub(crate) fn clear_links(h: &mut [u32])
     requires { ⌜ IsBlock (now h) ⌝ }
     ensures { λ _. ⌜ now (h .exit) ≡ paste (now (h .entry)) place.confessed (upTo 34 (λ _. 0)) 34 ⌝ }
 {
@@ -281,7 +281,7 @@ fn put_opened(h: &mut [u32], seat: Seat, list: Table)
 
 // ---- What stands beside the head.
 
-pub fn registers_in(h: &[u32]) -> Registers
+pub(crate) fn registers_in(h: &[u32]) -> Registers
     requires { ⌜ IsBlock (now h) ⌝ }
     ensures { λ r. ⌜ r ≡ registersOf (now (h .entry)) ⌝ }
 {
@@ -291,7 +291,7 @@ pub fn registers_in(h: &[u32]) -> Registers
     }
 }
 
-pub fn put_registers(h: &mut [u32], b: Registers)
+pub(crate) fn put_registers(h: &mut [u32], b: Registers)
     requires { ⌜ IsBlock (now h) ⌝ }
     ensures { λ _. ⌜ now (h .exit) ≡ withRegisters b (now (h .entry)) ⌝ }
 {
@@ -301,7 +301,7 @@ pub fn put_registers(h: &mut [u32], b: Registers)
 
 // ---- The offer beside it.
 
-pub fn offer_in(h: &[u32]) -> Offer
+pub(crate) fn offer_in(h: &[u32]) -> Offer
     requires { ⌜ IsBlock (now h) ⌝ }
     ensures { λ r. ⌜ r ≡ offerOf (now (h .entry)) ⌝ }
 {
@@ -316,7 +316,7 @@ pub fn offer_in(h: &[u32]) -> Offer
     })
 }
 
-pub fn put_offer(h: &mut [u32], kept: Kept)
+pub(crate) fn put_offer(h: &mut [u32], kept: Kept)
     requires { ⌜ IsBlock (now h) ⌝ }
     ensures { λ _. ⌜ now (h .exit) ≡ withOffer (Offer.Standing kept) (now (h .entry)) ⌝ }
 {
@@ -348,7 +348,7 @@ fn put_seated(h: &mut [u32], number: u8, seat: Seat)
 }
 
 // Leaves what a start, a restart or an adoption makes that answers this number: the record, what stands beside the head, and no offer.
-pub fn put_fresh(h: &mut [u32], number: u8, seat: Seat, b: Registers)
+pub(crate) fn put_fresh(h: &mut [u32], number: u8, seat: Seat, b: Registers)
     requires { ⌜ IsBlock (now h) ⌝ }
     ensures { λ _. ⌜ now (h .exit) ≡ withoutOffer number (withRegisters b (leaves number (withHead (opened seat noEntries) (now (h .entry))) (now (h .entry)))) ⌝ }
 {

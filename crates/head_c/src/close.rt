@@ -64,7 +64,7 @@ fn close_last(h: &mut [u32]) -> Closed
 }
 
 // Closes the round.
-pub fn close_in(h: &mut [u32]) -> Closed
+pub(crate) fn close_in(h: &mut [u32]) -> Closed
     requires { ⌜ IsBlock (now h) ⌝ }
     ensures { λ r. ⌜ ClosesIn (close (headOf (now (h .entry)))) (now (h .entry)) r (now (h .exit)) ⌝ }
 {
@@ -79,7 +79,7 @@ pub fn close_in(h: &mut [u32]) -> Closed
 }
 
 // The number of a closing.
-pub fn closed_number(c: Closed) -> u8
+pub(crate) fn closed_number(c: Closed) -> u8
     ensures { λ r. ⌜ r ≡ closedNumber c ⌝ }
 {
     match c {

@@ -21,8 +21,8 @@ pub extern "C" fn focus_head_reading(h: &Block, floats: &mut [f32; 3]) -> u8
         × (now (floats .exit) ≡ floatsOr (headReading (headOf (now (h .entry)))) (now (floats .entry))) ⌝ }
 {
     let seat = seat_in(h);
-    let last = seat.last;
-    match reading::reading_of(last) {
+    let kept = seat.kept;
+    match reading::reading_of(kept) {
         Reading::Unknown => 0,
         Reading::Point(x) => {
             floats[0] = x;
@@ -44,8 +44,8 @@ fn reading_at(blocks: &[u32], k: usize) -> Reading
     }
     let from = WORDS * k;
     let seat = seat_in(&blocks[from..from + WORDS]);
-    let last = seat.last;
-    reading::reading_of(last)
+    let kept = seat.kept;
+    reading::reading_of(kept)
 }
 
 // The readings of 32 heads.

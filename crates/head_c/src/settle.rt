@@ -141,7 +141,7 @@ fn cell_in(
 }
 
 // The new position from the lists in the block, with the first link that gave one as reference; `up`: whether an odd sum is rounded up.
-pub fn settle_lists(h: &[u32], links: Links, n: u8, f: u8, up: bool) -> Settled
+pub(crate) fn settle_lists(h: &[u32], links: Links, n: u8, f: u8, up: bool) -> Settled
     requires { ⌜ IsBlock (now h) ⌝ }
     ensures { λ r. ⌜ r ≡ settling (bit up) n (twoRounds f) (trusted n f (givenBy links (rowsIn (now (h .entry))))) ⌝ }
 {

@@ -1,8 +1,7 @@
 // Starts and restarts in a ring of either family, left in the block.
 ghost use mathlib.Core.Path.{_≡_};
 ghost use Prim.Native.Nat.{_%_};
-ghost use Rattle.head_spec.specs.Seats.{healedSeat};
-ghost use Rattle.head_calls.specs.Steps.{openingSeat};
+ghost use Rattle.head_spec.specs.Seats.{firstSeat, healedSeat};
 ghost use Rattle.head_spec.specs.Calls.{start, restart, startListener, restartListener};
 ghost use Rattle.head_c.specs.Blocks.{headOf};
 ghost use Rattle.head_c.specs.Events.{starts, restarts, startsListener, restartsListener, blockAfter};
@@ -16,9 +15,9 @@ use terms::refusal;
 
 // The seat of a start whose checks pass.
 fn first_seat(family: Family, n: u32, f: u32, number: u32, held: Entry) -> Seat
-    ensures { λ r. ⌜ r ≡ openingSeat family (n % 256) (f % 256) (number % 256) held ⌝ }
+    ensures { λ r. ⌜ r ≡ firstSeat family (n % 256) (f % 256) (number % 256) held ⌝ }
 {
-    head_calls::opening_seat(
+    head_calls::first_seat(
         family,
         (n % 256) as u8,
         (f % 256) as u8,
@@ -41,7 +40,14 @@ fn restart_seat(family: Family, n: u32, f: u32, number: u32, phase: u32, round: 
     )
 }
 
-pub fn start_in(h: &mut Block, family: Family, n: u32, f: u32, number: u32, position: i32) -> u8
+pub(crate) fn start_in(
+    h: &mut Block,
+    family: Family,
+    n: u32,
+    f: u32,
+    number: u32,
+    position: i32,
+) -> u8
     ensures { λ r. ⌜ (r ≡ start (headOf (now (h .entry))) family n f number position .refusal)
         × (now (h .exit) ≡ blockAfter (now (h .entry)) (starts family n f number position)) ⌝ }
 {
@@ -57,7 +63,7 @@ pub fn start_in(h: &mut Block, family: Family, n: u32, f: u32, number: u32, posi
     refused
 }
 
-pub fn restart_in(
+pub(crate) fn restart_in(
     h: &mut Block,
     family: Family,
     n: u32,
@@ -81,7 +87,7 @@ pub fn restart_in(
     refused
 }
 
-pub fn start_listener_in(h: &mut Block, family: Family, n: u32, f: u32, number: u32) -> u8
+pub(crate) fn start_listener_in(h: &mut Block, family: Family, n: u32, f: u32, number: u32) -> u8
     ensures { λ r. ⌜ (r ≡ startListener (headOf (now (h .entry))) family n f number .refusal)
         × (now (h .exit) ≡ blockAfter (now (h .entry)) (startsListener family n f number)) ⌝ }
 {
@@ -92,7 +98,7 @@ pub fn start_listener_in(h: &mut Block, family: Family, n: u32, f: u32, number: 
     refused
 }
 
-pub fn restart_listener_in(
+pub(crate) fn restart_listener_in(
     h: &mut Block,
     family: Family,
     n: u32,

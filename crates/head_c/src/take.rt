@@ -129,7 +129,7 @@ fn number_in(what: Said) -> u8
 }
 
 // Hears a frame on a link.
-pub fn hear(h: &mut [u32], link: u32, frame: &[u8]) -> u8
+pub(crate) fn hear(h: &mut [u32], link: u32, frame: &[u8]) -> u8
     requires { ⌜ IsBlock (now h) ⌝ }
     ensures { λ r. ⌜ Hears (now (h .entry)) link (now (frame .entry)) r (now (h .exit)) ⌝ }
 {
@@ -143,7 +143,7 @@ pub fn hear(h: &mut [u32], link: u32, frame: &[u8]) -> u8
 }
 
 // Hears the frames of a batch that is whole, and answers each where there is room for its answer.
-pub fn hear_entries(h: &mut [u32], batch: &[u8], answers: &mut [u8])
+pub(crate) fn hear_entries(h: &mut [u32], batch: &[u8], answers: &mut [u8])
     requires { ⌜ IsBlock (now h) × (isBatch (now batch) ≡ true) × (length (entriesOf (now batch)) ≤ length (now answers)) ⌝ }
     ensures { λ _. ⌜ (now (h .exit) ≡ heardEach (now (h .entry)) (entriesOf (now (batch .entry))))
         × (headOf (now (h .exit)) ≡ hearEach (headOf (now (h .entry))) (entriesOf (now (batch .entry))))

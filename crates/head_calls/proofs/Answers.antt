@@ -1,6 +1,6 @@
 -- How a call answers: a refusal gives its number with the record that was, and a head that runs is not refused for having ended. And what the checks of a
 -- start or a restart give if they pass, of a head's number as of a listener's.
-use mathlib.Core.Path.{_≡_, refl, ap₂, sym}
+use mathlib.Core.Path.{_≡_, ap₂, sym}
 use mathlib.Core.Logic.{_≢_}
 use mathlib.Core.Bool.{Bool, true, false, cond}
 use Prim.Native.Nat.{ℕ, _≤_}

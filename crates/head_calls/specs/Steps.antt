@@ -1,5 +1,5 @@
 -- The calls, cut into the steps of the code.
-use mathlib.Core.Bool.{Bool, false, cond}
+use mathlib.Core.Bool.{Bool, cond}
 use Prim.Native.Nat.{ℕ, zero, suc}
 use lib.Dec.{ltb}
 use Rattle.terms.specs.Refusals as refusal
@@ -8,11 +8,11 @@ use Rattle.terms.specs.Sizes.{checkSize, isListener}
 use Rattle.terms.specs.declared.Entry.{Entry}
 use Rattle.terms.specs.declared.Family.{Family}
 use Rattle.frame_spec.specs.declared.Said.{Said}
-use Rattle.head_spec.specs.declared.LastKept.{LastKept}
 use Rattle.head_spec.specs.declared.Seat.{Seat}
 use Rattle.head_spec.specs.declared.Head.{Head}
 use Rattle.head_spec.specs.declared.Answer.{Answer}
 use Rattle.head_spec.specs.Record.{noEntries, opened}
+use Rattle.head_spec.specs.Seats.{firstSeat}
 use Rattle.head_spec.specs.Calls.{answer, isTime, restarted}
 
 -- a number that is taken: a head's, or a listener's
@@ -23,26 +23,9 @@ isMember listens n i = cond listens (isListener i) (ltb i n)
 abbrev pub checkMember : (K : Family) (listens : Bool) (n f number rest : ℕ) → ℕ
 checkMember K listens n f i rest = checkSize K n f (check (isMember listens n i) refusal.number-too-high rest)
 
--- phase 1 opens, with the position that is held, if one is
-abbrev pub openingSeat : (K : Family) (n f number : ℕ) (e : Entry) → Seat
-openingSeat K n f i e =
-    record {
-      family = K;
-      n = n;
-      f = f;
-      number = i;
-      phase = 1;
-      round = 0;
-      healed = false;
-      ended = false;
-      position = e;
-      last = LastKept.Nothing;
-      since = 0;
-    }
-
 -- a start of a head or a listener, and a restart
 unfoldable pub startAs : (K : Family) (listens : Bool) (h : Head) (n f number : ℕ) (e : Entry) (rest : ℕ) → Answer
-startAs K listens h n f i e rest = answer (checkMember K listens n f i rest) (opened (openingSeat K n f i e) noEntries) h
+startAs K listens h n f i e rest = answer (checkMember K listens n f i rest) (opened (firstSeat K n f i e) noEntries) h
 
 unfoldable pub restartAs : (K : Family) (listens : Bool) (h : Head) (n f number phase round : ℕ) → Answer
 restartAs K listens h n f i p r = answer (checkMember K listens n f i (check (isTime K p r) refusal.phase-out-of-range 0)) (restarted K n f i p r) h

@@ -1,6 +1,7 @@
 -- Start and restart make a proper record, of a head as of a listener, since their checks ask for just that, and a record with nothing heard is proper whatever
 -- the round.
 use mathlib.Core.Path.{_≡_, refl, sym, _∙_}
+use mathlib.Core.Logic.{_≢_}
 use mathlib.Core.Bool.{Bool, true, false, _&&_, true≢false}
 use mathlib.Core.List.{[]}
 use Prim.Native.Nat.{ℕ, suc, _+_, _*_, _≤_, _<_}
@@ -24,13 +25,14 @@ use Rattle.marks.proofs.Marks.{bit-none}
 use Rattle.entries.proofs.Entries.{numbers-length}
 use Rattle.convergence.specs.Demand3.{AcceptedSize}
 use Rattle.convergence.proofs.Support.{not-null}
-use Rattle.frame_spec.specs.Proper.{ProperTable}
+use Rattle.frame_spec.specs.Said.{collected}
+use Rattle.frame_spec.specs.Proper.{ProperTable, Proper}
 use Rattle.terms.proofs.Booleans.{and-both}
 use Rattle.terms.proofs.Sizes.{size-passed, member-not-listener, listener-small}
 use Rattle.frame_spec.proofs.Listing.{numbers-none}
 use Rattle.head_spec.specs.declared.Seat.{Seat}
 use Rattle.head_spec.specs.Record.{noEntries, noLinks, noLists, opened}
-use Rattle.head_spec.specs.Seats.{firstSeat, listenerSeat, healedSeat}
+use Rattle.head_spec.specs.Seats.{openingSeat, firstSeat, healedSeat}
 use Rattle.head_spec.specs.Calls.{startRefusal, started, isTime, restartRefusal, restarted, startListenerRefusal, startedListener, restartListenerRefusal}
 pub use Rattle.head_spec.specs.Proper.{Sized, ProperKept, ProperLast, ProperSeat, listFrom, ProperLinks, ProperHead}
 
@@ -125,22 +127,27 @@ module _ (K : Family) (n f i : ℕ) where
       let (S, rest) = sized K n f e in
       member-not-listener i n (ltb-true i n (both-passed (ltb i n) (isPosition v) 2 3 rest .0)) (S .most)
 
-  proper-first : (v : ℤ) → startRefusal K n f i v ≡ 0 → ProperSeat (firstSeat K n f i v)
+  proper-opening : {p r : ℕ} {healed : Bool} {e : Entry} → Sized K n f → (isListener i ≡ false → i < n) → 1 ≤ p → p ≤ 65535 → r < roundsOf K
+      → Proper n (collected e) → (isListener i ≡ false → r ≡ 0 → healed ≡ false → e ≢ Entry.Null) → ProperSeat (openingSeat K n f i p r healed e)
+  proper-opening S number first last round position holds =
+      record {
+        size = S;
+        number = number;
+        from-first = first;
+        to-last = last;
+        round = round;
+        position = position;
+        holds = holds;
+        kept = tt;
+        since = omega arith;
+      }
+
+  proper-first : (v : ℤ) → startRefusal K n f i v ≡ 0 → ProperSeat (firstSeat K n f i (Entry.Position v))
   unfolding startRefusal
   proper-first v e =
       let (S, rest) = sized K n f e in
       let (number, range, done) = both-passed (ltb i n) (isPosition v) 2 3 rest in
-      record {
-        size = S;
-        number = λ o. ltb-true i n number;
-        from-first = omega arith;
-        to-last = omega arith;
-        round = first-round K;
-        position = range;
-        holds = λ o r h q. not-null q refl;
-        last = tt;
-        since = omega arith;
-      }
+      proper-opening S (λ o. ltb-true i n number) (omega arith) (omega arith) (first-round K) range (λ o r h q. not-null q refl)
 
   pub proper-started : (v : ℤ) → startRefusal K n f i v ≡ 0 → ProperHead (started K n f i v)
   unfolding started
@@ -150,22 +157,12 @@ module _ (K : Family) (n f i : ℕ) where
   exempt : {A : Type 0} → isListener i ≡ true → isListener i ≡ false → A
   exempt e o = absurd (true≢false (sym e ∙ o))
 
-  proper-listener : startListenerRefusal K n f i ≡ 0 → ProperSeat (listenerSeat K n f i)
+  proper-listener : startListenerRefusal K n f i ≡ 0 → ProperSeat (firstSeat K n f i Entry.Null)
   unfolding startListenerRefusal
   proper-listener e =
       let (S, rest) = sized K n f e in
       let (listens, none, done) = both-passed (isListener i) true 2 0 rest in
-      record {
-        size = S;
-        number = exempt listens;
-        from-first = omega arith;
-        to-last = omega arith;
-        round = first-round K;
-        position = tt;
-        holds = exempt listens;
-        last = tt;
-        since = omega arith;
-      }
+      proper-opening S (exempt listens) (omega arith) (omega arith) (first-round K) tt (exempt listens)
 
   pub proper-started-listener : startListenerRefusal K n f i ≡ 0 → ProperHead (startedListener K n f i)
   unfolding startedListener
@@ -179,17 +176,7 @@ module _ (K : Family) (n f i : ℕ) where
       let (member, times, done) = both-passed b (isTime K p r) 2 4 rest in
       let (phase, round) = and-both (leb 1 p && leb p 65535) (ltb r (roundsOf K)) times in
       let (first, last) = and-both (leb 1 p) (leb p 65535) phase in
-      record {
-        size = S;
-        number = number member;
-        from-first = leb-true 1 p first;
-        to-last = leb-true p 65535 last;
-        round = ltb-true r (roundsOf K) round;
-        position = tt;
-        holds = λ o z h q. true≢false h;
-        last = tt;
-        since = omega arith;
-      }
+      proper-opening S (number member) (leb-true 1 p first) (leb-true p 65535 last) (ltb-true r (roundsOf K) round) tt (λ o z h q. true≢false h)
 
   pub proper-restarted : (p r : ℕ) → restartRefusal K n f i p r ≡ 0 → ProperHead (restarted K n f i p r)
   unfolding restarted restartRefusal

@@ -2,7 +2,7 @@
 -- it, since half the sum of the lowest and the highest kept lies between them. Nothing else puts a position in a listener's record.
 use mathlib.Core.Path.{_≡_, refl, ap, sym, _∙_}
 use mathlib.Core.Bool.{Bool, true, false, cond, true≢false}
-use Prim.Native.Nat.{ℕ, zero, suc, _*_, _≤_}
+use Prim.Native.Nat.{ℕ, _≤_}
 use native.Mathlib.Omega.{arith}
 use borrow.Author.Tests.{leb-true}
 use Rattle.terms.specs.Refusals as refusal
@@ -31,11 +31,11 @@ use Rattle.head_spec.proofs.Demand2.{demand-2}
 
 -- ---- which range is held
 
-held-ending : (c : Closed) (h h′ : Head) (x : LastKept) → Answers c h h′ → h .seat .last ≡ x → h′ .seat .last ≡ passing c x
+held-ending : (c : Closed) (h h′ : Head) (x : LastKept) → Answers c h h′ → h .seat .kept ≡ x → h′ .seat .kept ≡ passing c x
 unfolding closedCollection closedPhase
-held-ending (Closed.Refused c) h h′ x a e = ap (λ (y : Head). y .seat .last) a ∙ e
-held-ending Closed.Listed h h′ x a e = ap (λ (y : Head). y .seat .last) a ∙ e
-held-ending (Closed.Settled k) h h′ x a e = ap (λ (y : Head). y .seat .last) a
+held-ending (Closed.Refused c) h h′ x a e = ap (λ (y : Head). y .seat .kept) a ∙ e
+held-ending Closed.Listed h h′ x a e = ap (λ (y : Head). y .seat .kept) a ∙ e
+held-ending (Closed.Settled k) h h′ x a e = ap (λ (y : Head). y .seat .kept) a
 
 pub holds-passed : HoldsPassed
 unfolding started restarted startedListener
@@ -71,20 +71,20 @@ module _ (h : Head) (P : ProperHead h) where
       let (above, below) = in-kept (h .seat .n) (ruleOf K (h .seat .f)) E some (rounding (h .seat .phase)) (rounding-le (h .seat .phase)) in
       record { above = above; below = below }
 
-  ended-sound : Sound (h .seat .last) → Sound (endRound h .head .seat .last)
+  ended-sound : Sound (h .seat .kept) → Sound (endRound h .head .seat .kept)
   unfolding endRound settling closedCollection closedPhase
   ended-sound s = go (h .seat .ended) (isLastRound (h .seat))
     where
-      settles : (c : Bool) → enoughTrusted h ≡ c → Sound (endSettled (cond c (Settled.New (settledBy h)) (Settled.Refused refusal.too-few-trusted)) h .head .seat .last)
+      settles : (c : Bool) → enoughTrusted h ≡ c → Sound (endSettled (cond c (Settled.New (settledBy h)) (Settled.Refused refusal.too-few-trusted)) h .head .seat .kept)
       settles true e = settled-sound e
       settles false e = s
 
-      go : (b r : Bool) → Sound (cond b (closing (Closed.Refused refusal.run-has-ended) h) (endIn r h) .head .seat .last)
+      go : (b r : Bool) → Sound (cond b (closing (Closed.Refused refusal.run-has-ended) h) (endIn r h) .head .seat .kept)
       go true r = s
       go false false = s
       go false true = settles (enoughTrusted h) refl
 
-sound : {h : Head} {x : LastKept} → Passed h x → Sound (h .seat .last)
+sound : {h : Head} {x : LastKept} → Passed h x → Sound (h .seat .kept)
 unfolding started restarted startedListener
 sound (passed.starts K n f i v e) = tt
 sound (passed.restarts K n f i p r e) = tt

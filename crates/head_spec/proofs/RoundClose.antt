@@ -1,7 +1,7 @@
 -- Closing a round. It ends a collection round. In the last round of a phase it answers what the end of the round would, and the record stays as it is.
 use mathlib.Core.Path.{_≡_, refl}
 use mathlib.Core.Bool.{Bool, true, false, cond}
-use Prim.Native.Nat.{ℕ, zero, suc}
+use Prim.Native.Nat.{ℕ}
 use Rattle.terms.specs.Refusals as refusal
 use Rattle.settle_midpoint.specs.Answers.{settling}
 use Rattle.settle_midpoint.specs.declared.Kept.{Kept}
@@ -54,15 +54,9 @@ closes h = go (h .seat .ended) (isLastRound (h .seat)) refl refl
     go false false e q = (refl, end-by h e q)
     go false true e q = settles (settlingOf h) e (end-by h e q)
 
--- a closing that is refused, and one that offers, leave the record; one that offers says what the round settles
-pub refused-stays : (h : Head) {c : ℕ} → close h .closed ≡ Closed.Refused c → close h .head ≡ h
-refused-stays h e = (rw e at (closes h)) .0
-
+-- a closing that offers leaves the record
 pub offer-stays : (h : Head) {k : Kept} → close h .closed ≡ Closed.Settled k → close h .head ≡ h
 offer-stays h e = (rw e at (closes h)) .0
-
-pub offer-stands : (h : Head) {k : Kept} → close h .closed ≡ Closed.Settled k → Stands h k
-offer-stands h e = (rw e at (closes h)) .1
 
 -- ---- a proper record stays proper, and what it offers is proper
 

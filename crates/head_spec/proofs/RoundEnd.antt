@@ -4,10 +4,9 @@ use mathlib.Core.Path.{_≡_, refl, ap, sym, _∙_}
 use mathlib.Core.Bool.{Bool, true, false, cond, true≢false}
 use Prim.Native.Nat.{ℕ, zero, suc, _+_, _≤_, _<_}
 use native.Mathlib.Omega.{arith}
-use borrow.Author.Tests.{leb-false, le-leb, lt-leb}
+use borrow.Author.Tests.{leb-false, lt-leb}
 use Rattle.terms.specs.Refusals as refusal
 use Rattle.terms.specs.Sizes.{roundsOf, endsWith}
-use Rattle.terms.specs.declared.Entry.{Entry}
 use Rattle.terms.specs.declared.Family.{Family}
 use Rattle.terms.specs.declared.Family.the-variants.{TwoRounds, OneRound}
 use Rattle.convergence.specs.Settling.{nulls, ruleOf, ordered, midpoint, enough}
@@ -17,7 +16,6 @@ use Rattle.convergence.proofs.Support.{not-null}
 use Rattle.settle_midpoint.specs.Answers.{kept, settling}
 use Rattle.settle_midpoint.specs.declared.Kept.{Kept}
 use Rattle.settle_midpoint.specs.declared.Settled.{Settled}
-use Rattle.head_spec.specs.declared.LastKept.{LastKept}
 use Rattle.head_spec.specs.declared.Seat.{Seat}
 use Rattle.head_spec.specs.declared.Head.{Head}
 use Rattle.head_spec.specs.declared.Closed.{Closed}
@@ -68,11 +66,6 @@ pub settled-midpoint : (h : Head) → settledBy h .position ≡ midpoint (roundi
 unfolding midpoint
 settled-midpoint h = refl
 
--- phase 65,535 is the last
-pub last-ended : (h : Head) (k : Kept) → 65535 ≤ h .seat .phase → closedPhase h k .seat .ended ≡ true
-unfolding closedPhase
-last-ended h k l = le-leb 65535 (h .seat .phase) l
-
 -- ---- what is answered, and what is held
 
 abbrev pub Answers : Closed → Head → Head → Type 0
@@ -93,18 +86,6 @@ answers h = go (h .seat .ended) (isLastRound (h .seat))
     go false false = refl
     go false true = settles (settlingOf h)
 
--- an end that settles: the record holds the position answered, with its kept range
-pub settled-held : (h : Head) {k : Kept} → endRound h .closed ≡ Closed.Settled k → endRound h .head .seat .position ≡ Entry.Position (k .position)
-unfolding closedPhase
-settled-held h e = ap (λ (x : Head). x .seat .position) (rw e at (answers h))
-
-pub settled-range : (h : Head) {k : Kept} → endRound h .closed ≡ Closed.Settled k → endRound h .head .seat .last ≡ LastKept.Range k
-unfolding closedPhase
-settled-range h e = ap (λ (x : Head). x .seat .last) (rw e at (answers h))
-
-pub refused-kept : (h : Head) {c : ℕ} → endRound h .closed ≡ Closed.Refused c → endRound h .head ≡ h
-refused-kept h e = rw e at (answers h)
-
 -- ---- a proper record stays proper, and a round that is ended opens the next
 
 -- a round that is not the last of its phase is the collection round of a phase of two rounds
@@ -123,7 +104,7 @@ proper-confession {s} c P =
       round = rw (not-last (s .family) (s .round) c .0) (omega arith);
       position = P .position;
       holds = λ o r. absurd (omega arith);
-      last = P .last;
+      kept = P .kept;
       since = P .since;
     }
 
@@ -138,7 +119,7 @@ proper-next {s} k P K =
       round = round;
       position = K .position;
       holds = λ o r t q. not-null q refl;
-      last = K;
+      kept = K;
       since = omega arith;
     }
   where

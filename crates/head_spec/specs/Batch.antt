@@ -1,6 +1,6 @@
 -- A round's frames in one call (document 02, A1): the input is cut into entries, each a link byte and then a frame as long as its own
 -- length field says; the frames are heard in order. The call checks 15, then 24; nothing of it is heard if it is refused.
-use mathlib.Core.Bool.{Bool, true, false, cond, _&&_}
+use mathlib.Core.Bool.{Bool, true, cond, _&&_}
 use mathlib.Core.List.{List, [], _∷_, _++_}
 use Prim.Native.Nat.{ℕ, zero, suc, _+_}
 use lib.Dec.{leb}

@@ -4,7 +4,7 @@
 use mathlib.Core.Bool.{Bool, true, false, not, cond, _&&_}
 use mathlib.Core.List.{List, [], _∷_}
 use Prim.Native.Nat.{ℕ, zero, suc}
-use lib.Dec.{ltb, leb}
+use lib.Dec.{ltb}
 use lib.ListN.{set}
 use lib.IntN.{ℤ}
 use Rattle.terms.specs.Refusals as refusal
@@ -32,7 +32,7 @@ use Rattle.head_spec.specs.declared.Closed.{Closed}
 use Rattle.head_spec.specs.declared.Closing.{Closing}
 use Rattle.head_spec.specs.declared.Offer.{Offer}
 use Rattle.head_spec.specs.Record.{noEntries, opened, entriesBy}
-use Rattle.head_spec.specs.Seats.{firstSeat, listenerSeat, healedSeat, confessionSeat, nextSeat}
+use Rattle.head_spec.specs.Seats.{firstSeat, healedSeat, confessionSeat, nextSeat}
 
 -- the record changed if nothing was refused
 abbrev pub answer : ℕ → Head → Head → Answer
@@ -47,7 +47,7 @@ startRefusal K n f i v = checkSize K n f (check (ltb i n) refusal.number-too-hig
 
 -- the record of a head that is started, whatever it was (P37)
 unfoldable pub started : (K : Family) (n f number : ℕ) (position : ℤ) → Head
-started K n f i v = opened (firstSeat K n f i v) noEntries
+started K n f i v = opened (firstSeat K n f i (Entry.Position v)) noEntries
 
 unfoldable pub start : (h : Head) (K : Family) (n f number : ℕ) (position : ℤ) → Answer
 start h K n f i v = answer (startRefusal K n f i v) (started K n f i v) h
@@ -77,7 +77,7 @@ startListenerRefusal K n f i = checkSize K n f (check (isListener i) refusal.num
 
 -- the record of a listener that is started: phase 1, no position (Q34)
 unfoldable pub startedListener : (K : Family) (n f number : ℕ) → Head
-startedListener K n f i = opened (listenerSeat K n f i) noEntries
+startedListener K n f i = opened (firstSeat K n f i Entry.Null) noEntries
 
 unfoldable pub startListener : (h : Head) (K : Family) (n f number : ℕ) → Answer
 startListener h K n f i = answer (startListenerRefusal K n f i) (startedListener K n f i) h

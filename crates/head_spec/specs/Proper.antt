@@ -52,7 +52,7 @@ pub record ProperSeat (s : Seat) : Type 0 where
   pub round : s .round < roundsOf (s .family)
   pub position : Proper (s .n) (collected (s .position))
   pub holds : isListener (s .number) ≡ false → s .round ≡ 0 → s .healed ≡ false → s .position ≢ Entry.Null
-  pub last : ProperLast (s .f) (s .last)
+  pub kept : ProperLast (s .f) (s .kept)
   pub since : s .since ≤ mostCounted
 
 -- the list held of link k

@@ -33,7 +33,7 @@ pub data Passed : Head → LastKept → Type 0 where
 
 -- a record holds what was passed on last (Q11)
 abbrev pub HoldsPassed : Type 0
-HoldsPassed = (h : Head) (x : LastKept) → Passed h x → h .seat .last ≡ x
+HoldsPassed = (h : Head) (x : LastKept) → Passed h x → h .seat .kept ≡ x
 
 -- what a range is worth: the position lies in it
 pub record InRange (k : Kept) : Type 0 where

@@ -36,7 +36,7 @@ pub struct Seat {
     pub healed: bool, // in this round
     pub ended: bool, // phase 65,535 has ended
     pub position: Entry,
-    pub last: LastKept,
+    pub kept: LastKept, // by the last phase end
     pub since: u8, // phase ends since the start or restart, up to 255, where the count rests
 }
 

@@ -14,8 +14,6 @@
 // trim and the position), a colon, the call's number, then what the host holds: phase, round, position or `none`, and the offer or `none`.
 // The last line is `end`, or `cut` if the script ends inside a record.
 ghost use mathlib.Core.Path.{_≡_};
-ghost use mathlib.Core.List.{List};
-ghost use Prim.Native.Nat.{ℕ};
 ghost use lib.IntN.{pos};
 ghost use lib.ListN.{length, take};
 ghost use Rattle.terms.specs.declared.Family.the-variants.{TwoRounds};
@@ -28,16 +26,12 @@ use head_spec::Answer;
 use head_spec::Closed;
 use head_spec::Closing;
 use head_spec::Head;
-use head_spec::LastKept;
 use head_spec::Offer;
-use head_spec::Seat;
 use libc::STDIN_FILENO;
 use libc::STDOUT_FILENO;
 use settle_midpoint::Kept;
 use terms::Entry;
 use terms::Family;
-use terms::HEADS;
-use terms::Table;
 
 // ---- The record, lent: each function puts it into a local, lends that to the call, and gives back what the call answers and the record
 // that it left.
@@ -374,21 +368,8 @@ fn show(x: Outcome) {
 fn first() -> Head
     ensures { λ r. ⌜ r ≡ started TwoRounds 1 0 0 (pos 0) ⌝ }
 {
-    let seat = Seat {
-        family: Family::TwoRounds,
-        n: 1,
-        f: 0,
-        number: 0,
-        phase: 1,
-        round: 0,
-        healed: false,
-        ended: false,
-        position: Entry::Position(0),
-        last: LastKept::Nothing,
-        since: 0,
-    };
-    let entries = [0i32; HEADS];
-    head_calls::opened(seat, Table { marks: 0, entries })
+    let seat = head_calls::first_seat(Family::TwoRounds, 1, 0, 0, Entry::Position(0));
+    head_calls::opened(seat, head_calls::no_entries())
 }
 
 // The length of the first record; 0 if it is cut.

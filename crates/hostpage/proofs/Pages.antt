@@ -5,7 +5,7 @@ use mathlib.Core.Logic.{_⊎_, inl, inr}
 use Prim.Native.Nat.{ℕ, zero, suc, _+_, _≤_, _<_}
 use native.Mathlib.Omega.{arith}
 use native.Mathlib.Numerals.{add-one}
-use native.Mathlib.Nat.{eq-or-lt-of-le, le-of-eq, le-of-suc-le-suc, le-trans}
+use native.Mathlib.Nat.{eq-or-lt-of-le, le-of-eq, le-of-suc-le-suc}
 use lib.ListN.{length, getD, drop, length-append}
 use lib.Seq.{take-at, drop-append-add, drop-drop}
 use mathlib.Core.Bool.{true, false}

@@ -1,8 +1,8 @@
 -- Nothing is rounded (`NothingRounded`). `exact k z` is z / 2 ^ k (`exact-is`), an f32 holds it (`exact-holds`), and no other f32 is that number with that sign
 -- (`exact-only`). A sum of positions stays below 2 ^ 24, so `round` leaves it and its half as they are.
-use mathlib.Core.Path.{_≡_, refl, sym, ap, _∙_, subst}
+use mathlib.Core.Path.{_≡_, refl, ap, _∙_, subst}
 use mathlib.Core.Bool.{Bool, true, false, cond, not, _&&_}
-use Prim.Native.Nat.{ℕ, zero, suc, _+_, _-_, _*_, _^_, _≤_, _<_}
+use Prim.Native.Nat.{ℕ, suc, _+_, _-_, _^_, _≤_, _<_}
 use native.Mathlib.Nat.{mul-one}
 use native.Mathlib.Omega.{arith}
 use borrow.Author.Tests.{leb-true}
@@ -10,7 +10,7 @@ use Rattle.terms.proofs.Booleans.{and-both}
 use lib.Dec.{T, ltb, leb, le→leb, ltb→lt, nltb→le, lt→ltb}
 use lib.Pow.{pow-pos}
 use lib.IntN.{ℤ, pos, negsuc, natAbs, subℕ, _+ℤ_}
-use lib.Ieee.{Float, fin, Format, binary32, odd, round, sum, add, mul, fits, ofInt, inFloat, ofBits, toBits}
+use lib.Ieee.{Float, binary32, odd, round, sum, add, mul, fits, ofInt, inFloat, ofBits}
 use lib.Ieee.Exact.{HasValue, odd-sign}
 use Rattle.terms.specs.Positions.{isPosition}
 use Rattle.reading.specs.Exact.{exact, Is}

@@ -2,13 +2,12 @@
 use mathlib.Core.Path.{_≡_, refl, sym, ap, _∙_, subst}
 use mathlib.Core.Bool.{Bool, true, false, cond}
 use Prim.Native.Nat.{ℕ, zero, suc, _+_, _-_, _*_, _/_, _^_, _≤_, _<_}
-use native.Mathlib.Nat.{le-antisymm, lt-of-not-le, not-le-of-lt, lt-of-lt-of-le, le-trans, mul-le-mul-right, mul-assoc, zero-add, zero-lt-suc}
+use native.Mathlib.Nat.{lt-of-not-le, not-le-of-lt, lt-of-lt-of-le, mul-le-mul-right, mul-assoc, zero-add, zero-lt-suc}
 use native.Mathlib.Omega.{arith}
 use lib.IntN.{ℤ, pos, negsuc, natAbs}
 use lib.Pow.{pow-add, pow-pos, pow-mono, shl-lt, shl-shr}
-use lib.Ieee.{Float, binary32, odd, size, toBits}
+use lib.Ieee.{binary32, size, toBits}
 use lib.Ieee.Digits.{size-lt, size-le, size-reaches}
-use lib.Ieee.Exact.{HasValue}
 use Rattle.reading.specs.Exact.{exact}
 use Rattle.reading.specs.Bits.{fieldsOf, bitsOf}
 use Rattle.reading.proofs.OneFloat.{bitsAt, bits-of-value}

@@ -2,13 +2,13 @@
 use mathlib.Core.Path.{_≡_, refl, sym, ap, _∙_, subst}
 use mathlib.Core.Bool.{Bool, true, false, cond, _&&_, Bool·beq}
 use Prim.Native.Nat.{ℕ, zero, suc, _+_, _-_, _*_, _/_, _^_, _≤_, _<_}
-use native.Mathlib.Nat.{mul-one, mul-assoc, mul-comm, mul-pos, mul-right-comm, le-of-lt, lt-of-lt-of-le, add-mul, mul-lt-mul-of-pos-right, lt-of-mul-lt-mul-right, zero-lt-suc, mul-sub}
+use native.Mathlib.Nat.{mul-one, mul-assoc, mul-comm, mul-pos, le-of-lt, lt-of-lt-of-le, add-mul, mul-lt-mul-of-pos-right, lt-of-mul-lt-mul-right, zero-lt-suc, mul-sub}
 use native.Mathlib.Omega.{arith}
-use lib.Dec.{T, leb, ltb, leb→le, le→leb, ltb→lt, lt→ltb, lit<}
+use lib.Dec.{T, leb, ltb, leb→le, le→leb, ltb→lt, lt→ltb}
 use lib.IntN.{ℤ, pos, negsuc}
 use lib.Pow.{pow-add, pow-pos, pow-mono, shl-lt}
 use lib.Count.{trailingZeros}
-use lib.Ieee.{Float, nan, inf, fin, Format, binary32, low, up, down, minus, unlike, odd, round, sum, add, mul, fits}
+use lib.Ieee.{Float, nan, inf, fin, Format, binary32, up, down, minus, unlike, odd, round, sum, add, mul, fits}
 use lib.Ieee.Fits.{odd-fits, round-fits, down-pos}
 use lib.Ieee.Exact.{HasValue, odd-sign, round-exact}
 use lib.Ieee.Scale.{round-same}

@@ -28,4 +28,4 @@ readingOf (LastKept.Range k) = readingBetween (k .low) (k .high)
 
 -- of a head (Q101)
 abbrev pub headReading : Head → Reading
-headReading h = readingOf (h .seat .last)
+headReading h = readingOf (h .seat .kept)

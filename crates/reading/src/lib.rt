@@ -62,10 +62,10 @@ fn reading_between(lowest: i32, highest: i32) -> Reading
 
 // The reading of what a head holds of its last phase end: unknown if it holds nothing, a point if the two kept entries are equal, otherwise
 // a range.
-pub fn reading_of(last: LastKept) -> Reading
-    ensures { λ r. ⌜ r ≡ readingOf last ⌝ }
+pub fn reading_of(kept: LastKept) -> Reading
+    ensures { λ r. ⌜ r ≡ readingOf kept ⌝ }
 {
-    match last {
+    match kept {
         LastKept::Nothing => Reading::Unknown,
         LastKept::Range(kept) => reading_between(kept.low, kept.high),
     }

@@ -86,7 +86,7 @@ promised-same {K} {n} {m} {f} {marks} {es} {es′} {now} {now′} S same X =
 
     keep : (i : ℕ) → i + 1 < length es → let e = asEnd n m (getD es (i + 1) noEnd) in let e′ = getD es i noEnd in
         Each receivers (λ j. asEnd n m e′ .struck j ≡ false
-        → HoldsBetween (lowest receivers e) (highest receivers e) (e′ .heads j .seat .last))
+        → HoldsBetween (lowest receivers e) (highest receivers e) (e′ .heads j .seat .kept))
     keep i h j b q =
         let (low, high) = same-bounds (alike (i + 1)) in
         rw (low, high, S .each i .heads j q) (X .between i (omega (arith, S .many)) j b (sym (alike i .struck j b) ∙ q))

@@ -31,7 +31,7 @@ pub record Promised (K : Family) (n m f : ℕ) (marks : List ℕ) (es : List Pha
   -- each sound device holds a kept range between the sound positions that the phase started from (document 02, A2)
   pub between : (i : ℕ) → i + 1 < length es → let e = asEnd n m (getD es (i + 1) noEnd) in let e′ = getD es i noEnd in
       Each receivers (λ j. asEnd n m e′ .struck j ≡ false
-      → HoldsBetween (lowest receivers e) (highest receivers e) (e′ .heads j .seat .last))
+      → HoldsBetween (lowest receivers e) (highest receivers e) (e′ .heads j .seat .kept))
   -- each that the last round does not mark holds the count of phase ends since the last round that marks it (A10)
   pub counts : Each receivers
       (λ i. isReceiver n m i ≡ true → bitOf (getD marks 0 0) i ≡ false → now i .seat .since ≡ countAfter K (marking marks) i)

@@ -76,9 +76,9 @@ module _ (K : Family) (n f : ℕ) (R : Ring) (w : Round) (S : RingReady K n f R)
 
       -- with the kept range and the trim
       pub confession-keeps : let E = entriesBy K T in
-          closedAt K n f R w i .seat .last ≡ LastKept.Range (kept (rounding (R .phase)) (ruleOf K f .trim (nulls n E)) (ordered n E))
+          closedAt K n f R w i .seat .kept ≡ LastKept.Range (kept (rounding (R .phase)) (ruleOf K f .trim (nulls n E)) (ordered n E))
       unfolding closedPhase
-      confession-keeps = ap (λ (x : Head). x .seat .last) confession-closed
+      confession-keeps = ap (λ (x : Head). x .seat .kept) confession-closed
           ∙ (λ t. let E = entriesBy (A .family t) T in
           LastKept.Range (kept (rounding (A .phase t)) (ruleOf (A .family t) (A .limit t) .trim (nulls (A .count t) E)) (ordered (A .count t) E)))
 

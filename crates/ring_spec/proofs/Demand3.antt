@@ -299,7 +299,7 @@ module _ (n f : ℕ) (v : ℕ → ℤ) (range : Each n (λ i. isPosition (v i) �
   -- what the records hold after p + 1 phases, without the last j rounds
   keeps : (K : Family) (S : Sized K n f) → length ws ≤ mostRounds K → (p j : ℕ) → length ws ≡ roundsOf K * suc p + j → let e = endAfter K n f v (faultsOf K n m ws) p in
       (i : ℕ) → Hears n i → bitOf (marksAt (drop j ws)) i ≡ false
-      → HoldsBetween (lowest receivers e) (highest receivers e) (ringAfter K n f v (drop j ws) .heads i .seat .last)
+      → HoldsBetween (lowest receivers e) (highest receivers e) (ringAfter K n f v (drop j ws) .heads i .seat .kept)
   unfolding ringAfter faultsOf
   keeps TwoRounds S most p j e =
       let F = faultsOf TwoRounds n m ws in
@@ -374,7 +374,7 @@ ring-keeps-between K n m f v ws X i h k t q =
     let z : length es - 1 - i ≡ suc p = omega arith in
     let rounds = back-rounds K n f v ws i (omega arith) in
     let (hear, sound) = hears n m (getD es i noEnd .struck) k t q in
-    between (refines K n m f v ws X (i + 1) h) (getD es i noEnd .heads k .seat .last)
+    between (refines K n m f v ws X (i + 1) h) (getD es i noEnd .heads k .seat .kept)
     (rw (A .heads)
     (keeps n f v (X .range) m ws (X .few) K (within-sized X) (X .rounds) p j (rw z at rounds) k hear (rw (A .struck) at sound)))
   where

@@ -127,7 +127,7 @@ module _ (K : Family) (n m f : ℕ) (R : Ring) (w : Round) (S : RingReady K n f 
         ∙ sym (settled-is (rounding (R .phase)) n (ruleOf K f) E few)
 
     -- with what `convergence` keeps
-    ends-keeping : afterRound K n f R w .heads i .seat .last ≡ LastKept.Range (kept (rounding (R .phase)) (ruleOf K f .trim (nulls n E)) (ordered n E))
+    ends-keeping : afterRound K n f R w .heads i .seat .kept ≡ LastKept.Range (kept (rounding (R .phase)) (ruleOf K f .trim (nulls n E)) (ordered n E))
     unfolding afterRound
     ends-keeping =
         confession-keeps K n f R w S i l q last ends-calm
@@ -216,7 +216,7 @@ module _ (n m f : ℕ) (R : Ring) (a b : Round) (S : RingReady TwoRounds n f R) 
     phase₁ = after-collection TwoRounds n f R a S first .0
 
     pub keeps-as : (i : ℕ) → Hears n i → bitOf (b .struck) i ≡ false → let E = entriesAt TwoRounds n f e F i in
-        afterRound TwoRounds n f R₁ b .heads i .seat .last ≡ LastKept.Range (kept (rounding (R₁ .phase)) (ruleOf TwoRounds f .trim (nulls n E)) (ordered n E))
+        afterRound TwoRounds n f R₁ b .heads i .seat .kept ≡ LastKept.Range (kept (rounding (R₁ .phase)) (ruleOf TwoRounds f .trim (nulls n E)) (ordered n E))
     keeps-as = ends-keeping TwoRounds n m f R₁ b S₁ second e F H limits entries-two
 
     pub phase-same : SameEnd receivers (asEnd n m (markedEnd (b .struck) (afterRound TwoRounds n f R₁ b .heads))) (after TwoRounds (rounding (R .phase)) n f e F)
@@ -247,7 +247,7 @@ module _ (n m f : ℕ) (R : Ring) (a : Round) (S : RingReady OneRound n f R) (se
   calm-one = ends-calm OneRound n m f R a S refl e G H₁ limits-one entries-one
 
   pub keeps-one : (i : ℕ) → Hears n i → bitOf (a .struck) i ≡ false → let E = entriesAt OneRound n f e G i in
-      afterRound OneRound n f R a .heads i .seat .last ≡ LastKept.Range (kept (rounding (R .phase)) (ruleOf OneRound f .trim (nulls n E)) (ordered n E))
+      afterRound OneRound n f R a .heads i .seat .kept ≡ LastKept.Range (kept (rounding (R .phase)) (ruleOf OneRound f .trim (nulls n E)) (ordered n E))
   keeps-one = ends-keeping OneRound n m f R a S refl e G H₁ limits-one entries-one
 
   pub round-same : SameEnd receivers (asEnd n m (markedEnd (a .struck) (afterRound OneRound n f R a .heads))) (after OneRound (rounding (R .phase)) n f e G)

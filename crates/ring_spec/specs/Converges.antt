@@ -56,7 +56,7 @@ RingKeepsBetween =
     (K : Family) (n m f : ℕ) (v : ℕ → ℤ) (ws : List Round) → Within K n m f v ws
     → let es = endsAfter K n f v ws in
     (i : ℕ) → i + 1 < length es → let e = asEnd n m (getD es (i + 1) noEnd) in let e′ = getD es i noEnd in
-    Each receivers (λ j. asEnd n m e′ .struck j ≡ false → HoldsBetween (lowest receivers e) (highest receivers e) (e′ .heads j .seat .last))
+    Each receivers (λ j. asEnd n m e′ .struck j ≡ false → HoldsBetween (lowest receivers e) (highest receivers e) (e′ .heads j .seat .kept))
 
 -- ---- phases since the last strike (document 02, A10)
 

@@ -13,10 +13,9 @@ use Rattle.marks.specs.Marks.{bitOf}
 use Rattle.terms.specs.Counting.{bit}
 use Rattle.convergence.specs.Phases.{End}
 use Rattle.head_spec.specs.Record.{noEntries, opened}
+use Rattle.head_spec.specs.Seats.{openingSeat}
 use Rattle.head_spec.specs.Calls.{started, startedListener, restarted, hearAll, frameFor, close}
 use Rattle.head_spec.specs.Offers.{thenAdopt}
-use Rattle.head_spec.specs.declared.LastKept.{LastKept}
-use Rattle.head_spec.specs.declared.Seat.{Seat}
 use Rattle.head_spec.specs.declared.Head.{Head}
 
 -- bytes planted on the link from a struck sender to a receiver: what the adversary sends there
@@ -37,26 +36,9 @@ abbrev pub planted : List Plant → ℕ → ℕ → List ℕ
 planted [] k i = []
 planted (x ∷ xs) k i = cond (eqb (x .from) k && eqb (x .to) i) (x .bytes) (planted xs k i)
 
--- the seat of a record whose memory is lost
-abbrev pub noSeat : Seat
-noSeat =
-    record {
-      family = TwoRounds;
-      n = 0;
-      f = 0;
-      number = 0;
-      phase = 0;
-      round = 0;
-      healed = false;
-      ended = false;
-      position = Entry.Null;
-      last = LastKept.Nothing;
-      since = 0;
-    }
-
--- the record of a head or listener as long as it is struck: nothing that it holds is used (P60)
+-- a record whose memory is lost (P60)
 unfoldable pub lost : Head
-lost = opened noSeat noEntries
+lost = opened (openingSeat TwoRounds 0 0 0 0 0 false Entry.Null) noEntries
 
 -- the ring as the next round finds it: that round's phase and its number in the phase (0 is collection and 1 confession, and 0 the one
 -- round of a phase of one round), who was struck in the round before, and the records of heads and listeners by their numbers

@@ -1,2 +1,3 @@
--- Laws of the crate: what a reference list decides.
+-- Laws of the crate: counts that grow entry by entry, and what a reference list decides.
+pub mod Counting
 pub mod Reference

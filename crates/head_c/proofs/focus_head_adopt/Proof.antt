@@ -1,12 +1,11 @@
 -- Refusal 27 comes first, then 26; else the phase ends with what was offered.
-use mathlib.Core.Path.{_≡_, refl, ap, sym, _∙_}
+use mathlib.Core.Path.{_≡_, ap, sym, _∙_}
 use mathlib.Core.Logic.{_≢_}
-use mathlib.Core.Bool.{true, false}
+use mathlib.Core.Bool.{false}
 use mathlib.Core.List.{List}
 use Prim.Native.Nat.{ℕ}
 use native.Mathlib.Omega.{arith}
 use denote.Ref.{now}
-use Rattle.terms.specs.Refusals as refusal
 use Rattle.settle_midpoint.specs.declared.Kept.{Kept}
 use Rattle.head_spec.specs.declared.Seat.{Seat}
 use Rattle.head_spec.specs.declared.Answer.{Answer}
@@ -18,7 +17,7 @@ use Rattle.head_spec.proofs.Stops.{takes, adopts-nothing, adopts-offer, ended-a
 use Rattle.head_window.specs.declared.Registers.{Registers}
 use Rattle.head_window.specs.Window.{adoptedRegisters}
 use Rattle.head_c.specs.Blocks.{headOf, registersOf, withRegisters, withHead, withAnswer, offerOf, withoutOffer}
-use Rattle.head_c.specs.Events.{adopts, numberAfter, blockAfter}
+use Rattle.head_c.specs.Events.{adopts, blockAfter}
 use Rattle.head_c.proofs.Refused.{refused-leaves}
 use borrow.Author.Needs.{needs}
 use Rattle.head_c.proofs.focus_head_adopt.Statement.{statement}

@@ -13,10 +13,10 @@ use Rattle.head_c.proofs.focus_head_has_kept.Statement.{statement}
 use Rattle.head_c.proofs.focus_head_has_kept.Tie as tie
 
 -- s was read, and its range found to be x
-found : {s t : Seat} {x : LastKept} {n : ℕ} {v : List ℤ} (old : List ℤ) → s ≡ t → s .last ≡ x → n ≡ rangeNumber x → v ≡ rangeOr x old
-    → (n ≡ rangeNumber (t .last)) × (v ≡ rangeOr (t .last) old)
+found : {s t : Seat} {x : LastKept} {n : ℕ} {v : List ℤ} (old : List ℤ) → s ≡ t → s .kept ≡ x → n ≡ rangeNumber x → v ≡ rangeOr x old
+    → (n ≡ rangeNumber (t .kept)) × (v ≡ rangeOr (t .kept) old)
 found old p q a b =
-    let same = sym q ∙ ap (λ (y : Seat). y .last) p in
+    let same = sym q ∙ ap (λ (y : Seat). y .kept) p in
     (a ∙ ap rangeNumber same, b ∙ ap (λ (y : LastKept). rangeOr y old) same)
 
 returns : tie.Need-returns
@@ -28,7 +28,7 @@ unfolding headOf
 returns-2 c =
     let told = c .before .struct-told .given in
     let l = c .before .before .before .before in
-    found _ (l .before .before .seat-in .ensures) (l .last .given .1) refl
+    found _ (l .before .before .seat-in .ensures) (l .held .given .1) refl
     (stored _ (record { sfits = told .0 .1 }) (record { sfits = told .1 .0 .1 }) (search needs) (record { sfits = told .1 .1 .1 .0 .1 }))
 
 pub focus-head-has-kept-spec : {M : Type 1} → statement M

@@ -2,7 +2,6 @@
 use mathlib.Core.Path.{ap}
 use borrow.Author.Needs.{needs}
 use Rattle.head_spec.specs.declared.Offer.{Offer}
-use Rattle.headplay.specs.declared.Outcome.{Outcome}
 use Rattle.headplay.proofs.answered.Statement.{statement}
 use Rattle.headplay.proofs.answered.Tie as tie
 

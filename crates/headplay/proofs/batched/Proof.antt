@@ -1,5 +1,5 @@
 -- The answers at the front are those to the frames that were heard; if the call is refused there are none, and the offer stands.
-use mathlib.Core.Path.{_≡_, refl, ap}
+use mathlib.Core.Path.{_≡_, refl}
 use mathlib.Core.List.{List, _++_}
 use Prim.Native.Nat.{ℕ, zero, suc}
 use lib.ListN.{length, take, drop}

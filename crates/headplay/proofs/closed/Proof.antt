@@ -1,5 +1,5 @@
 -- A closing that settles makes the offer.
-use mathlib.Core.Path.{_≡_, refl}
+use mathlib.Core.Path.{_≡_}
 use Prim.Native.Nat.{ℕ}
 use borrow.Author.Needs.{needs}
 use Rattle.head_spec.specs.declared.Head.{Head}

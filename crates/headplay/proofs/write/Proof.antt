@@ -30,7 +30,7 @@ use denote.Builtin.{u8, usize}
 use denote.Plain.{uint-lawful}
 use denote.Ref.{ShrRef, MutRef, ptr-vals, mut-tells}
 use denote.Slice.{sliceVal, MutSlice, slice-vals, mut-slice-tells}
-use denote.Signature.{plain, mutSliceOf, mutRefTo}
+use denote.Signature.{plain}
 use denote.Exit.{yes}
 use denote.Steps.{peeks, heard}
 use denote.Struct.Laws as LL

@@ -1,12 +1,8 @@
 -- `hostpage::page` meets its contract: each of its tests is one of the definition's, in the same order.
-use mathlib.Core.Path.{_≡_, sym, _∙_}
-use Prim.Native.Nat.{_≤_, _<_}
-use native.Mathlib.Omega.{arith}
+use Prim.Native.Nat.{_≤_}
 use native.Mathlib.Nat.{pos-of-ne-zero}
-use lib.ListN.{length}
 use denote.Ref.{now}
 use borrow.Author.Needs.{needs}
-use Rattle.hostpage.specs.Page.{pageOf}
 use Rattle.hostpage.proofs.Pages.{no-heads, many-heads, short, fits}
 use Rattle.hostpage.proofs.page.Statement.{statement}
 use Rattle.hostpage.proofs.page.Tie as tie

@@ -3,7 +3,6 @@ use mathlib.Core.Path.{_≡_, ap, sym}
 use Prim.Native.Nat.{ℕ, _+_}
 use native.Mathlib.Omega.{arith}
 use lib.ListN.{length}
-use denote.Ref.{now}
 use borrow.Author.Needs.{needs}
 use Rattle.texts.specs.Texts.{bytesOf}
 use Rattle.texts.proofs.Writing.{full, text-long}

@@ -1,9 +1,8 @@
 -- `reading::float_of` meets its contract: a position is within 2 ^ 24, where the cast loses nothing.
-use mathlib.Core.Path.{_≡_, sym, ap, _∙_, subst}
+use mathlib.Core.Path.{sym, ap, _∙_, subst}
 use lib.Dec.{T}
 use lib.IntN.{ℤ}
 use lib.Ieee.{binary32, inFloat, ofInt}
-use mir.Syntax.{w32}
 use mir.Facts.{toZ-ofZ}
 use Rattle.reading.proofs.Exactness.{position-in-float, cast-exact}
 use Rattle.reading.proofs.float_of.Statement.{statement}

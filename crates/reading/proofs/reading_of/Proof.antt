@@ -1,5 +1,5 @@
 -- `reading::reading_of` meets its contract: of what is kept the two numbers are read back as they were held.
-use mathlib.Core.Path.{_≡_, sym, ap, _∙_}
+use mathlib.Core.Path.{sym, ap, _∙_}
 use lib.IntN.{ℤ}
 use mir.Syntax.{w32}
 use mir.Val.{SFits}
@@ -13,7 +13,7 @@ use Rattle.reading.proofs.reading_of.Tie as tie
 returns-2 : tie.Need-returns-2
 returns-2 c =
     let told = c .before .struct-told2 .given in
-    let k = c .before .before .before .before .last .given in
+    let k = c .before .before .before .before .kept .given in
     let low : SFits w32 (k .0 .0 .low) = record { sfits = told .0 .1 } in
     let high : SFits w32 (k .0 .0 .high) = record { sfits = told .1 .0 .1 } in
     c .reading-between .ensures

@@ -1,6 +1,5 @@
 -- The seat is put, and what was heard is cleared; the words of the list stand.
 use mathlib.Core.Path.{ap, sym, _∙_}
-use mathlib.Core.List.{List}
 use lib.ListN.{length-set}
 use lib.Seq.{paste}
 use denote.Ref.{now}

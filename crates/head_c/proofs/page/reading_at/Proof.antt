@@ -1,5 +1,4 @@
 -- A block that is there in full is cut out and read.
-use native.Mathlib.Omega.{arith}
 use denote.Ref.{now}
 use borrow.Author.Needs.{needs}
 use Rattle.head_c.specs.Pages.{blockAt}

@@ -2,11 +2,13 @@
 use mathlib.Core.Path.{ap, _∙_}
 use mathlib.Core.Bool.{Bool, false}
 use Prim.Native.Nat.{ℕ}
+use lib.IntN.{ℤ}
 use mir.Facts.{toZ-ofZ}
 use denote.Ref.{now}
 use Rattle.terms.specs.Refusals as refusal
 use Rattle.terms.specs.Refusals.{check}
 use Rattle.terms.specs.Positions.{isPosition}
+use Rattle.terms.specs.declared.Entry.{Entry}
 use Rattle.head_spec.specs.Seats.{firstSeat}
 use Rattle.head_spec.specs.Calls.{startRefusal, started, start}
 use Rattle.head_calls.specs.Steps.{checkMember}
@@ -33,12 +35,12 @@ returns c =
     let v = toZ-ofZ (s .fits .position) in
     let range = k .check .ensures ∙ ap (λ (b : Bool). check b refusal.position-out-of-range 0) (p .is-position .ensures ∙ ap isPosition v) in
     let checks = m .member-refusal .ensures ∙ ap (checkMember (a .family) false (a .n) (a .f) (a .number)) range in
-    fresh-left w (seat .first-seat .result) (firstSeat (a .family) (a .n) (a .f) (a .number) (a .position)) (headOf w) (λ (x : ℕ). startedRegisters x (registersOf w)) checks
+    fresh-left w (seat .first-seat .result) (firstSeat (a .family) (a .n) (a .f) (a .number) (Entry.Position (a .position))) (headOf w) (λ (x : ℕ). startedRegisters x (registersOf w)) checks
     (after .after-start .ensures ∙ ap (startedRegisters (m .member-refusal .result)) (old .registers-in .ensures)) (c .put-fresh .ensures)
     (λ z.
     seat .first-seat .ensures
     ∙ first-seat (a .family) false (a .n) (a .f) (a .number) (check (isPosition (a .position)) refusal.position-out-of-range 0) _ z
-    ∙ ap (firstSeat (a .family) (a .n) (a .f) (a .number)) v)
+    ∙ ap (λ (x : ℤ). firstSeat (a .family) (a .n) (a .f) (a .number) (Entry.Position x)) v)
 
 pub start-in-spec : {M : Type 1} → statement M
 start-in-spec =

@@ -4,7 +4,7 @@ use mathlib.Core.Bool.{true}
 use Prim.Native.Nat.{ℕ}
 use denote.Ref.{now}
 use Rattle.terms.specs.declared.Entry.{Entry}
-use Rattle.head_spec.specs.Seats.{listenerSeat}
+use Rattle.head_spec.specs.Seats.{firstSeat}
 use Rattle.head_spec.specs.Calls.{startListenerRefusal, startedListener, startListener}
 use Rattle.head_window.specs.Window.{startedRegisters}
 use Rattle.head_c.specs.Blocks.{headOf, registersOf}
@@ -23,7 +23,7 @@ returns c =
     let m = seat .before in
     let a = m .before .args in
     let w = now (a .h) in
-    fresh-left w (seat .first-seat .result) (listenerSeat (a .family) (a .n) (a .f) (a .number)) (headOf w) (λ (x : ℕ). startedRegisters x (registersOf w)) (m .member-refusal .ensures)
+    fresh-left w (seat .first-seat .result) (firstSeat (a .family) (a .n) (a .f) (a .number) Entry.Null) (headOf w) (λ (x : ℕ). startedRegisters x (registersOf w)) (m .member-refusal .ensures)
     (after .after-start .ensures ∙ ap (startedRegisters (m .member-refusal .result)) (old .registers-in .ensures)) (c .put-fresh .ensures)
     (λ z. seat .first-seat .ensures ∙ first-seat (a .family) true (a .n) (a .f) (a .number) 0 Entry.Null z)
 
