@@ -23,8 +23,8 @@ pub extern "C" fn focus_head_position(h: &Block, position: &mut i32) -> u8
 
 #[no_mangle]
 pub extern "C" fn focus_head_kept(h: &Block, kept: &mut [i32; 4]) -> u8
-    ensures { λ r. ⌜ (r ≡ rangeNumber (headOf (now (h .entry)) .seat .last))
-        × (now (kept .exit) ≡ rangeOr (headOf (now (h .entry)) .seat .last) (now (kept .entry))) ⌝ }
+    ensures { λ r. ⌜ (r ≡ rangeNumber (headOf (now (h .entry)) .seat .kept))
+        × (now (kept .exit) ≡ rangeOr (headOf (now (h .entry)) .seat .kept) (now (kept .entry))) ⌝ }
 {
     crate::focus_head_has_kept(h, kept)
 }

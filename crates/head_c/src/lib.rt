@@ -257,7 +257,7 @@ pub extern "C" fn focus_head_has_position(h: &Block, position: &mut i32) -> u8
 
 // The kept range that the head holds: 1, and its lowest entry, its highest, its trim and its position; or 0 if it holds none.
 #[no_mangle]
-pub extern "C" fn focus_head_kept(h: &Block, kept: &mut [i32; 4]) -> u8
+pub extern "C" fn focus_head_has_kept(h: &Block, kept: &mut [i32; 4]) -> u8
     ensures { λ r. ⌜ (r ≡ rangeNumber (headOf (now (h .entry)) .seat .kept))
         × (now (kept .exit) ≡ rangeOr (headOf (now (h .entry)) .seat .kept) (now (kept .entry))) ⌝ }
 {

@@ -58,7 +58,7 @@ fn settled_by(h: Head) -> Settled
 {
     let seat = h.seat;
     let family = seat.family;
-    let up = steps::rounds_up(seat.phase);
+    let up = terms::rounds_up(seat.phase);
     match family {
         Family::TwoRounds => {
             let lists = h.lists;

@@ -35,7 +35,7 @@ fn is_member(listens: bool, n: u32, number: u32) -> bool
 pub fn member_refusal(family: Family, listens: bool, n: u32, f: u32, number: u32, rest: u8) -> u8
     ensures { λ r. ⌜ r ≡ checkMember family listens n f number rest ⌝ }
 {
-    let size = steps::size_refusal(family, n, f);
+    let size = terms::size_refusal(family, n, f);
     if size != 0 {
         return size;
     }
@@ -50,7 +50,7 @@ pub fn member_refusal(family: Family, listens: bool, n: u32, f: u32, number: u32
 pub fn is_time(family: Family, phase: u32, round: u32) -> bool
     ensures { λ r. ⌜ r ≡ isTime family phase round ⌝ }
 {
-    if !steps::is_phase(phase) {
+    if !terms::is_phase(phase) {
         return false;
     }
     round < rounds_of(family)
@@ -96,7 +96,7 @@ pub fn start(h: Head, family: Family, n: u32, f: u32, number: u32, position: i32
     ensures { λ r. ⌜ r ≡ start h family n f number position ⌝ }
 {
     let last = check(
-        steps::is_position(position),
+        terms::is_position(position),
         refusal::POSITION_OUT_OF_RANGE,
         0,
     );
@@ -156,7 +156,7 @@ fn restart_as(
     Answer { refusal: 0, head }
 }
 
-// The record of a head that was healed, in the phase and round given, with no position.
+// The record of a head whose strike is over, in the phase and round given, with no position.
 pub fn restart(
     h: Head,
     family: Family,
@@ -171,7 +171,7 @@ pub fn restart(
     restart_as(family, false, h, n, f, number, phase, round)
 }
 
-// The record of a listener that was healed, likewise.
+// The record of a listener whose strike is over, likewise.
 pub fn restart_listener(
     h: Head,
     family: Family,

@@ -36,7 +36,7 @@ abbrev pub planted : List Plant → ℕ → ℕ → List ℕ
 planted [] k i = []
 planted (x ∷ xs) k i = cond (eqb (x .from) k && eqb (x .to) i) (x .bytes) (planted xs k i)
 
--- a record whose memory is lost (P60)
+-- the record of a head or listener as long as it is struck: nothing that it holds is used (P60)
 unfoldable pub lost : Head
 lost = opened (openingSeat TwoRounds 0 0 0 0 0 false Entry.Null) noEntries
 
