@@ -12,12 +12,10 @@ ghost use Rattle.ring_play.specs.Memory.{heads, hears, settles, InRange,
 ghost use Rattle.convergence.specs.Settling.{ordered};
 ghost use Rattle.settle_midpoint.specs.Orders.{orderOf};
 ghost use Rattle.frame_slots.specs.Slots.{plantedIn};
-ghost use Rattle.ring_play.specs.Inner.Before.{SettlesBefore, HeldBefore};
 ghost use Rattle.ring_play.specs.Inner.Collection.{isPositionFrame, ownEntry, sentBy, heardOf, heardWith, Shared, settledFrom};
 use crate::Stage;
 use crate::ends;
 use crate::round;
-use crate::round::Before;
 use settle_midpoint::Order;
 use settle_midpoint::Settled;
 use terms::Entry;
@@ -141,35 +139,6 @@ fn list_for(s: Stage, sent: Table, planted: &[u8], lengths: &[u8], i: usize) -> 
     Table { marks, entries }
 }
 
-// The list of head i, after those of the heads before it were stored: heads to which the same is planted fill the same.
-fn list_after(
-    s: Stage,
-    sent: Table,
-    planted: &[u8],
-    lengths: &[u8],
-    i: usize,
-    last: Before,
-    marks: &[u32],
-    lists: &[[i32; HEADS]],
-) -> Table
-    requires { ⌜ (i < 32) × SettlesBefore s i last × (length (now marks) ≡ 32) × (length (now lists) ≡ 32) × Shared s sent ⌝ }
-    ensures { λ r. ⌜ ((S : Shared s sent)
-        → HeldBefore s i (λ m. tableOf (heads s) (heardWith s (S .entry) (plantedIn (now (planted .entry)) (now (lengths .entry))) m)) (rowIn (now (marks .entry)) (now (lists .entry)))
-        → r ≡ tableOf (heads s) (heardWith s (S .entry) (plantedIn (now (planted .entry)) (now (lengths .entry))) i)) ⌝ }
-{
-    match round::same_before(s, planted, lengths, i, last) {
-        Before::As(m) => {
-            let entries = lists[m];
-            let word = marks[m];
-            Table {
-                marks: word,
-                entries,
-            }
-        }
-        Before::None => list_for(s, sent, planted, lengths, i),
-    }
-}
-
 // Stores the list of each unstruck head.
 fn fill_lists(
     s: Stage,
@@ -186,12 +155,10 @@ fn fill_lists(
         (rowIn (now (marks .entry)) (now (lists .entry)) i)) ⌝ }
 {
     let n = round::head_count(s) as usize;
-    let mut last = Before::None;
     let mut i: usize = 0;
     while i < n {
         if !marks::marked(s.struck, i) {
-            let list = list_after(s, sent, planted, lengths, i, last, marks, lists);
-            last = Before::As(i);
+            let list = list_for(s, sent, planted, lengths, i);
             let entries = list.entries;
             marks[i] = list.marks;
             lists[i] = entries;
@@ -253,28 +220,6 @@ fn position_for(
     position_of(s, list_for(s, sent, planted, lengths, i))
 }
 
-// The same, after those before it have theirs: receivers to which the same is planted settle the same.
-fn position_after(
-    s: Stage,
-    sent: Table,
-    order: Order,
-    planted: &[u8],
-    lengths: &[u8],
-    i: usize,
-    last: Before,
-    positions: &[i32],
-) -> i32
-    requires { ⌜ (i < 48) × SettlesBefore s i last × (length (now positions) ≡ 48) × Shared s sent × (order ≡ orderOf (ordered (heads s) (tableAt sent))) ⌝ }
-    ensures { λ r. ⌜ ((S : Shared s sent)
-        → HeldBefore s i (λ m. settledFrom s (tableAt (tableOf (heads s) (heardWith s (S .entry) (plantedIn (now (planted .entry)) (now (lengths .entry))) m)))) (λ m. getD (now (positions .entry)) m (pos 0))
-        → r ≡ settledFrom s (tableAt (tableOf (heads s) (heardWith s (S .entry) (plantedIn (now (planted .entry)) (now (lengths .entry))) i)))) ⌝ }
-{
-    match round::same_before(s, planted, lengths, i, last) {
-        Before::As(m) => positions[m],
-        Before::None => position_for(s, sent, order, planted, lengths, i),
-    }
-}
-
 // Stores the new position of each receiver that is not struck.
 fn fill_positions(
     s: Stage,
@@ -291,12 +236,10 @@ fn fill_positions(
         (getD (now (positions .entry)) i (pos 0))) ⌝ }
 {
     let end = round::receiver_end(s);
-    let mut last = Before::None;
     let mut i: usize = 0;
     while i < end {
         if round::settles(s, i) {
-            let position = position_after(s, sent, order, planted, lengths, i, last, positions);
-            last = Before::As(i);
+            let position = position_for(s, sent, order, planted, lengths, i);
             positions[i] = position;
         }
         i += 1;

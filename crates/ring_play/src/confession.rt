@@ -10,12 +10,10 @@ ghost use Rattle.frame_spec.specs.Said.{said};
 ghost use Rattle.settle_trust.specs.Received.{givenBy};
 ghost use Rattle.ring_play.specs.Memory.{settles, Sayable, newPosition};
 ghost use Rattle.frame_slots.specs.Slots.{plantedIn};
-ghost use Rattle.ring_play.specs.Inner.Before.{SettlesBefore, HeldBefore};
 ghost use Rattle.ring_play.specs.Inner.Confession.{linksWith, rowsWith, Received, RowsKept, Unplanted, OwnLinks};
 ghost use Rattle.ring_play.specs.Inner.Planted.{givenOrPlanted, positionSettled, AllSettled};
 use crate::Stage;
 use crate::round;
-use crate::round::Before;
 use crate::shared;
 use frame_spec::Said;
 use settle_midpoint::Settled;
@@ -140,28 +138,6 @@ fn position_for(
     settled(s, rows, links, first_listed(base.listed))
 }
 
-// The same, after the positions of the receivers before it were stored: receivers to which the same is planted settle the same.
-fn position_after(
-    s: Stage,
-    planted: &[u8],
-    lengths: &[u8],
-    i: usize,
-    base: Links,
-    rows: &mut Lists,
-    last: Before,
-    positions: &[i32],
-) -> i32
-    requires { ⌜ (i < 48) × Unplanted s base (now rows) × SettlesBefore s i last × (length (now positions) ≡ 48)
-        × HeldBefore s i (λ m. positionSettled s (givenOrPlanted s (givenBy base (now rows)) (plantedIn (now planted) (now lengths)) m)) (λ m. getD (now positions) m (pos 0)) ⌝ }
-    ensures position { λ r. ⌜ r ≡ positionSettled s (givenOrPlanted s (givenBy base (now (rows .entry))) (plantedIn (now (planted .entry)) (now (lengths .entry))) i) ⌝ }
-    ensures kept { λ r. ⌜ RowsKept base (now (rows .entry)) (now (rows .exit)) ⌝ }
-{
-    match round::same_before(s, planted, lengths, i, last) {
-        Before::As(m) => positions[m],
-        Before::None => position_for(s, planted, lengths, i, base, rows),
-    }
-}
-
 // Stores the new position of each unstruck receiver.
 fn fill_positions(
     s: Stage,
@@ -178,12 +154,10 @@ fn fill_positions(
         (getD (now (positions .entry)) i (pos 0))) ⌝ }
 {
     let end = round::receiver_end(s);
-    let mut last = Before::None;
     let mut i: usize = 0;
     while i < end {
         if round::settles(s, i) {
-            let position = position_after(s, planted, lengths, i, base, rows, last, positions);
-            last = Before::As(i);
+            let position = position_for(s, planted, lengths, i, base, rows);
             positions[i] = position;
         }
         i += 1;

@@ -27,7 +27,7 @@ use Rattle.settle_midpoint.specs.declared.Settled.{Settled}
 use Rattle.settle_midpoint.proofs.Middle.{settling-same}
 use Rattle.entries.specs.Tables.{tableAt}
 use Rattle.entries.proofs.TableAt.{table-at}
-use Rattle.ring_play.specs.Memory.{heads, SamePlanted, sends, InRange, listEntry, rowIn, positionOf, heardPosition}
+use Rattle.ring_play.specs.Memory.{heads, sends, InRange, listEntry, rowIn, positionOf, heardPosition}
 use Rattle.ring_play.specs.Inner.Collection.{ownEntry, sentBy, heardOf, heardWith, Shared, settledFrom}
 use Rattle.ring_play.proofs.round.Filling.{filledTo, Filled, filled-none, filled-passed, filled-stored, filled-yet}
 
@@ -56,16 +56,6 @@ heard-list s positions small fit plant i = table-same (heads s) _ _ (λ k l. go 
         ≡ heardEntry (said (heads s) (s .phase) 0 k (cond b (plant k i) (frameOf (heads s) k (s .phase) (sends s positions k))))
     go k true e = refl
     go k false e = e
-
--- heads told alike fill the same list
-pub told-list : (s : Stage) (E : ℕ → Entry) (plant : ℕ → ℕ → List ℕ) (i m : ℕ) → SamePlanted s plant i m
-    → tableOf (heads s) (heardWith s E plant m) ≡ tableOf (heads s) (heardWith s E plant i)
-unfolding heardWith
-told-list s E plant i m h = table-same (heads s) _ _ (λ k l. go k (bitOf (s .struck) k) (h k l))
-  where
-    go : (k : ℕ) (b : Bool) → (b ≡ true → plant k i ≡ plant k m) → cond b (heardOf s (plant k m) k) (E k) ≡ cond b (heardOf s (plant k i) k) (E k)
-    go k true e = rw (e refl)
-    go k false e = refl
 
 -- ---- the list of head i: before head k, what is planted by the struck heads below k is in it
 
