@@ -127,14 +127,12 @@ fn list_for(s: Stage, sent: Table, planted: &[u8], lengths: &[u8], i: usize) -> 
     let n = round::head_count(s) as usize;
     let mut marks = sent.marks;
     let mut entries = sent.entries;
-    let mut k: usize = 0;
+    let mut k = round::next_struck(s, 0);
     while k < n {
-        if marks::marked(s.struck, k) {
-            let e = entry_planted(s, planted, lengths, k, i);
-            marks += mark_of(e) << k;
-            entries[k] = number_of(e);
-        }
-        k += 1;
+        let e = entry_planted(s, planted, lengths, k, i);
+        marks += mark_of(e) << k;
+        entries[k] = number_of(e);
+        k = round::next_struck(s, k + 1);
     }
     Table { marks, entries }
 }

@@ -89,13 +89,11 @@ fn hear_planted(
     let n = round::head_count(s);
     let count = n as usize;
     let mut links = base;
-    let mut k: usize = 0;
+    let mut k = round::next_struck(s, 0);
     while k < count {
-        if marks::marked(s.struck, k) {
-            let frame = frame_slots::planted(planted, lengths, k as u8, i as u8);
-            links = hear(links, rows, k, frame, n, s.phase);
-        }
-        k += 1;
+        let frame = frame_slots::planted(planted, lengths, k as u8, i as u8);
+        links = hear(links, rows, k, frame, n, s.phase);
+        k = round::next_struck(s, k + 1);
     }
     links
 }

@@ -2,10 +2,11 @@
 ghost use mathlib.Core.Bool.{true};
 ghost use mathlib.Core.Logic.{_↔_};
 ghost use mathlib.Core.Path.{_≡_};
-ghost use Prim.Native.Nat.{_<_};
+ghost use Prim.Native.Nat.{_≤_, _<_};
 ghost use Rattle.frame_slots.specs.Slots.{plantedIn};
 ghost use Rattle.ring_play.specs.Memory.{heads, listeners, receiverEnd, settles, SamePlanted};
 ghost use Rattle.ring_play.specs.Inner.Before.{SettlesBefore, AsBefore};
+ghost use Rattle.ring_play.specs.Inner.Struck.{NextStruck};
 use crate::Stage;
 
 // How many heads are played.
@@ -31,6 +32,19 @@ pub(crate) fn receiver_end(s: Stage) -> usize
         return head_count(s) as usize;
     }
     32 + m
+}
+
+// The first struck head at k or above; if there is none, how many heads are played.
+pub(crate) fn next_struck(s: Stage, k: usize) -> usize
+    requires { ⌜ k ≤ heads s ⌝ }
+    ensures { λ r. ⌜ NextStruck s k r ⌝ }
+{
+    let n = head_count(s) as usize;
+    if n <= k {
+        return n;
+    }
+    let j = k + u32::trailing_zeros(s.struck >> k) as usize;
+    if j < n { j } else { n }
 }
 
 // A receiver that settles before another; none before the first.
@@ -65,14 +79,12 @@ pub(crate) fn is_same_planted(s: Stage, planted: &[u8], lengths: &[u8], i: usize
         return true;
     }
     let n = head_count(s) as usize;
-    let mut k: usize = 0;
+    let mut k = next_struck(s, 0);
     while k < n {
-        if marks::marked(s.struck, k)
-            && !frame_slots::is_alike(planted, lengths, k as u8, i as u8, m as u8)
-        {
+        if !frame_slots::is_alike(planted, lengths, k as u8, i as u8, m as u8) {
             return false;
         }
-        k += 1;
+        k = next_struck(s, k + 1);
     }
     true
 }

@@ -75,13 +75,11 @@ fn count_planted(
     let n = round::head_count(s);
     let count = n as usize;
     let mut confessed: u32 = 0;
-    let mut k: usize = 0;
+    let mut k = round::next_struck(s, 0);
     while k < count {
-        if marks::marked(s.struck, k) {
-            let frame = frame_slots::planted(planted, lengths, k as u8, i as u8);
-            confessed = count_frame(frame, n, s.phase, k, codes, same, confessed);
-        }
-        k += 1;
+        let frame = frame_slots::planted(planted, lengths, k as u8, i as u8);
+        confessed = count_frame(frame, n, s.phase, k, codes, same, confessed);
+        k = round::next_struck(s, k + 1);
     }
     confessed
 }

@@ -29,6 +29,8 @@ use Rattle.entries.specs.Tables.{tableAt}
 use Rattle.entries.proofs.TableAt.{table-at}
 use Rattle.ring_play.specs.Memory.{heads, sends, InRange, listEntry, rowIn, positionOf, heardPosition}
 use Rattle.ring_play.specs.Inner.Collection.{ownEntry, sentBy, heardOf, heardWith, Shared, settledFrom}
+use Rattle.ring_play.specs.Inner.Struck.{NextStruck}
+use Rattle.ring_play.proofs.round.Struck.{WalkedTo, walked}
 use Rattle.ring_play.proofs.round.Filling.{filledTo, Filled, filled-none, filled-passed, filled-stored, filled-yet}
 
 -- ---- what is heard
@@ -73,7 +75,7 @@ module _ (s : Stage) {t : Table} (S : Shared s t) (plant : ℕ → ℕ → List 
   )
 
   module _ (k : ℕ) {m : ℕ} {l : List ℤ} (h : Heard k m l) where
-    pub heard-passed : bitOf (s .struck) k ≡ false → Heard (k + 1) m l
+    heard-passed : bitOf (s .struck) k ≡ false → Heard (k + 1) m l
     heard-passed b =
         let same : (j : ℕ) → heardTo k j ≡ heardTo (k + 1) j =
         filled-passed (bitOf (s .struck)) (λ j. heardOf s (plant j i) j) (S .entry) k (λ j. refl) b in
@@ -103,6 +105,14 @@ module _ (s : Stage) {t : Table} (S : Shared s t) (plant : ℕ → ℕ → List 
   heard-last e h =
       let (p, q) = rw e at h in
       ap₂ (λ (a : ℕ) (b : List ℤ). record { marks = a; entries = b }) p q ∙ table-same (heads s) _ _ (λ j l. rw (lt-ltb j (heads s) l))
+
+-- the marks m and the numbers l hold what is planted by the struck heads below k, with what all hear in t
+module _ (s : Stage) (t : Table) (plant : ℕ → ℕ → List ℕ) (i m : ℕ) (l : List ℤ) where
+  abbrev pub ListTo : ℕ → Type 0
+  ListTo k = (S : Shared s t) → Heard s S plant i k m l
+
+  pub list-walked : {k r : ℕ} → NextStruck s k r → ListTo k → WalkedTo s ListTo r
+  list-walked h p = walked s ListTo h (λ j b q S. heard-passed s S plant i j (q S) b) p
 
 -- ---- the memory
 
