@@ -162,28 +162,13 @@ fn fill_positions(
     }
 }
 
-// Stores one position for each unstruck receiver.
-fn fill_same(s: Stage, position: i32, positions: &mut [i32])
-    requires { ⌜ length (now positions) ≡ 48 ⌝ }
-    ensures { λ _. ⌜ ((i : ℕ) → getD (now (positions .exit)) i (pos 0) ≡ cond (settles s i) position (getD (now (positions .entry)) i (pos 0))) ⌝ }
-{
-    let end = round::receiver_end(s);
-    let mut i: usize = 0;
-    while i < end {
-        if round::settles(s, i) {
-            positions[i] = position;
-        }
-        i += 1;
-    }
-}
-
 // Settles all receivers if no head is struck: they hear the same, so once.
 fn settle_quiet(s: Stage, lists: &Lists, links: Links, positions: &mut Positions)
     ensures { λ _. ⌜ (s .struck ≡ 0 → (plant : ℕ → ℕ → List ℕ)
         → AllSettled s (givenBy links (now (lists .entry))) plant (now (positions .entry)) (now (positions .exit))) ⌝ }
 {
     let position = settled(s, lists, links, first_listed(links.listed));
-    fill_same(s, position, positions);
+    round::fill_same(s, position, positions);
 }
 
 // The same lists, to be changed.

@@ -1,8 +1,10 @@
 // What all kinds of rounds need: how many heads and listeners are played, who settles, and to whom the same is planted.
-ghost use mathlib.Core.Bool.{true};
+ghost use mathlib.Core.Bool.{true, cond};
 ghost use mathlib.Core.Logic.{_↔_};
 ghost use mathlib.Core.Path.{_≡_};
-ghost use Prim.Native.Nat.{_≤_, _<_};
+ghost use Prim.Native.Nat.{ℕ, _≤_, _<_};
+ghost use lib.ListN.{length, getD};
+ghost use lib.IntN.{pos};
 ghost use Rattle.frame_slots.specs.Slots.{plantedIn};
 ghost use Rattle.ring_play.specs.Memory.{heads, listeners, receiverEnd, settles, SamePlanted};
 ghost use Rattle.ring_play.specs.Inner.Before.{SettlesBefore, AsBefore};
@@ -107,4 +109,19 @@ pub(crate) fn same_before(
         }
     }
     Before::None
+}
+
+// Stores one position for each unstruck receiver.
+pub(crate) fn fill_same(s: Stage, position: i32, positions: &mut [i32])
+    requires { ⌜ length (now positions) ≡ 48 ⌝ }
+    ensures { λ _. ⌜ ((i : ℕ) → getD (now (positions .exit)) i (pos 0) ≡ cond (settles s i) position (getD (now (positions .entry)) i (pos 0))) ⌝ }
+{
+    let end = receiver_end(s);
+    let mut i: usize = 0;
+    while i < end {
+        if settles(s, i) {
+            positions[i] = position;
+        }
+        i += 1;
+    }
 }
