@@ -60,7 +60,7 @@ pub fn marked_to(m: u32, n: usize) -> usize
     ensures { λ r. ⌜ r ≡ markedTo m n ⌝ }
 {
     if n < 32 {
-        return u32::count_ones(m % (mark(n))) as usize;
+        return u32::count_ones(m % mark(n)) as usize;
     }
     u32::count_ones(m) as usize
 }
