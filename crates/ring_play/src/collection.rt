@@ -6,6 +6,7 @@ ghost use mathlib.Core.Path.{_≡_};
 ghost use Prim.Native.Nat.{ℕ, _<_};
 ghost use lib.ListN.{length, getD};
 ghost use lib.IntN.{pos};
+ghost use Rattle.terms.specs.declared.Table.{Table};
 ghost use Rattle.entries.specs.Tables.{tableAt, tableOf, mark, number};
 ghost use Rattle.frame_spec.specs.Said.{said};
 ghost use Rattle.head_spec.specs.Record.{heardEntry};
@@ -13,7 +14,7 @@ ghost use Rattle.ring_play.specs.Memory.{heads, hears, settles, InRange,
 ghost use Rattle.convergence.specs.Settling.{ordered};
 ghost use Rattle.settle_midpoint.specs.Orders.{orderOf};
 ghost use Rattle.frame_slots.specs.Slots.{plantedIn};
-ghost use Rattle.ring_play.specs.Inner.Collection.{isPositionFrame, ownEntry, sentBy, heardOf, heardWith, Shared, settledFrom};
+ghost use Rattle.ring_play.specs.Inner.Collection.{isPositionFrame, ownEntry, sentBy, heardOf, heardWith, Shared, SharedMarks, SharedNumbers, settledFrom};
 use crate::Stage;
 use crate::ends;
 use crate::round;
@@ -120,14 +121,23 @@ pub(crate) fn entry_planted(s: Stage, planted: &[u8], lengths: &[u8], k: usize, 
     entry_in(frame, s.phase, k as u8)
 }
 
-// The list of receiver i: what all hear, with what is planted to it.
-fn list_for(s: Stage, sent: Table, planted: &[u8], lengths: &[u8], i: usize) -> Table
-    requires { ⌜ (i < 48) × Shared s sent ⌝ }
-    ensures { λ r. ⌜ ((S : Shared s sent) → r ≡ tableOf (heads s) (heardWith s (S .entry) (plantedIn (now (planted .entry)) (now (lengths .entry))) i)) ⌝ }
+// The list of receiver i: what all hear, with what is planted to it. Answers its marks, from those that all hear; its numbers are put into
+// `entries`, over what was planted to another.
+fn list_for(
+    s: Stage,
+    sent: u32,
+    planted: &[u8],
+    lengths: &[u8],
+    i: usize,
+    entries: &mut [i32],
+) -> u32
+    requires { ⌜ (i < 48) × (length (now entries) ≡ 32) × SharedMarks s sent ⌝ }
+    ensures { λ r. ⌜ (length (now (entries .exit)) ≡ 32) × ((S : SharedMarks s sent) → SharedNumbers s (S .entry) (now (entries .entry))
+        → _≡_ {A = Table} (record { marks = r; entries = now (entries .exit) })
+        (tableOf (heads s) (heardWith s (S .entry) (plantedIn (now (planted .entry)) (now (lengths .entry))) i))) ⌝ }
 {
     let n = round::head_count(s) as usize;
-    let mut marks = sent.marks;
-    let mut entries = sent.entries;
+    let mut marks = sent;
     let mut k = round::next_struck(s, 0);
     while k < n {
         let e = entry_planted(s, planted, lengths, k, i);
@@ -135,7 +145,7 @@ fn list_for(s: Stage, sent: Table, planted: &[u8], lengths: &[u8], i: usize) -> 
         entries[k] = number_of(e);
         k = round::next_struck(s, k + 1);
     }
-    Table { marks, entries }
+    marks
 }
 
 // Stores the list of each unstruck head.
@@ -154,12 +164,11 @@ fn fill_lists(
         (rowIn (now (marks .entry)) (now (lists .entry)) i)) ⌝ }
 {
     let n = round::head_count(s) as usize;
+    let mut entries = sent.entries;
     let mut i: usize = 0;
     while i < n {
         if !marks::marked(s.struck, i) {
-            let list = list_for(s, sent, planted, lengths, i);
-            let entries = list.entries;
-            marks[i] = list.marks;
+            marks[i] = list_for(s, sent.marks, planted, lengths, i, &mut entries);
             lists[i] = entries;
         }
         i += 1;
@@ -216,7 +225,9 @@ fn position_for(
     if ends::decides(s, order.len, c) {
         return ends::position_inside(s, order, c);
     }
-    position_of(s, list_for(s, sent, planted, lengths, i))
+    let mut entries = sent.entries;
+    let marks = list_for(s, sent.marks, planted, lengths, i, &mut entries);
+    position_of(s, Table { marks, entries })
 }
 
 // Stores the new position of each receiver that is not struck.

@@ -6,47 +6,48 @@ use Prim.Native.Nat.{ℕ, _-_}
 use native.Mathlib.Omega.{arith}
 use mir.Facts.{toZ-ofZ}
 use denote.Ref.{now}
+use lib.ListN.{length, length-set}
 use borrow.Author.Needs.{needs}
 use Rattle.frame_slots.specs.Slots.{plantedIn}
 use Rattle.ring_play.specs.Memory.{heads}
 use Rattle.ring_play.proofs.round.Struck.{WalkedTo}
-use Rattle.ring_play.proofs.collection.Lists.{ListTo, list-walked, heard-none, heard-room, heard-next, heard-last}
+use Rattle.ring_play.proofs.collection.Lists.{ListTo, list-walked, list-none, list-room, list-next, list-last}
 use Rattle.ring_play.proofs.collection.list_for.Statement.{statement}
 use Rattle.ring_play.proofs.collection.list_for.Tie as tie
 
 abbrev Inv-loop : tie.InvT-loop
-Inv-loop s planted lengths i n marks₀ entries₀ k₀ marks entries k =
-    WalkedTo s (ListTo s (record { marks = marks₀; entries = entries₀ }) (plantedIn planted lengths) i marks entries) k
+Inv-loop s sent planted lengths i entries₀ n marks₀ k₀ entries marks k =
+    (length entries ≡ 32) × WalkedTo s (ListTo s (plantedIn planted lengths) i marks₀ entries₀ marks entries) k
 
 abbrev μ-loop : tie.MeasureT-loop
-μ-loop s planted lengths i n marks₀ entries₀ k₀ marks entries k = n - k
+μ-loop s sent planted lengths i entries₀ n marks₀ k₀ entries marks k = n - k
 
 loop-holds : tie.Need-loop-holds Inv-loop μ-loop
 loop-holds c =
-    let a = c .before .before .before .before .before .args in
+    let p = c .before .before .before .before in
+    let a = p .args in
     let plant = plantedIn (now (a .planted)) (now (a .lengths)) in
-    list-walked (a .s) (a .sent) plant (a .i) _ _ (c .next-struck .ensures) (λ S. heard-none (a .s) S plant (a .i))
+    (p .pre .1, list-walked (a .s) plant (a .i) _ _ _ _ (c .next-struck .ensures) (list-none (a .s) plant (a .i)))
 
 module _ (l : tie.At-loop Inv-loop μ-loop) where
   abbrev start : tie.Start Inv-loop μ-loop
-  start = l .before .before .before .before .before .before
+  start = l .before .before .before .before .before
 
   abbrev plant : ℕ → ℕ → List ℕ
   plant = plantedIn (now (start .args .planted)) (now (start .args .lengths))
 
-  count : l .before .before .before .head-count .result ≡ heads (start .args .s)
-  count = l .before .before .before .head-count .ensures
+  count : l .before .before .head-count .result ≡ heads (start .args .s)
+  count = l .before .before .head-count .ensures
 
 add-marks : tie.Need-add-marks Inv-loop μ-loop
 add-marks c =
     let e = c .before in
     let l = e .before .before in
     let a = start l .args in
-    let S = start l .pre .1 in
     record {
       fits =
-          heard-room (a .s) S (plant l) (a .i) (l .loop .k) (l .loop .inv .2 S) (omega (arith, count l)) (l .loop .inv .1 (omega (arith, count l)))
-          (e .entry-planted .ensures) (c .mark-of .ensures);
+          list-room (a .s) (plant l) (a .i) (l .loop .k) (l .loop .inv .1 .2) (omega (arith, count l)) (l .loop .inv .1 .1 (omega (arith, count l)))
+          (e .entry-planted .ensures) (c .mark-of .ensures) (start l .pre .2);
     }
 
 loop-again : tie.Need-loop-again Inv-loop μ-loop
@@ -55,16 +56,18 @@ loop-again c =
     let m = v .before in
     let e = m .before in
     let l = e .before .before in
-    let a = start l .args in
-    list-walked (a .s) (a .sent) (plant l) (a .i) _ _ (c .next-struck2 .ensures)
-    (λ S. heard-next (a .s) S (plant l) (a .i) (l .loop .k) (l .loop .inv .2 S) (omega (arith, count l)) (l .loop .inv .1 (omega (arith, count l)))
-    (e .entry-planted .ensures) (m .mark-of .ensures) (toZ-ofZ (record { sfits = v .number-of .ok }) ∙ v .number-of .ensures))
+    let a = start l .args in (
+      simp length-set (l .loop .inv .0),
+      list-walked (a .s) (plant l) (a .i) _ _ _ _ (c .next-struck2 .ensures)
+          (list-next (a .s) (plant l) (a .i) (l .loop .k) (l .loop .inv .1 .2) (omega (arith, count l)) (l .loop .inv .1 .1 (omega (arith, count l)))
+          (e .entry-planted .ensures) (m .mark-of .ensures) (toZ-ofZ (record { sfits = v .number-of .ok }) ∙ v .number-of .ensures)),
+    )
 
 returns : tie.Need-returns Inv-loop μ-loop
-returns c S =
+returns c =
     let l = c .before in
     let a = start l .args in
-    heard-last (a .s) S (plant l) (a .i) (omega (arith, count l)) (l .loop .inv .2 S)
+    (l .loop .inv .0, list-last (a .s) (plant l) (a .i) _ _ _ _ (omega (arith, count l)) (l .loop .inv .1 .2))
 
 pub list-for-spec : {M : Type 1} → statement M
 list-for-spec =
@@ -88,4 +91,5 @@ list-for-spec =
     (λ c κs. search needs)
     (λ c. search needs)
     loop-again
+    (λ c. search needs)
     returns)
