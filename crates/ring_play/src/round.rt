@@ -7,6 +7,8 @@ ghost use lib.ListN.{length, getD};
 ghost use lib.IntN.{pos};
 ghost use Rattle.frame_slots.specs.Slots.{plantedIn};
 ghost use Rattle.ring_play.specs.Memory.{heads, listeners, receiverEnd, settles, SamePlanted};
+ghost use Rattle.ring_play.specs.declared.Stage.{Stage};
+ghost use Rattle.ring_play.specs.declared.round.Before.the-variants.{As};
 ghost use Rattle.ring_play.specs.Inner.Before.{SettlesBefore, AsBefore};
 ghost use Rattle.ring_play.specs.Inner.Struck.{NextStruck};
 use crate::Stage;
@@ -109,6 +111,58 @@ pub(crate) fn same_before(
         }
     }
     Before::None
+}
+
+// The last two receivers that settled, told apart by what is planted to them if that can be: liars tell two groups two things.
+pub(crate) struct Two {
+    pub last: Before,
+    pub other: Before,
+}
+
+// The one of the two to which the same is planted as to receiver i. To answer none is free, and shows in the time alone.
+pub(crate) fn same_of_two(s: Stage, planted: &[u8], lengths: &[u8], i: usize, two: Two) -> Before
+    requires { ⌜ (i < 48) × SettlesBefore s i (two .last) × SettlesBefore s i (two .other) ⌝ }
+    ensures { λ r. ⌜ AsBefore s (plantedIn (now (planted .entry)) (now (lengths .entry))) i r ⌝ }
+{
+    let last = two.last;
+    let one = same_before(s, planted, lengths, i, last);
+    if let Before::As(_) = one {
+        return one;
+    }
+    let other = two.other;
+    same_before(s, planted, lengths, i, other)
+}
+
+// Whether that is receiver m. Nothing hangs on the answer but the time.
+fn is_at(b: Before, m: usize) -> bool
+    ensures { λ _. ⊤ₛ }
+{
+    match b {
+        Before::None => false,
+        Before::As(k) => k == m,
+    }
+}
+
+// Receiver i is the last one now. `found` is the one of the two that was told as it is: the other one stays. Which one stays is free, and
+// shows in the time alone.
+pub(crate) fn remember(two: Two, found: Before, i: usize) -> Two
+    ensures { λ r. ⌜ (r .last ≡ As i)
+        × ((s : Stage) (k : ℕ) → SettlesBefore s k (two .last) → SettlesBefore s k (two .other) → SettlesBefore s k (r .other)) ⌝ }
+{
+    let last = two.last;
+    let other = two.other;
+    if let Before::As(m) = found {
+        if is_at(last, m) {
+            return Two {
+                last: Before::As(i),
+                other,
+            };
+        }
+    }
+    Two {
+        last: Before::As(i),
+        other: last,
+    }
 }
 
 // Stores one position for each unstruck receiver.

@@ -17,6 +17,7 @@ use crate::Stage;
 use crate::codes;
 use crate::round;
 use crate::round::Before;
+use crate::round::Two;
 use frame_spec::Said;
 use settle_midpoint::Settled;
 use settle_trust::Links;
@@ -145,14 +146,17 @@ fn fill_positions(
     let end = round::receiver_end(s);
     let mut settled = [0i32; HEADS];
     let mut last = Last::None;
-    let mut before = Before::None;
+    let mut two = Two {
+        last: Before::None,
+        other: Before::None,
+    };
     let mut i: usize = 0;
     while i < end {
         if round::settles(s, i) {
-            match round::same_before(s, planted, lengths, i, before) {
+            match round::same_of_two(s, planted, lengths, i, two) {
                 Before::As(m) => {
                     positions[i] = positions[m];
-                    before = Before::As(i);
+                    two = round::remember(two, Before::As(m), i);
                 }
                 Before::None => {
                     let mut same = *counts;
@@ -168,7 +172,7 @@ fn fill_positions(
                     );
                     last = Last::At(position);
                     positions[i] = position;
-                    before = Before::As(i);
+                    two = round::remember(two, Before::None, i);
                 }
             }
         }
