@@ -45,12 +45,16 @@ pub fn planted<'a, 'b>(bytes: &'a [u8], lengths: &'b [u8], k: u8, i: u8) -> &'a 
     slot(bytes, lengths, 48 * (k as u16) + (i as u16))
 }
 
-// Whether two slices have the same bytes. All are looked at, without a branch, so that many are compared at once.
+// Whether two slices have the same bytes. Lists that differ mostly do at byte 20, an entry's lowest: it is looked at first. Then all are,
+// without a branch, so that many are compared at once.
 fn is_same(a: &[u8], b: &[u8]) -> bool
     ensures { λ r. ⌜ (r ≡ true) ↔ (now (a .entry) ≡ now (b .entry)) ⌝ }
 {
     let len = a.len();
     if b.len() != len {
+        return false;
+    }
+    if fields::byte_at(a, 20) != fields::byte_at(b, 20) {
         return false;
     }
     let mut same = true;

@@ -59,11 +59,8 @@ pub fn with_mark(m: u32, k: usize) -> u32
 pub fn marked_to(m: u32, n: usize) -> usize
     ensures { λ r. ⌜ r ≡ markedTo m n ⌝ }
 {
-    let mut c: usize = 0;
-    let mut k: usize = 0;
-    while k < n {
-        c += marked(m, k) as usize;
-        k += 1;
+    if n < 32 {
+        return u32::count_ones(m % mark(n)) as usize;
     }
-    c
+    u32::count_ones(m) as usize
 }

@@ -1,5 +1,6 @@
 -- What the private functions promise each other. Readers of the public promises do not need these files.
 pub mod Before
+pub mod Struck
 pub mod Collection
 pub mod Ends
 pub mod Codes

@@ -13,7 +13,7 @@ ghost use Rattle.convergence.specs.Settling.{twoRounds};
 ghost use Rattle.settle_trust.specs.Received.{givenBy};
 ghost use Rattle.settle_midpoint.specs.Orders.{OrderAfter};
 ghost use Rattle.settle_midpoint.specs.Answers.{settling};
-ghost use Rattle.ring_play.specs.Inner.Codes.{noCode, entryOf, codeAt, codeTaken, entryTaken, holds, Tallied};
+ghost use Rattle.ring_play.specs.Inner.Codes.{noCode, entryOf, entryIn, codeAt, codeTaken, holds, Tallied};
 ghost use Rattle.ring_play.specs.Inner.Shares.{Shares};
 ghost use Rattle.ring_play.specs.Inner.Votes.{Voted, Leads, givesList};
 use settle_midpoint::Order;
@@ -264,54 +264,60 @@ pub(crate) fn share(
 
 // ---- A receiver.
 
-// The code of each entry that enough lists have, and no code for any other.
-fn pick(codes: &Numbers, same: &Words, need: usize, n: usize, out: &mut [i32])
-    requires { ⌜ (n ≤ 32) × (length (now out) ≡ 32) ⌝ }
-    ensures { λ _. ⌜ (length (now (out .exit)) ≡ 32)
-        × Each n (λ j. getD (now (out .exit)) j (pos 0) ≡ cond (leb need (getD (now (same .entry)) j 0)) (getD (now (codes .entry)) j (pos 0)) noCode) ⌝ }
+// The code c, if s lists have it and no more are needed; else no code.
+fn picked(c: i32, need: u32, s: u32) -> i32
+    ensures { λ r. ⌜ r ≡ cond (leb need s) c noCode ⌝ }
 {
+    if need <= s { c } else { NONE }
+}
+
+// Takes the code of each entry that enough lists have, and no code for any other. Answers whether all are as they were.
+fn pick(codes: &Numbers, same: &Words, need: u32, n: usize, taken: &mut [i32]) -> bool
+    requires { ⌜ (n ≤ 32) × (length (now taken) ≡ 32) ⌝ }
+    ensures { λ r. ⌜ (length (now (taken .exit)) ≡ 32)
+        × Each n (λ j. getD (now (taken .exit)) j (pos 0) ≡ cond (leb need (getD (now (same .entry)) j 0)) (getD (now (codes .entry)) j (pos 0)) noCode)
+        × (r ≡ true → Each n (λ j. getD (now (taken .exit)) j (pos 0) ≡ getD (now (taken .entry)) j (pos 0))) ⌝ }
+{
+    let mut alike = true;
     let mut j: usize = 0;
     while j < n {
         let v = picked(codes[j], need, same[j]);
-        out[j] = v;
+        if taken[j] != v {
+            alike = false;
+        }
+        taken[j] = v;
         j += 1;
     }
+    alike
 }
 
-// The code c, if s lists have it and no more are needed; else no code.
-fn picked(c: i32, need: usize, s: u32) -> i32
-    ensures { λ r. ⌜ r ≡ cond (leb need s) c noCode ⌝ }
+// The same codes, to be changed.
+fn copied(codes: &Numbers) -> Numbers
+    ensures { λ r. ⌜ r ≡ now (codes .entry) ⌝ }
 {
-    if need <= s as usize { c } else { NONE }
+    *codes
 }
 
-// The codes of a receiver's trusted entries: of those that enough lists have, but for the entries of links that confessed.
+// Takes the codes of a receiver's trusted entries: of those that enough lists have, but for the entries of links that confessed. Answers
+// whether all are as they were.
 pub(crate) fn trust_codes(
     codes: &Numbers,
     same: &Words,
-    need: usize,
+    need: u32,
     confessed: u32,
     n: usize,
-    out: &mut Numbers,
-)
+    taken: &mut Numbers,
+) -> bool
     requires { ⌜ n ≤ 32 ⌝ }
-    ensures { λ _. ⌜ Each n (λ j. getD (now (out .exit)) j (pos 0) ≡ codeTaken (now (codes .entry)) (now (same .entry)) need confessed j) ⌝ }
+    ensures codes { λ r. ⌜ Each n (λ j. getD (now (taken .exit)) j (pos 0) ≡ codeTaken (now (codes .entry)) (now (same .entry)) need confessed j) ⌝ }
+    ensures alike { λ r. ⌜ (r ≡ true → Each n (λ j. getD (now (taken .exit)) j (pos 0) ≡ getD (now (taken .entry)) j (pos 0))) ⌝ }
 {
-    pick(codes, same, need, n, out);
-    if confessed != 0 {
-        drop_confessed(out, confessed, n);
+    if confessed == 0 {
+        return pick(codes, same, need, n, taken);
     }
-}
-
-// The code that a receiver takes for entry j.
-fn code_taken(codes: &Numbers, same: &Words, need: usize, confessed: u32, j: usize) -> i32
-    requires { ⌜ j < 32 ⌝ }
-    ensures { λ r. ⌜ r ≡ codeTaken (now (codes .entry)) (now (same .entry)) need confessed j ⌝ }
-{
-    if marks::marked(confessed, j) {
-        return NONE;
-    }
-    picked(codes[j], need, same[j])
+    let mut own = copied(codes);
+    drop_confessed(&mut own, confessed, n);
+    pick(&own, same, need, n, taken)
 }
 
 // The entry of a code.
@@ -324,45 +330,25 @@ fn entry_of(c: i32) -> Entry
     Entry::Position(c)
 }
 
-// Decides entry j of a receiver, and puts it in its place in the order at once, as a head does that closes a round (document 02, A3);
-// answers how many positions there are then.
-fn take_entry(
-    codes: &Numbers,
-    same: &Words,
-    need: usize,
-    confessed: u32,
-    j: usize,
-    positions: &mut Numbers,
-    len: usize,
-) -> usize
+// Puts entry j in its place in the order, as a head does that closes a round (document 02, A3); answers how many positions there are then.
+fn take_entry(codes: &Numbers, j: usize, positions: &mut Numbers, len: usize) -> usize
     requires { ⌜ j < 32 ⌝ }
-    ensures { λ r. ⌜ (OrderAfter j (entryTaken (now (codes .entry)) (now (same .entry)) need confessed) len (now (positions .entry))
-        → OrderAfter (j + 1) (entryTaken (now (codes .entry)) (now (same .entry)) need confessed) r (now (positions .exit))) ⌝ }
+    ensures { λ r. ⌜ (OrderAfter j (entryIn (now (codes .entry))) len (now (positions .entry)) → OrderAfter (j + 1) (entryIn (now (codes .entry))) r (now (positions .exit))) ⌝ }
 {
-    let e = entry_of(code_taken(codes, same, need, confessed, j));
-    settle_midpoint::place(e, positions, len)
+    settle_midpoint::place(entry_of(codes[j]), positions, len)
 }
 
-// The new position of a receiver, its entries decided and put in order one by one: by the shared codes, and how many lists it counted for
-// each. `up`: whether an odd sum is rounded up.
-pub(crate) fn settle_counted(
-    codes: &Numbers,
-    same: &Words,
-    need: usize,
-    confessed: u32,
-    n: u8,
-    f: u8,
-    up: bool,
-) -> settle_midpoint::Settled
+// The new position from the codes of the trusted entries, put in order one by one. `up`: whether an odd sum is rounded up.
+pub(crate) fn settle_codes(codes: &Numbers, n: u8, f: u8, up: bool) -> settle_midpoint::Settled
     requires { ⌜ n ≤ 32 ⌝ }
-    ensures { λ r. ⌜ r ≡ settling (bit up) n (twoRounds f) (entryTaken (now (codes .entry)) (now (same .entry)) need confessed) ⌝ }
+    ensures { λ r. ⌜ r ≡ settling (bit up) n (twoRounds f) (entryIn (now (codes .entry))) ⌝ }
 {
     let count = n as usize;
     let mut positions = [0i32; HEADS];
     let mut len: usize = 0;
     let mut j: usize = 0;
     while j < count {
-        len = take_entry(codes, same, need, confessed, j, &mut positions, len);
+        len = take_entry(codes, j, &mut positions, len);
         j += 1;
     }
     settle_midpoint::middle_of(Order { len, positions }, Family::TwoRounds, n, f, up)

@@ -1,10 +1,12 @@
 // The rounds of a whole ring in which heads send positions, played on the heads' memory: a collection round, which leaves the list of each
 // head that is not struck, and a phase of one round, which leaves a position. What all unstruck heads say is heard once.
 ghost use mathlib.Core.Bool.{cond};
+ghost use mathlib.Core.List.{List};
 ghost use mathlib.Core.Path.{_≡_};
 ghost use Prim.Native.Nat.{ℕ, _<_};
 ghost use lib.ListN.{length, getD};
 ghost use lib.IntN.{pos};
+ghost use Rattle.terms.specs.declared.Table.{Table};
 ghost use Rattle.entries.specs.Tables.{tableAt, tableOf, mark, number};
 ghost use Rattle.frame_spec.specs.Said.{said};
 ghost use Rattle.head_spec.specs.Record.{heardEntry};
@@ -12,12 +14,10 @@ ghost use Rattle.ring_play.specs.Memory.{heads, hears, settles, InRange,
 ghost use Rattle.convergence.specs.Settling.{ordered};
 ghost use Rattle.settle_midpoint.specs.Orders.{orderOf};
 ghost use Rattle.frame_slots.specs.Slots.{plantedIn};
-ghost use Rattle.ring_play.specs.Inner.Before.{SettlesBefore, HeldBefore};
-ghost use Rattle.ring_play.specs.Inner.Collection.{isPositionFrame, ownEntry, sentBy, heardOf, heardWith, Shared, settledFrom};
+ghost use Rattle.ring_play.specs.Inner.Collection.{isPositionFrame, ownEntry, sentBy, heardOf, heardWith, Shared, SharedMarks, SharedNumbers, settledFrom};
 use crate::Stage;
 use crate::ends;
 use crate::round;
-use crate::round::Before;
 use settle_midpoint::Order;
 use settle_midpoint::Settled;
 use terms::Entry;
@@ -121,53 +121,31 @@ pub(crate) fn entry_planted(s: Stage, planted: &[u8], lengths: &[u8], k: usize, 
     entry_in(frame, s.phase, k as u8)
 }
 
-// The list of receiver i: what all hear, with what is planted to it.
-fn list_for(s: Stage, sent: Table, planted: &[u8], lengths: &[u8], i: usize) -> Table
-    requires { ⌜ (i < 48) × Shared s sent ⌝ }
-    ensures { λ r. ⌜ ((S : Shared s sent) → r ≡ tableOf (heads s) (heardWith s (S .entry) (plantedIn (now (planted .entry)) (now (lengths .entry))) i)) ⌝ }
-{
-    let n = round::head_count(s) as usize;
-    let mut marks = sent.marks;
-    let mut entries = sent.entries;
-    let mut k: usize = 0;
-    while k < n {
-        if marks::marked(s.struck, k) {
-            let e = entry_planted(s, planted, lengths, k, i);
-            marks += mark_of(e) << k;
-            entries[k] = number_of(e);
-        }
-        k += 1;
-    }
-    Table { marks, entries }
-}
-
-// The list of head i, after those of the heads before it were stored: heads to which the same is planted fill the same.
-fn list_after(
+// The list of receiver i: what all hear, with what is planted to it. Answers its marks, from those that all hear; its numbers are put into
+// `entries`, over what was planted to another.
+fn list_for(
     s: Stage,
-    sent: Table,
+    sent: u32,
     planted: &[u8],
     lengths: &[u8],
     i: usize,
-    last: Before,
-    marks: &[u32],
-    lists: &[[i32; HEADS]],
-) -> Table
-    requires { ⌜ (i < 32) × SettlesBefore s i last × (length (now marks) ≡ 32) × (length (now lists) ≡ 32) × Shared s sent ⌝ }
-    ensures { λ r. ⌜ ((S : Shared s sent)
-        → HeldBefore s i (λ m. tableOf (heads s) (heardWith s (S .entry) (plantedIn (now (planted .entry)) (now (lengths .entry))) m)) (rowIn (now (marks .entry)) (now (lists .entry)))
-        → r ≡ tableOf (heads s) (heardWith s (S .entry) (plantedIn (now (planted .entry)) (now (lengths .entry))) i)) ⌝ }
+    entries: &mut [i32],
+) -> u32
+    requires { ⌜ (i < 48) × (length (now entries) ≡ 32) × SharedMarks s sent ⌝ }
+    ensures { λ r. ⌜ (length (now (entries .exit)) ≡ 32) × ((S : SharedMarks s sent) → SharedNumbers s (S .entry) (now (entries .entry))
+        → _≡_ {A = Table} (record { marks = r; entries = now (entries .exit) })
+        (tableOf (heads s) (heardWith s (S .entry) (plantedIn (now (planted .entry)) (now (lengths .entry))) i))) ⌝ }
 {
-    match round::same_before(s, planted, lengths, i, last) {
-        Before::As(m) => {
-            let entries = lists[m];
-            let word = marks[m];
-            Table {
-                marks: word,
-                entries,
-            }
-        }
-        Before::None => list_for(s, sent, planted, lengths, i),
+    let n = round::head_count(s) as usize;
+    let mut marks = sent;
+    let mut k = round::next_struck(s, 0);
+    while k < n {
+        let e = entry_planted(s, planted, lengths, k, i);
+        marks += mark_of(e) << k;
+        entries[k] = number_of(e);
+        k = round::next_struck(s, k + 1);
     }
+    marks
 }
 
 // Stores the list of each unstruck head.
@@ -186,14 +164,11 @@ fn fill_lists(
         (rowIn (now (marks .entry)) (now (lists .entry)) i)) ⌝ }
 {
     let n = round::head_count(s) as usize;
-    let mut last = Before::None;
+    let mut entries = sent.entries;
     let mut i: usize = 0;
     while i < n {
         if !marks::marked(s.struck, i) {
-            let list = list_after(s, sent, planted, lengths, i, last, marks, lists);
-            last = Before::As(i);
-            let entries = list.entries;
-            marks[i] = list.marks;
+            marks[i] = list_for(s, sent.marks, planted, lengths, i, &mut entries);
             lists[i] = entries;
         }
         i += 1;
@@ -250,29 +225,9 @@ fn position_for(
     if ends::decides(s, order.len, c) {
         return ends::position_inside(s, order, c);
     }
-    position_of(s, list_for(s, sent, planted, lengths, i))
-}
-
-// The same, after those before it have theirs: receivers to which the same is planted settle the same.
-fn position_after(
-    s: Stage,
-    sent: Table,
-    order: Order,
-    planted: &[u8],
-    lengths: &[u8],
-    i: usize,
-    last: Before,
-    positions: &[i32],
-) -> i32
-    requires { ⌜ (i < 48) × SettlesBefore s i last × (length (now positions) ≡ 48) × Shared s sent × (order ≡ orderOf (ordered (heads s) (tableAt sent))) ⌝ }
-    ensures { λ r. ⌜ ((S : Shared s sent)
-        → HeldBefore s i (λ m. settledFrom s (tableAt (tableOf (heads s) (heardWith s (S .entry) (plantedIn (now (planted .entry)) (now (lengths .entry))) m)))) (λ m. getD (now (positions .entry)) m (pos 0))
-        → r ≡ settledFrom s (tableAt (tableOf (heads s) (heardWith s (S .entry) (plantedIn (now (planted .entry)) (now (lengths .entry))) i)))) ⌝ }
-{
-    match round::same_before(s, planted, lengths, i, last) {
-        Before::As(m) => positions[m],
-        Before::None => position_for(s, sent, order, planted, lengths, i),
-    }
+    let mut entries = sent.entries;
+    let marks = list_for(s, sent.marks, planted, lengths, i, &mut entries);
+    position_of(s, Table { marks, entries })
 }
 
 // Stores the new position of each receiver that is not struck.
@@ -291,16 +246,25 @@ fn fill_positions(
         (getD (now (positions .entry)) i (pos 0))) ⌝ }
 {
     let end = round::receiver_end(s);
-    let mut last = Before::None;
     let mut i: usize = 0;
     while i < end {
         if round::settles(s, i) {
-            let position = position_after(s, sent, order, planted, lengths, i, last, positions);
-            last = Before::As(i);
+            let position = position_for(s, sent, order, planted, lengths, i);
             positions[i] = position;
         }
         i += 1;
     }
+}
+
+// Settles all receivers if no head is struck: they hear the same, so once.
+fn conclude_quiet(s: Stage, sent: Table, positions: &mut Positions)
+    ensures { λ _. ⌜ (s .struck ≡ 0 → (S : Shared s sent) (plant : ℕ → ℕ → List ℕ) (i : ℕ) → getD (now (positions .exit)) i (pos 0)
+        ≡ cond (settles s i)
+        (settledFrom s (tableAt (tableOf (heads s) (heardWith s (S .entry) plant i))))
+        (getD (now (positions .entry)) i (pos 0))) ⌝ }
+{
+    let position = position_of(s, sent);
+    round::fill_same(s, position, positions);
 }
 
 // A phase of one round: the new position of each receiver that is not struck, from the positions, which are in range, and what is planted.
@@ -312,6 +276,10 @@ pub fn conclude(s: Stage, positions: &mut Positions, planted: &[u8], lengths: &[
         (getD (now (positions .entry)) i (pos 0))) ⌝ }
 {
     let sent = entries_sent(s, positions);
+    if s.struck == 0 {
+        conclude_quiet(s, sent, positions);
+        return;
+    }
     let order = settle_midpoint::order_of(sent, round::head_count(s));
     fill_positions(s, sent, order, planted, lengths, positions);
 }

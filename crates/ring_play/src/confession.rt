@@ -10,12 +10,10 @@ ghost use Rattle.frame_spec.specs.Said.{said};
 ghost use Rattle.settle_trust.specs.Received.{givenBy};
 ghost use Rattle.ring_play.specs.Memory.{settles, Sayable, newPosition};
 ghost use Rattle.frame_slots.specs.Slots.{plantedIn};
-ghost use Rattle.ring_play.specs.Inner.Before.{SettlesBefore, HeldBefore};
 ghost use Rattle.ring_play.specs.Inner.Confession.{linksWith, rowsWith, Received, RowsKept, Unplanted, OwnLinks};
 ghost use Rattle.ring_play.specs.Inner.Planted.{givenOrPlanted, positionSettled, AllSettled};
 use crate::Stage;
 use crate::round;
-use crate::round::Before;
 use crate::shared;
 use frame_spec::Said;
 use settle_midpoint::Settled;
@@ -91,13 +89,11 @@ fn hear_planted(
     let n = round::head_count(s);
     let count = n as usize;
     let mut links = base;
-    let mut k: usize = 0;
+    let mut k = round::next_struck(s, 0);
     while k < count {
-        if marks::marked(s.struck, k) {
-            let frame = frame_slots::planted(planted, lengths, k as u8, i as u8);
-            links = hear(links, rows, k, frame, n, s.phase);
-        }
-        k += 1;
+        let frame = frame_slots::planted(planted, lengths, k as u8, i as u8);
+        links = hear(links, rows, k, frame, n, s.phase);
+        k = round::next_struck(s, k + 1);
     }
     links
 }
@@ -140,28 +136,6 @@ fn position_for(
     settled(s, rows, links, first_listed(base.listed))
 }
 
-// The same, after the positions of the receivers before it were stored: receivers to which the same is planted settle the same.
-fn position_after(
-    s: Stage,
-    planted: &[u8],
-    lengths: &[u8],
-    i: usize,
-    base: Links,
-    rows: &mut Lists,
-    last: Before,
-    positions: &[i32],
-) -> i32
-    requires { ⌜ (i < 48) × Unplanted s base (now rows) × SettlesBefore s i last × (length (now positions) ≡ 48)
-        × HeldBefore s i (λ m. positionSettled s (givenOrPlanted s (givenBy base (now rows)) (plantedIn (now planted) (now lengths)) m)) (λ m. getD (now positions) m (pos 0)) ⌝ }
-    ensures position { λ r. ⌜ r ≡ positionSettled s (givenOrPlanted s (givenBy base (now (rows .entry))) (plantedIn (now (planted .entry)) (now (lengths .entry))) i) ⌝ }
-    ensures kept { λ r. ⌜ RowsKept base (now (rows .entry)) (now (rows .exit)) ⌝ }
-{
-    match round::same_before(s, planted, lengths, i, last) {
-        Before::As(m) => positions[m],
-        Before::None => position_for(s, planted, lengths, i, base, rows),
-    }
-}
-
 // Stores the new position of each unstruck receiver.
 fn fill_positions(
     s: Stage,
@@ -178,27 +152,10 @@ fn fill_positions(
         (getD (now (positions .entry)) i (pos 0))) ⌝ }
 {
     let end = round::receiver_end(s);
-    let mut last = Before::None;
     let mut i: usize = 0;
     while i < end {
         if round::settles(s, i) {
-            let position = position_after(s, planted, lengths, i, base, rows, last, positions);
-            last = Before::As(i);
-            positions[i] = position;
-        }
-        i += 1;
-    }
-}
-
-// Stores one position for each unstruck receiver.
-fn fill_same(s: Stage, position: i32, positions: &mut [i32])
-    requires { ⌜ length (now positions) ≡ 48 ⌝ }
-    ensures { λ _. ⌜ ((i : ℕ) → getD (now (positions .exit)) i (pos 0) ≡ cond (settles s i) position (getD (now (positions .entry)) i (pos 0))) ⌝ }
-{
-    let end = round::receiver_end(s);
-    let mut i: usize = 0;
-    while i < end {
-        if round::settles(s, i) {
+            let position = position_for(s, planted, lengths, i, base, rows);
             positions[i] = position;
         }
         i += 1;
@@ -211,7 +168,7 @@ fn settle_quiet(s: Stage, lists: &Lists, links: Links, positions: &mut Positions
         → AllSettled s (givenBy links (now (lists .entry))) plant (now (positions .entry)) (now (positions .exit))) ⌝ }
 {
     let position = settled(s, lists, links, first_listed(links.listed));
-    fill_same(s, position, positions);
+    round::fill_same(s, position, positions);
 }
 
 // The same lists, to be changed.

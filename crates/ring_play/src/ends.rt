@@ -62,13 +62,11 @@ pub(crate) fn count_ends(s: Stage, order: Order, planted: &[u8], lengths: &[u8],
         low: 0,
         high: 0,
     };
-    let mut k: usize = 0;
+    let mut k = round::next_struck(s, 0);
     while k < n {
-        if marks::marked(s.struck, k) {
-            let e = collection::entry_planted(s, planted, lengths, k, i);
-            c = with_entry(c, e, lowest, highest);
-        }
-        k += 1;
+        let e = collection::entry_planted(s, planted, lengths, k, i);
+        c = with_entry(c, e, lowest, highest);
+        k = round::next_struck(s, k + 1);
     }
     c
 }

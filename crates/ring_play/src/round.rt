@@ -1,11 +1,16 @@
 // What all kinds of rounds need: how many heads and listeners are played, who settles, and to whom the same is planted.
-ghost use mathlib.Core.Bool.{true};
+ghost use mathlib.Core.Bool.{true, cond};
 ghost use mathlib.Core.Logic.{_↔_};
 ghost use mathlib.Core.Path.{_≡_};
-ghost use Prim.Native.Nat.{_<_};
+ghost use Prim.Native.Nat.{ℕ, _≤_, _<_};
+ghost use lib.ListN.{length, getD};
+ghost use lib.IntN.{pos};
 ghost use Rattle.frame_slots.specs.Slots.{plantedIn};
 ghost use Rattle.ring_play.specs.Memory.{heads, listeners, receiverEnd, settles, SamePlanted};
+ghost use Rattle.ring_play.specs.declared.Stage.{Stage};
+ghost use Rattle.ring_play.specs.declared.round.Before.the-variants.{As};
 ghost use Rattle.ring_play.specs.Inner.Before.{SettlesBefore, AsBefore};
+ghost use Rattle.ring_play.specs.Inner.Struck.{NextStruck};
 use crate::Stage;
 
 // How many heads are played.
@@ -31,6 +36,19 @@ pub(crate) fn receiver_end(s: Stage) -> usize
         return head_count(s) as usize;
     }
     32 + m
+}
+
+// The first struck head at k or above; if there is none, how many heads are played.
+pub(crate) fn next_struck(s: Stage, k: usize) -> usize
+    requires { ⌜ k ≤ heads s ⌝ }
+    ensures { λ r. ⌜ NextStruck s k r ⌝ }
+{
+    let n = head_count(s) as usize;
+    if n <= k {
+        return n;
+    }
+    let j = k + u32::trailing_zeros(s.struck >> k) as usize;
+    if j < n { j } else { n }
 }
 
 // A receiver that settles before another; none before the first.
@@ -65,14 +83,12 @@ pub(crate) fn is_same_planted(s: Stage, planted: &[u8], lengths: &[u8], i: usize
         return true;
     }
     let n = head_count(s) as usize;
-    let mut k: usize = 0;
+    let mut k = next_struck(s, 0);
     while k < n {
-        if marks::marked(s.struck, k)
-            && !frame_slots::is_alike(planted, lengths, k as u8, i as u8, m as u8)
-        {
+        if !frame_slots::is_alike(planted, lengths, k as u8, i as u8, m as u8) {
             return false;
         }
-        k += 1;
+        k = next_struck(s, k + 1);
     }
     true
 }
@@ -95,4 +111,71 @@ pub(crate) fn same_before(
         }
     }
     Before::None
+}
+
+// The last two receivers that settled, told apart by what is planted to them if that can be: liars tell two groups two things.
+pub(crate) struct Two {
+    pub last: Before,
+    pub other: Before,
+}
+
+// The one of the two to which the same is planted as to receiver i. To answer none is free, and shows in the time alone.
+pub(crate) fn same_of_two(s: Stage, planted: &[u8], lengths: &[u8], i: usize, two: Two) -> Before
+    requires { ⌜ (i < 48) × SettlesBefore s i (two .last) × SettlesBefore s i (two .other) ⌝ }
+    ensures { λ r. ⌜ AsBefore s (plantedIn (now (planted .entry)) (now (lengths .entry))) i r ⌝ }
+{
+    let last = two.last;
+    let one = same_before(s, planted, lengths, i, last);
+    if let Before::As(_) = one {
+        return one;
+    }
+    let other = two.other;
+    same_before(s, planted, lengths, i, other)
+}
+
+// Whether that is receiver m. Nothing hangs on the answer but the time.
+fn is_at(b: Before, m: usize) -> bool
+    ensures { λ _. ⊤ₛ }
+{
+    match b {
+        Before::None => false,
+        Before::As(k) => k == m,
+    }
+}
+
+// Receiver i is the last one now. `found` is the one of the two that was told as it is: the other one stays. Which one stays is free, and
+// shows in the time alone.
+pub(crate) fn remember(two: Two, found: Before, i: usize) -> Two
+    ensures { λ r. ⌜ (r .last ≡ As i)
+        × ((s : Stage) (k : ℕ) → SettlesBefore s k (two .last) → SettlesBefore s k (two .other) → SettlesBefore s k (r .other)) ⌝ }
+{
+    let last = two.last;
+    let other = two.other;
+    if let Before::As(m) = found {
+        if is_at(last, m) {
+            return Two {
+                last: Before::As(i),
+                other,
+            };
+        }
+    }
+    Two {
+        last: Before::As(i),
+        other: last,
+    }
+}
+
+// Stores one position for each unstruck receiver.
+pub(crate) fn fill_same(s: Stage, position: i32, positions: &mut [i32])
+    requires { ⌜ length (now positions) ≡ 48 ⌝ }
+    ensures { λ _. ⌜ ((i : ℕ) → getD (now (positions .exit)) i (pos 0) ≡ cond (settles s i) position (getD (now (positions .entry)) i (pos 0))) ⌝ }
+{
+    let end = receiver_end(s);
+    let mut i: usize = 0;
+    while i < end {
+        if settles(s, i) {
+            positions[i] = position;
+        }
+        i += 1;
+    }
 }

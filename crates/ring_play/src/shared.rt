@@ -4,7 +4,6 @@ ghost use mathlib.Core.Bool.{true, false};
 ghost use mathlib.Core.Path.{_≡_};
 ghost use Prim.Native.Nat.{_-_, _≤_, _<_};
 ghost use lib.ListN.{length, getD};
-ghost use lib.IntN.{pos};
 ghost use Rattle.marks.specs.Marks.{markedTo};
 ghost use Rattle.terms.specs.Counting.{Each};
 ghost use Rattle.frame_spec.specs.Said.{said};
@@ -13,12 +12,12 @@ ghost use Rattle.settle_trust.specs.Received.{givenBy};
 ghost use Rattle.head_spec.specs.Record.{givenOf};
 ghost use Rattle.ring_play.specs.Memory.{heads};
 ghost use Rattle.ring_play.specs.Inner.Planted.{Alike, AllSettled, SettlesAll};
-ghost use Rattle.ring_play.specs.Inner.Codes.{entryTaken};
 ghost use Rattle.ring_play.specs.Inner.Told.{Counted, Told, SharedBy, settledBy, settledAt, takenHere, LastOf};
 use crate::Stage;
 use crate::codes;
 use crate::round;
 use crate::round::Before;
+use crate::round::Two;
 use frame_spec::Said;
 use settle_midpoint::Settled;
 use settle_trust::Links;
@@ -75,52 +74,34 @@ fn count_planted(
     let n = round::head_count(s);
     let count = n as usize;
     let mut confessed: u32 = 0;
-    let mut k: usize = 0;
+    let mut k = round::next_struck(s, 0);
     while k < count {
-        if marks::marked(s.struck, k) {
-            let frame = frame_slots::planted(planted, lengths, k as u8, i as u8);
-            confessed = count_frame(frame, n, s.phase, k, codes, same, confessed);
-        }
-        k += 1;
+        let frame = frame_slots::planted(planted, lengths, k as u8, i as u8);
+        confessed = count_frame(frame, n, s.phase, k, codes, same, confessed);
+        k = round::next_struck(s, k + 1);
     }
     confessed
 }
 
 // How many lists are needed if these links confessed too.
-fn need_after(need: usize, confessed: u32, n: usize) -> usize
+fn need_after(need: u32, confessed: u32, n: usize) -> u32
     ensures { λ r. ⌜ r ≡ need - markedTo confessed n ⌝ }
 {
+    let all = need as usize;
     let c = marks::marked_to(confessed, n);
-    if need <= c { 0 } else { need - c }
+    if all <= c { 0 } else { (all - c) as u32 }
 }
 
-// The position that a receiver settles, by the shared codes, how many lists it counted for each, how many are needed, and who confessed to
-// it; 0 if it is refused.
-fn position_from(s: Stage, codes: &Numbers, same: &Words, need: usize, confessed: u32) -> i32
-    ensures { λ r. ⌜ r ≡ settledBy s (entryTaken (now (codes .entry)) (now (same .entry)) need confessed) ⌝ }
+// The position that a receiver settles from the codes of its trusted entries; 0 if it is refused.
+fn position_from(s: Stage, codes: &Numbers) -> i32
+    ensures { λ r. ⌜ r ≡ settledAt s (now (codes .entry)) ⌝ }
 {
     let n = round::head_count(s);
-    let up = terms::rounds_up(s.phase);
-    match codes::settle_counted(codes, same, need, confessed, n, s.f, up) {
+    let up = steps::rounds_up(s.phase);
+    match codes::settle_codes(codes, n, s.f, up) {
         Settled::Refused(_) => 0,
         Settled::New(kept) => kept.position,
     }
-}
-
-// Whether the first n codes are the same. All are looked at, without a branch, so that many are compared at once.
-fn is_same_front(a: &Numbers, b: &Numbers, n: usize) -> bool
-    requires { ⌜ n ≤ 32 ⌝ }
-    ensures { λ r. ⌜ (r ≡ true → Each n (λ j. getD (now (a .entry)) j (pos 0) ≡ getD (now (b .entry)) j (pos 0))) ⌝ }
-{
-    let mut same = true;
-    let mut j: usize = 0;
-    while j < n {
-        if a[j] != b[j] {
-            same = false;
-        }
-        j += 1;
-    }
-    same
 }
 
 // The position that a receiver settles, by what it counted, how many lists are needed of what all hear, and who confessed to it. `last` is
@@ -129,7 +110,7 @@ fn position_counted(
     s: Stage,
     codes: &Numbers,
     same: &Words,
-    need: usize,
+    need: u32,
     confessed: u32,
     settled: &mut Numbers,
     last: Last,
@@ -138,17 +119,14 @@ fn position_counted(
     ensures position { λ r. ⌜ r ≡ settledBy s (takenHere s need (now (codes .entry)) (now (same .entry)) confessed) ⌝ }
     ensures last { λ r. ⌜ r ≡ settledAt s (now (settled .exit)) ⌝ }
 {
-    let n = round::head_count(s);
-    let left = need_after(need, confessed, n as usize);
-    let mut own = [0i32; HEADS];
-    codes::trust_codes(codes, same, left, confessed, n as usize, &mut own);
-    if let Last::At(position) = last {
-        if is_same_front(&own, settled, n as usize) {
+    let n = round::head_count(s) as usize;
+    let left = need_after(need, confessed, n);
+    if codes::trust_codes(codes, same, left, confessed, n, settled) {
+        if let Last::At(position) = last {
             return position;
         }
     }
-    *settled = own;
-    position_from(s, codes, same, left, confessed)
+    position_from(s, settled)
 }
 
 // Stores the new position of each unstruck receiver.
@@ -158,7 +136,7 @@ fn fill_positions(
     lengths: &[u8],
     codes: &Numbers,
     counts: &Words,
-    need: usize,
+    need: u32,
     positions: &mut [i32],
 )
     requires { ⌜ (length (now positions) ≡ 48) × SharedBy s need (now codes) (now counts) ⌝ }
@@ -168,14 +146,17 @@ fn fill_positions(
     let end = round::receiver_end(s);
     let mut settled = [0i32; HEADS];
     let mut last = Last::None;
-    let mut before = Before::None;
+    let mut two = Two {
+        last: Before::None,
+        other: Before::None,
+    };
     let mut i: usize = 0;
     while i < end {
         if round::settles(s, i) {
-            match round::same_before(s, planted, lengths, i, before) {
+            match round::same_of_two(s, planted, lengths, i, two) {
                 Before::As(m) => {
                     positions[i] = positions[m];
-                    before = Before::As(i);
+                    two = round::remember(two, Before::As(m), i);
                 }
                 Before::None => {
                     let mut same = *counts;
@@ -191,7 +172,7 @@ fn fill_positions(
                     );
                     last = Last::At(position);
                     positions[i] = position;
-                    before = Before::As(i);
+                    two = round::remember(two, Before::None, i);
                 }
             }
         }
@@ -222,7 +203,7 @@ pub(crate) fn settle_all(
     if !codes::share(rows, links, n, s.f, struck, &mut codes, &mut counts) {
         return false;
     }
-    let need = settle_trust::lists_needed(links.confessed, n, s.f);
+    let need = settle_trust::lists_needed(links.confessed, n, s.f) as u32;
     fill_positions(s, planted, lengths, &codes, &counts, need, positions);
     true
 }

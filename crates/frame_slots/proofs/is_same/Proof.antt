@@ -22,6 +22,12 @@ abbrev μ-loop : tie.MeasureT-loop
 returns : tie.Need-returns Inv-loop μ-loop
 returns c = (λ e. absurd (true≢false (sym e)), λ e. absurd (c .if1 .taken (ap length (sym e))))
 
+returns-2 : tie.Need-returns-2 Inv-loop μ-loop
+returns-2 c = (
+  λ e. absurd (true≢false (sym e)),
+  λ e. absurd (c .if2 .taken (c .before .before .byte-at .ensures ∙ ap (λ (x : List ℕ). getD x 20 0) e ∙ sym (c .before .byte-at2 .ensures))),
+)
+
 loop-holds : tie.Need-loop-holds Inv-loop μ-loop
 loop-holds c = (search needs, λ e i l. absurd (omega arith), λ e. refl)
 
@@ -31,12 +37,12 @@ loop-again c =
     ⊎-elim
     (λ w. (search needs, λ e. absurd (true≢false (sym e ∙ w .1)), λ e. absurd (w .0 .taken (ap (λ (x : List ℕ). getD x (l .j) 0) e))))
     (λ w. (search needs, λ e. below-more _ (l .j) (l .inv .1 (sym (w .1) ∙ e)) (w .0 .left), λ e. w .1 ∙ l .inv .2 e))
-    (c .if2 .came)
+    (c .if3 .came)
 
-returns-2 : tie.Need-returns-2 Inv-loop μ-loop
-returns-2 c =
+returns-3 : tie.Need-returns-3 Inv-loop μ-loop
+returns-3 c =
     let l = c .before .loop in
-    let a = c .before .before .before .args in
+    let a = c .before .before .before .before .before .before .before .before .args in
     (λ e. ext-getD 0 (now (a .a)) (now (a .b)) (search needs) (λ i h. l .inv .1 e i (omega arith)), l .inv .2)
 
 pub is-same-spec : {M : Type 1} → statement M
@@ -46,10 +52,13 @@ is-same-spec =
     Inv-loop
     μ-loop
     returns
+    (λ c κs. search needs)
+    (λ c κs. search needs)
+    returns-2
     loop-holds
     (λ c. search needs)
     (λ c. search needs)
     (λ c. search needs)
     (λ c. search needs)
     loop-again
-    returns-2)
+    returns-3)

@@ -1,56 +1,36 @@
--- `marks::marked_to` meets its contract: after k turns the count is the sum over the first k bits, and it is at most k, so that it fits.
-use mathlib.Core.Path.{_≡_, refl, ap, _∙_}
-use Prim.Native.Nat.{ℕ, _≤_, _-_}
+-- `marks::marked_to` meets its contract: the set bits of the word's rest by 2 ^ n, and from 32 on of the whole word, which is below 2 ^ 32.
+use mathlib.Core.Path.{ap, _∙_}
+use Prim.Native.Nat.{ℕ, _%_, _^_, _≤_}
 use native.Mathlib.Omega.{arith}
+use native.Mathlib.Nat.{mod-lt}
+use lib.Count.{ones, ones-le}
+use lib.Pow.{pow-pos, pow-mono}
 use borrow.Author.Needs.{needs}
-use Rattle.marks.specs.Marks.{bitOf, markedTo}
-use Rattle.terms.specs.Counting.{sum, bit}
-use Rattle.terms.proofs.Sums.{bit-le}
-use Rattle.marks.proofs.Counts.{byte-bit, sum-next, bits-le}
+use Rattle.marks.proofs.Ones.{ones-marked, ones-rest}
 use Rattle.marks.proofs.marked_to.Statement.{statement}
 use Rattle.marks.proofs.marked_to.Tie as tie
 
-abbrev Inv-loop : tie.InvT-loop
-Inv-loop m n c₀ k₀ c k = (k ≤ n) × (c ≡ markedTo m k)
+rem-result : tie.Need-rem-result
+rem-result c = rw (c .mark .ensures) (pow-pos (c .before .before .args .n))
 
-abbrev μ-loop : tie.MeasureT-loop
-μ-loop m n c₀ k₀ c k = n - k
-
-loop-holds : tie.Need-loop-holds Inv-loop μ-loop
-unfolding sum
-loop-holds c = (search needs, refl)
-
-add-c : tie.Need-add-c Inv-loop μ-loop
-add-c c =
-    let b = c .marked .result in
-    omega (arith, byte-bit b, bit-le b, bits-le (c .before .before .loop .k) (bitOf (c .before .before .before .args .m)))
-
-loop-again : tie.Need-loop-again Inv-loop μ-loop
-loop-again c =
-    let l = c .before .before .loop in
-    let m = c .marked in (
-      search needs,
-      sum-next (λ (k : ℕ). bit (bitOf (c .before .before .before .args .m) k)) (l .k) (l .inv .1) (byte-bit (m .result) ∙ ap bit (m .ensures)),
-    )
-
-returns : tie.Need-returns Inv-loop μ-loop
-returns c =
-    let l = c .before .loop in
+cast-result : tie.Need-cast-result
+cast-result c =
     let a = c .before .before .args in
-    let e : l .k ≡ a .n = omega arith in
-    l .inv .1 ∙ ap (markedTo (a .m)) e
+    record { fits = rw (c .mark .ensures) (omega (arith, ones-le (a .n) (a .m % 2 ^ a .n) (mod-lt (a .m) (pow-pos (a .n))))) }
+
+returns : tie.Need-returns
+returns c =
+    let a = c .before .before .args in
+    ap (λ (x : ℕ). ones (a .m % x)) (c .mark .ensures) ∙ ones-rest (a .n) (a .m)
+
+cast-result-2 : tie.Need-cast-result-2
+cast-result-2 c = record { fits = omega (arith, ones-le 32 (c .before .args .m) (c .before .fits .m .fits)) }
+
+returns-2 : tie.Need-returns-2
+returns-2 c =
+    let a = c .before .args in
+    let h : 2 ^ 32 ≤ 2 ^ a .n = pow-mono (c .if1 .left) in
+    ones-marked (a .n) (a .m) (omega (arith, c .before .fits .m .fits))
 
 pub marked-to-spec : {M : Type 1} → statement M
-marked-to-spec =
-    tie.close
-    (tie.spec
-    Inv-loop
-    μ-loop
-    loop-holds
-    (λ c κs. search needs)
-    (λ c. search needs)
-    add-c
-    (λ c. search needs)
-    (λ c. search needs)
-    loop-again
-    returns)
+marked-to-spec = tie.close (tie.spec (λ c κs. search needs) rem-result cast-result returns cast-result-2 returns-2)

@@ -27,8 +27,10 @@ use Rattle.settle_midpoint.specs.declared.Settled.{Settled}
 use Rattle.settle_midpoint.proofs.Middle.{settling-same}
 use Rattle.entries.specs.Tables.{tableAt}
 use Rattle.entries.proofs.TableAt.{table-at}
-use Rattle.ring_play.specs.Memory.{heads, SamePlanted, sends, InRange, listEntry, rowIn, positionOf, heardPosition}
-use Rattle.ring_play.specs.Inner.Collection.{ownEntry, sentBy, heardOf, heardWith, Shared, settledFrom}
+use Rattle.ring_play.specs.Memory.{heads, sends, InRange, listEntry, rowIn, positionOf, heardPosition}
+use Rattle.ring_play.specs.Inner.Collection.{ownEntry, sentBy, heardOf, heardWith, Shared, SharedMarks, SharedNumbers, settledFrom}
+use Rattle.ring_play.specs.Inner.Struck.{NextStruck}
+use Rattle.ring_play.proofs.round.Struck.{WalkedTo, walked}
 use Rattle.ring_play.proofs.round.Filling.{filledTo, Filled, filled-none, filled-passed, filled-stored, filled-yet}
 
 -- ---- what is heard
@@ -57,62 +59,78 @@ heard-list s positions small fit plant i = table-same (heads s) _ _ (λ k l. go 
     go k true e = refl
     go k false e = e
 
--- heads told alike fill the same list
-pub told-list : (s : Stage) (E : ℕ → Entry) (plant : ℕ → ℕ → List ℕ) (i m : ℕ) → SamePlanted s plant i m
-    → tableOf (heads s) (heardWith s E plant m) ≡ tableOf (heads s) (heardWith s E plant i)
-unfolding heardWith
-told-list s E plant i m h = table-same (heads s) _ _ (λ k l. go k (bitOf (s .struck) k) (h k l))
-  where
-    go : (k : ℕ) (b : Bool) → (b ≡ true → plant k i ≡ plant k m) → cond b (heardOf s (plant k m) k) (E k) ≡ cond b (heardOf s (plant k i) k) (E k)
-    go k true e = rw (e refl)
-    go k false e = refl
+-- ---- the list of receiver i: before head k, what is planted by the struck heads below k is in it
 
--- ---- the list of head i: before head k, what is planted by the struck heads below k is in it
+module _ (s : Stage) (plant : ℕ → ℕ → List ℕ) (i : ℕ) where
+  -- E, with what is planted by the struck heads below k
+  abbrev heardTo : (ℕ → Entry) → ℕ → ℕ → Entry
+  heardTo E = filledTo (bitOf (s .struck)) (λ j. heardOf s (plant j i) j) E
 
-module _ (s : Stage) {t : Table} (S : Shared s t) (plant : ℕ → ℕ → List ℕ) (i : ℕ) where
-  abbrev pub heardTo : ℕ → ℕ → Entry
-  heardTo = filledTo (bitOf (s .struck)) (λ j. heardOf s (plant j i) j) (S .entry)
+  none-heard : (E : ℕ → Entry) (j : ℕ) → E j ≡ heardTo E 0 j
+  none-heard E = filled-none (bitOf (s .struck)) (λ j. heardOf s (plant j i) j) E
 
-  abbrev pub Heard : ℕ → ℕ → List ℤ → Type 0
-  Heard k m l = (m ≡ marksOf (heads s) (heardTo k)) × (l ≡ numbersOf (heads s) (heardTo k))
+  passed-heard : (E : ℕ → Entry) (k : ℕ) → bitOf (s .struck) k ≡ false → (j : ℕ) → heardTo E k j ≡ heardTo E (k + 1) j
+  passed-heard E k b = filled-passed (bitOf (s .struck)) (λ j. heardOf s (plant j i) j) E k (λ j. refl) b
 
-  pub heard-none : Heard 0 (t .marks) (t .entries)
-  heard-none = (
-    ap (λ (x : Table). x .marks) (S .is) ∙ marks-same (heads s) _ _ (λ j l. filled-none (bitOf (s .struck)) (λ j. heardOf s (plant j i) j) (S .entry) j),
-    ap (λ (x : Table). x .entries) (S .is) ∙ numbers-same (heads s) _ _ (λ j l. filled-none (bitOf (s .struck)) (λ j. heardOf s (plant j i) j) (S .entry) j),
-  )
+  put-heard : (E : ℕ → Entry) (k : ℕ) {e : Entry} → bitOf (s .struck) k ≡ true → e ≡ heardOf s (plant k i) k → (j : ℕ) → put (heardTo E k) k e j ≡ heardTo E (k + 1) j
+  put-heard E k {e} b is =
+      filled-stored (bitOf (s .struck)) (λ j. heardOf s (plant j i) j) E k (λ j. refl) b (put-same (heardTo E k) k e ∙ is) (λ j d. put-other (heardTo E k) k e j d)
 
-  module _ (k : ℕ) {m : ℕ} {l : List ℤ} (h : Heard k m l) where
-    pub heard-passed : bitOf (s .struck) k ≡ false → Heard (k + 1) m l
-    heard-passed b =
-        let same : (j : ℕ) → heardTo k j ≡ heardTo (k + 1) j =
-        filled-passed (bitOf (s .struck)) (λ j. heardOf s (plant j i) j) (S .entry) k (λ j. refl) b in
-        (h .0 ∙ marks-same (heads s) _ _ (λ j l. same j), h .1 ∙ numbers-same (heads s) _ _ (λ j l. same j))
+  module _ (m₀ : ℕ) (l₀ : List ℤ) (m : ℕ) (l : List ℤ) where
+    abbrev pub ListTo : ℕ → Type 0
+    ListTo k = (S : SharedMarks s m₀) → (m ≡ marksOf (heads s) (heardTo (S .entry) k)) × ((N : SharedNumbers s (S .entry) l₀) → l ≡ numbersOf (heads s) (heardTo (N .entry) k))
+
+    pub list-walked : {k r : ℕ} → NextStruck s k r → ListTo k → WalkedTo s ListTo r
+    list-walked h p =
+        walked s ListTo h
+        (λ j b q S. (
+          q S .0 ∙ marks-same (heads s) _ _ (λ x z. passed-heard (S .entry) j b x),
+          λ N. q S .1 N ∙ numbers-same (heads s) _ _ (λ x z. passed-heard (N .entry) j b x),
+        ))
+        p
+
+    pub list-last : {k : ℕ} → k ≡ heads s → ListTo k → (S : SharedMarks s m₀) → SharedNumbers s (S .entry) l₀
+        → _≡_ {A = Table} (record { marks = m; entries = l }) (tableOf (heads s) (heardWith s (S .entry) plant i))
+    unfolding heardWith
+    list-last e h S N =
+        let p = rw e at h in
+        ap₂ (λ (a : ℕ) (b : List ℤ). record { marks = a; entries = b })
+        (p S .0 ∙ marks-same (heads s) _ _ (λ j z. rw (lt-ltb j (heads s) z)))
+        (p S .1 N ∙ numbers-same (heads s) _ _ (λ j z. rw (lt-ltb j (heads s) z) (go j (bitOf (s .struck) j) (N .sent j))))
+      where
+        go : (j : ℕ) (b : Bool) → (b ≡ false → N .entry j ≡ S .entry j) → cond b (heardOf s (plant j i) j) (N .entry j) ≡ cond b (heardOf s (plant j i) j) (S .entry j)
+        go j true q = refl
+        go j false q = q refl
+
+  module _ {m₀ : ℕ} {l₀ : List ℤ} where
+    pub list-none : ListTo m₀ l₀ m₀ l₀ 0
+    list-none S = (S .is ∙ marks-same (heads s) _ _ (λ j z. none-heard (S .entry) j), λ N. N .is ∙ numbers-same (heads s) _ _ (λ j z. none-heard (N .entry) j))
 
     -- the entry e of head k, with its mark r and its number v
-    module _ {e : Entry} {r : ℕ} (below : k < heads s) (b : bitOf (s .struck) k ≡ true) (is : e ≡ heardOf s (plant k i) k) (q : r ≡ mark e) where
-      yet : heardTo k k ≡ Null
-      yet = filled-yet (bitOf (s .struck)) (λ j. heardOf s (plant j i) j) (S .entry) k (λ j. refl) ∙ S .none k b
+    module _ (k : ℕ) {m : ℕ} {l : List ℤ} (h : ListTo m₀ l₀ m l k) {e : Entry} {r : ℕ} (below : k < heads s) (b : bitOf (s .struck) k ≡ true)
+        (is : e ≡ heardOf s (plant k i) k) (q : r ≡ mark e) where
+      yet : (S : SharedMarks s m₀) → heardTo (S .entry) k k ≡ Null
+      yet S = filled-yet (bitOf (s .struck)) (λ j. heardOf s (plant j i) j) (S .entry) k (λ j. refl) ∙ S .none k b
 
-      next : (j : ℕ) → put (heardTo k) k e j ≡ heardTo (k + 1) j
-      next =
-          filled-stored (bitOf (s .struck)) (λ j. heardOf s (plant j i) j) (S .entry) k (λ j. refl) b (put-same (heardTo k) k e ∙ is)
-          (λ j d. put-other (heardTo k) k e j d)
+      pub list-room : SharedMarks s m₀ → m + r * 2 ^ k % 4294967296 < 4294967296
+      list-room S = marks-room (heardTo (S .entry) k) k (heads s) e (yet S) below (omega arith) (h S .0) q
 
-      pub heard-room : m + r * 2 ^ k % 4294967296 < 4294967296
-      heard-room = marks-room (heardTo k) k (heads s) e yet below (omega arith) (h .0) q
-
-      pub heard-next : {v : ℤ} → v ≡ number e → Heard (k + 1) (m + r * 2 ^ k % 4294967296) (set l k v)
-      heard-next w = (
-        marks-sum (heardTo k) k (heads s) e yet below (omega arith) (h .0) q ∙ marks-same (heads s) _ _ (λ j x. next j),
-        rw (h .1, w) (sym (numbers-put (heardTo k) k e (heads s) below)) ∙ numbers-same (heads s) _ _ (λ j x. next j),
+      pub list-next : {v : ℤ} → v ≡ number e → ListTo m₀ l₀ (m + r * 2 ^ k % 4294967296) (set l k v) (k + 1)
+      list-next w S = (
+        marks-sum (heardTo (S .entry) k) k (heads s) e (yet S) below (omega arith) (h S .0) q ∙ marks-same (heads s) _ _ (λ j x. put-heard (S .entry) k b is j),
+        λ N. rw (h S .1 N, w) (sym (numbers-put (heardTo (N .entry) k) k e (heads s) below)) ∙ numbers-same (heads s) _ _ (λ j x. put-heard (N .entry) k b is j),
       )
 
-  pub heard-last : {k m : ℕ} {l : List ℤ} → k ≡ heads s → Heard k m l → _≡_ {A = Table} (record { marks = m; entries = l }) (tableOf (heads s) (heardWith s (S .entry) plant i))
-  unfolding heardWith
-  heard-last e h =
-      let (p, q) = rw e at h in
-      ap₂ (λ (a : ℕ) (b : List ℤ). record { marks = a; entries = b }) p q ∙ table-same (heads s) _ _ (λ j l. rw (lt-ltb j (heads s) l))
+-- what all hear, as marks and as numbers; and the numbers of a list that was made of it
+abbrev pub shared-marks : {s : Stage} {t : Table} → Shared s t → SharedMarks s (t .marks)
+shared-marks S = record { entry = S .entry; is = ap (λ (x : Table). x .marks) (S .is); none = S .none }
+
+pub sent-numbers : {s : Stage} {t : Table} (S : Shared s t) → SharedNumbers s (S .entry) (t .entries)
+sent-numbers S = record { entry = S .entry; is = ap (λ (x : Table). x .entries) (S .is); sent = λ k b. refl }
+
+pub heard-numbers : (s : Stage) (E : ℕ → Entry) (plant : ℕ → ℕ → List ℕ) (i : ℕ) {t : Table} → t ≡ tableOf (heads s) (heardWith s E plant i) → SharedNumbers s E (t .entries)
+unfolding heardWith
+heard-numbers s E plant i e = record { entry = heardWith s E plant i; is = ap (λ (x : Table). x .entries) e; sent = λ k b. rw b }
 
 -- ---- the memory
 

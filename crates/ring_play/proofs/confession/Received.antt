@@ -20,7 +20,10 @@ use Rattle.settle_trust.specs.declared.Links.{Links}
 use Rattle.settle_trust.specs.Received.{givenBy}
 use Rattle.settle_trust.proofs.Received.{confessed-given}
 use Rattle.head_spec.specs.Record.{givenOf}
+use Rattle.ring_play.specs.declared.Stage.{Stage}
 use Rattle.ring_play.specs.Inner.Confession.{linksWith, rowsWith, Received}
+use Rattle.ring_play.specs.Inner.Struck.{NextStruck}
+use Rattle.ring_play.proofs.round.Struck.{WalkedTo, walked}
 use Rattle.ring_play.proofs.round.Filling.{filledTo, filled-none, filled-passed, filled-stored, filled-yet}
 
 -- ---- one link
@@ -84,7 +87,7 @@ received-start picked new old g rows h =
     record { marks-long = h .marks-long; rows-long = h .rows-long; gives = λ j. h .gives j ∙ filled-none picked new old j }
 
 module _ (picked : ℕ → Bool) (new old : ℕ → Given) (g : Links) (rows : List (List ℤ)) (k : ℕ) (h : Received g rows (filledTo picked new old k)) where
-  pub received-passed : picked k ≡ false → Received g rows (filledTo picked new old (k + 1))
+  received-passed : picked k ≡ false → Received g rows (filledTo picked new old (k + 1))
   received-passed e = record { marks-long = h .marks-long; rows-long = h .rows-long; gives = filled-passed picked new old k (h .gives) e }
 
   -- m: what link k said, which had given nothing
@@ -100,3 +103,11 @@ module _ (picked : ℕ → Bool) (new old : ℕ → Given) (g : Links) (rows : L
             (given-said g rows k small (h .marks-long) (h .rows-long) (filled-yet picked new old k (h .gives) ∙ yet) m ∙ q)
             (given-other g rows k small m);
       }
+
+-- what the struck heads below k gave; with the links g₀ the rows give what they gave at first
+module _ (s : Stage) (new old : ℕ → Given) (g₀ : Links) (rows₀ : List (List ℤ)) (g : Links) (rows : List (List ℤ)) where
+  abbrev pub ReceivedTo : ℕ → Type 0
+  ReceivedTo k = Received g rows (filledTo (bitOf (s .struck)) new old k) × (givenBy g₀ rows ≡ givenBy g₀ rows₀)
+
+  pub received-walked : {k r : ℕ} → NextStruck s k r → ReceivedTo k → WalkedTo s ReceivedTo r
+  received-walked h p = walked s ReceivedTo h (λ j b q. (received-passed (bitOf (s .struck)) new old g rows j (q .0) b, q .1)) p

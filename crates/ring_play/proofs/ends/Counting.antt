@@ -20,8 +20,10 @@ use Rattle.terms.specs.Counting.{sum}
 use Rattle.terms.proofs.Sums.{bit-le}
 use Rattle.ring_play.specs.declared.Stage.{Stage}
 use Rattle.ring_play.specs.declared.ends.Counts.{Counts}
+use Rattle.ring_play.specs.Inner.Struck.{NextStruck}
 use Rattle.ring_play.specs.Inner.Collection.{heardOf}
 use Rattle.ring_play.specs.Inner.Ends.{plantedEntry, tested, withEntry, EndsCounted}
+use Rattle.ring_play.proofs.round.Struck.{WalkedTo, walked}
 
 pub tested-le : (q : ℤ → Bool) (e : Entry) → tested q e ≤ 1
 tested-le q Null = omega arith
@@ -56,7 +58,7 @@ half-read x y a b e h = h ∙ rw (toZ-ofZ a, toZ-ofZ b, e) refl
 
 -- ---- head by head
 
-pub told-none : (s : Stage) (plant : ℕ → ℕ → List ℕ) (i k : ℕ) → bitOf (s .struck) k ≡ false → plantedEntry s plant i k ≡ Null
+told-none : (s : Stage) (plant : ℕ → ℕ → List ℕ) (i k : ℕ) → bitOf (s .struck) k ≡ false → plantedEntry s plant i k ≡ Null
 unfolding plantedEntry
 told-none s plant i k b = rw b
 
@@ -82,12 +84,17 @@ module _ (E : ℕ → Entry) (lowest highest : ℤ) where
           high = sum-next _ k (h .high) (ap (tested (λ u. leZ highest u)) (sym q));
         }
 
-    pub counts-passed : E k ≡ Null → EndsCounted (k + 1) E lowest highest c
+    counts-passed : E k ≡ Null → EndsCounted (k + 1) E lowest highest c
     unfolding sum
     counts-passed e = record { all = h .all ∙ next (λ u. true); low = h .low ∙ next (λ u. leZ u lowest); high = h .high ∙ next (λ u. leZ highest u) }
       where
         next : (q : ℤ → Bool) → sum k (λ j. tested q (E j)) ≡ sum (k + 1) (λ j. tested q (E j))
         next q = rw (add-one k) (omega (arith, ap (tested q) e))
+
+pub counts-walked : (s : Stage) (plant : ℕ → ℕ → List ℕ) (i : ℕ) {lowest highest : ℤ} {c : Counts} {k r : ℕ} → NextStruck s k r → EndsCounted k (plantedEntry s plant i) lowest highest c
+    → WalkedTo s (λ j. EndsCounted j (plantedEntry s plant i) lowest highest c) r
+counts-walked s plant i {lowest} {highest} {c} h p =
+    walked s (λ j. EndsCounted j (plantedEntry s plant i) lowest highest c) h (λ j b q. counts-passed (plantedEntry s plant i) lowest highest j q (told-none s plant i j b)) p
 
 pub counts-as : {E : ℕ → Entry} {k n : ℕ} {lowest lowest′ highest highest′ : ℤ} {c : Counts} → k ≡ n → lowest ≡ lowest′ → highest ≡ highest′
     → EndsCounted k E lowest highest c → EndsCounted n E lowest′ highest′ c

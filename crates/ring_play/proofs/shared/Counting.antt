@@ -23,6 +23,8 @@ use Rattle.ring_play.proofs.codes.Codes.{code-entry, holds-le}
 use Rattle.head_spec.specs.Record.{givenOf}
 use Rattle.ring_play.specs.declared.Stage.{Stage}
 use Rattle.ring_play.specs.Memory.{heads}
+use Rattle.ring_play.specs.Inner.Struck.{NextStruck}
+use Rattle.ring_play.proofs.round.Struck.{WalkedTo, walked}
 use Rattle.ring_play.proofs.round.Filling.{Filled, filled-none, filled-passed, filled-stored, filled-yet}
 use Rattle.ring_play.specs.Inner.Told.{plantedGiven, Counted}
 
@@ -74,7 +76,7 @@ module _ (s : Stage) (plant : ℕ → ℕ → List ℕ) (i : ℕ) (codes : List 
   added-le j k = omega (arith, sum-one k, sums-le k (adds j ∷ []) ((λ m. 1) ∷ []) (λ m l. omega (arith, adds-le j m)))
 
   module _ (k : ℕ) {counts : List ℕ} {marked : ℕ} (h : PlantedTo k counts marked) where
-    pub told-passed : bitOf (s .struck) k ≡ false → PlantedTo (k + 1) counts marked
+    told-passed : bitOf (s .struck) k ≡ false → PlantedTo (k + 1) counts marked
     told-passed e =
         record {
           counted = λ j l. h .counted j l ∙ omega (arith, sum-next (adds j) k refl refl, none j);
@@ -103,3 +105,6 @@ module _ (s : Stage) (plant : ℕ → ℕ → List ℕ) (i : ℕ) (codes : List 
         where
           one : (j : ℕ) → adds j k ≡ holds j (getD codes j (pos 0)) (plantedGiven s plant i k)
           one j = rw e
+
+  pub told-walked : {counts : List ℕ} {marked k r : ℕ} → NextStruck s k r → PlantedTo k counts marked → WalkedTo s (λ j. PlantedTo j counts marked) r
+  told-walked {counts} {marked} h p = walked s (λ j. PlantedTo j counts marked) h (λ j b q. told-passed j q b) p

@@ -18,7 +18,3 @@ SettlesBefore s i (As m) = (m < i) × (settles s m ≡ true)
 abbrev pub AsBefore : Stage → (ℕ → ℕ → List ℕ) → ℕ → Before → Type 0
 AsBefore s plant i None = Unit {0}
 AsBefore s plant i (As m) = (m < i) × (settles s m ≡ true) × SamePlanted s plant i m
-
--- each receiver before i that settles holds what is made for it
-abbrev pub HeldBefore : {A : Type 0} → Stage → ℕ → (ℕ → A) → (ℕ → A) → Type 0
-HeldBefore s i made held = (m : ℕ) → m < i → settles s m ≡ true → held m ≡ made m

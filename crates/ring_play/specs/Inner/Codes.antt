@@ -25,6 +25,10 @@ codeOf (Position u) = u
 abbrev pub entryOf : ℤ → Entry
 entryOf c = cond (eqZ c noCode) Null (Position c)
 
+-- the entry whose code stands at place j
+abbrev pub entryIn : List ℤ → ℕ → Entry
+entryIn codes j = entryOf (getD codes j (pos 0))
+
 -- the code of entry j of a list with the mark word m and the numbers E
 abbrev pub codeAt : ℕ → List ℤ → ℕ → ℤ
 codeAt m E j = cond (bitOf m j) (getD E j (pos 0)) noCode
@@ -32,10 +36,6 @@ codeAt m E j = cond (bitOf m j) (getD E j (pos 0)) noCode
 -- the code that a receiver takes for entry j: the shared one if as many lists have it as are needed, and none if the entry's link confessed
 abbrev pub codeTaken : (codes : List ℤ) (same : List ℕ) (need confesses j : ℕ) → ℤ
 codeTaken codes same need confesses j = cond (bitOf confesses j) noCode (cond (leb need (getD same j 0)) (getD codes j (pos 0)) noCode)
-
--- and the entry
-abbrev pub entryTaken : (codes : List ℤ) (same : List ℕ) (need confesses j : ℕ) → Entry
-entryTaken codes same need confesses j = entryOf (codeTaken codes same need confesses j)
 
 -- 1 if a link gave a list with the code c at entry j
 abbrev pub holds : ℕ → ℤ → Given → ℕ

@@ -1,6 +1,6 @@
 -- What head i hears in a collection round: of the unstruck heads what all hear, of the struck ones what is planted to it.
 use mathlib.Core.Path.{_≡_}
-use mathlib.Core.Bool.{Bool, true, cond, _&&_}
+use mathlib.Core.Bool.{Bool, true, false, cond, _&&_}
 use mathlib.Core.List.{List}
 use Prim.Native.Nat.{ℕ}
 use lib.Dec.{eqb}
@@ -9,7 +9,7 @@ use lib.IntN.{ℤ, pos}
 use Rattle.terms.specs.declared.Entry.{Entry}
 use Rattle.terms.specs.declared.Table.{Table}
 use Rattle.marks.specs.Marks.{bitOf}
-use Rattle.entries.specs.Tables.{tableOf}
+use Rattle.entries.specs.Tables.{marksOf, numbersOf, tableOf}
 use Rattle.fields.specs.Bytes.{at2}
 use Rattle.frame_check.specs.Check.{lengthField, senderField, phaseField}
 use Rattle.frame_spec.specs.Said.{said}
@@ -45,6 +45,18 @@ pub record Shared (s : Stage) (t : Table) : Type 0 where
   pub entry : ℕ → Entry
   pub is : t ≡ tableOf (heads s) entry
   pub none : (k : ℕ) → bitOf (s .struck) k ≡ true → entry k ≡ Entry.Null
+
+-- the marks of such a table
+pub record SharedMarks (s : Stage) (m : ℕ) : Type 0 where
+  pub entry : ℕ → Entry
+  pub is : m ≡ marksOf (heads s) entry
+  pub none : (k : ℕ) → bitOf (s .struck) k ≡ true → entry k ≡ Entry.Null
+
+-- numbers of entries, of which those of the unstruck heads are E's
+pub record SharedNumbers (s : Stage) (E : ℕ → Entry) (l : List ℤ) : Type 0 where
+  pub entry : ℕ → Entry
+  pub is : l ≡ numbersOf (heads s) entry
+  pub sent : (k : ℕ) → bitOf (s .struck) k ≡ false → entry k ≡ E k
 
 -- the position that a receiver settles from these entries, in a phase of one round
 unfoldable pub settledFrom : Stage → (ℕ → Entry) → ℤ

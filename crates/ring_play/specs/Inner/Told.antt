@@ -13,7 +13,7 @@ use Rattle.convergence.specs.Trust.{Given, hasConfessed, confessions}
 use Rattle.terms.specs.Positions.{rounding}
 use Rattle.frame_spec.specs.Said.{said}
 use Rattle.settle_midpoint.specs.Answers.{settling}
-use Rattle.ring_play.specs.Inner.Codes.{entryOf, entryTaken, holds}
+use Rattle.ring_play.specs.Inner.Codes.{entryOf, entryIn, codeTaken, holds}
 use Rattle.ring_play.specs.Inner.Shares.{Shares}
 use Rattle.head_spec.specs.Record.{givenOf}
 use Rattle.ring_play.specs.declared.Stage.{Stage}
@@ -49,7 +49,7 @@ settledBy s E = positionOf (settling (rounding (s .phase)) (heads s) (twoRounds 
 
 -- from their codes
 abbrev pub settledAt : Stage → List ℤ → ℤ
-settledAt s codes = settledBy s (λ j. entryOf (getD codes j (pos 0)))
+settledAt s codes = settledBy s (entryIn codes)
 
 -- how many lists a receiver needs if these links confessed to it too
 abbrev pub neededHere : Stage → ℕ → ℕ → ℕ
@@ -57,7 +57,7 @@ neededHere s need confesses = need - markedTo confesses (heads s)
 
 -- the entries that it takes, from the shared codes and from how many lists it counted for each
 abbrev pub takenHere : Stage → ℕ → List ℤ → List ℕ → ℕ → ℕ → Entry
-takenHere s need codes same confesses = entryTaken codes same (neededHere s need confesses) confesses
+takenHere s need codes same confesses j = entryOf (codeTaken codes same (neededHere s need confesses) confesses j)
 
 -- what was settled last, if anything, was settled from these codes
 abbrev pub LastOf : Stage → Last → List ℤ → Type 0

@@ -1,7 +1,8 @@
--- `ring_play::codes::pick` meets its contract: before entry j, the codes below j are picked.
-use mathlib.Core.Path.{_≡_, ap, _∙_}
-use mathlib.Core.Bool.{cond}
-use Prim.Native.Nat.{_-_, _≤_}
+-- `ring_play::codes::pick` meets its contract: before entry j, the codes below j are picked, and if nothing differed they are as they were; the later ones are.
+use mathlib.Core.Path.{_≡_, refl, ap, sym, _∙_}
+use mathlib.Core.Logic.{⊎-elim}
+use mathlib.Core.Bool.{true, cond, true≢false}
+use Prim.Native.Nat.{ℕ, _-_, _≤_}
 use native.Mathlib.Omega.{arith}
 use mir.Facts.{toZ-ofZ}
 use denote.Ref.{now}
@@ -11,35 +12,44 @@ use lib.ListN.{length, getD, length-set}
 use borrow.Author.Needs.{needs}
 use Rattle.terms.specs.Counting.{Each}
 use Rattle.ring_play.specs.Inner.Codes.{noCode}
-use Rattle.ring_play.proofs.codes.Storing.{each-set}
+use Rattle.ring_play.proofs.codes.Codes.{bits-same}
+use Rattle.ring_play.proofs.codes.Storing.{each-set, later-set}
 use Rattle.ring_play.proofs.codes.pick.Statement.{statement}
 use Rattle.ring_play.proofs.codes.pick.Tie as tie
 
 abbrev Inv-loop : tie.InvT-loop
-Inv-loop codes same need n out₀ j₀ out j =
-    (j ≤ n) × (length out ≡ 32) × Each j (λ i. getD out i (pos 0) ≡ cond (leb need (getD same i 0)) (getD codes i (pos 0)) noCode)
+Inv-loop codes same need n taken₀ alike₀ j₀ taken alike j =
+    (j ≤ n) × (length taken ≡ 32) × Each j (λ i. getD taken i (pos 0) ≡ cond (leb need (getD same i 0)) (getD codes i (pos 0)) noCode)
+    × ((i : ℕ) → j ≤ i → getD taken i (pos 0) ≡ getD taken₀ i (pos 0)) × (alike ≡ true → Each j (λ i. getD taken i (pos 0) ≡ getD taken₀ i (pos 0)))
 
 abbrev μ-loop : tie.MeasureT-loop
-μ-loop codes same need n out₀ j₀ out j = n - j
+μ-loop codes same need n taken₀ alike₀ j₀ taken alike j = n - j
 
 loop-holds : tie.Need-loop-holds Inv-loop μ-loop
-loop-holds c = (search needs, c .pre .1, λ i l. absurd (omega arith))
+loop-holds c = (search needs, c .pre .1, λ i l. absurd (omega arith), λ i l. refl, λ e i l. absurd (omega arith))
 
 loop-again : tie.Need-loop-again Inv-loop μ-loop
 loop-again c =
-    let k = c .before .before in
-    let h = k .before .before in
+    let p = c .before .before in
+    let h = p .before .before .before .before in
     let l = h .loop in
-    let a = h .before .args in (
+    let a = h .before .args in
+    let fits = toZ-ofZ (record { sfits = p .picked .ok }) in (
       search needs,
       simp length-set (l .inv .1),
-      each-set (pos 0) (l .out) (l .j) _ (λ i v. v ≡ cond (leb (a .need) (getD (now (a .same)) i 0)) (getD (now (a .codes)) i (pos 0)) noCode) (omega arith) (l .inv .2)
-          (toZ-ofZ (record { sfits = c .picked .ok }) ∙ c .picked .ensures
-          ∙ ap (λ (v : ℤ). cond (leb (a .need) (getD (now (a .same)) (l .j) 0)) v noCode) (toZ-ofZ (record { sfits = k .picked-arg .given }))),
+      each-set (pos 0) (l .taken) (l .j) _ (λ i v. v ≡ cond (leb (a .need) (getD (now (a .same)) i 0)) (getD (now (a .codes)) i (pos 0)) noCode) (omega arith) (l .inv .2)
+          (fits ∙ p .picked .ensures
+          ∙ ap (λ (v : ℤ). cond (leb (a .need) (getD (now (a .same)) (l .j) 0)) v noCode) (toZ-ofZ (record { sfits = p .before .before .picked-arg .given }))),
+      λ i q. later-set (pos 0) (l .taken) (l .j) _ i q ∙ l .inv .3 i (omega arith),
+      ⊎-elim
+          (λ w e. absurd (true≢false (sym e ∙ w .1)))
+          (λ w e. each-set (pos 0) (l .taken) (l .j) _ (λ i v. v ≡ getD (now (a .taken)) i (pos 0)) (omega arith) (l .inv .4 (sym (w .1) ∙ e))
+          (fits ∙ sym (bits-same (record { sfits = c .before .if12 .given }) (record { sfits = p .picked .ok }) (w .0 .left)) ∙ l .inv .3 (l .j) (omega arith)))
+          (c .if1 .came),
     )
 
 returns : tie.Need-returns Inv-loop μ-loop
-returns c = let l = c .before .loop in (l .inv .1, λ j q. l .inv .2 j (omega arith))
+returns c = let l = c .before .loop in (l .inv .1, λ j q. l .inv .2 j (omega arith), λ e j q. l .inv .4 e j (omega arith))
 
 pub pick-spec : {M : Type 1} → statement M
 pick-spec =
@@ -53,6 +63,8 @@ pick-spec =
     (λ c. search needs)
     (λ c. search needs)
     (λ c κs. search needs)
+    (λ c. search needs)
+    (λ c. search needs)
     (λ c. search needs)
     (λ c. search needs)
     (λ c. search needs)

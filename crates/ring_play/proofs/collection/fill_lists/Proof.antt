@@ -2,69 +2,70 @@
 use mathlib.Core.Path.{_≡_, ap, sym, _∙_}
 use mathlib.Core.Logic.{⊎-elim}
 use mathlib.Core.Bool.{not}
-use Prim.Native.Nat.{_+_, _-_, _≤_, _<_}
+use Prim.Native.Nat.{_-_, _≤_}
 use native.Mathlib.Omega.{arith}
+use denote.Ref.{now}
 use borrow.Author.Needs.{needs}
 use lib.ListN.{length, length-set}
 use Rattle.marks.specs.Marks.{bitOf}
 use Rattle.entries.specs.Tables.{tableOf}
 use Rattle.ring_play.specs.Memory.{heads, rowIn}
 use Rattle.frame_slots.specs.Slots.{plantedIn}
-use Rattle.ring_play.specs.Inner.Before.{SettlesBefore}
-use Rattle.ring_play.specs.Inner.Collection.{heardWith, Shared}
-use Rattle.ring_play.proofs.round.Filling.{Filled, filled-none, filled-passed, filled-had}
-use Rattle.ring_play.proofs.round.Receivers.{settles-head, settles-more}
-use Rattle.ring_play.proofs.collection.Lists.{filled-row}
+use Rattle.ring_play.specs.Inner.Collection.{heardWith, Shared, SharedNumbers}
+use Rattle.ring_play.proofs.round.Filling.{Filled, filled-none, filled-passed}
+use Rattle.ring_play.proofs.collection.Lists.{shared-marks, sent-numbers, heard-numbers, filled-row}
 use Rattle.ring_play.proofs.collection.fill_lists.Statement.{statement}
 use Rattle.ring_play.proofs.collection.fill_lists.Tie as tie
 
 abbrev Inv-loop : tie.InvT-loop
-Inv-loop s sent planted lengths marks₀ lists₀ n last₀ i₀ marks lists last i =
-    (i ≤ n) × (length marks ≡ 32) × (length lists ≡ 32) × SettlesBefore s i last
+Inv-loop s sent planted lengths marks₀ lists₀ n entries₀ i₀ marks lists entries i =
+    (i ≤ n) × (length marks ≡ 32) × (length lists ≡ 32)
     × ((S : Shared s sent)
     → Filled (λ j. not (bitOf (s .struck) j)) (λ j. tableOf (heads s) (heardWith s (S .entry) (plantedIn planted lengths) j)) (rowIn marks₀ lists₀) i (rowIn marks lists))
+    × (length entries ≡ 32) × ((S : Shared s sent) → SharedNumbers s (S .entry) entries)
 
 abbrev μ-loop : tie.MeasureT-loop
-μ-loop s sent planted lengths marks₀ lists₀ n last₀ i₀ marks lists last i = n - i
+μ-loop s sent planted lengths marks₀ lists₀ n entries₀ i₀ marks lists entries i = n - i
 
 loop-holds : tie.Need-loop-holds Inv-loop μ-loop
-loop-holds c = (search needs, search needs, search needs, tt, λ S. filled-none _ _ _)
+loop-holds c = (search needs, search needs, search needs, λ S. filled-none _ _ _, search needs, λ S. sent-numbers S)
 
-list-after-requires : tie.Need-list-after-requires Inv-loop μ-loop
-list-after-requires c κs =
-    let l = c .before .before .before .before .before in
-    (search needs, l .loop .inv .3, l .loop .inv .1, l .loop .inv .2, l .before .before .before .before .before .pre .2)
+aggregate : tie.Need-slice-aggregate-list-for Inv-loop μ-loop
+aggregate c = sym (c .before .before .before .before .loop .inv .4)
+
+list-for-requires : tie.Need-list-for-requires Inv-loop μ-loop
+list-for-requires c κs = (search needs, search needs, shared-marks (c .before .before .before .before .before .before .before .before .before .before .pre .2))
 
 loop-again : tie.Need-loop-again Inv-loop μ-loop
 loop-again c =
     let m = c .before in
     let l = m .before .before .loop in
     let b = ap not (sym (m .marked .ensures)) in
-    let h = m .before .before .before .head-count .ensures in
-    let s = m .before .before .before .before .before .before .before .args .s in
+    let a = c .before .before .before .before .before .before .before .before .before .args in
     ⊎-elim
     (λ w. (
       search needs,
-      rw (w .5) (simp length-set (l .inv .1)),
-      rw (w .6) (simp length-set (l .inv .2)),
-      rw (w .7) (omega arith, settles-head s (l .i) (omega (arith, h)) ∙ b ∙ w .0 .taken),
-      λ S. rw (w .5, w .6) (filled-row _ _ _ (l .marks) (l .lists) (l .i) (l .inv .4 S) (omega arith) (omega arith) (b ∙ w .0 .taken)
-          (w .3 .ensures S (λ m q e. filled-had _ _ _ (l .i) (l .inv .4 S) m q (sym (settles-head s m (omega (arith, h, q))) ∙ e)))),
+      rw (w .4) (simp length-set (l .inv .1)),
+      rw (w .5) (simp length-set (l .inv .2)),
+      λ S. rw (w .4, w .5) (filled-row _ _ _ (l .marks) (l .lists) (l .i) (l .inv .3 S) (omega arith) (omega arith) (b ∙ w .0 .taken) (w .2 .ensures .1 (shared-marks S) (l .inv .5 S))),
+      rw (w .6) (w .2 .ensures .0),
+      λ S. rw (w .6) (heard-numbers (a .s) (S .entry) (plantedIn (now (a .planted)) (now (a .lengths))) (l .i) (w .2 .ensures .1 (shared-marks S) (l .inv .5 S))),
     ))
     (λ w. (
       search needs,
       rw (w .1) (l .inv .1),
       rw (w .2) (l .inv .2),
-      rw (w .3) (settles-more s (l .i) (l .last) (l .inv .3)),
-      λ S. rw (w .1, w .2) (filled-passed _ _ _ (l .i) (l .inv .4 S) (b ∙ w .0 .left)),
+      λ S. rw (w .1, w .2) (filled-passed _ _ _ (l .i) (l .inv .3 S) (b ∙ w .0 .left)),
+      rw (w .3) (l .inv .4),
+      λ S. rw (w .3) (l .inv .5 S),
     ))
     (c .if1 .came)
 
 returns : tie.Need-returns Inv-loop μ-loop
 returns c S =
     let l = c .before .loop in
-    let e : l .i ≡ heads (c .before .before .before .before .before .before .args .s) = omega (arith, c .before .before .head-count .ensures) in
-    rw e at (l .inv .4 S)
+    let e : l .i ≡ heads (c .before .before .before .before .before .before .before .args .s) = omega (arith, c .before .before .before .head-count .ensures) in
+    rw e at (l .inv .3 S)
 
 pub fill-lists-spec : {M : Type 1} → statement M
 fill-lists-spec =
@@ -76,7 +77,8 @@ fill-lists-spec =
     (λ c. search needs)
     loop-holds
     (λ c κs. search needs)
-    list-after-requires
+    aggregate
+    list-for-requires
     (λ c. search needs)
     (λ c. search needs)
     (λ c. search needs)

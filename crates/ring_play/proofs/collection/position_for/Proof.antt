@@ -1,9 +1,10 @@
 -- `ring_play::collection::position_for` meets its contract: by the counts if they decide, and else from the whole list.
-use mathlib.Core.Path.{ap, _∙_}
+use mathlib.Core.Path.{_≡_, ap, sym, _∙_}
 use Prim.Native.Nat.{_≤_}
 use native.Mathlib.Omega.{arith}
 use mir.Facts.{toZ-ofZ}
 use denote.Ref.{now}
+use lib.ListN.{length}
 use borrow.Author.Needs.{needs}
 use Rattle.terms.specs.declared.Table.{Table}
 use Rattle.entries.specs.Tables.{tableAt}
@@ -11,6 +12,7 @@ use Rattle.settle_midpoint.specs.declared.Order.{Order}
 use Rattle.frame_slots.specs.Slots.{plantedIn}
 use Rattle.ring_play.specs.Memory.{heads}
 use Rattle.ring_play.specs.Inner.Collection.{settledFrom}
+use Rattle.ring_play.proofs.collection.Lists.{shared-marks, sent-numbers}
 use Rattle.ring_play.proofs.ends.Counting.{counts-small}
 use Rattle.ring_play.proofs.ends.Settling.{order-small, settles-inside}
 use Rattle.ring_play.proofs.collection.position_for.Statement.{statement}
@@ -41,15 +43,20 @@ returns c S =
     ∙ settles-inside (a .s) S (plantedIn (now (a .planted)) (now (a .lengths))) (a .i) (ap (λ (o : Order). o .len) (s .pre .2)) (ap (λ (o : Order). o .positions) (s .pre .2))
     (n .count-ends .ensures) (d .decides .ensures (c .before .if1 .taken)) (c .position-inside .ensures)
 
+aggregate : tie.Need-slice-aggregate-list-for
+aggregate c = let e : length (c .before .before .before .before .before .before .before .args .sent .entries) ≡ 32 = search needs in sym e
+
 list-for-requires : tie.Need-list-for-requires
-list-for-requires c κs = let p = c .before .before .before .before .before .pre in (p .0, p .1)
+list-for-requires c κs =
+    let p = c .before .before .before .before .before .before .before .pre in
+    (p .0, search needs, shared-marks (p .1))
 
 returns-2 : tie.Need-returns-2
 returns-2 c S =
-    let a = c .before .before .before .before .before .before .before .args in
+    let a = c .before .before .before .before .before .before .before .before .before .before .args in
     toZ-ofZ (record { sfits = c .position-of .ok })
     ∙ c .position-of .ensures
-    ∙ ap (λ (t : Table). settledFrom (a .s) (tableAt t)) (c .before .list-for .ensures S)
+    ∙ ap (λ (t : Table). settledFrom (a .s) (tableAt t)) (c .before .before .list-for .ensures .1 (shared-marks S) (sent-numbers S))
 
 pub position-for-spec : {M : Type 1} → statement M
 position-for-spec =
@@ -59,6 +66,7 @@ position-for-spec =
     decides-requires
     position-inside-requires
     returns
+    aggregate
     list-for-requires
     (λ c κs. search needs)
     returns-2)

@@ -1,7 +1,7 @@
 -- `ring_play::confession::fill_positions` meets its contract: before receiver i, the unstruck ones below i have their new position, and all others the one they had.
 use mathlib.Core.Path.{_≡_, refl, ap, sym, _∙_}
 use mathlib.Core.Logic.{⊎-elim}
-use Prim.Native.Nat.{_-_, _≤_, _<_}
+use Prim.Native.Nat.{_-_, _≤_}
 use native.Mathlib.Omega.{arith}
 use mir.Facts.{toZ-ofZ}
 use denote.Ref.{now}
@@ -12,43 +12,34 @@ use Rattle.ring_play.specs.Memory.{settles}
 use Rattle.frame_slots.specs.Slots.{plantedIn}
 use Rattle.settle_trust.specs.Received.{givenBy}
 use Rattle.ring_play.specs.Inner.Planted.{givenOrPlanted, positionSettled}
-use Rattle.ring_play.specs.Inner.Before.{SettlesBefore}
 use Rattle.ring_play.specs.Inner.Confession.{RowsKept}
-use Rattle.ring_play.proofs.round.Filling.{Filled, filled-none, filled-passed, filled-set, filled-had, filled-all}
-use Rattle.ring_play.proofs.round.Receivers.{end-small, settles-below, settles-more}
+use Rattle.ring_play.proofs.round.Filling.{Filled, filled-none, filled-passed, filled-set, filled-all}
+use Rattle.ring_play.proofs.round.Receivers.{end-small, settles-below}
 use Rattle.ring_play.proofs.confession.Settling.{untold-kept, planted-kept}
 use Rattle.ring_play.proofs.confession.fill_positions.Statement.{statement}
 use Rattle.ring_play.proofs.confession.fill_positions.Tie as tie
 
 abbrev Inv-loop : tie.InvT-loop
-Inv-loop s planted lengths base rows₀ positions₀ end last₀ i₀ rows positions last i =
+Inv-loop s planted lengths base rows₀ positions₀ end i₀ rows positions i =
     (i ≤ end) × (end ≤ 48) × (length positions ≡ 48)
     × Filled (settles s) (λ j. positionSettled s (givenOrPlanted s (givenBy base rows₀) (plantedIn planted lengths) j))
     (λ j. getD positions₀ j (pos 0)) i (λ j. getD positions j (pos 0))
-    × RowsKept base rows₀ rows × SettlesBefore s i last
+    × RowsKept base rows₀ rows
 
 abbrev μ-loop : tie.MeasureT-loop
-μ-loop s planted lengths base rows₀ positions₀ end last₀ i₀ rows positions last i = end - i
+μ-loop s planted lengths base rows₀ positions₀ end i₀ rows positions i = end - i
 
 loop-holds : tie.Need-loop-holds Inv-loop μ-loop
 loop-holds c =
     let s = c .before .before .before in
-    (search needs, omega (arith, c .receiver-end .ensures, end-small (s .args .s)), search needs, filled-none _ _ _, record { long = s .pre .0 .rows-long; gives = refl }, tt)
+    (search needs, omega (arith, c .receiver-end .ensures, end-small (s .args .s)), search needs, filled-none _ _ _, record { long = s .pre .0 .rows-long; gives = refl })
 
-position-after-requires : tie.Need-position-after-requires Inv-loop μ-loop
-position-after-requires c κs =
-    let h = c .before .before .before .before .before in
-    let l = h .loop in
-    let k = l .inv .4 in
+position-for-requires : tie.Need-position-for-requires Inv-loop μ-loop
+position-for-requires c κs =
+    let h = c .before .before .before .before in
     let s = h .before .before .before .before in
-    let a = s .args in (
-      search needs,
-      untold-kept (a .s) (a .base) (now (a .rows)) (l .rows) k (s .pre .0),
-      l .inv .5,
-      l .inv .2,
-      λ m q e. filled-had _ _ _ (l .i) (l .inv .3) m q e
-          ∙ ap (positionSettled (a .s)) (sym (planted-kept (a .s) (a .base) (now (a .rows)) (l .rows) k (plantedIn (now (a .planted)) (now (a .lengths))) m)),
-    )
+    let a = s .args in
+    (search needs, untold-kept (a .s) (a .base) (now (a .rows)) (h .loop .rows) (h .loop .inv .4) (s .pre .0))
 
 loop-again : tie.Need-loop-again Inv-loop μ-loop
 loop-again c =
@@ -58,14 +49,13 @@ loop-again c =
     let a = m .before .before .before .before .before .before .args in
     ⊎-elim
     (λ w.
-    let e = toZ-ofZ (record { sfits = w .3 .ok }) ∙ w .3 .ensures .0
+    let e = toZ-ofZ (record { sfits = w .2 .ok }) ∙ w .2 .ensures .0
     ∙ ap (positionSettled (a .s)) (planted-kept (a .s) (a .base) (now (a .rows)) (l .rows) (l .inv .4) (plantedIn (now (a .planted)) (now (a .lengths))) (l .i)) in (
       search needs,
       l .inv .1,
-      rw (w .5) (simp length-set (l .inv .2)),
-      rw (w .5) (filled-set _ _ _ (l .positions) (pos 0) (l .i) (l .inv .3) (omega arith) (b ∙ w .0 .taken) e),
-      rw (w .4) (record { long = w .3 .ensures .1 .long; gives = w .3 .ensures .1 .gives ∙ l .inv .4 .gives }),
-      rw (w .6) (omega arith, b ∙ w .0 .taken),
+      rw (w .4) (simp length-set (l .inv .2)),
+      rw (w .4) (filled-set _ _ _ (l .positions) (pos 0) (l .i) (l .inv .3) (omega arith) (b ∙ w .0 .taken) e),
+      rw (w .3) (record { long = w .2 .ensures .1 .long; gives = w .2 .ensures .1 .gives ∙ l .inv .4 .gives }),
     ))
     (λ w. (
       search needs,
@@ -73,7 +63,6 @@ loop-again c =
       rw (w .2) (l .inv .2),
       rw (w .2) (filled-passed _ _ _ (l .i) (l .inv .3) (b ∙ w .0 .left)),
       rw (w .1) (l .inv .4),
-      rw (w .3) (settles-more (a .s) (l .i) (l .last) (l .inv .5)),
     ))
     (c .if1 .came)
 
@@ -93,7 +82,7 @@ fill-positions-spec =
     (λ c κs. search needs)
     loop-holds
     (λ c κs. search needs)
-    position-after-requires
+    position-for-requires
     (λ c. search needs)
     (λ c. search needs)
     (λ c. search needs)

@@ -23,17 +23,17 @@ use Rattle.ring_play.proofs.shared.fill_positions.Statement.{statement}
 use Rattle.ring_play.proofs.shared.fill_positions.Tie as tie
 
 abbrev Inv-loop : tie.InvT-loop
-Inv-loop s planted lengths codes counts need positions₀ end settled₀ last₀ before₀ i₀ positions settled last before i =
-    (i ≤ end) × (end ≤ 48) × (length positions ≡ 48) × LastOf s last settled × SettlesBefore s i before
+Inv-loop s planted lengths codes counts need positions₀ end settled₀ last₀ two₀ i₀ positions settled last two i =
+    (i ≤ end) × (end ≤ 48) × (length positions ≡ 48) × LastOf s last settled × SettlesBefore s i (two .last) × SettlesBefore s i (two .other)
     × ((S : SharedBy s need codes counts) → Alike s (S .given)
     → Filled (settles s) (λ j. positionSettled s (givenOrPlanted s (S .given) (plantedIn planted lengths) j)) (λ j. getD positions₀ j (pos 0)) i (λ j. getD positions j (pos 0)))
 
 abbrev μ-loop : tie.MeasureT-loop
-μ-loop s planted lengths codes counts need positions₀ end settled₀ last₀ before₀ i₀ positions settled last before i = end - i
+μ-loop s planted lengths codes counts need positions₀ end settled₀ last₀ two₀ i₀ positions settled last two i = end - i
 
 loop-holds : tie.Need-loop-holds Inv-loop μ-loop
 loop-holds c =
-    (search needs, omega (arith, c .receiver-end .ensures, end-small (c .before .before .before .args .s)), search needs, tt, tt, λ S A. filled-none _ _ _)
+    (search needs, omega (arith, c .receiver-end .ensures, end-small (c .before .before .before .args .s)), search needs, tt, tt, tt, λ S A. filled-none _ _ _)
 
 module _ (l : tie.At-loop Inv-loop μ-loop) where
   abbrev start : tie.Start Inv-loop μ-loop
@@ -46,7 +46,7 @@ module _ (l : tie.At-loop Inv-loop μ-loop) where
 found : (c : tie.After-m Inv-loop μ-loop) →
     let l = c .before .before .before .before .before .before in
     AsBefore (start l .args .s) (plant l) (l .loop .i) (As (c .m .given .0 .0))
-found c = rw (c .m .given .1) at (c .before .before .same-before .ensures)
+found c = rw (c .m .given .1) at (c .before .before .same-of-two .ensures)
 
 mul-positions : tie.Need-mul-positions Inv-loop μ-loop
 mul-positions c = omega (arith, found (c .before) .0)
@@ -72,23 +72,25 @@ loop-again c =
     (λ w. (
       search needs,
       l .inv .1,
-      rw (w .6) (simp length-set (l .inv .2)),
-      rw (w .7, w .8) (l .inv .3),
-      rw (w .9) (omega arith, b ∙ w .0 .taken),
+      rw (w .7) (simp length-set (l .inv .2)),
+      rw (w .8, w .9) (l .inv .3),
+      rw (w .10, w .6 .ensures .0) (omega arith, b ∙ w .0 .taken),
+      rw (w .10) (w .6 .ensures .1 (a .s) _ (settles-more (a .s) (l .i) (l .two .last) (l .inv .4)) (settles-more (a .s) (l .i) (l .two .other) (l .inv .5))),
       λ S A.
           let f : AsBefore (a .s) (plant h) (l .i) (As (w .3 .given .0 .0)) = rw (w .3 .given .1) at (w .1 .ensures) in
-          rw (w .6) (filled-set _ _ _ (l .positions) (pos 0) (l .i) (l .inv .5 S A) (omega arith) (b ∙ w .0 .taken)
-          (toZ-ofZ (record { sfits = w .5 .given }) ∙ filled-had _ _ _ (l .i) (l .inv .5 S A) _ (f .0) (f .1) ∙ told-settled (a .s) (S .given) (plant h) (l .i) _ (f .2))),
+          rw (w .7) (filled-set _ _ _ (l .positions) (pos 0) (l .i) (l .inv .6 S A) (omega arith) (b ∙ w .0 .taken)
+          (toZ-ofZ (record { sfits = w .5 .given }) ∙ filled-had _ _ _ (l .i) (l .inv .6 S A) _ (f .0) (f .1) ∙ told-settled (a .s) (S .given) (plant h) (l .i) _ (f .2))),
     ))
     (λ v.
     ⊎-elim
     (λ w. (
       search needs,
       l .inv .1,
-      rw (w .10) (simp length-set (l .inv .2)),
-      rw (w .11, w .12) (toZ-ofZ (record { sfits = w .9 .ok }) ∙ w .9 .ensures .1),
-      rw (w .13) (omega arith, b ∙ w .0 .taken),
-      λ S A. rw (w .10) (filled-set _ _ _ (l .positions) (pos 0) (l .i) (l .inv .5 S A) (omega arith) (b ∙ w .0 .taken)
+      rw (w .11) (simp length-set (l .inv .2)),
+      rw (w .12, w .13) (toZ-ofZ (record { sfits = w .9 .ok }) ∙ w .9 .ensures .1),
+      rw (w .14, w .10 .ensures .0) (omega arith, b ∙ w .0 .taken),
+      rw (w .14) (w .10 .ensures .1 (a .s) _ (settles-more (a .s) (l .i) (l .two .last) (l .inv .4)) (settles-more (a .s) (l .i) (l .two .other) (l .inv .5))),
+      λ S A. rw (w .11) (filled-set _ _ _ (l .positions) (pos 0) (l .i) (l .inv .6 S A) (omega arith) (b ∙ w .0 .taken)
           (toZ-ofZ (record { sfits = w .9 .ok }) ∙ w .9 .ensures .0 ∙ settled-here (a .s) (plant h) (l .i) S A (w .6 .ensures))),
     ))
     (λ w. (
@@ -96,8 +98,9 @@ loop-again c =
       l .inv .1,
       rw (w .1) (l .inv .2),
       rw (w .2, w .3) (l .inv .3),
-      rw (w .4) (settles-more (a .s) (l .i) (l .before) (l .inv .4)),
-      λ S A. rw (w .1) (filled-passed _ _ _ (l .i) (l .inv .5 S A) (b ∙ w .0 .left)),
+      rw (w .4) (settles-more (a .s) (l .i) (l .two .last) (l .inv .4)),
+      rw (w .4) (settles-more (a .s) (l .i) (l .two .other) (l .inv .5)),
+      λ S A. rw (w .1) (filled-passed _ _ _ (l .i) (l .inv .6 S A) (b ∙ w .0 .left)),
     ))
     v)
     (c .if1 .came)
@@ -107,7 +110,7 @@ returns c S A =
     let l = c .before .loop in
     let n = c .before .before in
     let s = n .before .before .before .args .s in
-    filled-all _ _ _ (l .i) (λ j t. omega (arith, settles-below s j t, n .receiver-end .ensures)) (l .inv .5 S A)
+    filled-all _ _ _ (l .i) (λ j t. omega (arith, settles-below s j t, n .receiver-end .ensures)) (l .inv .6 S A)
 
 pub fill-positions-spec : {M : Type 1} → statement M
 fill-positions-spec =
@@ -118,17 +121,19 @@ fill-positions-spec =
     (λ c κs. search needs)
     loop-holds
     (λ c κs. search needs)
-    (λ c κs. (search needs, c .before .before .before .loop .inv .4))
+    (λ c κs. let l = c .before .before .before .loop in (search needs, l .inv .4, l .inv .5))
     (λ c. search needs)
     mul-positions
     copy-out-positions
     (λ c. search needs)
     (λ c. search needs)
+    (λ c κs. search needs)
     (λ c. search needs)
     count-planted-requires
     position-counted-requires
     (λ c. search needs)
     (λ c. search needs)
+    (λ c κs. search needs)
     (λ c. search needs)
     (λ c. search needs)
     loop-again

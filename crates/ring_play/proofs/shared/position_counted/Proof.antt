@@ -9,7 +9,7 @@ use denote.Ref.{now}
 use lib.IntN.{ℤ}
 use borrow.Author.Needs.{needs}
 use Rattle.marks.specs.Marks.{markedTo}
-use Rattle.ring_play.specs.Inner.Codes.{entryOf, codeTaken, entryTaken}
+use Rattle.ring_play.specs.Inner.Codes.{entryOf, codeTaken}
 use Rattle.ring_play.specs.Inner.Told.{settledBy, settledAt, neededHere, takenHere}
 use Rattle.ring_play.proofs.shared.Settling.{settled-entries, codes-alike, last-at}
 use Rattle.ring_play.proofs.shared.position_counted.Statement.{statement}
@@ -38,27 +38,23 @@ module _ (t : tie.After-trust-codes) where
   own-taken =
       let a = start .args in
       settled-entries (a .s) _ _
-      (λ j l. ap entryOf (t .trust-codes .ensures j (omega (arith, played .head-count .ensures))
+      (λ j l. ap entryOf (t .trust-codes .ensures .0 j (omega (arith, played .head-count .ensures))
       ∙ ap (λ (x : ℕ). codeTaken (now (a .codes)) (now (a .same)) x (a .confessed) j) needed))
 
 returns : tie.Need-returns
 returns c =
-    let f = c .before in
-    let l = f .before .before .before .before in
-    let t = l .before .before in
+    let l = c .before in
+    let t = l .before .before .before in
     let a = start t .args in
-    let position = last-at (a .s) (now (a .settled)) (l .last .given .1) (start t .pre) in
-    let e = toZ-ofZ (record { sfits = f .before .before .before .known-told .given .0 .1 }) ∙ position in
-    let alike = codes-alike (a .s) (own t) (now (a .settled)) (λ j q. f .is-same-front .ensures (c .if1 .taken) j (omega (arith, played t .head-count .ensures))) in
-    (e ∙ sym alike ∙ own-taken t, e)
+    let alike = codes-alike (a .s) (own t) (now (a .settled)) (λ j q. t .trust-codes .ensures .1 (l .before .before .if1 .taken) j (omega (arith, played t .head-count .ensures))) in
+    let e = toZ-ofZ (record { sfits = c .known-told .given .0 .1 }) ∙ last-at (a .s) (now (a .settled)) (l .last .given .1) (start t .pre) ∙ sym alike in
+    (e ∙ own-taken t, e)
 
 returns-2 : tie.Need-returns-2
 returns-2 c =
-    let t = c .before .before in
-    let a = start t .args in
-    let e = toZ-ofZ (record { sfits = c .position-from .ok }) ∙ c .position-from .ensures
-    ∙ ap (λ (x : ℕ). settledBy (a .s) (entryTaken (now (a .codes)) (now (a .same)) x (a .confessed))) (needed t) in
-    (e, e ∙ sym (own-taken t))
+    let t = c .before .before .before in
+    let e = toZ-ofZ (record { sfits = c .position-from .ok }) ∙ c .position-from .ensures in
+    (e ∙ own-taken t, e)
 
 pub position-counted-spec : {M : Type 1} → statement M
 position-counted-spec =
@@ -67,11 +63,8 @@ position-counted-spec =
     (λ c κs. search needs)
     (λ c. search needs)
     (λ c κs. search needs)
-    (λ c. search needs)
     (λ c κs. search needs)
     (λ c. search needs)
-    (λ c. search needs)
-    (λ c κs. search needs)
     returns
     (λ c. search needs)
     (λ c κs. search needs)

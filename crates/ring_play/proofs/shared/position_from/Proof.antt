@@ -5,27 +5,27 @@ use denote.Ref.{now}
 use mir.Facts.{toZ-ofZ}
 use borrow.Author.Needs.{needs}
 use Rattle.settle_midpoint.specs.declared.Settled.{Settled}
-use Rattle.ring_play.specs.Inner.Codes.{entryTaken}
+use Rattle.ring_play.specs.Inner.Codes.{entryIn}
 use Rattle.ring_play.specs.Memory.{positionOf}
 use Rattle.ring_play.specs.Inner.Told.{settledBy}
 use Rattle.ring_play.proofs.shared.Settling.{at-entries}
 use Rattle.ring_play.proofs.shared.position_from.Statement.{statement}
 use Rattle.ring_play.proofs.shared.position_from.Tie as tie
 
-module _ (c : tie.After-settle-counted) where
+module _ (c : tie.After-settle-codes) where
   abbrev start : tie.Start
   start = c .before .before .before
 
   -- what was settled, case by case
-  position-is : {x : Settled} → c .settle-counted .result ≡ x →
+  position-is : {x : Settled} → c .settle-codes .result ≡ x →
       let a = start .args in
-      positionOf x ≡ settledBy (a .s) (entryTaken (now (a .codes)) (now (a .same)) (a .need) (a .confessed))
+      positionOf x ≡ settledBy (a .s) (entryIn (now (a .codes)))
   position-is e =
       let a = start .args in
-      at-entries (a .s) _ (c .before .before .head-count .ensures) (c .before .rounds-up .ensures) (sym e ∙ c .settle-counted .ensures)
+      at-entries (a .s) _ (c .before .before .head-count .ensures) (c .before .rounds-up .ensures) (sym e ∙ c .settle-codes .ensures)
 
-settle-counted-requires : tie.Need-settle-counted-requires
-settle-counted-requires c κs =
+settle-codes-requires : tie.Need-settle-codes-requires
+settle-codes-requires c κs =
     let n = c .before .head-count .ensures in
     omega (arith, n)
 
@@ -40,4 +40,4 @@ returns-2 c =
 pub position-from-spec : {M : Type 1} → statement M
 position-from-spec =
     tie.close
-    (tie.spec (λ c κs. search needs) (λ c κs. search needs) settle-counted-requires (λ c. search needs) (λ c. search needs) returns returns-2)
+    (tie.spec (λ c κs. search needs) (λ c κs. search needs) settle-codes-requires (λ c. search needs) (λ c. search needs) returns returns-2)

@@ -52,5 +52,6 @@ settle-all-spec =
     (λ c κs. search needs)
     returns-2
     (λ c κs. search needs)
+    (λ c. search needs)
     fill-positions-requires
     returns-3)

@@ -1,8 +1,8 @@
--- `ring_play::confession::fill_same` meets its contract: before receiver i, the unstruck ones below i have the position, and all others the one they had.
+-- `ring_play::round::fill_same` meets its contract: before receiver i, the unstruck ones below i have the position, and all others the one they had.
 use mathlib.Core.Path.{_≡_, refl, ap, sym, _∙_}
 use mathlib.Core.Bool.{cond}
 use mathlib.Core.Logic.{⊎-elim}
-use Prim.Native.Nat.{_-_, _≤_, _<_}
+use Prim.Native.Nat.{_-_, _≤_}
 use native.Mathlib.Omega.{arith}
 use mir.Syntax.{w32}
 use mir.Val.{toZ}
@@ -14,8 +14,8 @@ use lib.IntN.{ℤ, pos}
 use Rattle.ring_play.specs.Memory.{settles}
 use Rattle.ring_play.proofs.round.Filling.{Filled, filled-none, filled-passed, filled-set, filled-all}
 use Rattle.ring_play.proofs.round.Receivers.{end-small, settles-below}
-use Rattle.ring_play.proofs.confession.fill_same.Statement.{statement}
-use Rattle.ring_play.proofs.confession.fill_same.Tie as tie
+use Rattle.ring_play.proofs.round.fill_same.Statement.{statement}
+use Rattle.ring_play.proofs.round.fill_same.Tie as tie
 
 abbrev Inv-loop : tie.InvT-loop
 Inv-loop s position positions₀ end i₀ positions i =

@@ -1,4 +1,4 @@
--- `ring_play::codes::settle_counted` meets its contract: before entry j the order holds the positions taken among the entries below j. After the last entry these
+-- `ring_play::codes::settle_codes` meets its contract: before entry j the order holds the positions among the entries below j. After the last entry these
 -- are all that settling asks of the entries.
 use mathlib.Core.Path.{_≡_, _∙_}
 use Prim.Native.Nat.{_-_, _≤_}
@@ -7,16 +7,16 @@ use borrow.Author.Needs.{needs}
 use Rattle.settle_midpoint.specs.Orders.{OrderAfter}
 use Rattle.settle_midpoint.proofs.Ordering.{order-none}
 use Rattle.settle_midpoint.proofs.Middle.{settling-after}
-use Rattle.ring_play.specs.Inner.Codes.{entryTaken}
-use Rattle.ring_play.proofs.codes.settle_counted.Statement.{statement}
-use Rattle.ring_play.proofs.codes.settle_counted.Tie as tie
+use Rattle.ring_play.specs.Inner.Codes.{entryIn}
+use Rattle.ring_play.proofs.codes.settle_codes.Statement.{statement}
+use Rattle.ring_play.proofs.codes.settle_codes.Tie as tie
 
 abbrev Inv-loop : tie.InvT-loop
-Inv-loop codes same need confessed n f up count positions₀ len₀ j₀ positions len j =
-    (j ≤ count) × OrderAfter j (entryTaken codes same need confessed) len positions
+Inv-loop codes n f up count positions₀ len₀ j₀ positions len j =
+    (j ≤ count) × OrderAfter j (entryIn codes) len positions
 
 abbrev μ-loop : tie.MeasureT-loop
-μ-loop codes same need confessed n f up count positions₀ len₀ j₀ positions len j = count - j
+μ-loop codes n f up count positions₀ len₀ j₀ positions len j = count - j
 
 loop-holds : tie.Need-loop-holds Inv-loop μ-loop
 loop-holds c = (search needs, order-none _)
@@ -30,8 +30,8 @@ returns c =
     let e : l .loop .j ≡ l .before .args .n = omega arith in
     c .middle-of .ensures ∙ settling-after _ _ _ _ (rw e at (l .loop .inv .1))
 
-pub settle-counted-spec : {M : Type 1} → statement M
-settle-counted-spec =
+pub settle-codes-spec : {M : Type 1} → statement M
+settle-codes-spec =
     tie.close
     (tie.spec
     Inv-loop
