@@ -97,7 +97,7 @@ fn position_from(s: Stage, codes: &Numbers) -> i32
     ensures { λ r. ⌜ r ≡ settledAt s (now (codes .entry)) ⌝ }
 {
     let n = round::head_count(s);
-    let up = steps::rounds_up(s.phase);
+    let up = terms::rounds_up(s.phase);
     match codes::settle_codes(codes, n, s.f, up) {
         Settled::Refused(_) => 0,
         Settled::New(kept) => kept.position,
