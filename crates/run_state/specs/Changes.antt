@@ -33,26 +33,31 @@ freshPlayer begun K n f =
       since = replicate receivers 0;
     }
 
--- the same but for how many bytes of a record it has, and for its fault
-abbrev pub halted : Player → ℕ → ℕ → Player
-halted p have fault =
+-- What a record leaves of the player: all but for the number of listeners, who is struck in the last round and whether its struck listeners
+-- were given, the last planted pair, how many bytes of a record there are, and the fault.
+abbrev pub changed : Player → (listeners struck : ℕ) (amended : Bool) (last : Pair) (have fault : ℕ) → Player
+changed p m struck amended last have fault =
     record {
       begun = p .begun;
       family = p .family;
       n = p .n;
       f = p .f;
-      listeners = p .listeners;
+      listeners = m;
       given = p .given;
       pending = p .pending;
       before = p .before;
-      struck = p .struck;
-      amended = p .amended;
-      last = p .last;
+      struck = struck;
+      amended = amended;
+      last = last;
       have = have;
       fault = fault;
       agreed = p .agreed;
       since = p .since;
     }
+
+-- the same but for how many bytes of a record it has, and for its fault
+abbrev pub halted : Player → (have fault : ℕ) → Player
+halted p have fault = changed p (p .listeners) (p .struck) (p .amended) (p .last) have fault
 
 -- a round more, up to the most in either family: it is pending, and before it comes the round that was pending, which is played, or what
 -- was before that if none was; agreed: whether the ring has agreed then
@@ -82,63 +87,12 @@ pairIn s = lastPair (plantIn s ∷ [])
 
 -- pairs more in the last round: the last of them
 abbrev pub withPairPlanted : Player → Pair → Player
-withPairPlanted p last =
-    record {
-      begun = p .begun;
-      family = p .family;
-      n = p .n;
-      f = p .f;
-      listeners = p .listeners;
-      given = p .given;
-      pending = p .pending;
-      before = p .before;
-      struck = p .struck;
-      amended = p .amended;
-      last = last;
-      have = 0;
-      fault = 0;
-      agreed = p .agreed;
-      since = p .since;
-    }
+withPairPlanted p last = changed p (p .listeners) (p .struck) (p .amended) last 0 0
 
 -- the number of listeners (document 02, A6)
 abbrev pub withListenersGiven : Player → ℕ → Player
-withListenersGiven p m =
-    record {
-      begun = p .begun;
-      family = p .family;
-      n = p .n;
-      f = p .f;
-      listeners = m;
-      given = p .given;
-      pending = p .pending;
-      before = p .before;
-      struck = p .struck;
-      amended = p .amended;
-      last = p .last;
-      have = 0;
-      fault = 0;
-      agreed = p .agreed;
-      since = p .since;
-    }
+withListenersGiven p m = changed p m (p .struck) (p .amended) (p .last) 0 0
 
 -- the struck listeners of the last round: bit j of the marks for listener 32 + j
 abbrev pub withStrikesGiven : Player → ℕ → Player
-withStrikesGiven p marks =
-    record {
-      begun = p .begun;
-      family = p .family;
-      n = p .n;
-      f = p .f;
-      listeners = p .listeners;
-      given = p .given;
-      pending = p .pending;
-      before = p .before;
-      struck = p .struck % 4294967296 + 4294967296 * marks;
-      amended = true;
-      last = p .last;
-      have = 0;
-      fault = 0;
-      agreed = p .agreed;
-      since = p .since;
-    }
+withStrikesGiven p marks = changed p (p .listeners) (p .struck % 4294967296 + 4294967296 * marks) true (p .last) 0 0
