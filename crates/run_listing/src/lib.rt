@@ -18,6 +18,7 @@ ghost use Rattle.texts.specs.Texts.{bytesOf, textIn, Longer};
 ghost use Rattle.ring_spec.specs.Agreed.{heldByAll, isAgreed};
 ghost use Rattle.run_listing.specs.Texts.{fields};
 ghost use Rattle.run_listing.specs.Level.{levelled};
+use run_judge::HEAD_MARKS;
 use terms::Entry;
 use terms::Positions;
 use terms::RECEIVERS;
@@ -215,7 +216,7 @@ pub fn verdict_line(number: u8) -> Text
 fn heads_of(marks: u64) -> u32
     ensures { λ r. ⌜ r ≡ marks % 4294967296 ⌝ }
 {
-    (marks % 4294967296) as u32
+    (marks % HEAD_MARKS) as u32
 }
 
 // The line of a phase end: its lowest and highest position, and the two mark words of which it prints the heads' bits.
