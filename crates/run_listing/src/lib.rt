@@ -3,12 +3,11 @@
 ghost use mathlib.Core.Path.{_≡_};
 ghost use mathlib.Core.Bool.{not};
 ghost use Prim.Native.Nat.{_+_, _%_, _<_, _≤_};
-ghost use lib.ListN.{getD, length};
-ghost use lib.IntN.{ℤ, pos};
-ghost use Rattle.terms.specs.Counting.{Each};
+ghost use lib.ListN.{getD};
+ghost use lib.IntN.{pos};
 ghost use Rattle.convergence.specs.Phases.{join, apart};
 ghost use Rattle.ring_spec.specs.Rounds.{receivers, isOut};
-ghost use Rattle.run_listing.specs.Held.{endIn};
+ghost use Rattle.run_listing.specs.Held.{endIn, firstSound};
 ghost use Rattle.run_listing.specs.Heights.{heightOf, outward, Found};
 ghost use Rattle.run_listing.specs.Inner.{Reaches};
 ghost use mathlib.Core.List.{_∷_, [], _++_};
@@ -103,26 +102,18 @@ pub fn ends_of(positions: &Positions, struck: u64, n: u8, m: u8) -> Ends
     Ends { low, high }
 }
 
-// The same where all places hold one position: that of the first of them. Where they do not, its answer is free.
-pub fn ends_held(positions: &Positions, struck: u64, n: u8, m: u8) -> Ends
-    ensures { λ r. ⌜ ((u : ℤ) → Each receivers (λ i. getD (now (positions .entry)) i (pos 0) ≡ u)
-        → Found receivers (endIn n m struck (now (positions .entry))) (r .low) (r .high)) ⌝ }
+// The position of the first head or listener that the mark word leaves.
+pub fn first_sound(positions: &Positions, struck: u64, n: u8, m: u8) -> Entry
+    ensures { λ r. ⌜ r ≡ firstSound receivers (endIn n m struck (now (positions .entry))) ⌝ }
 {
     let mut first: usize = 0;
     while first < RECEIVERS {
         if is_sound(struck, n, m, first) {
-            let v = position_at(positions, first);
-            return Ends {
-                low: Entry::Position(v),
-                high: Entry::Position(v),
-            };
+            return Entry::Position(position_at(positions, first));
         }
         first += 1;
     }
-    Ends {
-        low: Entry::Null,
-        high: Entry::Null,
-    }
+    Entry::Null
 }
 
 // How far apart two entries are; 0 if one is null.

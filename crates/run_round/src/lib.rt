@@ -49,7 +49,11 @@ fn ends_at(p: Player, positions: &Positions) -> Ends
         → Found receivers (endIn (p .n) (p .listeners) (p .struck) (now (positions .entry))) (r .low) (r .high)) ⌝ }
 {
     if p.agreed {
-        return run_listing::ends_held(positions, p.struck, p.n, p.listeners);
+        let held = run_listing::first_sound(positions, p.struck, p.n, p.listeners);
+        return Ends {
+            low: held,
+            high: held,
+        };
     }
     run_listing::ends_of(positions, p.struck, p.n, p.listeners)
 }
