@@ -25,7 +25,7 @@ use Rattle.run_state.proofs.Told.{round-fault-as}
 use Rattle.run_round.specs.Played.{Played}
 use Rattle.run_round.proofs.Agreement.{still-agreed}
 use Rattle.run_record.specs.declared.RecordResult.{RecordResult}
-use Rattle.run_record.specs.Next.{Next}
+use Rattle.run_record.specs.Next.{allowedTo, Next}
 use Rattle.run_record.proofs.Records.{judged-taken, round-room, played-turns, round-next}
 use Rattle.run_piece.specs.Advances.{StateAt, AdvancesOnce}
 use Rattle.run_piece.specs.Steps.{isCalm}
@@ -101,14 +101,12 @@ module _ {p q : Player} {s : List ℕ} {t : Text} {M : Memory} (C : Calm p s) (i
 
   module _ {a before : List ℕ} (L : StateAt a p before M) where
     whole : BeginsWhole p s
-    whole =
+    whole = record { fresh = C .fresh; within = omega (arith, C .long, C .within); long = omega (arith, C .long) }
+
+    allowed : allowedTo p s ≡ true
+    allowed =
         let begun : p .begun ≡ true = sym (L .player .begun) ∙ cost a .begun (L .player .pending ∙ C .pending) in
-        record {
-          fresh = C .fresh;
-          within = omega (arith, C .long, C .within);
-          long = omega (arith, C .long);
-          allowed = rw (C .kind, begun) (eq-eqb (lengthIn s) 8 (C .long));
-        }
+        rw (C .kind, begun) (eq-eqb (lengthIn s) 8 (C .long))
 
     pub calm-there : AdvancesOnce a (take 8 s) p M q (bytesOf t) before M
     calm-there =
@@ -116,4 +114,4 @@ module _ {p q : Player} {s : List ℕ} {t : Text} {M : Memory} (C : Calm p s) (i
         stands-there L {r = record { player = q; used = 8; text = t }} {t = r} {used = 8} {b = b} {carry = before} {M′ = M} s (C .sound)
         (record { player = refl; used = refl; text = refl })
         (λ a′ T H may all. rw (same .kind ∙ C .kind) (taken a′ T H))
-        whole (sym (C .long)) refl
+        whole allowed (sym (C .long)) refl

@@ -1,12 +1,13 @@
 -- What a step makes of the file read so far: after a fault nothing, of bytes that end inside a record the bytes kept, of a whole record what it is judged.
 use mathlib.Core.Path.{_≡_, refl, ap, sym, _∙_}
-use mathlib.Core.Bool.{Bool, true, false}
+use mathlib.Core.Bool.{Bool, true, false, and-false}
 use mathlib.Core.List.{List, [], _++_, append-nil}
 use Prim.Native.Nat.{ℕ, _+_, _≤_, _<_}
 use native.Mathlib.Omega.{arith}
 use native.Mathlib.Decide.{decLe}
-use lib.ListN.{length, take, length-append}
-use lib.Seq.{length-take-le}
+use lib.Dec.{eqb}
+use lib.ListN.{length, take, drop, length-append, take-append-drop}
+use lib.Seq.{length-take-le, take-take}
 use borrow.Author.Needs.{needs}
 use Rattle.terms.specs.Refusals as refusal
 use Rattle.run_spec.specs.RunFile.{File, unread, lengthIn, kindIn, judged, stopped, withPart, feed, readFile, accepted}
@@ -25,7 +26,7 @@ use Rattle.run_state.proofs.Told.{part-tells, allowed-as}
 use Rattle.run_record.specs.Next.{allowedTo, recordTaken, Next}
 use Rattle.texts.proofs.Writing.{empty-text}
 use Rattle.run_round.proofs.Converging.{held-converges}
-use Rattle.run_record.proofs.Records.{stopped-next, taken-allowed}
+use Rattle.run_record.proofs.Records.{stopped-next, taken-allowed, not-due}
 use Rattle.run_piece.specs.declared.FeedResult.{FeedResult}
 use Rattle.run_piece.specs.Advances.{StateAt, Advances, GrownTo, AdvancesOnce}
 use Rattle.run_piece.specs.Steps.{Quiet, Used}
@@ -149,14 +150,42 @@ module _ {a : List ℕ} {p : Player} {before : List ℕ} {M : Memory} (L : State
         (none-accepted (kindIn b) F b (lengthIn b) may (cost a .begun)) (judged-grown F b (kindIn b) (lengthIn b) may (n .shows))
 
     -- it stands in the piece
-    pub stands-there : BeginsWhole p rest → used ≡ lengthIn rest → b ≡ take used rest → AdvancesOnce a (take (r .used) rest) p M (r .player) (bytesOf (r .text)) carry M′
-    stands-there W u e =
+    pub stands-there : BeginsWhole p rest → allowedTo p rest ≡ true → used ≡ lengthIn rest → b ≡ take used rest
+        → AdvancesOnce a (take (r .used) rest) p M (r .player) (bytesOf (r .text)) carry M′
+    stands-there W may u e =
         let none : F .part ≡ [] = L .part ∙ ap (λ (n : ℕ). take n before) (W .fresh) in
         let same : Heads b rest = rw (← e) at (heads-take used rest (omega (arith, W .long))) in
         let long = length-take-le used rest (omega (arith, W .within)) in
         takes (ap (λ (l : List ℕ). l ++ take used rest) none ∙ sym e) (omega (arith, W .long))
-        (heads-stand F same ∙ allowed-as (L .player) (kindIn rest) (lengthIn rest) ∙ W .allowed)
+        (heads-stand F same ∙ allowed-as (L .player) (kindIn rest) (lengthIn rest) ∙ may)
         (ap length e ∙ long ∙ u ∙ sym (same .long))
+
+  -- a record that stands in the piece is taken: one that is not allowed stops the file at its header, and the rest of it is not read
+  pub whole-there : {r : FeedResult} {t : RecordResult} {used : ℕ} {b carry : List ℕ} {M′ : Memory} (rest : List ℕ) → p .fault ≡ 0 → RecordTaken t used r
+      → ((a′ : List ℕ) → PlayerOf p (readFile a′) → MemoryOf (readFile a′) M → Next (readFile a′) (recordTaken (readFile a′) b) p M t M′)
+      → BeginsWhole p rest → used ≡ lengthIn rest → b ≡ take used rest → AdvancesOnce a (take (r .used) rest) p M (r .player) (bytesOf (r .text)) carry M′
+  whole-there {r} {t} {used} {b} {carry} {M′} rest ok T N W u e = go (allowedTo p rest) refl
+    where
+      none : F .part ≡ []
+      none = L .part ∙ ap (λ (n : ℕ). take n before) (W .fresh)
+
+      go : (may : Bool) → allowedTo p rest ≡ may → AdvancesOnce a (take (r .used) rest) p M (r .player) (bytesOf (r .text)) carry M′
+      go true may = stands-there rest ok T (judges b N) W may u e
+      go false may =
+          let same : Heads b rest = rw (← e) at (heads-take used rest (omega (arith, W .long))) in
+          let stops : recordTaken F b ≡ stopped F refusal.bad-run-record =
+          not-due (L .player) b (rw (same .kind, same .long, may) (and-false (eqb (length b) (lengthIn rest)))) in
+          let header : feed F (take 4 rest) ≡ stopped F refusal.bad-run-record =
+          let four : length (take 4 rest) ≡ 4 = length-take-le 4 rest (omega (arith, W .long, W .within)) in
+          feed-refused F (L .player .fault ∙ ok) (take 4 rest) (omega arith) (rw none four)
+          (rw none (heads-stand F (heads-take 4 rest (omega arith)) ∙ allowed-as (L .player) (kindIn rest) (lengthIn rest) ∙ may)) in
+          let split : take used rest ≡ take 4 rest ++ drop 4 (take used rest) =
+          sym (take-append-drop 4 (take used rest)) ∙ ap (λ (l : List ℕ). l ++ drop 4 (take used rest)) (take-take 4 used rest (omega (arith, W .long))) in
+          let is : feed F (take used rest) ≡ stopped F refusal.bad-run-record =
+          rw split (feed-append F (take 4 rest) (drop 4 (take used rest)) ∙ rw header (feed-stopped (stopped F refusal.bad-run-record) (drop 4 (take used rest)) (λ z. omega arith))) in
+          let n = rw stops at (N a (L .player) (L .memory)) in
+          becomes rest (stopped F refusal.bad-run-record) is refl T n (λ x z. omega arith)
+          (grown-none F (stopped F refusal.bad-run-record) refl (stop-shows F refusal.bad-run-record) (n .shows))
 
   module _ {rest carry : List ℕ} {want used : ℕ} (G : Gathered (p .have) before rest carry want used) (ok : p .fault ≡ 0) where
     abbrev s : List ℕ

@@ -21,7 +21,7 @@ use Rattle.run_state.specs.Memory.{Memory, withSlots}
 use Rattle.run_state.specs.Changes.{halted, pairIn, withPairPlanted}
 use Rattle.run_state.specs.State.{PlayerOf, MemoryOf}
 use Rattle.run_state.proofs.Told.{plant-fault-as}
-use Rattle.run_record.specs.Next.{Next}
+use Rattle.run_record.specs.Next.{allowedTo, Next}
 use Rattle.run_record.proofs.Records.{judged-taken, plant-next}
 use Rattle.run_piece.specs.Advances.{StateAt, AdvancesOnce}
 use Rattle.run_piece.specs.Steps.{Waits, plantSize, plantPassed}
@@ -79,8 +79,10 @@ module _ {rest : List ℕ} {used : ℕ} (P : Plants rest used) where
         fresh = W .fresh;
         within = omega (arith, P .long, P .within);
         long = omega (arith, plant-long used (P .fits), P .long);
-        allowed = rw (P .kind, W .pending, ← P .long) (P .fits);
       }
+
+  plant-allowed : {p : Player} {count number marks : ℕ} {pair : Pair} → Waits p count number marks pair → allowedTo p rest ≡ true
+  plant-allowed W = rw (P .kind, W .pending, ← P .long) (P .fits)
 
 -- a player that waits is whole: with its own last pair it is the same
 pub waits-as : {p : Player} {count number marks : ℕ} {pair : Pair} → Waits p count number marks pair → withPairPlanted p pair ≡ p
@@ -113,4 +115,4 @@ module _ {a : List ℕ} {p : Player} {before : List ℕ} {M : Memory} (L : State
       (stands-there L {r = record { player = q; used = used; text = t }} {t = record { player = q; text = t }} {carry = before} {M′ = withSlots M bytes lengths} rest (W .sound)
       (record { player = refl; used = refl; text = refl })
       (λ a′ T H may all. rw (same .kind ∙ P .kind) (taken a′ T H))
-      (plant-whole P W) (P .long) e)
+      (plant-whole P W) (plant-allowed P W) (P .long) e)

@@ -9,7 +9,6 @@ use Rattle.run_spec.specs.RunFile.{lengthIn}
 use Rattle.run_state.specs.declared.Player.{Player}
 use Rattle.run_record.specs.declared.RecordResult.{RecordResult}
 use Rattle.run_state.specs.Changes.{halted}
-use Rattle.run_record.specs.Next.{allowedTo}
 use Rattle.run_piece.specs.declared.FeedResult.{FeedResult}
 
 -- r bytes are missing: to the end of the header, or to the end of the record
@@ -18,12 +17,11 @@ pub record Missing (have : ℕ) (carry : List ℕ) (r : ℕ) : Type 0 where
   pub header : have < 4 → have + r ≡ 4
   pub rest : 4 ≤ have → have < lengthIn carry → have + r ≡ lengthIn carry
 
--- a piece begins with a whole record that is allowed
+-- a piece begins with a record, and has as many bytes as its header says
 pub record BeginsWhole (p : Player) (s : List ℕ) : Type 0 where
   pub fresh : p .have ≡ 0
   pub within : lengthIn s ≤ length s
-  pub long : 5 ≤ lengthIn s
-  pub allowed : allowedTo p s ≡ true
+  pub long : 4 ≤ lengthIn s
 
 -- what the player becomes with a record's header, by whether that record is allowed
 abbrev pub headedTo : Player → Bool → Player

@@ -58,17 +58,15 @@ fn gather(carry: &mut [u8], have: usize, bytes: &[u8])
     fields::put_bytes(carry, have, bytes);
 }
 
-// Whether a piece begins with a whole record that is allowed.
+// Whether a piece begins with a record, its header at least, and has as many bytes as the header says.
 fn is_whole(p: Player, bytes: &[u8]) -> bool
     ensures { λ r. ⌜ (r ≡ true → BeginsWhole p (now (bytes .entry))) ⌝ }
 {
     if p.have != 0 {
         return false;
     }
-    if bytes.len() < fields::half_at(bytes, 0) as usize {
-        return false;
-    }
-    run_record::stands(p, bytes)
+    let size = fields::half_at(bytes, 0) as usize;
+    4 <= size && size <= bytes.len()
 }
 
 // The player with more of a record that is not whole.
