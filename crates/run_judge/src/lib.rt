@@ -1,12 +1,12 @@
 // The records of a run file, judged: whether one is allowed here, and the number of its first fault, 0 for none.
 ghost use mathlib.Core.Path.{_≡_};
 ghost use mathlib.Core.Bool.{_&&_};
-ghost use Prim.Native.Nat.{ℕ, _<_};
 ghost use lib.Dec.{leb};
-ghost use lib.ListN.{getD, drop};
+ghost use Prim.Native.Nat.{ℕ, _<_};
+ghost use lib.ListN.{getD};
 ghost use lib.IntN.{pos};
 ghost use Rattle.ring_spec.specs.Rounds.{isReceiver, mostRounds};
-ghost use Rattle.run_spec.specs.RunFile.{recordKind, allowedWhen, positionIn, positionsFit, startFault, fewMarks, roundFault, listenersFault, strikesFault, rises, pairFits, plantFault};
+ghost use Rattle.run_spec.specs.RunFile.{recordKind, isPlantLength, allowedWhen, positionIn, positionsFit, startFault, fewMarks, roundFault, listenersFault, strikesFault, rises, pairFits, plantFault};
 use run_spec::Pair;
 use terms::Family;
 use terms::Numbers;
@@ -33,17 +33,27 @@ const MOST_PHASES: u32 = 65535;
 // Two rounds for each; no file has more.
 pub const MOST_ROUNDS: u32 = 131070;
 
-// Whether a record has a place, and a length from low to high.
-fn has_place(place: bool, len: u16, low: u16, high: u16) -> bool
-    ensures { λ r. ⌜ r ≡ (place && leb low len && leb len high) ⌝ }
+// In a mark word of heads and listeners bits 0 to 31 are heads, and listeners are above: the heads' word is its remainder by this.
+pub const HEAD_MARKS: u64 = 4294967296;
+
+// The longest record, a start with 255 positions.
+pub const LONGEST: u16 = 1026;
+
+// The longest planted record, with 140 bytes.
+const LONGEST_PLANT: u16 = 146;
+
+// Whether a length is from 6, the bytes before what differs in length, up to a longest one.
+fn is_up_to(len: u16, longest: u16) -> bool
+    ensures { λ r. ⌜ r ≡ (leb 6 len && leb len longest) ⌝ }
 {
-    if !place {
-        return false;
-    }
-    if len < low {
-        return false;
-    }
-    len <= high
+    6 <= len && len <= longest
+}
+
+// Whether some planted record has this length.
+pub fn is_plant_length(len: u16) -> bool
+    ensures { λ r. ⌜ r ≡ isPlantLength len ⌝ }
+{
+    is_up_to(len, LONGEST_PLANT)
 }
 
 // Whether a record of this kind and length is allowed; begun: a start was accepted; first: nothing else was; pending: a round is pending;
@@ -52,12 +62,12 @@ pub fn is_allowed(kind: u16, len: u16, begun: bool, first: bool, pending: bool, 
     ensures { λ r. ⌜ r ≡ allowedWhen (recordKind kind) begun first pending bare len ⌝ }
 {
     match kind {
-        START => has_place(!begun, len, 6, 1026),
+        START => !begun && is_up_to(len, LONGEST),
         ROUND => begun && len == 8,
-        PLANT => has_place(pending, len, 6, 146),
+        PLANT => pending && is_plant_length(len),
         LISTENERS => first && len == 5,
         STRIKES => bare && len == 6,
-        START_ONE => has_place(!begun, len, 6, 1026),
+        START_ONE => !begun && is_up_to(len, LONGEST),
         _ => false,
     }
 }

@@ -3,6 +3,7 @@
 use mathlib.Core.Path.{_≡_, refl, ap, ap₂, sym, _∙_}
 use mathlib.Core.Bool.{Bool, true, false, not, cond, _&&_, _||_, or-false, Bool·beq}
 use mathlib.Core.List.{List}
+use mathlib.Core.Logic.{_⊎_, inl, inr, ⊎-elim}
 use Prim.Native.Nat.{ℕ, zero, suc, _+_, _≤_, _<_}
 use native.Mathlib.Omega.{arith}
 use native.Mathlib.Decide.{decLt, le-ind}
@@ -23,7 +24,7 @@ use Rattle.terms.specs.Counting.{Each}
 use Rattle.convergence.specs.Phases.{End, join, soundAt, lowest, highest}
 use Rattle.terms.proofs.Sums.{each-last, each-less}
 use Rattle.ring_spec.specs.Rounds.{receivers, isReceiver, isOut}
-use Rattle.run_listing.specs.Held.{endIn}
+use Rattle.run_listing.specs.Held.{endIn, firstSound}
 use Rattle.run_listing.specs.Heights.{outward, Found}
 use Rattle.run_listing.specs.Inner.{Reaches}
 
@@ -84,6 +85,30 @@ module _ (n m struck : ℕ) (ps : List ℤ) {j : ℕ} {low high : Entry} (f : Fo
   unfolding endIn
   found-all R = found-past j receivers (R .most) (λ i l h. rw (R .none i l h)) f
 
+-- ---- the first that is sound
+
+pub first-none : (e : End) → firstSound 0 e ≡ Null
+unfolding firstSound
+first-none e = refl
+
+first-stays : (e : End) (k : ℕ) {u : ℤ} → firstSound k e ≡ Position u → firstSound (suc k) e ≡ Position u
+unfolding firstSound
+first-stays e k h = rw h refl
+
+module _ (n m struck : ℕ) (ps : List ℤ) (j : ℕ) (none : firstSound j (endIn n m struck ps) ≡ Null) where
+  pub first-struck : isOut n m struck j ≡ true → firstSound (j + 1) (endIn n m struck ps) ≡ Null
+  unfolding firstSound endIn
+  first-struck o = rw (add-one j, none, o) refl
+
+  first-here : {v : ℤ} → isOut n m struck j ≡ false → v ≡ getD ps j (pos 0) → firstSound (j + 1) (endIn n m struck ps) ≡ Position v
+  unfolding firstSound endIn
+  first-here o e = rw (add-one j, none, o, e) refl
+
+  pub first-sound : {v : ℤ} → j < receivers → isOut n m struck j ≡ false → v ≡ getD ps j (pos 0) → Position v ≡ firstSound receivers (endIn n m struck ps)
+  first-sound {v} l o e =
+      sym
+      (le-ind (λ k. firstSound k (endIn n m struck ps) ≡ Position v) (rw (add-one j) at (first-here o e)) (λ k i h. first-stays _ k h) receivers (omega arith))
+
 -- ---- where all places hold one position
 
 either-same : (b : Bool) (u : ℤ) → cond b u u ≡ u
@@ -103,13 +128,25 @@ module _ (n m struck : ℕ) (ps : List ℤ) {u : ℤ} (h : Each receivers (λ i.
           rw (add-one k) at
           (found-sound n m struck ps f {v = u} {x = Position u} {y = Position u} o (sym (h k l)) (ap Position (sym (outward-same false u))) (ap Position (sym (outward-same true u))))
 
-  -- the first that is sound says it of all
-  pub found-level : {j : ℕ} {v : ℤ} → j < receivers → Found j (endIn n m struck ps) Null Null → isOut n m struck j ≡ false → v ≡ getD ps j (pos 0)
-      → Found receivers (endIn n m struck ps) (Position v) (Position v)
-  found-level {j} {v} l f o e =
-      let is : v ≡ u = e ∙ h j l in
-      let first = rw is at (found-sound n m struck ps f {v = v} {x = Position v} {y = Position v} o e refl refl) in
-      rw is (le-ind (λ k. k ≤ receivers → Found k (endIn n m struck ps) (Position u) (Position u)) (λ i. first) (λ k i more less. one-more-level k less (more (omega arith))) receivers (omega arith) (omega arith))
+  abbrev One : ℕ → Entry → Type 0
+  One k x = Found k (endIn n m struck ps) x x × (firstSound k (endIn n m struck ps) ≡ x)
+
+  -- the first that is sound, if one is, says it of all
+  pub found-first : {x : Entry} → x ≡ firstSound receivers (endIn n m struck ps) → Found receivers (endIn n m struck ps) x x
+  found-first {x} e = rw e (⊎-elim (λ w. rw (w .1) (w .0)) (λ w. rw (w .1) (w .0)) (go receivers (omega arith)))
+    where
+      go : (k : ℕ) → k ≤ receivers → One k Null ⊎ One k (Position u)
+      go zero l = inl (found-none _, first-none _)
+      go (suc k) l = ⊎-elim (λ w. none (w .0) (w .1) (isOut n m struck k) refl) (λ w. inr (one-more-level k (omega arith) (w .0), first-stays _ k (w .1))) (go k (omega arith))
+        where
+          none : Found k (endIn n m struck ps) Null Null → firstSound k (endIn n m struck ps) ≡ Null → (b : Bool) → isOut n m struck k ≡ b
+              → One (suc k) Null ⊎ One (suc k) (Position u)
+          none f z true o = inl (rw (add-one k) at (found-struck n m struck ps f o), rw (add-one k) at (first-struck n m struck ps k z o))
+          none f z false o =
+              inr (
+                rw (add-one k) at (found-sound n m struck ps f {v = u} {x = Position u} {y = Position u} o (sym (h k (omega arith))) refl refl),
+                rw (add-one k) at (first-here n m struck ps k z o (sym (h k (omega arith)))),
+              )
 
 -- ---- of two phase ends that say the same of each receiver
 

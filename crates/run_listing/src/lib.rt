@@ -3,12 +3,11 @@
 ghost use mathlib.Core.Path.{_≡_};
 ghost use mathlib.Core.Bool.{not};
 ghost use Prim.Native.Nat.{_+_, _%_, _<_, _≤_};
-ghost use lib.ListN.{getD, length};
-ghost use lib.IntN.{ℤ, pos};
-ghost use Rattle.terms.specs.Counting.{Each};
+ghost use lib.ListN.{getD};
+ghost use lib.IntN.{pos};
 ghost use Rattle.convergence.specs.Phases.{join, apart};
 ghost use Rattle.ring_spec.specs.Rounds.{receivers, isOut};
-ghost use Rattle.run_listing.specs.Held.{endIn};
+ghost use Rattle.run_listing.specs.Held.{endIn, firstSound};
 ghost use Rattle.run_listing.specs.Heights.{heightOf, outward, Found};
 ghost use Rattle.run_listing.specs.Inner.{Reaches};
 ghost use mathlib.Core.List.{_∷_, [], _++_};
@@ -18,6 +17,7 @@ ghost use Rattle.texts.specs.Texts.{bytesOf, textIn, Longer};
 ghost use Rattle.ring_spec.specs.Agreed.{heldByAll, isAgreed};
 ghost use Rattle.run_listing.specs.Texts.{fields};
 ghost use Rattle.run_listing.specs.Level.{levelled};
+use run_judge::HEAD_MARKS;
 use terms::Entry;
 use terms::Positions;
 use terms::RECEIVERS;
@@ -102,26 +102,18 @@ pub fn ends_of(positions: &Positions, struck: u64, n: u8, m: u8) -> Ends
     Ends { low, high }
 }
 
-// The same where all places hold one position: that of the first of them. Where they do not, its answer is free.
-pub fn ends_held(positions: &Positions, struck: u64, n: u8, m: u8) -> Ends
-    ensures { λ r. ⌜ ((u : ℤ) → Each receivers (λ i. getD (now (positions .entry)) i (pos 0) ≡ u)
-        → Found receivers (endIn n m struck (now (positions .entry))) (r .low) (r .high)) ⌝ }
+// The position of the first head or listener that the mark word leaves.
+pub fn first_sound(positions: &Positions, struck: u64, n: u8, m: u8) -> Entry
+    ensures { λ r. ⌜ r ≡ firstSound receivers (endIn n m struck (now (positions .entry))) ⌝ }
 {
     let mut first: usize = 0;
     while first < RECEIVERS {
         if is_sound(struck, n, m, first) {
-            let v = position_at(positions, first);
-            return Ends {
-                low: Entry::Position(v),
-                high: Entry::Position(v),
-            };
+            return Entry::Position(position_at(positions, first));
         }
         first += 1;
     }
-    Ends {
-        low: Entry::Null,
-        high: Entry::Null,
-    }
+    Entry::Null
 }
 
 // How far apart two entries are; 0 if one is null.
@@ -215,7 +207,7 @@ pub fn verdict_line(number: u8) -> Text
 fn heads_of(marks: u64) -> u32
     ensures { λ r. ⌜ r ≡ marks % 4294967296 ⌝ }
 {
-    (marks % 4294967296) as u32
+    (marks % HEAD_MARKS) as u32
 }
 
 // The line of a phase end: its lowest and highest position, and the two mark words of which it prints the heads' bits.

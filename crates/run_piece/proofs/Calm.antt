@@ -4,12 +4,14 @@ use mathlib.Core.Bool.{true, false, true≢false}
 use mathlib.Core.List.{List, [], _∷_}
 use Prim.Native.Nat.{ℕ, _≤_}
 use native.Mathlib.Omega.{arith}
-use lib.ListN.{take}
+use lib.ListN.{length, take}
 use lib.Seq.{getD-take}
-use borrow.Author.Tests.{eq-eqb}
+use borrow.Author.Tests.{eq-eqb, eqb-true, leb-true, not-true}
+use Rattle.terms.proofs.Booleans.{and-both}
+use Rattle.fields.specs.Bytes.{at2}
 use Rattle.ring_spec.specs.Rounds.{Plant, planted}
 use Rattle.terms.specs.declared.Family.{Family}
-use Rattle.run_spec.specs.RunFile.{round, roundFault, struckIn, lastPair, lengthIn, readFile, recordFault, judged}
+use Rattle.run_spec.specs.RunFile.{recordKind, round, roundFault, struckIn, lastPair, lengthIn, kindIn, readFile, recordFault, judged}
 use Rattle.run_spec.specs.declared.Pair.{Pair}
 use Rattle.run_spec.proofs.Whole.{heads-take}
 use Rattle.run_spec.proofs.Bytes.{cost}
@@ -23,12 +25,46 @@ use Rattle.run_state.proofs.Told.{round-fault-as}
 use Rattle.run_round.specs.Played.{Played}
 use Rattle.run_round.proofs.Agreement.{still-agreed}
 use Rattle.run_record.specs.declared.RecordResult.{RecordResult}
-use Rattle.run_record.specs.Next.{Next}
+use Rattle.run_record.specs.Next.{allowedTo, Next}
 use Rattle.run_record.proofs.Records.{judged-taken, round-room, played-turns, round-next}
 use Rattle.run_piece.specs.Advances.{StateAt, AdvancesOnce}
-use Rattle.run_piece.specs.Steps.{Calm}
+use Rattle.run_piece.specs.Steps.{isCalm}
 use Rattle.run_piece.specs.Inner.{BeginsWhole}
 use Rattle.run_piece.proofs.Feeding.{stands-there}
+
+-- what was asked of a record, fact by fact
+pub record Calm (p : Player) (s : List ℕ) : Type 0 where
+  pub agreed : p .agreed ≡ true
+  pub pending : p .pending ≡ true
+  pub unplanted : p .last .some ≡ false
+  pub fresh : p .have ≡ 0
+  pub sound : p .fault ≡ 0
+  pub within : 8 ≤ length s
+  pub long : lengthIn s ≡ 8
+  pub kind : kindIn s ≡ round
+  pub faultless : roundFault (p .family) (p .n) (p .f) (p .given) s ≡ 0
+
+pub calm-as : (p : Player) (s : List ℕ) → isCalm p s ≡ true → Calm p s
+calm-as p s e =
+    let (e, faultless) = and-both _ _ e in
+    let (e, kind) = and-both _ _ e in
+    let (e, long) = and-both _ _ e in
+    let (e, within) = and-both _ _ e in
+    let (e, sound) = and-both _ _ e in
+    let (e, fresh) = and-both _ _ e in
+    let (e, unplanted) = and-both _ _ e in
+    let (agreed, pending) = and-both _ _ e in
+    record {
+      agreed = agreed;
+      pending = pending;
+      unplanted = not-true _ unplanted;
+      fresh = eqb-true _ _ fresh;
+      sound = eqb-true _ _ sound;
+      within = leb-true _ _ within;
+      long = eqb-true _ _ long;
+      kind = ap recordKind (eqb-true (at2 s 2) 0x11 kind);
+      faultless = eqb-true _ _ faultless;
+    }
 
 -- nothing is planted where no pair was
 none-planted : (xs : List Plant) → lastPair xs .some ≡ false → (k i : ℕ) → planted xs k i ≡ []
@@ -65,14 +101,12 @@ module _ {p q : Player} {s : List ℕ} {t : Text} {M : Memory} (C : Calm p s) (i
 
   module _ {a before : List ℕ} (L : StateAt a p before M) where
     whole : BeginsWhole p s
-    whole =
+    whole = record { fresh = C .fresh; within = omega (arith, C .long, C .within); long = omega (arith, C .long) }
+
+    allowed : allowedTo p s ≡ true
+    allowed =
         let begun : p .begun ≡ true = sym (L .player .begun) ∙ cost a .begun (L .player .pending ∙ C .pending) in
-        record {
-          fresh = C .fresh;
-          within = omega (arith, C .long, C .within);
-          long = omega (arith, C .long);
-          allowed = rw (C .kind, begun) (eq-eqb (lengthIn s) 8 (C .long));
-        }
+        rw (C .kind, begun) (eq-eqb (lengthIn s) 8 (C .long))
 
     pub calm-there : AdvancesOnce a (take 8 s) p M q (bytesOf t) before M
     calm-there =
@@ -80,4 +114,4 @@ module _ {p q : Player} {s : List ℕ} {t : Text} {M : Memory} (C : Calm p s) (i
         stands-there L {r = record { player = q; used = 8; text = t }} {t = r} {used = 8} {b = b} {carry = before} {M′ = M} s (C .sound)
         (record { player = refl; used = refl; text = refl })
         (λ a′ T H may all. rw (same .kind ∙ C .kind) (taken a′ T H))
-        whole (sym (C .long)) refl
+        whole allowed (sym (C .long)) refl

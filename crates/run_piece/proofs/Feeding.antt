@@ -1,36 +1,36 @@
 -- What a step makes of the file read so far: after a fault nothing, of bytes that end inside a record the bytes kept, of a whole record what it is judged.
-use mathlib.Core.Path.{_≡_, refl, ap, ap₂, sym, _∙_}
-use mathlib.Core.Bool.{Bool, true, false}
+use mathlib.Core.Path.{_≡_, refl, ap, sym, _∙_}
+use mathlib.Core.Bool.{Bool, true, false, and-false}
 use mathlib.Core.List.{List, [], _++_, append-nil}
-use Prim.Native.Nat.{ℕ, zero, suc, _+_, _≤_, _<_}
+use Prim.Native.Nat.{ℕ, _+_, _≤_, _<_}
 use native.Mathlib.Omega.{arith}
 use native.Mathlib.Decide.{decLe}
-use lib.ListN.{length, take, getD, length-append}
-use lib.Seq.{length-take-le, getD-take}
+use lib.Dec.{eqb}
+use lib.ListN.{length, take, drop, length-append, take-append-drop}
+use lib.Seq.{length-take-le, take-take}
 use borrow.Author.Needs.{needs}
 use Rattle.terms.specs.Refusals as refusal
-use Rattle.run_spec.specs.RunFile.{File, unread, plant, lengthIn, kindIn, judged, stopped, withPart, feed, readFile, accepted}
+use Rattle.run_spec.specs.RunFile.{File, unread, lengthIn, kindIn, judged, stopped, withPart, feed, readFile, accepted}
 use Rattle.run_spec.specs.Listing.{shown}
 use Rattle.run_spec.proofs.Streaming.{feed-append, part-shows, stop-shows}
-use Rattle.run_spec.proofs.Whole.{stands, Cut, Heads, heads-take, heads-stand, stands-long, feed-cut, feed-refused, feed-whole, feed-stopped, judged-empty, kept, kept-on, plant-long as plant-lengths}
+use Rattle.run_spec.proofs.Whole.{stands, Cut, Heads, heads-take, heads-stand, stands-long, feed-cut, feed-refused, feed-whole, feed-stopped, judged-empty, kept, kept-on}
 use Rattle.run_spec.proofs.Bytes.{cost, none-accepted}
-use Rattle.run_spec.specs.declared.Pair.{Pair}
 use Rattle.texts.specs.declared.Text.{Text}
 use Rattle.texts.specs.Texts.{bytesOf}
 use Rattle.run_state.specs.declared.Player.{Player}
 use Rattle.run_record.specs.declared.RecordResult.{RecordResult}
 use Rattle.run_state.specs.Memory.{Memory}
-use Rattle.run_state.specs.Changes.{halted, pairIn, withPairPlanted}
+use Rattle.run_state.specs.Changes.{halted}
 use Rattle.run_state.specs.State.{PlayerOf, MemoryOf}
 use Rattle.run_state.proofs.Told.{part-tells, allowed-as}
-use Rattle.run_record.specs.Next.{allowedTo, recordTaken, plantTaken, Next, NextQuiet, afterPlant}
+use Rattle.run_record.specs.Next.{allowedTo, recordTaken, Next}
 use Rattle.texts.proofs.Writing.{empty-text}
 use Rattle.run_round.proofs.Converging.{held-converges}
-use Rattle.run_record.proofs.Records.{stopped-next, plant-place, taken-allowed, plant-taken}
+use Rattle.run_record.proofs.Records.{stopped-next, taken-allowed, not-due}
 use Rattle.run_piece.specs.declared.FeedResult.{FeedResult}
 use Rattle.run_piece.specs.Advances.{StateAt, Advances, GrownTo, AdvancesOnce}
-use Rattle.run_piece.specs.Steps.{Quiet, Used, Waits}
-use Rattle.run_piece.specs.Inner.{Missing, BeginsWhole, Plants, headedTo, RecordTaken}
+use Rattle.run_piece.specs.Steps.{Quiet, Used}
+use Rattle.run_piece.specs.Inner.{Missing, BeginsWhole, headedTo, RecordTaken}
 use Rattle.run_piece.proofs.Growing.{grown-none, judged-grown}
 
 -- from the player p and the memory M: no record was accepted by which F became G, so that the memory M′ is the same, and the player q but for part and fault
@@ -70,10 +70,6 @@ pub judges : {p : Player} {t : RecordResult} {M M′ : Memory} (b : List ℕ)
     → ((a : List ℕ) → PlayerOf p (readFile a) → MemoryOf (readFile a) M → Next (readFile a) (recordTaken (readFile a) b) p M t M′) → Judges p b t M M′
 judges b N a T H may all = rw (← taken-allowed (readFile a) b all may) (N a T H)
 
--- what `run_record::plant_record` promises of a record b
-abbrev JudgesPlant : Player → List ℕ → Player → Memory → Memory → Type 0
-JudgesPlant p b q M M′ = (F : File) → PlayerOf p F → MemoryOf F M → NextQuiet F (plantTaken F b) p M q M′
-
 -- bytes that are not there
 pub none-there : {a : List ℕ} {p : Player} {carry : List ℕ} {M : Memory} → StateAt a p carry M → AdvancesOnce a [] p M p [] carry M
 none-there {a} L =
@@ -112,27 +108,6 @@ uses-one W u T h =
 
 pub uses-all : {q : Player} {rest : List ℕ} {r : FeedResult} → Quiet q (length rest) r → Used rest r
 uses-all Q = record { within = omega (arith, Q .used); some = λ h. omega (arith, Q .used); room = omega (arith, Q .none) }
-
--- a planted record that stands in the piece
-module _ {rest : List ℕ} {used : ℕ} (P : Plants rest used) where
-  plant-long : 6 ≤ used
-  plant-long = plant-lengths true false true false used (P .allowed) .0
-
-  plant-short : {b : List ℕ} → b ≡ take used rest → length b ≤ 146
-  plant-short e = omega (arith, ap length e, length-take-le used rest (P .within), plant-place true false true false used (P .allowed))
-
-  plant-whole : {p : Player} {count number marks : ℕ} {pair : Pair} → Waits p count number marks pair → BeginsWhole p rest
-  plant-whole W =
-      record {
-        fresh = W .fresh;
-        within = omega (arith, P .long, P .within);
-        long = omega (arith, plant-long, P .long);
-        allowed = rw (P .kind, W .pending, ← P .long) (P .allowed);
-      }
-
--- a player that waits is whole: with its own last pair it is the same
-pub waits-as : {p : Player} {count number marks : ℕ} {pair : Pair} → Waits p count number marks pair → withPairPlanted p pair ≡ p
-waits-as {p} W = ap (withPairPlanted p) (sym (W .last)) ∙ sym (ap₂ (halted p) (W .fresh) (W .sound))
 
 -- a player that is halted at once is the same but for part and fault
 halts : (p : Player) {q : Player} {h c : ℕ} → q ≡ halted p h c → q ≡ halted p (q .have) (q .fault)
@@ -175,45 +150,42 @@ module _ {a : List ℕ} {p : Player} {before : List ℕ} {M : Memory} (L : State
         (none-accepted (kindIn b) F b (lengthIn b) may (cost a .begun)) (judged-grown F b (kindIn b) (lengthIn b) may (n .shows))
 
     -- it stands in the piece
-    pub stands-there : BeginsWhole p rest → used ≡ lengthIn rest → b ≡ take used rest → AdvancesOnce a (take (r .used) rest) p M (r .player) (bytesOf (r .text)) carry M′
-    stands-there W u e =
+    pub stands-there : BeginsWhole p rest → allowedTo p rest ≡ true → used ≡ lengthIn rest → b ≡ take used rest
+        → AdvancesOnce a (take (r .used) rest) p M (r .player) (bytesOf (r .text)) carry M′
+    stands-there W may u e =
         let none : F .part ≡ [] = L .part ∙ ap (λ (n : ℕ). take n before) (W .fresh) in
         let same : Heads b rest = rw (← e) at (heads-take used rest (omega (arith, W .long))) in
         let long = length-take-le used rest (omega (arith, W .within)) in
         takes (ap (λ (l : List ℕ). l ++ take used rest) none ∙ sym e) (omega (arith, W .long))
-        (heads-stand F same ∙ allowed-as (L .player) (kindIn rest) (lengthIn rest) ∙ W .allowed)
+        (heads-stand F same ∙ allowed-as (L .player) (kindIn rest) (lengthIn rest) ∙ may)
         (ap length e ∙ long ∙ u ∙ sym (same .long))
 
-  module _ {count number marks : ℕ} {pair : Pair} (W : Waits p count number marks pair) where
-    -- nothing is taken
-    pub none-passed : AdvancesOnce a [] p M (withPairPlanted p pair) [] before M
-    none-passed = rw (waits-as W) (none-there L)
+  -- a record that stands in the piece is taken: one that is not allowed stops the file at its header, and the rest of it is not read
+  pub whole-there : {r : FeedResult} {t : RecordResult} {used : ℕ} {b carry : List ℕ} {M′ : Memory} (rest : List ℕ) → p .fault ≡ 0 → RecordTaken t used r
+      → ((a′ : List ℕ) → PlayerOf p (readFile a′) → MemoryOf (readFile a′) M → Next (readFile a′) (recordTaken (readFile a′) b) p M t M′)
+      → BeginsWhole p rest → used ≡ lengthIn rest → b ≡ take used rest → AdvancesOnce a (take (r .used) rest) p M (r .player) (bytesOf (r .text)) carry M′
+  whole-there {r} {t} {used} {b} {carry} {M′} rest ok T N W u e = go (allowedTo p rest) refl
+    where
+      none : F .part ≡ []
+      none = L .part ∙ ap (λ (n : ℕ). take n before) (W .fresh)
 
-    module _ {used : ℕ} {b : List ℕ} {M′ : Memory} (rest : List ℕ) (P : Plants rest used) (e : b ≡ take used rest) where
-      -- a planted record with a fault is left
-      pub plant-left : (c : ℕ) → (c ≡ 0 → ⊥) → JudgesPlant p b (afterPlant p c b) M M′ → AdvancesOnce a [] p M (withPairPlanted p pair) [] before M′
-      plant-left zero h N = absurd (h refl)
-      plant-left (suc c) h N =
-          let n = N F (L .player) (L .memory) (record { len = 0; bytes = [] }) refl in
-          rw (n .refused (λ z. omega (arith, n .player .fault)) .0) none-passed
-
-      -- any other is taken
-      pub plant-there : {last : Pair} {c : ℕ} → c ≡ 0 → JudgesPlant p b (afterPlant p c b) M M′ → last ≡ pairIn rest
-          → AdvancesOnce a (take used rest) p M (withPairPlanted p last) [] before M′
-      plant-there {last} {c} z N l =
-          let t : Text = record { len = 0; bytes = [] } in
-          let q : Player = withPairPlanted p last in
-          let long = plant-long P in
-          let same : Heads b rest = rw (← e) at (heads-take used rest (omega arith)) in
-          let kind : kindIn b ≡ plant = same .kind ∙ P .kind in
-          let is : afterPlant p c b ≡ q =
-          rw (z, e, l, getD-take used rest 4 0 (omega arith), getD-take used rest 5 0 (omega arith)) in
-          let s =
-          stands-there {r = record { player = q; used = used; text = t }} {t = record { player = q; text = t }} {carry = before} {M′ = M′} rest (W .sound)
-          (record { player = refl; used = refl; text = refl })
-          (λ a′ T H may all. rw (kind, ← is, ← plant-taken (readFile a′) b (plant-short P e)) (N (readFile a′) T H t refl))
-          (plant-whole P W) (P .long) e in
-          rw (empty-text t refl) at s
+      go : (may : Bool) → allowedTo p rest ≡ may → AdvancesOnce a (take (r .used) rest) p M (r .player) (bytesOf (r .text)) carry M′
+      go true may = stands-there rest ok T (judges b N) W may u e
+      go false may =
+          let same : Heads b rest = rw (← e) at (heads-take used rest (omega (arith, W .long))) in
+          let stops : recordTaken F b ≡ stopped F refusal.bad-run-record =
+          not-due (L .player) b (rw (same .kind, same .long, may) (and-false (eqb (length b) (lengthIn rest)))) in
+          let header : feed F (take 4 rest) ≡ stopped F refusal.bad-run-record =
+          let four : length (take 4 rest) ≡ 4 = length-take-le 4 rest (omega (arith, W .long, W .within)) in
+          feed-refused F (L .player .fault ∙ ok) (take 4 rest) (omega arith) (rw none four)
+          (rw none (heads-stand F (heads-take 4 rest (omega arith)) ∙ allowed-as (L .player) (kindIn rest) (lengthIn rest) ∙ may)) in
+          let split : take used rest ≡ take 4 rest ++ drop 4 (take used rest) =
+          sym (take-append-drop 4 (take used rest)) ∙ ap (λ (l : List ℕ). l ++ drop 4 (take used rest)) (take-take 4 used rest (omega (arith, W .long))) in
+          let is : feed F (take used rest) ≡ stopped F refusal.bad-run-record =
+          rw split (feed-append F (take 4 rest) (drop 4 (take used rest)) ∙ rw header (feed-stopped (stopped F refusal.bad-run-record) (drop 4 (take used rest)) (λ z. omega arith))) in
+          let n = rw stops at (N a (L .player) (L .memory)) in
+          becomes rest (stopped F refusal.bad-run-record) is refl T n (λ x z. omega arith)
+          (grown-none F (stopped F refusal.bad-run-record) refl (stop-shows F refusal.bad-run-record) (n .shows))
 
   module _ {rest carry : List ℕ} {want used : ℕ} (G : Gathered (p .have) before rest carry want used) (ok : p .fault ≡ 0) where
     abbrev s : List ℕ

@@ -1,3 +1,4 @@
 pub mod Growing
 pub mod Feeding
 pub mod Calm
+pub mod Planting

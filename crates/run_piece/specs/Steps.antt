@@ -1,10 +1,12 @@
 -- What one step over a piece promises to the stream over it: how many bytes it takes, and that they are read.
 use mathlib.Core.Path.{_≡_}
-use mathlib.Core.Bool.{true, false}
+use mathlib.Core.Bool.{Bool, true, not, cond, _&&_}
 use mathlib.Core.List.{List, []}
 use Prim.Native.Nat.{ℕ, _≤_, _<_}
+use lib.Dec.{leb, eqb}
 use lib.ListN.{length, take}
-use Rattle.run_spec.specs.RunFile.{round, lengthIn, kindIn, roundFault}
+use Rattle.fields.specs.Bytes.{at2}
+use Rattle.run_spec.specs.RunFile.{lengthIn, isPlantLength, roundFault, plantFault}
 use Rattle.run_spec.specs.declared.Pair.{Pair}
 use Rattle.texts.specs.Texts.{bytesOf}
 use Rattle.run_state.specs.declared.Player.{Player}
@@ -47,14 +49,19 @@ pub record Waits (p : Player) (count number marks : ℕ) (pair : Pair) : Type 0 
   pub struck : p .struck ≡ marks
   pub last : p .last ≡ pair
 
--- a piece begins with a whole round record that has no fault, when the ring has agreed and nothing is planted in the pending round
-pub record Calm (p : Player) (s : List ℕ) : Type 0 where
-  pub agreed : p .agreed ≡ true
-  pub pending : p .pending ≡ true
-  pub unplanted : p .last .some ≡ false
-  pub fresh : p .have ≡ 0
-  pub sound : p .fault ≡ 0
-  pub within : 8 ≤ length s
-  pub long : lengthIn s ≡ 8
-  pub kind : kindIn s ≡ round
-  pub faultless : roundFault (p .family) (p .n) (p .f) (p .given) s ≡ 0
+-- the size of the planted record that a piece begins with; 0 if it begins with no whole one
+abbrev pub plantSize : List ℕ → ℕ
+plantSize s = cond (eqb (at2 s 2) 0x12 && leb (lengthIn s) (length s) && isPlantLength (lengthIn s)) (lengthIn s) 0
+
+-- the same, but 0 if the record has a fault: of n heads and m listeners, in a round with the mark word struck, after the pair last
+abbrev pub plantPassed : (n m struck : ℕ) (last : Pair) (s : List ℕ) → ℕ
+plantPassed n m struck last s = cond (eqb (plantFault n m struck last s) 0) (plantSize s) 0
+
+-- whether the ring has agreed, nothing is planted in the pending round, and no record is cut or refused
+abbrev pub isSettled : Player → Bool
+isSettled p = p .agreed && p .pending && not (p .last .some) && eqb (p .have) 0 && eqb (p .fault) 0
+
+-- whether a piece begins with a whole round record that has no fault, in a ring that is settled
+abbrev pub isCalm : Player → List ℕ → Bool
+isCalm p s =
+    isSettled p && leb 8 (length s) && eqb (lengthIn s) 8 && eqb (at2 s 2) 0x11 && eqb (roundFault (p .family) (p .n) (p .f) (p .given) s) 0

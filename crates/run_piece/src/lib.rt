@@ -8,12 +8,13 @@ ghost use lib.ListN.{length, take};
 ghost use Rattle.run_state.specs.Memory.{memoryBefore, memoryAfter};
 ghost use Rattle.run_state.specs.Changes.{halted, withPairPlanted};
 ghost use Rattle.run_record.specs.Next.{allowedTo};
-ghost use Rattle.run_piece.specs.Steps.{Quiet, Used, Reads, Waits, Passes, Calm};
-ghost use Rattle.run_piece.specs.Inner.{Missing, BeginsWhole, Plants, Unplanted, headedTo, RecordTaken};
+ghost use Rattle.run_piece.specs.Steps.{Quiet, Used, Reads, Waits, Passes, plantSize, plantPassed, isSettled, isCalm};
+ghost use Rattle.run_piece.specs.Inner.{Missing, BeginsWhole, headedTo, RecordTaken};
 use frame_slots::PlantedBytes;
 use frame_slots::PlantedLengths;
 use run_record::RecordResult;
 use run_spec::Pair;
+use run_state::CARRY;
 use run_state::Carry;
 use run_state::Player;
 use terms::Lists;
@@ -57,17 +58,15 @@ fn gather(carry: &mut [u8], have: usize, bytes: &[u8])
     fields::put_bytes(carry, have, bytes);
 }
 
-// Whether a piece begins with a whole record that is allowed.
+// Whether a piece begins with a record, its header at least, and has as many bytes as the header says.
 fn is_whole(p: Player, bytes: &[u8]) -> bool
     ensures { λ r. ⌜ (r ≡ true → BeginsWhole p (now (bytes .entry))) ⌝ }
 {
     if p.have != 0 {
         return false;
     }
-    if bytes.len() < fields::half_at(bytes, 0) as usize {
-        return false;
-    }
-    run_record::stands(p, bytes)
+    let size = fields::half_at(bytes, 0) as usize;
+    4 <= size && size <= bytes.len()
 }
 
 // The player with more of a record that is not whole.
@@ -135,11 +134,11 @@ fn take_part(
         (now (carry .exit)) (memoryAfter positions marks lists planted lengths) ⌝ }
 {
     let have = p.have;
-    if 1026 <= have {
+    if CARRY <= have {
         return quiet(p, rest.len());
     }
     let want = missing(have, carry);
-    let used = least(least(want, 1026 - have), rest.len());
+    let used = least(least(want, CARRY - have), rest.len());
     gather(carry, have, front(rest, used));
     let now = have + used;
     if used < want {
@@ -167,7 +166,7 @@ pub struct PlantResult {
 
 // The size of the planted record at the front of a piece; 0 if there is no whole one.
 fn plant_size(bytes: &[u8]) -> usize
-    ensures { λ r. ⌜ (0 < r → Plants (now (bytes .entry)) r) ⌝ }
+    ensures { λ r. ⌜ r ≡ plantSize (now (bytes .entry)) ⌝ }
 {
     let len = bytes.len();
     if len < 6 {
@@ -180,14 +179,13 @@ fn plant_size(bytes: &[u8]) -> usize
     if len < size as usize {
         return 0;
     }
-    if !run_judge::is_allowed(run_judge::PLANT, size, true, false, true, false) {
+    if !run_judge::is_plant_length(size) {
         return 0;
     }
     size as usize
 }
 
-// Takes the planted record at the front of a piece, if there is a whole one that has no fault. It shows nothing. Whether one is taken is
-// free: a record that is left is taken by `advance`.
+// Takes the planted record at the front of a piece, if there is a whole one that has no fault. It shows nothing. Any other record is left.
 pub fn pass_plant(
     n: u8,
     m: u8,
@@ -197,7 +195,7 @@ pub fn pass_plant(
     planted: &mut PlantedBytes,
     lengths: &mut PlantedLengths,
 ) -> PlantResult
-    ensures { λ r. ⌜ r .used ≤ length (now (rest .entry)) ⌝ }
+    ensures { λ r. ⌜ r .used ≡ plantPassed n m struck last (now (rest .entry)) ⌝ }
     ensures { λ r. ⌜ ((p : Player) → Waits p n m struck last → Passes p (now (rest .entry)) (record { player = withPairPlanted p (r .last); used = r .used })
         (now (planted .entry)) (now (lengths .entry)) (now (planted .exit)) (now (lengths .exit))) ⌝ }
 {
@@ -205,11 +203,12 @@ pub fn pass_plant(
     if used == 0 {
         return PlantResult { used: 0, last };
     }
-    let whole = front(rest, used);
-    if run_record::plant_record(whole, n, m, struck, last, planted, lengths) != 0 {
+    if run_judge::plant_fault(rest, n, m, struck, last) != 0 {
         return PlantResult { used: 0, last };
     }
     let pair = run_record::pair_in(rest);
+    let frame = fields::bytes_from(front(rest, used), 6);
+    frame_slots::plant(planted, lengths, pair.from, pair.to, frame);
     PlantResult { used, last: pair }
 }
 
@@ -244,7 +243,7 @@ pub fn advance(
 
 // Whether the ring has agreed, nothing is planted in the pending round, and the player is between records and has no fault.
 fn is_settled(p: Player) -> bool
-    ensures { λ r. ⌜ (r ≡ true → Unplanted p) ⌝ }
+    ensures { λ r. ⌜ r ≡ isSettled p ⌝ }
 {
     if !p.agreed {
         return false;
@@ -262,9 +261,9 @@ fn is_settled(p: Player) -> bool
 }
 
 // Whether a piece begins with a whole round record that has no fault, in a ring that has agreed, when nothing is planted in the pending
-// round. Such a record changes the player alone. To answer no is free, and shows in the time alone.
+// round. Such a record changes the player alone.
 pub fn is_calm(p: Player, bytes: &[u8]) -> bool
-    ensures { λ r. ⌜ (r ≡ true → Calm p (now (bytes .entry))) ⌝ }
+    ensures { λ r. ⌜ r ≡ isCalm p (now (bytes .entry)) ⌝ }
 {
     if !is_settled(p) {
         return false;

@@ -7,7 +7,7 @@ use native.Mathlib.Omega.{arith}
 use lib.Dec.{eqb, leb}
 use lib.ListN.{length, getD, drop}
 use lib.IntN.{ℤ, pos}
-use borrow.Author.Tests.{leb-true, ltb-true, eqb-true, not-true, le-leb, lt-leb, eq-eqb}
+use borrow.Author.Tests.{leb-true, ltb-true, eqb-true, not-true, eq-eqb}
 use Rattle.terms.specs.Refusals as refusal
 use Rattle.terms.specs.Sizes.{isCount}
 use Rattle.terms.specs.declared.Entry.{Entry}
@@ -17,8 +17,7 @@ use Rattle.terms.proofs.Booleans.{and-both}
 use Rattle.head_spec.proofs.Proper.{both-passed}
 use Rattle.ring_spec.specs.Rounds.{Round, Ring, ringAfter, endsAfter, mostRounds}
 use Rattle.ring_spec.specs.Agreed.{agreedOn}
-use Rattle.run_spec.specs.RunFile.{File, roundsGiven, RecordKind, start, round, plant, listeners, strikes, allowedWhen, lengthIn, kindIn, isAllowed, isFirst, isBare, listenerCountIn, listenersIn, headCountIn, limitIn, positionIn, struckIn, fewMarks, senderIn, receiverIn, plantFault, recordFault, withRecord, stopped, judged, ringFrom, endsFrom}
-use Rattle.run_spec.specs.declared.Pair.{Pair}
+use Rattle.run_spec.specs.RunFile.{File, roundsGiven, RecordKind, start, round, plant, listeners, strikes, lengthIn, kindIn, isAllowed, isFirst, isBare, listenerCountIn, listenersIn, headCountIn, limitIn, positionIn, struckIn, fewMarks, senderIn, receiverIn, recordFault, withRecord, stopped, judged, ringFrom, endsFrom}
 use Rattle.run_spec.specs.Listing.{title, shown}
 use Rattle.run_spec.proofs.Bytes.{first-begun}
 use Rattle.run_spec.proofs.Streaming.{start-shows, plant-shows, listeners-shows, strikes-shows, stop-shows}
@@ -35,11 +34,11 @@ use Rattle.run_state.specs.Changes.{freshPlayer, halted, withRoundGiven, pairIn
 use Rattle.run_state.specs.State.{PlayerOf, MemoryOf}
 use Rattle.run_round.specs.Played.{Played}
 use Rattle.run_round.specs.Agrees.{Agrees}
-use Rattle.run_record.specs.Next.{recordTaken, plantTaken, Next, afterPlant}
+use Rattle.run_record.specs.Next.{recordTaken, Next}
 use Rattle.run_record.specs.Inner.{dueTo, Turned}
 use Rattle.run_round.proofs.Keeping.{no-position, start-positions, start-keeps, start-keeps-any}
 use Rattle.texts.proofs.Writing.{empty-text}
-use Rattle.run_state.proofs.Told.{start-tells, stop-tells, round-tells, plant-tells, listeners-tells, strikes-tells, allowed-as, plant-fault-as}
+use Rattle.run_state.proofs.Told.{start-tells, stop-tells, round-tells, plant-tells, listeners-tells, strikes-tells, allowed-as}
 
 shows-none : (l : List ℕ) (t : Text) → t .len ≡ 0 → l ≡ l ++ bytesOf t
 shows-none l t e = rw (empty-text t e) (sym (append-nil l))
@@ -60,7 +59,7 @@ module _ (K : RecordKind) (F : File) (s : List ℕ) where
 
 module _ (F : File) (len : ℕ) where
   pub start-place : (K : Family) → isAllowed (start K) F len ≡ true → F .setup .begun ≡ false
-  start-place K e = not-true (F .setup .begun) (and-both (not (F .setup .begun)) _ (and-both (not (F .setup .begun) && leb 6 len) _ e .0) .0)
+  start-place K e = not-true (F .setup .begun) (and-both (not (F .setup .begun)) _ e .0)
 
   pub round-place : isAllowed round F len ≡ true → F .setup .begun ≡ true
   round-place e = and-both (F .setup .begun) _ e .0
@@ -70,9 +69,6 @@ module _ (F : File) (len : ℕ) where
 
   pub strikes-place : isAllowed strikes F len ≡ true → isBare (F .rounds) ≡ true
   strikes-place e = and-both (isBare (F .rounds)) _ e .0
-
-pub plant-place : (begun first pending bare : Bool) (len : ℕ) → allowedWhen plant begun first pending bare len ≡ true → len ≤ 146
-plant-place begun first pending bare len e = leb-true len 146 (and-both (pending && leb 6 len) _ e .1)
 
 start-small : (K : Family) (F : File) (s : List ℕ) → recordFault (start K) F s ≡ 0 → headCountIn s ≤ 32
 unfolding isCount
@@ -90,14 +86,6 @@ module _ (F : File) (s : List ℕ) where
   unfolding recordTaken
   taken-allowed whole may = rw (eq-eqb _ _ whole, may)
 
-  pub plant-taken : length s ≤ 146 → plantTaken F s ≡ judged plant F s
-  unfolding plantTaken
-  plant-taken few = rw (le-leb _ _ few)
-
-  pub plant-refused : 146 < length s → plantTaken F s ≡ stopped F refusal.bad-run-record
-  unfolding plantTaken
-  plant-refused many = rw (lt-leb _ _ many)
-
 -- whether it is judged, by the player's numbers
 module _ {F : File} {p : Player} (T : PlayerOf p F) (s : List ℕ) where
   pub due-whole : dueTo p s ≡ true → (isAllowed (kindIn s) F (lengthIn s) ≡ true) × (length s ≡ lengthIn s)
@@ -108,17 +96,6 @@ module _ {F : File} {p : Player} (T : PlayerOf p F) (s : List ℕ) where
   pub not-due : dueTo p s ≡ false → recordTaken F s ≡ stopped F refusal.bad-run-record
   unfolding recordTaken
   not-due e = rw (allowed-as T (kindIn s) (lengthIn s), e)
-
--- ---- a planted record
-
--- its fault, by the player's numbers
-pub plant-told : {F : File} {p : Player} {n m struck : ℕ} {last : Pair} → PlayerOf p F → p .n ≡ n → p .listeners ≡ m → p .struck ≡ struck → p .last ≡ last
-    → (s : List ℕ) → plantFault n m struck last s ≡ recordFault plant F s
-plant-told T a b c d s = sym (plant-fault-as T s ∙ rw (a, b, c, d))
-
-pub after-stopped : (p : Player) (c : ℕ) (s : List ℕ) → (c ≡ 0 → ⊥) → afterPlant p c s ≡ halted p 0 c
-after-stopped p zero s h = absurd (h refl)
-after-stopped p (suc c) s h = refl
 
 -- ---- a round record
 

@@ -2,18 +2,17 @@
 use mathlib.Core.Bool.{Bool, cond, _&&_}
 use mathlib.Core.List.{List, _++_}
 use mathlib.Core.Path.{_≡_}
-use Prim.Native.Nat.{ℕ, zero, suc, _≤_}
-use lib.Dec.{eqb, leb}
+use Prim.Native.Nat.{ℕ, _≤_}
+use lib.Dec.{eqb}
 use lib.ListN.{length}
 use Rattle.terms.specs.Refusals as refusal
-use Rattle.run_spec.specs.RunFile.{File, plant, lengthIn, kindIn, allowedWhen, isAllowed, stopped, judged}
+use Rattle.run_spec.specs.RunFile.{File, lengthIn, kindIn, allowedWhen, isAllowed, stopped, judged}
 use Rattle.run_spec.specs.Listing.{shown}
-use Rattle.texts.specs.declared.Text.{Text}
 use Rattle.texts.specs.Texts.{bytesOf}
 use Rattle.run_state.specs.declared.Player.{Player}
 use Rattle.run_record.specs.declared.RecordResult.{RecordResult}
 use Rattle.run_state.specs.Memory.{Memory}
-use Rattle.run_state.specs.Changes.{halted, pairIn, withPairPlanted}
+use Rattle.run_state.specs.Changes.{halted}
 use Rattle.run_state.specs.Places.{firstOf, bareOf}
 use Rattle.run_state.specs.State.{PlayerOf, MemoryOf}
 
@@ -25,10 +24,6 @@ allowedTo p s = allowedWhen (kindIn s) (p .begun) (firstOf p) (p .pending) (bare
 unfoldable pub recordTaken : File → List ℕ → File
 recordTaken F s = cond (eqb (length s) (lengthIn s) && isAllowed (kindIn s) F (lengthIn s)) (judged (kindIn s) F s) (stopped F refusal.bad-run-record)
 
--- the same of bytes that are known to be a planted record, which has 146 at most
-unfoldable pub plantTaken : File → List ℕ → File
-plantTaken F s = cond (leb (length s) 146) (judged plant F s) (stopped F refusal.bad-run-record)
-
 -- a record is taken, by which the file F becomes G: from the player p and its memory M to the player after it, its memory M′, and the text
 -- by which the listing grows. A record that is refused leaves the memory as it was, and the player but for its fault (D14b).
 pub record Next (F G : File) (p : Player) (M : Memory) (r : RecordResult) (M′ : Memory) : Type 0 where
@@ -39,12 +34,3 @@ pub record Next (F G : File) (p : Player) (M : Memory) (r : RecordResult) (M′ 
   pub refused : (G .fault ≡ 0 → ⊥) → (M′ ≡ M) × (r .player ≡ halted p 0 (G .fault))
   pub shows : shown G ≡ shown F ++ bytesOf (r .text)
   pub room : r .text .len ≤ 64
-
--- the same of a record that shows nothing: q is the player after it
-abbrev pub NextQuiet : File → File → Player → Memory → Player → Memory → Type 0
-NextQuiet F G p M q M′ = (t : Text) → t .len ≡ 0 → Next F G p M (record { player = q; text = t }) M′
-
--- the player after a planted record s, by the number of its fault: stopped, or with one pair more
-abbrev pub afterPlant : Player → ℕ → List ℕ → Player
-afterPlant p zero s = withPairPlanted p (pairIn s)
-afterPlant p (suc c) s = halted p 0 (suc c)

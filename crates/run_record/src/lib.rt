@@ -3,13 +3,13 @@ ghost use mathlib.Core.Bool.{true, false};
 ghost use mathlib.Core.List.{List};
 ghost use mathlib.Core.Path.{_≡_};
 ghost use Prim.Native.Nat.{ℕ, _≤_, _<_};
-ghost use lib.ListN.{length, getD};
+ghost use lib.ListN.{length, getD, drop};
 ghost use lib.IntN.{pos};
-ghost use Rattle.run_spec.specs.RunFile.{File, roundsGiven, readFile, start, round, plant, listeners, strikes, isFirst, isBare, kindIn, lengthIn, isAllowed, judged, stopped};
+ghost use Rattle.run_spec.specs.RunFile.{File, readFile, start, round, plant, listeners, strikes, isFirst, isBare, kindIn, lengthIn, isAllowed, judged, stopped};
 ghost use Rattle.run_state.specs.Memory.{Memory, memoryBefore, memoryAfter, withPositions, withSlots};
 ghost use Rattle.run_state.specs.Changes.{pairIn};
 ghost use Rattle.run_state.specs.State.{PlayerOf, MemoryOf};
-ghost use Rattle.run_record.specs.Next.{allowedTo, recordTaken, plantTaken, Next, NextQuiet, afterPlant};
+ghost use Rattle.run_record.specs.Next.{allowedTo, recordTaken, Next};
 ghost use Rattle.run_record.specs.Inner.{dueTo, Turned};
 use frame_slots::PlantedBytes;
 use frame_slots::PlantedLengths;
@@ -163,59 +163,27 @@ pub fn pair_in(bytes: &[u8]) -> Pair
     }
 }
 
-// A planted record, judged by the numbers of the player, and planted if it has no fault. Answers the number of its fault, 0 for none; 13 if
-// it is longer than any.
-pub fn plant_record(
-    bytes: &[u8],
-    n: u8,
-    m: u8,
-    struck: u64,
-    last: Pair,
-    planted: &mut PlantedBytes,
-    lengths: &mut PlantedLengths,
-) -> u8
-    ensures { λ r. ⌜ ((F : File) (M : Memory) (p : Player) → p .n ≡ n → p .listeners ≡ m → p .struck ≡ struck → p .last ≡ last → PlayerOf p F
-        → MemoryOf F (withSlots M (now (planted .entry)) (now (lengths .entry)))
-        → NextQuiet F (plantTaken F (now (bytes .entry))) p (withSlots M (now (planted .entry)) (now (lengths .entry)))
-        (afterPlant p r (now (bytes .entry))) (withSlots M (now (planted .exit)) (now (lengths .exit)))) ⌝ }
-{
-    if 146 < bytes.len() {
-        return refusal::BAD_RUN_RECORD;
-    }
-    let fault = run_judge::plant_fault(bytes, n, m, struck, last);
-    if fault != 0 {
-        return fault;
-    }
-    let pair = pair_in(bytes);
-    let frame = fields::bytes_from(bytes, 6);
-    frame_slots::plant(planted, lengths, pair.from, pair.to, frame);
-    0
-}
-
-// The player after a planted record with this fault, or with none.
-fn after_plant(p: Player, fault: u8, bytes: &[u8]) -> Player
-    ensures { λ r. ⌜ r ≡ afterPlant p fault (now (bytes .entry)) ⌝ }
-{
-    if fault != 0 {
-        return run_state::stop(p, fault);
-    }
-    run_state::planted_pair(p, pair_in(bytes))
-}
-
-// A planted record.
+// A planted record, of at most 140 planted bytes.
 fn take_plant(
     p: Player,
     bytes: &[u8],
     planted: &mut PlantedBytes,
     lengths: &mut PlantedLengths,
 ) -> RecordResult
-    ensures { λ r. ⌜ ((F : File) (M : Memory) → PlayerOf p F → MemoryOf F (withSlots M (now (planted .entry)) (now (lengths .entry)))
-        → Next F (plantTaken F (now (bytes .entry))) p (withSlots M (now (planted .entry)) (now (lengths .entry))) r (withSlots M (now (planted .exit)) (now (lengths .exit)))) ⌝ }
+    ensures { λ r. ⌜ ((F : File) (M : Memory) → length (drop 6 (now (bytes .entry))) ≤ 140 → PlayerOf p F
+        → MemoryOf F (withSlots M (now (planted .entry)) (now (lengths .entry)))
+        → Next F (judged plant F (now (bytes .entry))) p (withSlots M (now (planted .entry)) (now (lengths .entry))) r (withSlots M (now (planted .exit)) (now (lengths .exit)))) ⌝ }
     ensures { λ r. ⌜ r .text .len ≤ 64 ⌝ }
 {
-    let fault = plant_record(bytes, p.n, p.listeners, p.struck, p.last, planted, lengths);
+    let fault = run_judge::plant_fault(bytes, p.n, p.listeners, p.struck, p.last);
+    if fault != 0 {
+        return refuse(p, fault);
+    }
+    let pair = pair_in(bytes);
+    let frame = fields::bytes_from(bytes, 6);
+    frame_slots::plant(planted, lengths, pair.from, pair.to, frame);
     RecordResult {
-        player: after_plant(p, fault, bytes),
+        player: run_state::planted_pair(p, pair),
         text: texts::empty(),
     }
 }

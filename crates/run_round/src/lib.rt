@@ -18,6 +18,7 @@ ghost use Rattle.texts.specs.Texts.{bytesOf};
 use frame_slots::PlantedBytes;
 use frame_slots::PlantedLengths;
 use ring_play::Stage;
+use run_judge::HEAD_MARKS;
 use run_listing::Ends;
 use run_state::Player;
 use terms::Family;
@@ -35,10 +36,10 @@ fn stage_of(p: Player) -> Stage
         n: p.n,
         f: p.f,
         phase: run_state::phase_of(family, p.given),
-        before: (p.before % 4294967296) as u32,
-        struck: (p.struck % 4294967296) as u32,
+        before: (p.before % HEAD_MARKS) as u32,
+        struck: (p.struck % HEAD_MARKS) as u32,
         listeners: p.listeners,
-        away: (p.struck / 4294967296 % 4294967296) as u32,
+        away: (p.struck / HEAD_MARKS % HEAD_MARKS) as u32,
     }
 }
 
@@ -48,7 +49,11 @@ fn ends_at(p: Player, positions: &Positions) -> Ends
         → Found receivers (endIn (p .n) (p .listeners) (p .struck) (now (positions .entry))) (r .low) (r .high)) ⌝ }
 {
     if p.agreed {
-        return run_listing::ends_held(positions, p.struck, p.n, p.listeners);
+        let held = run_listing::first_sound(positions, p.struck, p.n, p.listeners);
+        return Ends {
+            low: held,
+            high: held,
+        };
     }
     run_listing::ends_of(positions, p.struck, p.n, p.listeners)
 }

@@ -158,11 +158,11 @@ pub one-accepted : (K : RecordKind) (F : File) (s : List ℕ) (len : ℕ) → is
     → (F .rounds .pending ≡ true → F .setup .begun ≡ true) → accepted (withRecord K F s) ≡ suc (accepted F)
 unfolding accepted recordsOf
 one-accepted (start K) F s len may sound W =
-    let none = not-true (F .setup .begun) (and-both (not (F .setup .begun)) _ (and-both (not (F .setup .begun) && leb 6 len) _ may .0) .0) in
+    let none = not-true (F .setup .begun) (and-both (not (F .setup .begun)) _ may .0) in
     rw none refl
 one-accepted round F s len may sound W = rw (and-both (F .setup .begun) _ may .0) (omega arith)
 one-accepted plant F s len may sound W =
-    let pending = and-both (F .rounds .pending) _ (and-both (F .rounds .pending && leb 6 len) _ may .0) .0 in
+    let pending = and-both (F .rounds .pending) _ may .0 in
     rw (W pending, pending) (omega arith)
 one-accepted listeners F s len may sound W =
     let (begun, roundsGiven, none) = first-begun F (and-both (isFirst F) _ may .0) in

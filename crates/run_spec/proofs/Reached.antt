@@ -236,7 +236,7 @@ module _ (F : File) (G : F .setup .begun ≡ true → Reached F) where
       → Reached (withRecord K F s)
   good-record (start K) s may e b = good-start K s e
   good-record round s may e b = good-round s e (G b)
-  good-record plant s may e b = good-plant s (and-both (F .rounds .pending) _ (and-both (F .rounds .pending && leb 6 (lengthIn s)) _ may .0) .0) e (G b)
+  good-record plant s may e b = good-plant s (and-both (F .rounds .pending) _ may .0) e (G b)
   good-record listeners s may e b = good-listeners s (and-both (isFirst F) _ may .0) e (G b)
   good-record strikes s may e b = good-strikes s (and-both (isBare (F .rounds)) _ may .0) e (G b)
   good-record other s may e b = absurd (true≢false (sym may))

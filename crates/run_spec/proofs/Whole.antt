@@ -15,7 +15,7 @@ use Rattle.terms.proofs.Refusals.{unchanged, changed}
 use Rattle.terms.specs.Refusals as refusal
 use Rattle.fields.specs.Bytes.{at2}
 use Rattle.terms.proofs.Booleans.{and-both}
-use Rattle.run_spec.specs.RunFile.{File, unread, RecordKind, start, round, plant, listeners, strikes, other, lengthIn, kindIn, allowedWhen, isAllowed, recordFault, stopped, judged, withPart, readOn, step, feed, readFile}
+use Rattle.run_spec.specs.RunFile.{File, unread, RecordKind, start, round, plant, listeners, strikes, other, lengthIn, kindIn, isPlantLength, allowedWhen, isAllowed, recordFault, stopped, judged, withPart, readOn, step, feed, readFile}
 
 -- ---- the header: four bytes
 
@@ -40,24 +40,21 @@ heads-front q xs s e h = rw (ap (take (length q)) (sym e) ∙ take-append-seam q
 pub heads-stand : {t s : List ℕ} (F : File) → Heads t s → stands F t ≡ stands F s
 heads-stand F h = rw (h .kind, h .long)
 
--- from low to high, in its place
-within : (place : Bool) (low high len : ℕ) → (place && leb low len && leb len high) ≡ true → (low ≤ len) × (len ≤ high)
-within place low high len e =
-    let (front, most) = and-both (place && leb low len) (leb len high) e in
-    (leb-true low len (and-both place (leb low len) front .1), leb-true len high most)
+within : (low high len : ℕ) → (leb low len && leb len high) ≡ true → (low ≤ len) × (len ≤ high)
+within low high len e = let (least, most) = and-both (leb low len) (leb len high) e in (leb-true low len least, leb-true len high most)
+
+-- of planted records: the bytes planted are at most 140
+pub plant-long : (len : ℕ) → isPlantLength len ≡ true → (6 ≤ len) × (len ≤ 146)
+plant-long len e = within 6 146 len e
 
 -- the lengths that some record has
 pub stands-long : (K : RecordKind) (begun first pending bare : Bool) (len : ℕ) → allowedWhen K begun first pending bare len ≡ true → (5 ≤ len) × (len ≤ 1026)
-stands-long (start K) begun first pending bare len e = let (least, most) = within (not begun) 6 1026 len e in (omega arith, most)
+stands-long (start K) begun first pending bare len e = let (least, most) = within 6 1026 len (and-both (not begun) _ e .1) in (omega arith, most)
 stands-long round begun first pending bare len e = let is = eqb-true len 8 (and-both begun (eqb len 8) e .1) in (omega arith, omega arith)
-stands-long plant begun first pending bare len e = let (least, most) = within pending 6 146 len e in (omega arith, omega arith)
+stands-long plant begun first pending bare len e = let (least, most) = plant-long len (and-both pending _ e .1) in (omega arith, omega arith)
 stands-long listeners begun first pending bare len e = let is = eqb-true len 5 (and-both first (eqb len 5) e .1) in (omega arith, omega arith)
 stands-long strikes begun first pending bare len e = let is = eqb-true len 6 (and-both bare (eqb len 6) e .1) in (omega arith, omega arith)
 stands-long other begun first pending bare len e = absurd (true≢false (sym e))
-
--- of planted records: the bytes planted are at most 140
-pub plant-long : (begun first pending bare : Bool) (len : ℕ) → allowedWhen plant begun first pending bare len ≡ true → (6 ≤ len) × (len ≤ 146)
-plant-long begun first pending bare len e = within pending 6 146 len e
 
 pub allowed-long : (F : File) (s : List ℕ) → stands F s ≡ true → (5 ≤ lengthIn s) × (lengthIn s ≤ 1026)
 allowed-long F s may = stands-long (kindIn s) _ _ _ _ (lengthIn s) may

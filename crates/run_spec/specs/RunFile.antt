@@ -82,13 +82,20 @@ lengthIn s = at2 s 0
 abbrev pub kindIn : List ℕ → RecordKind
 kindIn s = recordKind (at2 s 2)
 
+-- the lengths that some start record has, of up to 255 positions, and some planted record, of up to 140 bytes
+abbrev pub isStartLength : ℕ → Bool
+isStartLength len = leb 6 len && leb len 1026
+
+abbrev pub isPlantLength : ℕ → Bool
+isPlantLength len = leb 6 len && leb len 146
+
 -- By its first four bytes: a start first and once, a round after it, a planted record after a round; the number of listeners just after the
 -- start, and a round's struck listeners just after its record; the lengths that some record of that kind has. begun: a start was accepted;
 -- first: nothing else was; pending: a round is pending; bare: nothing was accepted after its record (P41, P44, P49, Q41, Q46).
 abbrev pub allowedWhen : (kind : RecordKind) (begun first pending bare : Bool) (len : ℕ) → Bool
-allowedWhen (start K) begun first pending bare len = not begun && leb 6 len && leb len 1026
+allowedWhen (start K) begun first pending bare len = not begun && isStartLength len
 allowedWhen round begun first pending bare len = begun && eqb len 8
-allowedWhen plant begun first pending bare len = pending && leb 6 len && leb len 146
+allowedWhen plant begun first pending bare len = pending && isPlantLength len
 allowedWhen listeners begun first pending bare len = first && eqb len 5
 allowedWhen strikes begun first pending bare len = bare && eqb len 6
 allowedWhen other begun first pending bare len = false

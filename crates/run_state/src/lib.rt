@@ -11,13 +11,14 @@ ghost use Rattle.run_spec.specs.RunFile.{lastPair};
 ghost use Rattle.run_state.specs.Changes.{freshPlayer, halted, withRoundGiven, withPairPlanted, withListenersGiven, withStrikesGiven};
 ghost use Rattle.run_state.specs.Places.{firstOf, bareOf};
 ghost use Rattle.run_state.specs.Counts.{aged, cleared, countsPlayed};
+use run_judge::HEAD_MARKS;
 use run_judge::MOST_ROUNDS;
 use run_spec::Pair;
 use terms::Family;
 use terms::RECEIVERS;
 
-// The longest record, a start with 255 positions, has 1,026 bytes; up to that many of a record that is cut are kept.
-pub const CARRY: usize = 1026;
+// Of a record that is cut, as many bytes are kept as the longest record has.
+pub const CARRY: usize = run_judge::LONGEST as usize;
 
 pub type Carry = [u8; CARRY];
 
@@ -263,7 +264,7 @@ pub fn given_listeners(p: Player, m: u8) -> Player
 fn with_listeners(struck: u64, marks: u16) -> u64
     ensures { λ r. ⌜ r ≡ struck % 4294967296 + 4294967296 * marks ⌝ }
 {
-    struck % 4294967296 + 4294967296 * (marks as u64)
+    struck % HEAD_MARKS + HEAD_MARKS * (marks as u64)
 }
 
 // The player after an accepted record of a round's struck listeners.

@@ -32,6 +32,9 @@ pub const PAGE: usize = 4096;
 
 pub type Page = [u8; PAGE];
 
+// Past as many bytes a page has no room for a line, of up to 64 bytes.
+const FULL: usize = PAGE - 64;
+
 // How the file ends, the last line of a phase, if its end plays one, the last line of all, and the counts when all rounds that are played
 // are played.
 pub struct FinishResult {
@@ -262,7 +265,7 @@ fn pass_rounds(
     let mut player = p;
     let mut used: usize = 0;
     let mut to = from;
-    while used < bytes.len() && to <= 4032 {
+    while used < bytes.len() && to <= FULL {
         let rest = &bytes[used..];
         if !run_piece::is_calm(player, rest) {
             return FillResult {
@@ -303,7 +306,7 @@ pub fn fill(
     let mut player = p;
     let mut used: usize = 0;
     let mut len: usize = 0;
-    while used < bytes.len() && len <= 4032 {
+    while used < bytes.len() && len <= FULL {
         let more = feed(
             player,
             &bytes[used..],

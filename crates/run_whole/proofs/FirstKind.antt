@@ -68,7 +68,7 @@ module _ (a : List ℕ) (F : File) (x : ℕ) (I : Kinds a F) where
         first = λ b. (omega (arith, ap length same), ap kindIn (sym same) ∙ e);
       }
   takes ok all long round e may = later _ (round-place F (lengthIn s) may) refl refl
-  takes ok all long plant e may = later _ (I .waits (and-both (F .rounds .pending) _ (and-both (F .rounds .pending && _) _ may .0) .0)) refl refl
+  takes ok all long plant e may = later _ (I .waits (and-both (F .rounds .pending) _ may .0)) refl refl
   takes ok all long listeners e may = later _ (first-begun F (listeners-place F (lengthIn s) may) .0) refl refl
   takes ok all long strikes e may =
       later _ (I .waits (and-both (F .rounds .pending) _ (and-both _ _ (strikes-place F (lengthIn s) may) .0) .0)) refl refl

@@ -1,7 +1,7 @@
 -- `run_piece::advance` meets its contract: after a fault nothing is read, a whole record is taken where it is, and what is cut is gathered.
 use native.Mathlib.Omega.{arith}
 use borrow.Author.Needs.{needs}
-use Rattle.run_piece.proofs.Feeding.{uses-all, uses-one, judges, rests, stands-there}
+use Rattle.run_piece.proofs.Feeding.{uses-all, uses-one, rests, whole-there}
 use Rattle.run_piece.proofs.advance.Statement.{statement}
 use Rattle.run_piece.proofs.advance.Tie as tie
 
@@ -21,7 +21,7 @@ returns-2 c =
     let ok = h .before .before .before .if1 .left in
     let t = c .before .take-record .ensures in
     let T = c .taken .ensures in
-    (uses-one W (h .half-at .ensures) T (t .1), λ a L. stands-there L _ ok T (judges _ (t .0)) W (h .half-at .ensures) (f .front .ensures))
+    (uses-one W (h .half-at .ensures) T (t .1), λ a L. whole-there L _ ok T (t .0) W (h .half-at .ensures) (f .front .ensures))
 
 pub advance-spec : {M : Type 1} → statement M
 advance-spec =

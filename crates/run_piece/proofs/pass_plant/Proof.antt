@@ -1,35 +1,36 @@
 -- `run_piece::pass_plant` meets its contract: a planted record without a fault is taken where it is, and anything else is left.
-use native.Mathlib.Omega.{arith}
+use mathlib.Core.Path.{sym, _∙_}
+use denote.Ref.{now}
 use borrow.Author.Needs.{needs}
-use Rattle.run_piece.proofs.Feeding.{none-passed, plant-left, plant-there}
+use borrow.Author.Tests.{eq-eqb, ne-eqb}
+use Rattle.run_piece.proofs.Planting.{Plants, size-plants, passed-none, none-passed, plant-there}
 use Rattle.run_piece.proofs.pass_plant.Statement.{statement}
 use Rattle.run_piece.proofs.pass_plant.Tie as tie
 
 returns : tie.Need-returns
-returns c = (omega arith, λ p W a carry M L. none-passed L W)
-
-front-requires : tie.Need-front-requires
-front-requires c κs = c .before .plant-size .ensures (omega arith) .within
+returns c =
+    let z = c .before in
+    let a = z .before .before .args in
+    (passed-none (a .n) (a .m) (a .struck) (a .last) (now (a .rest)) (sym (c .if1 .taken) ∙ z .plant-size .ensures), λ p W a carry M L. none-passed L W)
 
 returns-2 : tie.Need-returns-2
-returns-2 c =
-    let v = c .before in
-    let f = v .before .before .before in
-    let z = f .before .before in (
-      omega arith,
-      λ p W a carry M L. plant-left L W _ (z .plant-size .ensures (omega (arith, f .before .if1 .left))) (f .front .ensures) _ (c .if2 .taken)
-          (λ F. v .plant-record .ensures F M p (W .n) (W .listeners) (W .struck) (W .last)),
-    )
+returns-2 c = (rw (← c .before .plant-fault .ensures, ne-eqb _ _ (c .if2 .taken)), λ p W a carry M L. none-passed L W)
+
+there : (e : tie.Else1) → Plants (now (e .before .before .before .args .rest)) (e .before .plant-size .result)
+there e = size-plants (now (e .before .before .before .args .rest)) (e .before .plant-size .ensures) (e .if1 .left)
+
+front-requires : tie.Need-front-requires
+front-requires c κs = there (c .before .before .before) .within
 
 returns-3 : tie.Need-returns-3
 returns-3 c =
-    let i = c .before in
-    let v = i .before in
-    let f = v .before .before .before in
-    let P = f .before .before .plant-size .ensures (omega (arith, f .before .if1 .left)) in (
-      P .within,
-      λ p W a carry M L. plant-there L W _ P (f .front .ensures) (i .if2 .left)
-          (λ F. v .plant-record .ensures F M p (W .n) (W .listeners) (W .struck) (W .last)) (c .pair-in .ensures),
+    let x = c .before .before .before in
+    let k = x .before .before in
+    let t = k .before in
+    let i = t .before .before in
+    let sound = sym (t .before .plant-fault .ensures) ∙ t .if2 .left in (
+      rw (← t .before .plant-fault .ensures, eq-eqb _ _ (t .if2 .left)) (i .before .plant-size .ensures),
+      λ p W a carry M L. plant-there L W _ (there i) (x .before .front .ensures) sound (k .pair-in .ensures) (rw (← x .bytes-from .ensures) (c .plant .ensures .1 .1)),
     )
 
 pub pass-plant-spec : {M : Type 1} → statement M
@@ -38,8 +39,10 @@ pass-plant-spec =
     (tie.spec
     (λ c κs. search needs)
     returns
-    front-requires
     (λ c κs. search needs)
     returns-2
+    (λ c κs. search needs)
+    front-requires
+    (λ c κs. search needs)
     (λ c κs. search needs)
     returns-3)

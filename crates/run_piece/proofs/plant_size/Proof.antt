@@ -1,35 +1,54 @@
--- `run_piece::plant_size` meets its contract: the kind of a planted record, and a length that it may have and that is there.
-use mathlib.Core.Path.{ap, sym, _∙_}
-use native.Mathlib.Omega.{arith}
+-- `run_piece::plant_size` meets its contract: its tests are those of the definition, in the same order.
+use mathlib.Core.Path.{_≡_, sym, _∙_}
+use mathlib.Core.Bool.{true, false}
+use denote.Ref.{now}
 use borrow.Author.Needs.{needs}
-use borrow.Author.Tests.{not-false}
-use Rattle.run_spec.specs.RunFile.{recordKind}
+use borrow.Author.Tests.{eq-eqb, ne-eqb, le-leb, lt-leb, not-true, not-false}
+use Rattle.run_spec.specs.RunFile.{isPlantLength}
+use Rattle.run_piece.proofs.Planting.{size-short}
 use Rattle.run_piece.proofs.plant_size.Statement.{statement}
 use Rattle.run_piece.proofs.plant_size.Tie as tie
 
-returns-5 : tie.Need-returns-5
-returns-5 c h =
+returns : tie.Need-returns
+returns c = size-short (now (c .before .before .args .bytes)) (c .if1 .taken)
+
+returns-2 : tie.Need-returns-2
+returns-2 c = rw (← c .before .half-at .ensures, ne-eqb _ _ (c .if2 .taken))
+
+returns-3 : tie.Need-returns-3
+returns-3 c =
+    let l = c .before in
+    let k = l .before in
+    rw (← k .before .half-at .ensures, eq-eqb _ _ (k .if2 .left), ← l .half-at2 .ensures, lt-leb _ _ (c .if3 .taken))
+
+returns-4 : tie.Need-returns-4
+returns-4 c =
     let w = c .before .before in
     let l = w .before in
     let k = l .before in
-    record {
-      kind = ap recordKind (sym (k .before .half-at .ensures) ∙ k .if2 .left);
-      long = l .half-at2 .ensures;
-      within = omega arith;
-      allowed = sym (c .before .is-allowed .ensures) ∙ not-false _ (c .if4 .left);
-    }
+    let fits : isPlantLength (l .half-at2 .result) ≡ false = sym (c .before .is-plant-length .ensures) ∙ not-true _ (c .if4 .taken) in
+    rw (← k .before .half-at .ensures, eq-eqb _ _ (k .if2 .left), ← l .half-at2 .ensures, le-leb _ _ (w .if3 .left), fits)
+
+returns-5 : tie.Need-returns-5
+returns-5 c =
+    let i = c .before in
+    let w = i .before in
+    let l = w .before in
+    let k = l .before in
+    let fits : isPlantLength (l .half-at2 .result) ≡ true = sym (i .is-plant-length .ensures) ∙ not-false _ (c .if4 .left) in
+    rw (← k .before .half-at .ensures, eq-eqb _ _ (k .if2 .left), ← l .half-at2 .ensures, le-leb _ _ (w .if3 .left), fits)
 
 pub plant-size-spec : {M : Type 1} → statement M
 plant-size-spec =
     tie.close
     (tie.spec
-    (λ c h. absurd (omega arith))
+    returns
     (λ c κs. search needs)
-    (λ c h. absurd (omega arith))
+    returns-2
     (λ c κs. search needs)
     (λ c. search needs)
-    (λ c h. absurd (omega arith))
+    returns-3
     (λ c κs. search needs)
-    (λ c h. absurd (omega arith))
+    returns-4
     (λ c. search needs)
     returns-5)

@@ -3,15 +3,17 @@ use mathlib.Core.Path.{_≡_, ap, sym, _∙_}
 use mathlib.Core.Bool.{true, true≢false}
 use mathlib.Core.List.{List}
 use Prim.Native.Nat.{ℕ, _≤_}
-use lib.ListN.{length}
+use lib.ListN.{length, drop, length-drop}
 use native.Mathlib.Omega.{arith}
 use borrow.Author.Needs.{needs}
 use borrow.Author.Tests.{ne-eqb}
 use denote.Ref.{now}
 use Rattle.terms.specs.declared.Family.the-variants.{TwoRounds, OneRound}
-use Rattle.run_spec.specs.RunFile.{readFile, isFirst, isBare, start, round, plant, listeners, strikes, other, recordKind, kindIn, lengthIn, isAllowed}
+use Rattle.run_spec.specs.RunFile.{readFile, start, round, plant, listeners, strikes, other, recordKind, kindIn, lengthIn, isAllowed}
+use Rattle.terms.proofs.Booleans.{and-both}
+use Rattle.run_spec.proofs.Whole.{plant-long}
 use Rattle.run_state.specs.Memory.{Memory}
-use Rattle.run_record.proofs.Records.{start-place, round-place, plant-place, plant-taken, listeners-place, strikes-place}
+use Rattle.run_record.proofs.Records.{start-place, round-place, listeners-place, strikes-place}
 use Rattle.run_record.proofs.take_allowed.Statement.{statement}
 use Rattle.run_record.proofs.take_allowed.Tie as tie
 
@@ -49,9 +51,9 @@ returns-3 c =
     let s = now (m .before .before .before .args .bytes) in
     let kind : kindIn s ≡ plant = ap recordKind (sym (m .before .half-at .ensures) ∙ m .match .keys3) in
     let (next, room) = c .take-plant .ensures in
-    let short : (a : List ℕ) → isAllowed plant (readFile a) (lengthIn s) ≡ true → length s ≡ lengthIn s → length s ≤ 146 =
-    λ a may whole. omega (arith, plant-place (readFile a .setup .begun) (isFirst (readFile a)) (readFile a .rounds .pending) (isBare (readFile a .rounds)) (lengthIn s) may) in
-    (λ a T H may whole. rw (kind, ← plant-taken (readFile a) s (short a (rw kind at may) whole)) (next (readFile a) (lent (m .before)) T H), room)
+    let short : (a : List ℕ) → isAllowed plant (readFile a) (lengthIn s) ≡ true → length s ≡ lengthIn s → length (drop 6 s) ≤ 140 =
+    λ a may whole. omega (arith, length-drop 6 s, plant-long (lengthIn s) (and-both (readFile a .rounds .pending) _ may .1)) in
+    (λ a T H may whole. rw kind (next (readFile a) (lent (m .before)) (short a (rw kind at may) whole) T H), room)
 
 returns-4 : tie.Need-returns-4
 returns-4 c =

@@ -12,8 +12,9 @@ use Rattle.run_state.specs.declared.Player.{Player}
 use Rattle.run_state.specs.Memory.{Memory, withSlots}
 use Rattle.run_state.specs.Changes.{withPairPlanted}
 use Rattle.run_piece.specs.Steps.{Waits}
-use Rattle.run_piece.proofs.Feeding.{none-there, used-as, waits-as}
-use Rattle.run_stream.proofs.Pieces.{Still, moved-within, still-first, last-step, still-more, steps-here}
+use Rattle.run_piece.proofs.Feeding.{none-there, used-as}
+use Rattle.run_piece.proofs.Planting.{waits-as, passed-within}
+use Rattle.run_stream.proofs.Pieces.{rest, Still, moved-within, still-first, last-step, still-more, steps-here}
 use Rattle.run_stream.proofs.pass_plants.Statement.{statement}
 use Rattle.run_stream.proofs.pass_plants.Tie as tie
 
@@ -50,7 +51,11 @@ module _ (v : tie.After-pass-plant Inv-loop μ-loop) where
 
   -- the step from `used`
   moves : here .loop .used + used ≤ length (now (start .args .bytes))
-  moves = moved-within (here .loop .used) used (now (start .args .bytes)) (here .loop .inv .0) (v .pass-plant .ensures .0)
+  moves =
+      let p = start .args .p in
+      let s = now (start .args .bytes) in
+      moved-within (here .loop .used) used s (here .loop .inv .0)
+      (passed-within (p .n) (p .listeners) (p .struck) (here .loop .last) (rest (here .loop .used) s) (v .pass-plant .ensures .0))
 
   waiting : Waits (withPairPlanted (start .args .p) (here .loop .last)) (start .args .p .n) (start .args .p .listeners) (start .args .p .struck) (here .loop .last)
   waiting = waits (here .before .before .before .awaits-plants .ensures (not-false _ (here .before .before .if1 .left))) (here .loop .last)

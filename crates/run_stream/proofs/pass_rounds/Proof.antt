@@ -1,5 +1,5 @@
 -- `run_stream::pass_rounds` meets its contract: at the head of the loop the page holds what was shown before and the lines of the bytes before `used`.
-use mathlib.Core.Path.{ap, _∙_}
+use mathlib.Core.Path.{ap, sym, _∙_}
 use mathlib.Core.Bool.{true}
 use Prim.Native.Nat.{ℕ, _+_, _-_, _≤_}
 use native.Mathlib.Omega.{arith}
@@ -8,8 +8,7 @@ use denote.Ref.{now}
 use borrow.Author.Needs.{needs}
 use borrow.Author.Tests.{not-false, leb-true}
 use Rattle.run_state.specs.Changes.{withRoundGiven}
-use Rattle.run_piece.specs.Steps.{Calm}
-use Rattle.run_piece.proofs.Calm.{calm-there}
+use Rattle.run_piece.proofs.Calm.{Calm, calm-as, calm-there}
 use Rattle.run_stream.specs.Inner.{Follows}
 use Rattle.run_stream.proofs.Pieces.{rest, moved-within, follows-first, follows-more}
 use Rattle.run_stream.proofs.pass_rounds.Statement.{statement}
@@ -34,7 +33,7 @@ module _ (e : tie.Else2 Inv-loop μ-loop) where
   start = here .before .before
 
   calm : Calm (here .loop .player) (rest (here .loop .used) (now (start .args .bytes)))
-  calm = e .before .is-calm .ensures (not-false _ (e .if2 .left))
+  calm = calm-as _ _ (sym (e .before .is-calm .ensures) ∙ not-false _ (e .if2 .left))
 
   moves : here .loop .used + 8 ≤ length (now (start .args .bytes))
   moves = moved-within (here .loop .used) 8 (now (start .args .bytes)) (here .loop .inv .0) (calm .within)

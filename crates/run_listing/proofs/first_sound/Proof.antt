@@ -1,6 +1,6 @@
--- `run_listing::ends_held` meets its contract: before receiver j none is sound, and the first that is says it of all.
-use mathlib.Core.Path.{_≡_, sym, subst, _∙_}
-use Prim.Native.Nat.{ℕ, _-_, _≤_}
+-- `run_listing::first_sound` meets its contract: before receiver j none is sound.
+use mathlib.Core.Path.{_≡_, sym, _∙_}
+use Prim.Native.Nat.{_-_, _≤_}
 use native.Mathlib.Omega.{arith}
 use denote.Ref.{now}
 use mir.Facts.{toZ-ofZ}
@@ -8,20 +8,19 @@ use borrow.Author.Tests.{not-true, not-false}
 use borrow.Author.Needs.{needs}
 use Rattle.terms.specs.declared.Entry.the-variants.{Null}
 use Rattle.ring_spec.specs.Rounds.{receivers}
-use Rattle.run_listing.specs.Held.{endIn}
-use Rattle.run_listing.specs.Heights.{Found}
-use Rattle.run_listing.proofs.Lowest.{found-none, found-struck, found-level}
-use Rattle.run_listing.proofs.ends_held.Statement.{statement}
-use Rattle.run_listing.proofs.ends_held.Tie as tie
+use Rattle.run_listing.specs.Held.{endIn, firstSound}
+use Rattle.run_listing.proofs.Lowest.{first-none, first-struck, first-sound}
+use Rattle.run_listing.proofs.first_sound.Statement.{statement}
+use Rattle.run_listing.proofs.first_sound.Tie as tie
 
 abbrev Inv-loop : tie.InvT-loop
-Inv-loop positions struck n m j₀ j = (j ≤ receivers) × Found j (endIn n m struck positions) Null Null
+Inv-loop positions struck n m j₀ j = (j ≤ receivers) × (firstSound j (endIn n m struck positions) ≡ Null)
 
 abbrev μ-loop : tie.MeasureT-loop
 μ-loop positions struck n m j₀ j = receivers - j
 
 loop-holds : tie.Need-loop-holds Inv-loop μ-loop
-loop-holds c = (omega arith, found-none _)
+loop-holds c = (omega arith, first-none _)
 
 returns : tie.Need-returns Inv-loop μ-loop
 returns c =
@@ -30,26 +29,24 @@ returns c =
     let i = s .before in
     let a = i .before .before .args in
     let v = toZ-ofZ (record { sfits = c .position-at .ok }) ∙ c .position-at .ensures in
-    λ u h.
-    found-level (a .n) (a .m) (a .struck) (now (a .positions)) h (i .loop-test .taken) (i .before .loop .inv .1)
-    (not-true _ (sym (s .is-sound .ensures) ∙ t .if1 .taken)) v
+    first-sound (a .n) (a .m) (a .struck) (now (a .positions)) _ (i .before .loop .inv .1) (i .loop-test .taken) (not-true _ (sym (s .is-sound .ensures) ∙ t .if1 .taken)) v
 
 loop-again : tie.Need-loop-again Inv-loop μ-loop
 loop-again c =
     let s = c .before in
     let l = s .before .before in
     let a = l .before .args in
-    (search needs, found-struck (a .n) (a .m) (a .struck) (now (a .positions)) (l .loop .inv .1) (not-false _ (sym (s .is-sound .ensures) ∙ c .if1 .left)))
+    (search needs, first-struck (a .n) (a .m) (a .struck) (now (a .positions)) _ (l .loop .inv .1) (not-false _ (sym (s .is-sound .ensures) ∙ c .if1 .left)))
 
 returns-2 : tie.Need-returns-2 Inv-loop μ-loop
 returns-2 c =
     let l = c .before .loop in
     let a = c .before .before .args in
     let e : l .first ≡ receivers = omega arith in
-    λ u h. subst (λ (k : ℕ). Found k (endIn (a .n) (a .m) (a .struck) (now (a .positions))) Null Null) e (l .inv .1)
+    sym (rw e at (l .inv .1))
 
-pub ends-held-spec : {M : Type 1} → statement M
-ends-held-spec =
+pub first-sound-spec : {M : Type 1} → statement M
+first-sound-spec =
     tie.close
     (tie.spec
     Inv-loop
