@@ -17,7 +17,7 @@ use Rattle.terms.specs.declared.Entry.the-variants.{Null, Position}
 use Rattle.terms.proofs.Whole.{arithZ, not-le, decLeZ, half-between, half-closer}
 use Rattle.terms.specs.Counting.{Each, sum, bit, AtMost}
 use Rattle.terms.specs.declared.Family.the-variants.{TwoRounds}
-use Rattle.convergence.specs.Settling.{isNull, nulls, trim, twoRounds}
+use Rattle.convergence.specs.Settling.{isNull, nulls, trim, twoRoundRule}
 use Rattle.convergence.specs.Demand3.{AcceptedSize, Halves}
 use Rattle.terms.proofs.Sums.{sums-le, sum-one, sum-none, bit-le}
 use Rattle.convergence.proofs.Order.{passes, gt-fails}
@@ -185,7 +185,7 @@ module _ (n f : ℕ) (c d p : ℕ → Bool) (v : ℕ → ℤ) (L : Limits n f c 
         ))
 
     -- so an end kept cannot lie outside the sound positions
-    pub holds : (m M : ℤ) → Between n p v m M → Holds n (twoRounds f) m M E
+    pub holds : (m M : ℤ) → Between n p v m M → Holds n (twoRoundRule f) m M E
     holds m M B =
         record {
           few = few-nulls;
@@ -222,14 +222,14 @@ module _ (n f : ℕ) (c d p : ℕ → Bool) (v : ℕ → ℤ) (L : Limits n f c 
 
     -- All but t of the positions at the one are at most `high`, and all but t′ at the other at least `low`. With `low` above `high` they weigh more
     -- than they can.
-    pub no-gap : high n (twoRounds f) E <ℤ low n (twoRounds f) E′ → ⊥
+    pub no-gap : high n (twoRoundRule f) E <ℤ low n (twoRoundRule f) E′ → ⊥
     no-gap k = go (decLe (n + sum n (λ j. both (c j) (d j))) (4 * f))
       where
         hi : ℤ
-        hi = high n (twoRounds f) E
+        hi = high n (twoRoundRule f) E
 
         lo : ℤ
-        lo = low n (twoRounds f) E′
+        lo = low n (twoRoundRule f) E′
 
         Weighs : ℕ → Type 0
         Weighs x =
@@ -239,7 +239,7 @@ module _ (n f : ℕ) (c d p : ℕ → Bool) (v : ℕ → ℤ) (L : Limits n f c 
         heavy =
             let T = the-trim E A in
             let T′ = the-trim E′ A′ in
-            omega (arith, the-kept n (twoRounds f) E (some-kept E A) .upto-high, the-kept n (twoRounds f) E′ (some-kept E′ A′) .from-low)
+            omega (arith, the-kept n (twoRoundRule f) E (some-kept E A) .upto-high, the-kept n (twoRoundRule f) E′ (some-kept E′ A′) .from-low)
 
         go : Dec (n + sum n (λ j. both (c j) (d j)) ≤ 4 * f) → ⊥
         go (yes q) = omega (arith, heavy, weigh _ _ k (λ j. both (c j) (d j)) (λ j l x y w. rw (x, y) (omega arith)))

@@ -12,7 +12,7 @@ use Rattle.terms.specs.declared.Entry.{Entry}
 use Rattle.terms.specs.declared.Entry.the-variants.{Null, Position}
 use Rattle.terms.specs.declared.Family.the-variants.{OneRound}
 use Rattle.terms.specs.Counting.{Each, sum, bit, AtMost}
-use Rattle.convergence.specs.Settling.{isNull, nulls, oneRound}
+use Rattle.convergence.specs.Settling.{isNull, nulls, oneRoundRule}
 use Rattle.convergence.specs.Phases.{End, Faults, gives, heardFrom}
 use Rattle.convergence.specs.Demand3.{AcceptedSize}
 use Rattle.terms.proofs.Sums.{sums-le, sum-one, bit-le}
@@ -72,7 +72,7 @@ module _ (n f : ℕ) (d p : ℕ → Bool) (v : ℕ → ℤ) (size : AcceptedSize
           sums-le n ((λ j. liar (d j) (d j) (E j)) ∷ []) ((λ j. bit (d j)) ∷ []) (λ j l. omega (arith, liar-point (d j) (d j) (E j))),
         )
 
-    pub holds : (m M : ℤ) → Between n p v m M → Holds n (oneRound f) m M E
+    pub holds : (m M : ℤ) → Between n p v m M → Holds n (oneRoundRule f) m M E
     holds m M B =
         record {
           few = few-nulls;
@@ -87,16 +87,16 @@ module _ (n f : ℕ) (d p : ℕ → Bool) (v : ℕ → ℤ) (size : AcceptedSize
         }
 
   -- two receivers
-  pub no-gap : (E E′ : ℕ → Entry) → Facts n d d p v E → Facts n d d p v E′ → high n (oneRound f) E <ℤ low n (oneRound f) E′ → ⊥
+  pub no-gap : (E E′ : ℕ → Entry) → Facts n d d p v E → Facts n d d p v E′ → high n (oneRoundRule f) E <ℤ low n (oneRoundRule f) E′ → ⊥
   unfolding nulls
   no-gap E E′ A A′ k =
-      let hi : ℤ = high n (oneRound f) E in
-      let lo : ℤ = low n (oneRound f) E′ in
+      let hi : ℤ = high n (oneRoundRule f) E in
+      let lo : ℤ = low n (oneRoundRule f) E′ in
       omega (
         arith,
         sum-one n,
-        the-kept n (oneRound f) E (some-kept E A) .upto-high,
-        the-kept n (oneRound f) E′ (some-kept E′ A′) .from-low,
+        the-kept n (oneRoundRule f) E (some-kept E A) .upto-high,
+        the-kept n (oneRoundRule f) E′ (some-kept E′ A′) .from-low,
         sums-le n
             ((λ j. passes (λ u. leZ u hi) (E j)) ∷ (λ j. isNull (E j)) ∷ (λ j. passes (λ u. leZ lo u) (E′ j)) ∷ (λ j. isNull (E′ j)) ∷ [])
             ((λ j. 1) ∷ (λ j. bit (p j)) ∷ (λ j. bit (d j)) ∷ [])

@@ -14,15 +14,15 @@ use Rattle.marks.proofs.Words.{bit-low, bit-high}
 use Rattle.terms.specs.Counting.{Each}
 use Rattle.terms.proofs.Sums.{each-more}
 use Rattle.entries.specs.Entries.{entryAt}
-use Rattle.entries.specs.Tables.{tableAt, mark, number, marksOf, numbersOf, tableOf}
+use Rattle.entries.specs.Tables.{tableAt, mark, valueOf, marksOf, valuesOf, tableOf}
 use Rattle.entries.proofs.Tables.{marks-below, numbers-long}
 
-pub numbers-at : (n : ℕ) (E : ℕ → Entry) → n ≤ 32 → Each n (λ j. getD (numbersOf n E) j (pos 0) ≡ number (E j))
-unfolding numbersOf
+pub numbers-at : (n : ℕ) (E : ℕ → Entry) → n ≤ 32 → Each n (λ j. getD (valuesOf n E) j (pos 0) ≡ valueOf (E j))
+unfolding valuesOf
 numbers-at zero E l = λ j h. absurd (omega arith)
 numbers-at (suc n) E l =
-    each-more (λ j h. getD-set-other (numbersOf n E) n j (number (E n)) (pos 0) (omega arith) ∙ numbers-at n E (omega arith) j h)
-    (getD-set-same (numbersOf n E) n (number (E n)) (pos 0) (omega (arith, numbers-long E n)))
+    each-more (λ j h. getD-set-other (valuesOf n E) n j (valueOf (E n)) (pos 0) (omega arith) ∙ numbers-at n E (omega arith) j h)
+    (getD-set-same (valuesOf n E) n (valueOf (E n)) (pos 0) (omega (arith, numbers-long E n)))
 
 abbrev isHeld : Entry → Bool
 isHeld Null = false
@@ -45,6 +45,6 @@ pub table-at : (n : ℕ) (E : ℕ → Entry) → n ≤ 32 → Each n (λ j. tabl
 unfolding entryAt
 table-at n E l j h = rw (marks-at n E j h, numbers-at n E l j h) (go (E j))
   where
-    go : (e : Entry) → cond (isHeld e) (Position (number e)) Null ≡ e
+    go : (e : Entry) → cond (isHeld e) (Position (valueOf e)) Null ≡ e
     go Null = refl
     go (Position v) = refl

@@ -18,7 +18,7 @@ use Rattle.terms.specs.declared.Entry.{Entry}
 use Rattle.terms.specs.declared.Entry.the-variants.{Null, Position}
 use Rattle.terms.specs.declared.Table.{Table}
 use Rattle.entries.specs.Entries.{zeros}
-use Rattle.entries.specs.Tables.{mark, number, marksOf, numbersOf, tableOf}
+use Rattle.entries.specs.Tables.{mark, valueOf, marksOf, valuesOf, tableOf}
 use Rattle.terms.specs.Counting.{Each}
 use Rattle.terms.proofs.Sums.{each-last, each-less}
 use Rattle.marks.proofs.Counts.{first-32}
@@ -50,26 +50,26 @@ module _ (E : ℕ → Entry) (j : ℕ) {m r : ℕ} (h : j < 32) (p : m ≡ marks
       let k : 2 ^ (j + 1) ≤ 2 ^ 32 = pow-mono l in
       omega (arith, marks-next, marks-below E (j + 1))
 
-pub numbers-next : (E : ℕ → Entry) (j : ℕ) {out : List ℤ} {v : ℤ} → out ≡ numbersOf j E → v ≡ number (E j) → set out j v ≡ numbersOf (j + 1) E
-unfolding numbersOf
+pub numbers-next : (E : ℕ → Entry) (j : ℕ) {out : List ℤ} {v : ℤ} → out ≡ valuesOf j E → v ≡ valueOf (E j) → set out j v ≡ valuesOf (j + 1) E
+unfolding valuesOf
 numbers-next E j p q = rw (add-one j, p, q)
 
-pub numbers-long : (E : ℕ → Entry) (n : ℕ) → length (numbersOf n E) ≡ 32
-unfolding numbersOf zeros
+pub numbers-long : (E : ℕ → Entry) (n : ℕ) → length (valuesOf n E) ≡ 32
+unfolding valuesOf zeros
 numbers-long E zero = refl
-numbers-long E (suc n) = length-set (numbersOf n E) n (number (E n)) ∙ numbers-long E n
+numbers-long E (suc n) = length-set (valuesOf n E) n (valueOf (E n)) ∙ numbers-long E n
 
 module _ (E : ℕ → Entry) (none : (j : ℕ) → 32 ≤ j → E j ≡ Null) (n : ℕ) where
   marks-first-32 : marksOf (min n 32) E ≡ marksOf n E
   unfolding marksOf
   marks-first-32 = first-32 (λ k. marksOf k E) (λ k l. rw (none k l) (omega arith)) n
 
-  numbers-first-32 : numbersOf (min n 32) E ≡ numbersOf n E
-  unfolding numbersOf
-  numbers-first-32 = first-32 (λ k. numbersOf k E) (λ k l. set-out (numbersOf k E) k (number (E k)) (rw numbers-long l)) n
+  numbers-first-32 : valuesOf (min n 32) E ≡ valuesOf n E
+  unfolding valuesOf
+  numbers-first-32 = first-32 (λ k. valuesOf k E) (λ k l. set-out (valuesOf k E) k (valueOf (E k)) (rw numbers-long l)) n
 
   -- the first 32 entries stored are the whole table
-  pub table-first-32 : {m : ℕ} {out : List ℤ} → m ≡ marksOf (min n 32) E → out ≡ numbersOf (min n 32) E → _≡_ {A = Table} (record { marks = m; entries = out }) (tableOf n E)
+  pub table-first-32 : {m : ℕ} {out : List ℤ} → m ≡ marksOf (min n 32) E → out ≡ valuesOf (min n 32) E → _≡_ {A = Table} (record { marks = m; entries = out }) (tableOf n E)
   table-first-32 p q = ap₂ (λ (a : ℕ) (b : List ℤ). record { marks = a; entries = b }) (p ∙ marks-first-32) (q ∙ numbers-first-32)
 
 -- ---- a table depends on its entries only
@@ -79,8 +79,8 @@ unfolding marksOf
 marks-same zero E E′ h = refl
 marks-same (suc n) E E′ h = rw (marks-same n E E′ (each-less h), each-last h)
 
-pub numbers-same : (n : ℕ) (E E′ : ℕ → Entry) → Each n (λ k. E k ≡ E′ k) → numbersOf n E ≡ numbersOf n E′
-unfolding numbersOf
+pub numbers-same : (n : ℕ) (E E′ : ℕ → Entry) → Each n (λ k. E k ≡ E′ k) → valuesOf n E ≡ valuesOf n E′
+unfolding valuesOf
 numbers-same zero E E′ h = refl
 numbers-same (suc n) E E′ h = rw (numbers-same n E E′ (each-less h), each-last h)
 
@@ -88,7 +88,7 @@ pub table-same : (n : ℕ) (E E′ : ℕ → Entry) → Each n (λ k. E k ≡ E�
 table-same n E E′ h = ap₂ (λ (m : ℕ) (l : List ℤ). record { marks = m; entries = l }) (marks-same n E E′ h) (numbers-same n E E′ h)
 
 -- marks and numbers that were filled up to n
-pub table-filled : (E : ℕ → Entry) {n k m : ℕ} {l : List ℤ} → k ≡ n → m ≡ marksOf k E → l ≡ numbersOf k E
+pub table-filled : (E : ℕ → Entry) {n k m : ℕ} {l : List ℤ} → k ≡ n → m ≡ marksOf k E → l ≡ valuesOf k E
     → _≡_ {A = Table} (record { marks = m; entries = l }) (tableOf n E)
 table-filled E e p q = rw (p, q, e)
 
@@ -111,12 +111,12 @@ module _ (E : ℕ → Entry) (k : ℕ) (e : Entry) where
       (λ q. rw (q, put-same, marks-same k put E (λ j h. put-other j (omega arith)), none) (omega arith))
       (λ d. rw (put-other n d, marks-put none n (omega arith)) (omega arith))
 
-  pub numbers-put : (n : ℕ) → k < n → numbersOf n put ≡ set (numbersOf n E) k (number e)
-  unfolding numbersOf
+  pub numbers-put : (n : ℕ) → k < n → valuesOf n put ≡ set (valuesOf n E) k (valueOf e)
+  unfolding valuesOf
   numbers-put zero l = absurd (omega arith)
   numbers-put (suc n) l = by-cases (ℕ-discrete n k)
-      (λ q. rw (q, put-same, numbers-same k put E (λ j h. put-other j (omega arith))) (sym (set-set (numbersOf k E) k (number (E k)) (number e))))
-      (λ d. rw (put-other n d, numbers-put n (omega arith)) (set-comm (numbersOf n E) k n (number e) (number (E n)) (omega arith)))
+      (λ q. rw (q, put-same, numbers-same k put E (λ j h. put-other j (omega arith))) (sym (set-set (valuesOf k E) k (valueOf (E k)) (valueOf e))))
+      (λ d. rw (put-other n d, numbers-put n (omega arith)) (set-comm (valuesOf n E) k n (valueOf e) (valueOf (E n)) (omega arith)))
 
 -- the marks of 32 entries are a word
 marks-word : (E : ℕ → Entry) (n : ℕ) → n ≤ 32 → marksOf n E < 4294967296

@@ -16,18 +16,18 @@ abbrev pub mark : Entry → ℕ
 mark Null = 0
 mark (Position u) = 1
 
-abbrev pub number : Entry → ℤ
-number Null = pos 0
-number (Position u) = u
+abbrev pub valueOf : Entry → ℤ
+valueOf Null = pos 0
+valueOf (Position u) = u
 
 unfoldable pub marksOf : ℕ → (ℕ → Entry) → ℕ
 marksOf zero E = 0
 marksOf (suc n) E = marksOf n E + mark (E n) * 2 ^ n
 
-unfoldable pub numbersOf : ℕ → (ℕ → Entry) → List ℤ
-numbersOf zero E = zeros
-numbersOf (suc n) E = set (numbersOf n E) n (number (E n))
+unfoldable pub valuesOf : ℕ → (ℕ → Entry) → List ℤ
+valuesOf zero E = zeros
+valuesOf (suc n) E = set (valuesOf n E) n (valueOf (E n))
 
 -- entries 0 .. n - 1 of E as a table (D4)
 abbrev pub tableOf : ℕ → (ℕ → Entry) → Table
-tableOf n E = record { marks = marksOf n E; entries = numbersOf n E }
+tableOf n E = record { marks = marksOf n E; entries = valuesOf n E }

@@ -18,7 +18,7 @@ use Rattle.terms.specs.declared.Entry.the-variants.{Null, Position}
 use Rattle.terms.specs.declared.Table.{Table}
 use Rattle.marks.specs.Marks.{bitOf}
 use Rattle.entries.specs.Entries.{fits, entryAt, numbers}
-use Rattle.entries.specs.Tables.{tableAt, mark, number, marksOf, numbersOf, tableOf}
+use Rattle.entries.specs.Tables.{tableAt, mark, valueOf, marksOf, valuesOf, tableOf}
 use Rattle.entries.proofs.Tables.{numbers-long}
 use Rattle.entries.proofs.TableAt.{numbers-at}
 use Rattle.terms.specs.Counting.{Each}
@@ -47,15 +47,15 @@ marks-rest m l (suc n) = rw (pow-succ', mod-mul m {m = 2} {c = 2 ^ n} (omega ari
 -- the numbers of n entries, and 0 from there to 32
 record FillResult (n : ℕ) (E : ℕ → Entry) (l : List ℤ) : Type 0 where
   long : length l ≡ 32
-  read : Each n (λ j. getD l j (pos 0) ≡ number (E j))
+  read : Each n (λ j. getD l j (pos 0) ≡ valueOf (E j))
   none : (j : ℕ) → n ≤ j → getD l j (pos 0) ≡ pos 0
 
-past : (E : ℕ → Entry) (n j : ℕ) → n ≤ j → getD (numbersOf n E) j (pos 0) ≡ pos 0
-unfolding numbersOf numbers
+past : (E : ℕ → Entry) (n j : ℕ) → n ≤ j → getD (valuesOf n E) j (pos 0) ≡ pos 0
+unfolding valuesOf numbers
 past E zero j l = numbers-none [] 0 j (omega arith)
-past E (suc n) j l = getD-set-other (numbersOf n E) n j (number (E n)) (pos 0) (omega arith) ∙ past E n j (omega arith)
+past E (suc n) j l = getD-set-other (valuesOf n E) n j (valueOf (E n)) (pos 0) (omega arith) ∙ past E n j (omega arith)
 
-filled : (E : ℕ → Entry) (n : ℕ) → n ≤ 32 → FillResult n E (numbersOf n E)
+filled : (E : ℕ → Entry) (n : ℕ) → n ≤ 32 → FillResult n E (valuesOf n E)
 filled E n h = record { long = numbers-long E n; read = numbers-at n E h; none = past E n }
 
 filled-same : {n : ℕ} {E : ℕ → Entry} {l l′ : List ℤ} → FillResult n E l → FillResult n E l′ → l ≡ l′
@@ -72,7 +72,7 @@ module _ (n : ℕ) (t : Table) (P : ProperTable n t) where
   unfolding entryAt
   entries-filled = record { long = P .long; read = λ j l. go (bitOf (t .marks) j) (getD (t .entries) j (pos 0)) (P .fit j l); none = P .none }
     where
-      go : (b : Bool) (v : ℤ) → fits b v ≡ true → v ≡ number (cond b (Position v) Null)
+      go : (b : Bool) (v : ℤ) → fits b v ≡ true → v ≡ valueOf (cond b (Position v) Null)
       go true v h = refl
       go false v h = unmarked-zero v h
 

@@ -15,7 +15,7 @@ use Rattle.head_spec.specs.declared.Answer.{Answer}
 use Rattle.head_spec.specs.declared.Closed.{Closed}
 use Rattle.head_spec.specs.declared.Offer.{Offer}
 use Rattle.head_spec.specs.Calls.{start, restart, startListener, restartListener, Delivery, hear, saidTo, answersTo, close, adopt}
-use Rattle.head_spec.specs.Batch.{entriesOf, batchRefusal}
+use Rattle.head_spec.specs.Batch.{deliveriesOf, batchRefusal}
 use Rattle.head_spec.specs.Offers.{lapsed, lapsedBy, offered}
 use Rattle.head_spec.proofs.Proper.{ProperHead}
 use Rattle.head_spec.proofs.RoundClose.{ProperClosed, proper-closed}
@@ -135,7 +135,7 @@ only-these-change w (hearsBatch s room) block = (
 )
   where
     D : List Delivery
-    D = entriesOf s
+    D = deliveriesOf s
 
     all : (c : ℕ) → headOf w .seat .n ≤ 32
         → offerOf (leaves c (heardEach w D) w) ≡ leaves c (lapsedBy (answersTo (headOf w) D) (offerOf w)) (offerOf w)
@@ -178,7 +178,7 @@ module _ (w : List ℕ) (block : IsBlock w) where
       either-way Stays (hear (headOf w) k s .refusal)
       (heard-registers w block 23 (omega arith) (omega arith) (omega arith) k (saidTo (headOf w .seat) k s)) refl
   others-stay (hearsBatch s room) =
-      either-way Stays (batchRefusal s room) (each-registers (entriesOf s) w block 23 (omega arith) (omega arith) (omega arith)) refl
+      either-way Stays (batchRefusal s room) (each-registers (deliveriesOf s) w block 23 (omega arith) (omega arith) (omega arith)) refl
 
 -- so after each call the block is the record that the call by value makes
 module _ (w : List ℕ) (block : IsBlock w) where

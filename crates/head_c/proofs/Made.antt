@@ -15,7 +15,7 @@ use Rattle.head_spec.specs.declared.Closed.{Closed}
 use Rattle.head_spec.specs.declared.Closing.{Closing}
 use Rattle.head_spec.specs.declared.Offer.{Offer}
 use Rattle.head_spec.specs.Calls.{answer, startRefusal, start, restartRefusal, restart, startListenerRefusal, startListener, restartListenerRefusal, restartListener, Delivery, hearEach, answersTo, close, adopt}
-use Rattle.head_spec.specs.Batch.{frameLength, isWhole, firstEntry, behindFirst, cutInto, entriesOf, batchRefusal}
+use Rattle.head_spec.specs.Batch.{frameLength, isWhole, firstEntry, behindFirst, cutInto, deliveriesOf, batchRefusal}
 use Rattle.head_spec.specs.Offers.{lapsed, lapsedBy, offered, thenAdopt, Offering}
 use Rattle.head_spec.specs.Offers as offering
 use Rattle.head_spec.proofs.Proper.{ProperHead}
@@ -127,7 +127,7 @@ module _ (w : List ℕ) (block : IsBlock w) (H : Holds w) where
   called-holds (restartsListener K n f i p r) B = opening-holds w block (restartsListener K n f i p r) tt (λ d. H)
   called-holds (hears k s) B = moved (head-heard w block k s) (only-these-change w (hears k s) block .1 P) (H .0, offering.hears k s B (H .1))
   called-holds (hearsBatch s room) B =
-      let D = entriesOf s in
+      let D = deliveriesOf s in
       either-way Holds (batchRefusal s room)
       (moved (head-each D w block) (offer-each D w block (P .seat .size .most)) (H .0, each-offers D g (offerOf w) (H .0) (cut-bytes (length s) s B) (H .1))) H
   called-holds closes B = moved (head-closed w block P) (only-these-change w closes block .1 P) (H .0, offering.closes (H .1))

@@ -28,7 +28,7 @@ use Rattle.head_spec.specs.declared.Closed.{Closed}
 use Rattle.head_spec.specs.declared.Offer.{Offer}
 use Rattle.head_spec.specs.Seats.{familyIn}
 use Rattle.head_spec.specs.Calls.{saidTo, hear, Delivery}
-use Rattle.head_spec.specs.Batch.{entriesOf, batchRefusal, hearBatch, batchAnswers, batchCount}
+use Rattle.head_spec.specs.Batch.{deliveriesOf, batchRefusal, hearBatch, batchAnswers, batchCount}
 use Rattle.head_window.specs.declared.Registers.{Registers}
 use Rattle.head_lent.specs.Answers.{heldNumber, heldOr, rangeNumber}
 use Rattle.head_c.specs.Places as place
@@ -214,7 +214,7 @@ heardEach w (d ∷ D) =
 -- becomes c′. If it is refused, nothing is changed.
 pub record HearsBatch (w s a : List ℕ) (c r : ℕ) (w′ a′ : List ℕ) (c′ : ℕ) : Type 0 where
   pub refusal : r ≡ batchRefusal s (length a)
-  pub block : w′ ≡ leaves r (heardEach w (entriesOf s)) w
+  pub block : w′ ≡ leaves r (heardEach w (deliveriesOf s)) w
   pub head : headOf w′ ≡ hearBatch (headOf w) s (length a) .head
   pub answers : a′ ≡ batchAnswers (headOf w) s a
   pub count : c′ ≡ batchCount s (length a) c

@@ -10,7 +10,7 @@ use Rattle.terms.specs.Refusals.{leaves}
 use Rattle.terms.specs.declared.Family.{Family}
 use Rattle.marks.specs.Marks.{bitOf}
 use Rattle.head_spec.specs.Calls.{start, restart, startListener, restartListener, hear, saidTo, answersTo, close, adopt}
-use Rattle.head_spec.specs.Batch.{entriesOf, batchRefusal}
+use Rattle.head_spec.specs.Batch.{deliveriesOf, batchRefusal}
 use Rattle.head_spec.specs.Proper.{ProperHead}
 use Rattle.head_spec.specs.Offers.{lapsed, lapsedBy, offered}
 use Rattle.head_spec.specs.declared.Offer.{Offer}
@@ -67,7 +67,7 @@ blockAfter w (restartsListener K n f i p r) =
     withoutOffer (numberAfter w (restartsListener K n f i p r))
     (withRegisters (registersAfter w (restartsListener K n f i p r)) (withAnswer w (restartListener (headOf w) K n f i p r)))
 blockAfter w (hears k s) = leaves (hear (headOf w) k s .refusal) (heardIn w k (saidTo (headOf w .seat) k s)) w
-blockAfter w (hearsBatch s room) = leaves (batchRefusal s room) (heardEach w (entriesOf s)) w
+blockAfter w (hearsBatch s room) = leaves (batchRefusal s room) (heardEach w (deliveriesOf s)) w
 blockAfter w closes = withRegisters (registersAfter w closes) (withClosing (close (headOf w) .closed) (close (headOf w) .head) w)
 blockAfter w adopts =
     withoutOffer (numberAfter w adopts) (withRegisters (registersAfter w adopts) (withAnswer w (adopt (headOf w) (offerOf w))))
@@ -80,7 +80,7 @@ offerAfter w (restarts K n f i p r) = lapsed (numberAfter w (restarts K n f i p 
 offerAfter w (startsListener K n f i) = lapsed (numberAfter w (startsListener K n f i)) (offerOf w)
 offerAfter w (restartsListener K n f i p r) = lapsed (numberAfter w (restartsListener K n f i p r)) (offerOf w)
 offerAfter w (hears k s) = lapsed (numberAfter w (hears k s)) (offerOf w)
-offerAfter w (hearsBatch s room) = leaves (batchRefusal s room) (lapsedBy (answersTo (headOf w) (entriesOf s)) (offerOf w)) (offerOf w)
+offerAfter w (hearsBatch s room) = leaves (batchRefusal s room) (lapsedBy (answersTo (headOf w) (deliveriesOf s)) (offerOf w)) (offerOf w)
 offerAfter w closes = offered (close (headOf w) .closed) (offerOf w)
 offerAfter w adopts = lapsed (numberAfter w adopts) (offerOf w)
 offerAfter w (sets at x) = offerOf w

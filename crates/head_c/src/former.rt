@@ -1,7 +1,7 @@
 // The names that four calls had up to version 1.14.1. Programs that use them still link: each does what the call with the new name does.
 ghost use mathlib.Core.Path.{_≡_};
 ghost use Rattle.terms.specs.Counting.{bit};
-ghost use Rattle.head_window.specs.Window.{isUp};
+ghost use Rattle.head_window.specs.Window.{isLineUp};
 ghost use Rattle.head_lent.specs.Answers.{heldNumber, heldOr, rangeNumber, rangeOr, offerNumber, offerOr};
 ghost use Rattle.head_c.specs.Blocks.{headOf, offerOf, registersOf};
 use crate::Block;
@@ -31,7 +31,7 @@ pub extern "C" fn focus_head_kept(h: &Block, kept: &mut [i32; 4]) -> u8
 
 #[no_mangle]
 pub extern "C" fn focus_head_interrupt(h: &Block) -> u8
-    ensures { λ r. ⌜ r ≡ bit (isUp (registersOf (now (h .entry)))) ⌝ }
+    ensures { λ r. ⌜ r ≡ bit (isLineUp (registersOf (now (h .entry)))) ⌝ }
 {
     crate::window::focus_head_has_interrupt(h)
 }

@@ -9,7 +9,7 @@ ghost use Rattle.fields.specs.Bytes.{signedOf};
 ghost use Rattle.terms.specs.Positions.{eqZ};
 ghost use Rattle.entries.specs.Entries.{entryAt};
 ghost use Rattle.terms.specs.Counting.{Each, bit};
-ghost use Rattle.convergence.specs.Settling.{twoRounds};
+ghost use Rattle.convergence.specs.Settling.{twoRoundRule};
 ghost use Rattle.convergence.specs.Trust.{trusted};
 ghost use Rattle.settle_trust.specs.Received.{givenBy};
 ghost use Rattle.settle_trust.specs.Cells.{CellOf, HoldsEach, columnOf, decided};
@@ -143,7 +143,7 @@ fn cell_in(
 // The new position from the lists in the block, with the first link that gave one as reference; `up`: whether an odd sum is rounded up.
 pub(crate) fn settle_lists(h: &[u32], links: Links, n: u8, f: u8, up: bool) -> Settled
     requires { ⌜ IsBlock (now h) ⌝ }
-    ensures { λ r. ⌜ r ≡ settling (bit up) n (twoRounds f) (trusted n f (givenBy links (rowsIn (now (h .entry))))) ⌝ }
+    ensures { λ r. ⌜ r ≡ settling (bit up) n (twoRoundRule f) (trusted n f (givenBy links (rowsIn (now (h .entry))))) ⌝ }
 {
     let count = terms::at_most_32(n as usize);
     let first = (u32::trailing_zeros(links.listed) % 32) as usize;

@@ -6,7 +6,7 @@ ghost use Prim.Native.Nat.{_≤_, _<_};
 ghost use lib.ListN.{length, getD, drop};
 ghost use Rattle.frame_spec.specs.Said.{collected, listed, confessed, restField, tableIn, saidOf, meant};
 ghost use Rattle.head_spec.specs.Calls.{hearEach, answersTo};
-ghost use Rattle.head_spec.specs.Batch.{isBatch, entriesOf};
+ghost use Rattle.head_spec.specs.Batch.{isBatch, deliveriesOf};
 ghost use Rattle.head_hear.specs.Steps.{linkRefusal, saidOn};
 ghost use Rattle.head_c.specs.Places as place;
 ghost use Rattle.head_c.specs.Blocks.{IsBlock, seatOf, headOf, marked, heardOn, changed, Hears, heardEach};
@@ -144,11 +144,11 @@ pub(crate) fn hear(h: &mut [u32], link: u32, frame: &[u8]) -> u8
 
 // Hears the frames of a batch that is whole, and answers each where there is room for its answer.
 pub(crate) fn hear_entries(h: &mut [u32], batch: &[u8], answers: &mut [u8])
-    requires { ⌜ IsBlock (now h) × (isBatch (now batch) ≡ true) × (length (entriesOf (now batch)) ≤ length (now answers)) ⌝ }
-    ensures { λ _. ⌜ (now (h .exit) ≡ heardEach (now (h .entry)) (entriesOf (now (batch .entry))))
-        × (headOf (now (h .exit)) ≡ hearEach (headOf (now (h .entry))) (entriesOf (now (batch .entry))))
-        × (now (answers .exit) ≡ answersTo (headOf (now (h .entry))) (entriesOf (now (batch .entry)))
-        ++ drop (length (entriesOf (now (batch .entry)))) (now (answers .entry))) ⌝ }
+    requires { ⌜ IsBlock (now h) × (isBatch (now batch) ≡ true) × (length (deliveriesOf (now batch)) ≤ length (now answers)) ⌝ }
+    ensures { λ _. ⌜ (now (h .exit) ≡ heardEach (now (h .entry)) (deliveriesOf (now (batch .entry))))
+        × (headOf (now (h .exit)) ≡ hearEach (headOf (now (h .entry))) (deliveriesOf (now (batch .entry))))
+        × (now (answers .exit) ≡ answersTo (headOf (now (h .entry))) (deliveriesOf (now (batch .entry)))
+        ++ drop (length (deliveriesOf (now (batch .entry)))) (now (answers .entry))) ⌝ }
 {
     let mut at: usize = 0;
     let mut i: usize = 0;

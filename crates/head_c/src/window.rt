@@ -2,7 +2,7 @@
 // alone. Refusal 26 is not checked here: the window goes on after the last phase end.
 ghost use mathlib.Core.Path.{_≡_};
 ghost use Rattle.terms.specs.Counting.{bit};
-ghost use Rattle.head_window.specs.Window.{window, readRefusal, byteRead, setRefusal, isUp};
+ghost use Rattle.head_window.specs.Window.{window, readRefusal, byteRead, setRefusal, isLineUp};
 ghost use Rattle.head_c.specs.Blocks.{IsBlock, headOf, registersOf};
 ghost use Rattle.head_c.specs.Events.{sets, blockAfter, windowReset};
 use crate::Block;
@@ -65,7 +65,7 @@ pub extern "C" fn focus_head_window_reset(h: &mut Block, mask: u8)
 // Whether the interrupt line is up: 1, or 0.
 #[no_mangle]
 pub extern "C" fn focus_head_has_interrupt(h: &Block) -> u8
-    ensures { λ r. ⌜ r ≡ bit (isUp (registersOf (now (h .entry)))) ⌝ }
+    ensures { λ r. ⌜ r ≡ bit (isLineUp (registersOf (now (h .entry)))) ⌝ }
 {
-    head_window::is_up(registers_in(h)) as u8
+    head_window::is_line_up(registers_in(h)) as u8
 }

@@ -7,7 +7,7 @@ ghost use Prim.Native.Nat.{_≤_};
 ghost use lib.ListN.{length, drop};
 ghost use Rattle.frame_spec.specs.Said.{saidOf};
 ghost use Rattle.head_spec.specs.Calls.{withEntry, withConfession, withList, hear, hearEach, answersTo};
-ghost use Rattle.head_spec.specs.Batch.{entrySize, entriesOf, isBatch, batchRefusal, hearBatch, batchAnswers, batchCount};
+ghost use Rattle.head_spec.specs.Batch.{entrySize, deliveriesOf, isBatch, batchRefusal, hearBatch, batchAnswers, batchCount};
 ghost use Rattle.head_hear.specs.Steps.{linkRefusal, saidOn};
 use frame_spec::Said;
 use head_spec::Answer;
@@ -156,7 +156,7 @@ pub struct Cuts {
 
 // Cuts a batch into entries.
 pub fn cut(batch: &[u8], room: usize) -> Cuts
-    ensures { λ r. ⌜ r ≡ record { refusal = batchRefusal (now (batch .entry)) room; entries = length (entriesOf (now (batch .entry))) } ⌝ }
+    ensures { λ r. ⌜ r ≡ record { refusal = batchRefusal (now (batch .entry)) room; entries = length (deliveriesOf (now (batch .entry))) } ⌝ }
 {
     let mut at: usize = 0;
     let mut entries: usize = 0;
@@ -185,9 +185,9 @@ pub fn cut(batch: &[u8], room: usize) -> Cuts
 
 // Hears the frames of a batch that is whole, and answers each where there is room for its answer.
 fn hear_entries(h: Head, batch: &[u8], answers: &mut [u8]) -> Head
-    requires { ⌜ (isBatch (now batch) ≡ true) × (length (entriesOf (now batch)) ≤ length (now answers)) ⌝ }
-    ensures head { λ r. ⌜ r ≡ hearEach h (entriesOf (now (batch .entry))) ⌝ }
-    ensures answers { λ r. ⌜ now (answers .exit) ≡ answersTo h (entriesOf (now (batch .entry))) ++ drop (length (entriesOf (now (batch .entry)))) (now (answers .entry)) ⌝ }
+    requires { ⌜ (isBatch (now batch) ≡ true) × (length (deliveriesOf (now batch)) ≤ length (now answers)) ⌝ }
+    ensures head { λ r. ⌜ r ≡ hearEach h (deliveriesOf (now (batch .entry))) ⌝ }
+    ensures answers { λ r. ⌜ now (answers .exit) ≡ answersTo h (deliveriesOf (now (batch .entry))) ++ drop (length (deliveriesOf (now (batch .entry)))) (now (answers .entry)) ⌝ }
 {
     let seat = h.seat;
     let mut next = h;

@@ -10,30 +10,30 @@ use lib.Seq.{drop-drop, drop-set-lt, take-suc-set}
 use Rattle.head_spec.specs.declared.Head.{Head}
 use Rattle.head_spec.specs.declared.Answer.{Answer}
 use Rattle.head_spec.specs.Calls.{Delivery, hear, hearEach, answersTo}
-use Rattle.head_spec.specs.Batch.{frameLength, isWhole, entrySize, cutInto, entriesOf, isBatch}
+use Rattle.head_spec.specs.Batch.{frameLength, isWhole, entrySize, cutInto, deliveriesOf, isBatch}
 use Rattle.head_spec.proofs.Batches.{batch-whole, size-here, fits-here, cut-here, told-here, answers-count}
 
 -- the record h hears the batch s, with room a for the answers: the first `at` bytes, i frames, have made of it T, and of the buffer b
 pub record Hearing (h : Head) (s a : List ℕ) (T : Head) (b : List ℕ) (at i : ℕ) : Type 0 where
   pub inside : at ≤ length s
   pub told : isBatch (drop at s) ≡ true
-  pub room : i + length (entriesOf (drop at s)) ≤ length a
+  pub room : i + length (deliveriesOf (drop at s)) ≤ length a
   pub long : length b ≡ length a
-  pub head : hearEach T (entriesOf (drop at s)) ≡ hearEach h (entriesOf s)
-  pub answers : take i b ++ answersTo T (entriesOf (drop at s)) ≡ answersTo h (entriesOf s)
+  pub head : hearEach T (deliveriesOf (drop at s)) ≡ hearEach h (deliveriesOf s)
+  pub answers : take i b ++ answersTo T (deliveriesOf (drop at s)) ≡ answersTo h (deliveriesOf s)
   pub behind : drop i b ≡ drop i a
 
-pub begins : {h : Head} {s a : List ℕ} → isBatch s ≡ true → length (entriesOf s) ≤ length a → Hearing h s a h a 0 0
+pub begins : {h : Head} {s a : List ℕ} → isBatch s ≡ true → length (deliveriesOf s) ≤ length a → Hearing h s a h a 0 0
 begins t l = record { inside = omega arith; told = t; room = omega arith; long = refl; head = refl; answers = refl; behind = refl }
 
 -- all bytes are heard
 pub ends : {h T : Head} {s a b : List ℕ} {at i : ℕ} → Hearing h s a T b at i → length s ≤ at
-    → (T ≡ hearEach h (entriesOf s)) × (b ≡ answersTo h (entriesOf s) ++ drop (length (entriesOf s)) a)
+    → (T ≡ hearEach h (deliveriesOf s)) × (b ≡ answersTo h (deliveriesOf s) ++ drop (length (deliveriesOf s)) a)
 unfolding cutInto hearEach answersTo
 ends {h} {T} {s} {a} {b} {at} {i} G l =
     let none : drop at s ≡ [] = drop-of-length-le s l in
-    let front : take i b ≡ answersTo h (entriesOf s) = sym (append-nil (take i b)) ∙ (rw none at (G .answers)) in
-    let count : i ≡ length (entriesOf s) = omega (arith, ap length front, length-take i b, answers-count (entriesOf s) h, G .room, G .long) in
+    let front : take i b ≡ answersTo h (deliveriesOf s) = sym (append-nil (take i b)) ∙ (rw none at (G .answers)) in
+    let count : i ≡ length (deliveriesOf s) = omega (arith, ap length front, length-take i b, answers-count (deliveriesOf s) h, G .room, G .long) in
     (rw none at (G .head), sym (take-append-drop i b) ∙ rw (front, G .behind, ← count))
 
 -- one frame more, of n bytes with its link; t is what remains, as code has it
@@ -44,9 +44,9 @@ module _ {h T : Head} {s a b t : List ℕ} {at i n : ℕ} (G : Hearing h s a T b
   size : n ≡ entrySize (drop at s)
   size = e ∙ ap entrySize r
 
-  pub cut : entriesOf (drop at s) ≡ record { link = getD t 0 0; bytes = take (n - 1) (drop 1 t) } ∷ entriesOf (drop (at + n) s)
+  pub cut : deliveriesOf (drop at s) ≡ record { link = getD t 0 0; bytes = take (n - 1) (drop 1 t) } ∷ deliveriesOf (drop (at + n) s)
   cut =
-      let D = entriesOf (drop (at + n) s) in
+      let D = deliveriesOf (drop (at + n) s) in
       let less : frameLength (drop at s) ≡ n - 1 = omega (arith, size-here s at whole size) in
       cut-here s at whole size
       ∙ ap (λ (m : ℕ). record { link = getD (drop at s) 0 0; bytes = take m (drop 1 (drop at s)) } ∷ D) less

@@ -16,7 +16,7 @@ use Rattle.terms.proofs.Booleans.{and-both}
 use Rattle.fields.specs.Bytes.{isEmpty}
 use Rattle.head_spec.specs.declared.Head.{Head}
 use Rattle.head_spec.specs.Calls.{answer, Delivery, hearEach, answersTo}
-use Rattle.head_spec.specs.Batch.{frameLength, isWhole, firstEntry, behindFirst, entrySize, cutInto, isCutInto, entriesOf, isBatch, batchRefusal, hearBatch, batchAnswers, batchCount}
+use Rattle.head_spec.specs.Batch.{frameLength, isWhole, firstEntry, behindFirst, entrySize, cutInto, isCutInto, deliveriesOf, isBatch, batchRefusal, hearBatch, batchAnswers, batchCount}
 use Rattle.head_spec.proofs.Proper.{both-passed}
 use Rattle.head_spec.proofs.Stops.{ended-hears}
 
@@ -59,7 +59,7 @@ enough-told (suc m) (suc m′) s a b =
     (enough-told m m′ (behindFirst s) (behind-shorter m s a) (behind-shorter m′ s b))
 
 -- a first entry that is whole, and the rest
-pub first-cut : (s : List ℕ) → isWhole s ≡ true → entriesOf s ≡ firstEntry s ∷ entriesOf (behindFirst s)
+pub first-cut : (s : List ℕ) → isWhole s ≡ true → deliveriesOf s ≡ firstEntry s ∷ deliveriesOf (behindFirst s)
 unfolding cutInto
 first-cut [] w = absurd (true≢false (sym w))
 first-cut (x ∷ t) w =
@@ -77,7 +77,7 @@ first-told (x ∷ t) w =
     ∙ enough-told (length t) (length (behindFirst s)) (behindFirst s) (behind-shorter (length t) s (omega arith)) (omega arith)
 
 -- a first entry that is not whole: nothing is cut, and only no bytes at all are a batch
-pub none-cut : (s : List ℕ) → isWhole s ≡ false → entriesOf s ≡ []
+pub none-cut : (s : List ℕ) → isWhole s ≡ false → deliveriesOf s ≡ []
 unfolding cutInto
 none-cut [] w = refl
 none-cut (x ∷ t) w = ap (λ (b : Bool). cond b (firstEntry (x ∷ t) ∷ cutInto (length t) (behindFirst (x ∷ t))) []) w
@@ -129,8 +129,8 @@ module _ (s : List ℕ) (at : ℕ) (w : isWhole (drop at s) ≡ true) {n : ℕ} 
   behind-here : behindFirst (drop at s) ≡ drop (at + n) s
   behind-here = drop-drop (1 + frameLength (drop at s)) at s ∙ rw size-here
 
-  pub cut-here : entriesOf (drop at s) ≡ firstEntry (drop at s) ∷ entriesOf (drop (at + n) s)
-  cut-here = first-cut (drop at s) w ∙ ap (λ (t : List ℕ). firstEntry (drop at s) ∷ entriesOf t) behind-here
+  pub cut-here : deliveriesOf (drop at s) ≡ firstEntry (drop at s) ∷ deliveriesOf (drop (at + n) s)
+  cut-here = first-cut (drop at s) w ∙ ap (λ (t : List ℕ). firstEntry (drop at s) ∷ deliveriesOf t) behind-here
 
   pub told-here : isBatch (drop at s) ≡ isBatch (drop (at + n) s)
   told-here = first-told (drop at s) w ∙ ap isBatch behind-here
@@ -138,15 +138,15 @@ module _ (s : List ℕ) (at : ℕ) (w : isWhole (drop at s) ≡ true) {n : ℕ} 
 -- ---- hearing
 
 -- nothing is refused: all entries are whole, and there is room for the answers
-pub taken-told : (s : List ℕ) (room : ℕ) → batchRefusal s room ≡ 0 → (isBatch s ≡ true) × (length (entriesOf s) ≤ room)
+pub taken-told : (s : List ℕ) (room : ℕ) → batchRefusal s room ≡ 0 → (isBatch s ≡ true) × (length (deliveriesOf s) ≤ room)
 unfolding batchRefusal
 taken-told s room e =
-    let (told, enough, done) = both-passed (isBatch s) (leb (length (entriesOf s)) room) 14 23 e in
-    (told, leb-true (length (entriesOf s)) room enough)
+    let (told, enough, done) = both-passed (isBatch s) (leb (length (deliveriesOf s)) room) 14 23 e in
+    (told, leb-true (length (deliveriesOf s)) room enough)
 
 module _ (h : Head) (s b : List ℕ) (n : ℕ) where
   abbrev D : List Delivery
-  D = entriesOf s
+  D = deliveriesOf s
 
   -- what a call that gives r leaves: the record T, the buffer b′ and the count n′
   abbrev pub Leaves : ℕ → Head → List ℕ → ℕ → Type 0

@@ -43,8 +43,8 @@ isCutInto zero s = isEmpty s
 isCutInto (suc m) s = cond (isEmpty s) true (isWhole s && isCutInto m (behindFirst s))
 
 -- no input has more entries than bytes
-abbrev pub entriesOf : List ℕ → List Delivery
-entriesOf s = cutInto (length s) s
+abbrev pub deliveriesOf : List ℕ → List Delivery
+deliveriesOf s = cutInto (length s) s
 
 abbrev pub isBatch : List ℕ → Bool
 isBatch s = isCutInto (length s) s
@@ -53,18 +53,18 @@ isBatch s = isCutInto (length s) s
 
 -- the number of the whole call: an entry is cut wrongly, or there is too little room; no frames at all are taken (Q03, Q04, Q05)
 unfoldable pub batchRefusal : List ℕ → ℕ → ℕ
-batchRefusal s room = check (isBatch s) refusal.bad-batch-entry (check (leb (length (entriesOf s)) room) refusal.buffer-too-short 0)
+batchRefusal s room = check (isBatch s) refusal.bad-batch-entry (check (leb (length (deliveriesOf s)) room) refusal.buffer-too-short 0)
 
 -- the call's number, and the record after it
 unfoldable pub hearBatch : Head → List ℕ → ℕ → Answer
-hearBatch h s room = answer (batchRefusal s room) (hearEach h (entriesOf s)) h
+hearBatch h s room = answer (batchRefusal s room) (hearEach h (deliveriesOf s)) h
 
 -- the lent buffer after it: a byte for each frame, 0 or the number that hearing it alone would answer at that point; the bytes behind them
 -- as they were (Q07, Q08)
 unfoldable pub batchAnswers : Head → List ℕ → List ℕ → List ℕ
 batchAnswers h s buffer =
-    leaves (batchRefusal s (length buffer)) (answersTo h (entriesOf s) ++ drop (length (entriesOf s)) buffer) buffer
+    leaves (batchRefusal s (length buffer)) (answersTo h (deliveriesOf s) ++ drop (length (deliveriesOf s)) buffer) buffer
 
 -- the lent count after it: how many frames there were (Q06)
 unfoldable pub batchCount : List ℕ → ℕ → ℕ → ℕ
-batchCount s room old = leaves (batchRefusal s room) (length (entriesOf s)) old
+batchCount s room old = leaves (batchRefusal s room) (length (deliveriesOf s)) old

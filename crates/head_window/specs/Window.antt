@@ -104,5 +104,5 @@ setRegisters at x b =
 -- ---- the interrupt line is up exactly when a pending event is in the mask
 
 -- by the two bytes alone, without memory (Q28)
-unfoldable pub isUp : Registers → Bool
-isUp b = not (eqb (three (λ k. bitOf (b .events) k && bitOf (b .mask) k)) 0)
+unfoldable pub isLineUp : Registers → Bool
+isLineUp b = not (eqb (three (λ k. bitOf (b .events) k && bitOf (b .mask) k)) 0)

@@ -5,7 +5,7 @@ ghost use Prim.Native.Nat.{_+_, _*_};
 ghost use Rattle.terms.specs.Counting.{bit};
 ghost use Rattle.marks.specs.Marks.{bitOf};
 ghost use Rattle.head_window.specs.Window.{withEvent, startedRegisters, restartedRegisters, closedRegisters, adoptedRegisters};
-ghost use Rattle.head_window.specs.Window.{three, isHeld, positionWord, statusBits, window, readRefusal, setRefusal, setRegisters, isUp};
+ghost use Rattle.head_window.specs.Window.{three, isHeld, positionWord, statusBits, window, readRefusal, setRefusal, setRegisters, isLineUp};
 use head_spec::Closed;
 use head_spec::Seat;
 use terms::Entry;
@@ -248,8 +248,8 @@ fn is_called(b: Registers, k: usize) -> bool
 }
 
 // Whether the line is up: an event is pending and in the mask.
-pub fn is_up(b: Registers) -> bool
-    ensures { λ r. ⌜ r ≡ isUp b ⌝ }
+pub fn is_line_up(b: Registers) -> bool
+    ensures { λ r. ⌜ r ≡ isLineUp b ⌝ }
 {
     three(is_called(b, 0), is_called(b, 1), is_called(b, 2)) != 0
 }

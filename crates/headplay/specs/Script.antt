@@ -13,7 +13,7 @@ use Rattle.head_spec.specs.declared.Head.{Head}
 use Rattle.head_spec.specs.declared.Answer.{Answer}
 use Rattle.head_spec.specs.declared.Offer.{Offer}
 use Rattle.head_spec.specs.Seats.{familyIn}
-use Rattle.head_spec.specs.Batch.{hearBatch, batchRefusal, entriesOf}
+use Rattle.head_spec.specs.Batch.{hearBatch, batchRefusal, deliveriesOf}
 use Rattle.head_spec.specs.Calls.{started, start, restart, startListener, restartListener, hear, answersTo, writeAnswer, close, adopt}
 use Rattle.head_spec.specs.Offers.{lapsed, lapsedBy, offered}
 use Rattle.head_lent.specs.Answers.{closedNumber, writtenNumber}
@@ -40,7 +40,7 @@ unfoldable pub batched : Head → List ℕ → ℕ → Offer → Outcome
 batched h b room o = record {
   number = hearBatch h b room .refusal;
   head = hearBatch h b room .head;
-  offer = leaves (batchRefusal b room) (lapsedBy (answersTo h (entriesOf b)) o) o;
+  offer = leaves (batchRefusal b room) (lapsedBy (answersTo h (deliveriesOf b)) o) o;
 }
 
 -- what the head has to say, written into a buffer with this room

@@ -8,7 +8,7 @@ use lib.Count.{ones, ones-step, ones-le}
 use lib.Dec.{eqb}
 use lib.Pow.{pow-pos}
 use borrow.Author.Tests.{eqb-true, eqb-false}
-use Rattle.marks.specs.Marks.{bitOf, markedTo}
+use Rattle.marks.specs.Marks.{bitOf, countBelow}
 use Rattle.marks.proofs.Marks.{bit-zero, bit-suc}
 use Rattle.marks.proofs.Words.{word-low}
 use Rattle.terms.specs.Counting.{sum, bit}
@@ -36,5 +36,5 @@ ones-marked (suc n) m l =
     ones-marked n (m / 2) (omega arith) ∙ sum-same n _ _ (λ k b. ap bit (sym (bit-suc m k))) in
     omega (arith, ones-step m, low-bit m, rest, sum-first n (λ k. bit (bitOf m k)))
 
-pub ones-rest : (n m : ℕ) → ones (m % 2 ^ n) ≡ markedTo m n
+pub ones-rest : (n m : ℕ) → ones (m % 2 ^ n) ≡ countBelow m n
 ones-rest n m = ones-marked n (m % 2 ^ n) (mod-lt m (pow-pos n)) ∙ sum-same n _ _ (λ k l. ap bit (sym (word-low m n k l)))

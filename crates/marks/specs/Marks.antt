@@ -21,5 +21,5 @@ unfoldable pub withMark : ℕ → ℕ → ℕ
 withMark m k = cond (ltb k 32 && not (bitOf m k)) (m + 2 ^ k) m
 
 -- how many of the first n bits are set
-abbrev pub markedTo : ℕ → ℕ → ℕ
-markedTo m n = sum n (λ k. bit (bitOf m k))
+abbrev pub countBelow : ℕ → ℕ → ℕ
+countBelow m n = sum n (λ k. bit (bitOf m k))

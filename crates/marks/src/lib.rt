@@ -1,7 +1,7 @@
 // Mark words: a bit for each entry of a list, or for each head.
 ghost use mathlib.Core.Path.{_≡_};
 ghost use Prim.Native.Nat.{_^_, _<_};
-ghost use Rattle.marks.specs.Marks.{bitOf, marksBelow, allMarked, withMark, markedTo};
+ghost use Rattle.marks.specs.Marks.{bitOf, marksBelow, allMarked, withMark, countBelow};
 
 // Whether bit j of a mark word is set.
 pub fn marked(m: u32, j: usize) -> bool
@@ -56,8 +56,8 @@ pub fn with_mark(m: u32, k: usize) -> u32
 }
 
 // How many of the first n bits are set.
-pub fn marked_to(m: u32, n: usize) -> usize
-    ensures { λ r. ⌜ r ≡ markedTo m n ⌝ }
+pub fn count_below(m: u32, n: usize) -> usize
+    ensures { λ r. ⌜ r ≡ countBelow m n ⌝ }
 {
     if n < 32 {
         return u32::count_ones(m % mark(n)) as usize;

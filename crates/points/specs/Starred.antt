@@ -13,7 +13,7 @@ use Rattle.terms.specs.declared.Entry.{Entry}
 use Rattle.terms.specs.declared.Entry.the-variants.{Null, Position}
 use Rattle.terms.specs.declared.Family.the-variants.{TwoRounds}
 use Rattle.terms.specs.Counting.{sum}
-use Rattle.convergence.specs.Settling.{nulls, trim, twoRounds, insert, ordered, lowKept, highKept, middle, enough}
+use Rattle.convergence.specs.Settling.{nulls, trim, twoRoundRule, insert, ordered, lowKept, highKept, middle, enough}
 use Rattle.convergence.specs.Trust.{Given, nothing, confessed, gave, support, confessions, seen, trusted}
 use Rattle.convergence.specs.Demand3.{Halves}
 use Rattle.settle_midpoint.specs.Answers.{settling, settledNumber, settledEntry}
@@ -40,8 +40,8 @@ PointHolds (taken n f) = sizeRefusal TwoRounds n f ≡ 0
 PointHolds (refused n f c) = sizeRefusal TwoRounds n f ≡ c
 PointHolds (halving n f) = Halves TwoRounds n f
 PointHolds (no-halving n f) = Halves TwoRounds n f → ⊥
-PointHolds (settles p n f l v) = settledEntry (settling (rounding p) n (twoRounds f) (table l)) ≡ Position v
-PointHolds (too-few n f l) = settledNumber (settling (rounding 1) n (twoRounds f) (table l)) ≡ 25
+PointHolds (settles p n f l v) = settledEntry (settling (rounding p) n (twoRoundRule f) (table l)) ≡ Position v
+PointHolds (too-few n f l) = settledNumber (settling (rounding 1) n (twoRoundRule f) (table l)) ≡ 25
 PointHolds (trusts n f l j e) = trusted n f (links l) j ≡ e
 
 abbrev pub All : List Point → Type 0

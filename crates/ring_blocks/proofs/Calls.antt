@@ -17,7 +17,7 @@ use Rattle.head_spec.specs.declared.Closed.{Closed}
 use Rattle.head_spec.specs.declared.Closing.{Closing}
 use Rattle.head_spec.specs.declared.Offer.{Offer}
 use Rattle.head_spec.specs.Calls.{answer, hearRefusal, saidTo, taken, hear, Delivery, hearEach, answersTo, closing, settlingOf, offerSettled, closeIn, isLastRound, endRound, close, adopt}
-use Rattle.head_spec.specs.Batch.{entriesOf, batchRefusal, hearBatch}
+use Rattle.head_spec.specs.Batch.{deliveriesOf, batchRefusal, hearBatch}
 use Rattle.head_spec.specs.Offers.{lapsed, lapsedBy, offered, thenAdopt}
 use Rattle.head_spec.proofs.Proper.{ProperHead}
 use Rattle.head_spec.proofs.Hearing.{each-keep, proper-each}
@@ -46,7 +46,7 @@ unfolding blockAfter
 hearings-step =
     record {
       one = λ w k s r w′ H. H .block ∙ ap (λ (c : ℕ). leaves c (heardIn w k (saidTo (headOf w .seat) k s)) w) (H .refusal);
-      batch = λ w s a c r w′ a′ c′ H. H .block ∙ ap (λ (x : ℕ). leaves x (heardEach w (entriesOf s)) w) (H .refusal);
+      batch = λ w s a c r w′ a′ c′ H. H .block ∙ ap (λ (x : ℕ). leaves x (heardEach w (deliveriesOf s)) w) (H .refusal);
     }
 
 -- ---- the record hears
@@ -162,10 +162,10 @@ module _ (b : List ℕ) (whole : IsBlock b) {last : Bool} (I : InRound last (hea
       let (p, q) = go (batchRefusal s room) (change (call.hearsBatch s room)) in
       record { head = p; offer = q }
     where
-      go : (c : ℕ) → let b′ = leaves c (heardEach b (entriesOf s)) b in
-          offerOf b′ ≡ leaves c (lapsedBy (answersTo h (entriesOf s)) (offerOf b)) (offerOf b)
-          → let h′ = answer c (hearEach h (entriesOf s)) h .head in (headOf b′ ≡ h′) × Held (headOf b′) (offerOf b′)
-      go zero q = (head-each (entriesOf s) b whole, moved (head-each (entriesOf s) b whole) q (held-each (entriesOf s) h (offerOf b) H))
+      go : (c : ℕ) → let b′ = leaves c (heardEach b (deliveriesOf s)) b in
+          offerOf b′ ≡ leaves c (lapsedBy (answersTo h (deliveriesOf s)) (offerOf b)) (offerOf b)
+          → let h′ = answer c (hearEach h (deliveriesOf s)) h .head in (headOf b′ ≡ h′) × Held (headOf b′) (offerOf b′)
+      go zero q = (head-each (deliveriesOf s) b whole, moved (head-each (deliveriesOf s) b whole) q (held-each (deliveriesOf s) h (offerOf b) H))
       go (suc c) q = (refl, H)
   step (block.wrote at x) ok = record { head = head-set b whole at x; offer = moved (head-set b whole at x) (change (call.sets at x)) H }
   step block.offered ok = go last refl

@@ -12,7 +12,7 @@ use Rattle.head_spec.specs.declared.Answer.{Answer}
 use Rattle.head_spec.specs.declared.Closed.{Closed}
 use Rattle.head_spec.specs.Record.{noLinks, opened}
 use Rattle.head_spec.specs.Calls.{start, restart, startListener, restartListener, saidTo, hear, Delivery, closedCollection, close, adopt}
-use Rattle.head_spec.specs.Batch.{entriesOf, batchRefusal}
+use Rattle.head_spec.specs.Batch.{deliveriesOf, batchRefusal}
 use Rattle.head_spec.proofs.RoundClose as round
 use Rattle.head_window.specs.declared.Registers.{Registers}
 use Rattle.head_c.specs.Blocks.{IsBlock, headOf, withHead, withAnswer, withRegisters, offerOf, withoutOffer, withClosing, heardIn, heardEach}
@@ -80,8 +80,8 @@ block-after w block (hears k s) = go (hear (headOf w) k s .refusal)
     go (suc c) = block
 block-after w block (hearsBatch s room) = go (batchRefusal s room)
   where
-    go : (c : ℕ) → IsBlock (leaves c (heardEach w (entriesOf s)) w)
-    go zero = each-block (entriesOf s) w block
+    go : (c : ℕ) → IsBlock (leaves c (heardEach w (deliveriesOf s)) w)
+    go zero = each-block (deliveriesOf s) w block
     go (suc c) = block
 block-after w block closes = simp length-set (closing-block w block (close (headOf w) .closed) refl)
 block-after w block adopts = called-block w block _ (adopt (headOf w) (offerOf w)) (adopt-opens (headOf w) (offerOf w))

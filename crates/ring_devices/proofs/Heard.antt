@@ -30,7 +30,7 @@ use Rattle.head_spec.specs.declared.Head.{Head}
 use Rattle.head_spec.specs.declared.Closing.{Closing}
 use Rattle.head_spec.specs.Record.{given, heardEntry, givenOf, entriesBy}
 use Rattle.head_spec.specs.Calls.{answer, saidTo, Delivery, hearEach, hearAll, closedCollection, closedPhase, settlingOf, endSettled, isLastRound, endRound}
-use Rattle.head_spec.specs.Batch.{entriesOf, batchRefusal, hearBatch}
+use Rattle.head_spec.specs.Batch.{deliveriesOf, batchRefusal, hearBatch}
 use Rattle.head_spec.specs.Demand2.{orElse, firstSaid}
 use Rattle.head_spec.proofs.Proper.{ProperSeat, ProperHead}
 use Rattle.head_spec.proofs.Hearing.{Fresh, each-keep, proper-each, all-keep, proper-all, gave-first, listed-first, gave-as-said, listed-as-said}
@@ -52,9 +52,9 @@ heard-by [] h = refl
 heard-by (hearsOne k s ∷ C) h = heard-by C _
 heard-by (hearsBatch s room ∷ C) h = heard-by C _ ∙ go (batchRefusal s room)
   where
-    go : (c : ℕ) → hearEach (answer c (hearEach h (entriesOf s)) h .head) (broughtBy C)
-        ≡ hearEach h (leaves c (entriesOf s) [] ++ broughtBy C)
-    go zero = sym (each-more (entriesOf s) (broughtBy C) h)
+    go : (c : ℕ) → hearEach (answer c (hearEach h (deliveriesOf s)) h .head) (broughtBy C)
+        ≡ hearEach h (leaves c (deliveriesOf s) [] ++ broughtBy C)
+    go zero = sym (each-more (deliveriesOf s) (broughtBy C) h)
     go (suc c) = refl
 
 -- ---- what a link says is what its first acceptable frame says

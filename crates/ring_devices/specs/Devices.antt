@@ -22,7 +22,7 @@ use Rattle.head_spec.specs.declared.Head.{Head}
 use Rattle.head_spec.specs.declared.Answer.{Answer}
 use Rattle.head_spec.specs.declared.Closed.{Closed}
 use Rattle.head_spec.specs.Calls.{start, startListener, restart, restartListener, saidTo, hear, Delivery, frameFor, close}
-use Rattle.head_spec.specs.Batch.{entriesOf, batchRefusal, hearBatch}
+use Rattle.head_spec.specs.Batch.{deliveriesOf, batchRefusal, hearBatch}
 use Rattle.ring_spec.specs.Rounds.{Ring, roundEnded, phaseThen, roundThen, mostRounds, PhaseEnd, phaseEnd, isReceiver, allListeners, withEnd}
 use Rattle.ring_devices.specs.Promised.{Promised}
 
@@ -42,7 +42,7 @@ heardBy h (hearsBatch s room ∷ C) = heardBy (hearBatch h s room .head) C
 unfoldable pub broughtBy : List HearCall → List Delivery
 broughtBy [] = []
 broughtBy (hearsOne k s ∷ C) = record { link = k; bytes = s } ∷ broughtBy C
-broughtBy (hearsBatch s room ∷ C) = leaves (batchRefusal s room) (entriesOf s) [] ++ broughtBy C
+broughtBy (hearsBatch s room ∷ C) = leaves (batchRefusal s room) (deliveriesOf s) [] ++ broughtBy C
 
 abbrev pub isAccepted : Meaning → Bool
 isAccepted (refused c) = false

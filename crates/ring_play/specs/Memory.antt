@@ -11,7 +11,7 @@ use Rattle.terms.specs.declared.Entry.{Entry}
 use Rattle.terms.specs.declared.Table.{Table}
 use Rattle.marks.specs.Marks.{bitOf}
 use Rattle.terms.specs.Counting.{Each}
-use Rattle.convergence.specs.Settling.{twoRounds, oneRound}
+use Rattle.convergence.specs.Settling.{twoRoundRule, oneRoundRule}
 use Rattle.convergence.specs.Trust.{Given, trusted}
 use Rattle.terms.specs.Positions.{rounding}
 use Rattle.frame_spec.specs.Said.{Meaning, collected, listed, confessed, said}
@@ -97,11 +97,11 @@ positionOf (New k) = k .position
 -- the new position of receiver i
 unfoldable pub newPosition : Stage → List ℕ → List (List ℤ) → (ℕ → ℕ → List ℕ) → ℕ → ℤ
 newPosition s marks lists plant i =
-    positionOf (settling (rounding (s .phase)) (heads s) (twoRounds (s .f)) (trusted (heads s) (s .f) (givenEntry s marks lists plant i)))
+    positionOf (settling (rounding (s .phase)) (heads s) (twoRoundRule (s .f)) (trusted (heads s) (s .f) (givenEntry s marks lists plant i)))
 
 -- ---- a phase of one round (document 02, A9)
 
 -- the new position of receiver i: from what it hears, by the rule of such a phase
 unfoldable pub heardPosition : Stage → List ℤ → (ℕ → ℕ → List ℕ) → ℕ → ℤ
 heardPosition s positions plant i =
-    positionOf (settling (rounding (s .phase)) (heads s) (oneRound (s .f)) (listEntry s positions plant i))
+    positionOf (settling (rounding (s .phase)) (heads s) (oneRoundRule (s .f)) (listEntry s positions plant i))

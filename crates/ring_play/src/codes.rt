@@ -9,7 +9,7 @@ ghost use lib.ListN.{length, getD};
 ghost use Rattle.terms.specs.Positions.{eqZ};
 ghost use Rattle.marks.specs.Marks.{bitOf};
 ghost use Rattle.terms.specs.Counting.{Each, sum, bit};
-ghost use Rattle.convergence.specs.Settling.{twoRounds};
+ghost use Rattle.convergence.specs.Settling.{twoRoundRule};
 ghost use Rattle.settle_trust.specs.Received.{givenBy};
 ghost use Rattle.settle_midpoint.specs.Orders.{OrderAfter};
 ghost use Rattle.settle_midpoint.specs.Answers.{settling};
@@ -341,7 +341,7 @@ fn take_entry(codes: &Numbers, j: usize, positions: &mut Numbers, len: usize) ->
 // The new position from the codes of the trusted entries, put in order one by one. `up`: whether an odd sum is rounded up.
 pub(crate) fn settle_codes(codes: &Numbers, n: u8, f: u8, up: bool) -> settle_midpoint::Settled
     requires { ⌜ n ≤ 32 ⌝ }
-    ensures { λ r. ⌜ r ≡ settling (bit up) n (twoRounds f) (entryIn (now (codes .entry))) ⌝ }
+    ensures { λ r. ⌜ r ≡ settling (bit up) n (twoRoundRule f) (entryIn (now (codes .entry))) ⌝ }
 {
     let count = n as usize;
     let mut positions = [0i32; HEADS];

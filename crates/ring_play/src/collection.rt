@@ -7,7 +7,7 @@ ghost use Prim.Native.Nat.{ℕ, _<_};
 ghost use lib.ListN.{length, getD};
 ghost use lib.IntN.{pos};
 ghost use Rattle.terms.specs.declared.Table.{Table};
-ghost use Rattle.entries.specs.Tables.{tableAt, tableOf, mark, number};
+ghost use Rattle.entries.specs.Tables.{tableAt, tableOf, mark, valueOf};
 ghost use Rattle.frame_spec.specs.Said.{said};
 ghost use Rattle.head_spec.specs.Record.{heardEntry};
 ghost use Rattle.ring_play.specs.Memory.{heads, hears, settles, InRange, listEntry, rowIn, heardPosition};
@@ -82,9 +82,9 @@ fn mark_of(e: Entry) -> u32
     }
 }
 
-// The number of an entry, 0 if it is null.
-fn number_of(e: Entry) -> i32
-    ensures { λ r. ⌜ r ≡ number e ⌝ }
+// The value of an entry, 0 if it is null.
+fn value_of(e: Entry) -> i32
+    ensures { λ r. ⌜ r ≡ valueOf e ⌝ }
 {
     match e {
         Entry::Null => 0,
@@ -106,7 +106,7 @@ fn entries_sent(s: Stage, positions: &Positions) -> Table
             e = own_entry(s, positions, k);
         }
         marks += mark_of(e) << k;
-        entries[k] = number_of(e);
+        entries[k] = value_of(e);
         k += 1;
     }
     Table { marks, entries }
@@ -142,7 +142,7 @@ fn list_for(
     while k < n {
         let e = entry_planted(s, planted, lengths, k, i);
         marks += mark_of(e) << k;
-        entries[k] = number_of(e);
+        entries[k] = value_of(e);
         k = round::next_struck(s, k + 1);
     }
     marks

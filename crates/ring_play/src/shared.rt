@@ -4,7 +4,7 @@ ghost use mathlib.Core.Bool.{true, false};
 ghost use mathlib.Core.Path.{_≡_};
 ghost use Prim.Native.Nat.{_-_, _≤_, _<_};
 ghost use lib.ListN.{length, getD};
-ghost use Rattle.marks.specs.Marks.{markedTo};
+ghost use Rattle.marks.specs.Marks.{countBelow};
 ghost use Rattle.terms.specs.Counting.{Each};
 ghost use Rattle.frame_spec.specs.Said.{said};
 ghost use Rattle.frame_slots.specs.Slots.{plantedIn};
@@ -85,10 +85,10 @@ fn count_planted(
 
 // How many lists are needed if these links confessed too.
 fn need_after(need: u32, confessed: u32, n: usize) -> u32
-    ensures { λ r. ⌜ r ≡ need - markedTo confessed n ⌝ }
+    ensures { λ r. ⌜ r ≡ need - countBelow confessed n ⌝ }
 {
     let all = need as usize;
-    let c = marks::marked_to(confessed, n);
+    let c = marks::count_below(confessed, n);
     if all <= c { 0 } else { (all - c) as u32 }
 }
 
@@ -197,7 +197,7 @@ pub(crate) fn settle_all(
         return false;
     }
     let n = round::head_count(s);
-    let struck = marks::marked_to(s.struck, n as usize);
+    let struck = marks::count_below(s.struck, n as usize);
     let mut codes = [0i32; HEADS];
     let mut counts = [0u32; HEADS];
     if !codes::share(rows, links, n, s.f, struck, &mut codes, &mut counts) {

@@ -17,7 +17,7 @@ use Rattle.terms.specs.declared.Entry.the-variants.{Null, Position}
 use Rattle.terms.specs.declared.Family.the-variants.{TwoRounds}
 use Rattle.fields.specs.Bytes.{signedAt}
 use Rattle.marks.specs.Marks.{bitOf, marksBelow}
-use Rattle.convergence.specs.Settling.{twoRounds, enough, settled}
+use Rattle.convergence.specs.Settling.{twoRoundRule, enough, settled}
 use Rattle.convergence.specs.Demand3.{HeldBetween}
 use Rattle.settle_midpoint.specs.declared.Settled.{Settled}
 use Rattle.settle_midpoint.specs.declared.Settled.the-variants.{Refused, New}
@@ -61,12 +61,12 @@ checkLimits n f p m s rest =
 
 -- and then 25: "null entries are counted as before"
 unfoldable pub limitsRefusal : (n f phase marks : ℕ) (limits : List ℕ) → ℕ
-limitsRefusal n f p m s = checkLimits n f p m s (check (enough n (twoRounds f) (lowests m s)) refusal.too-few-trusted 0)
+limitsRefusal n f p m s = checkLimits n f p m s (check (enough n (twoRoundRule f) (lowests m s)) refusal.too-few-trusted 0)
 
 -- what is answered: the number of the first check that fails, and else the lowest and the highest new position
 pub data Answers (n f p m : ℕ) (s : List ℕ) : Ranged → Type 0 where
   refused : (c : ℕ) → limitsRefusal n f p m s ≡ suc c → Answers n f p m s (Ranged.Refused (suc c))
-  range : limitsRefusal n f p m s ≡ 0 → (low high : ℤ) → Spans (rounding p) n (twoRounds f) (lowests m s) (highests m s) low high
+  range : limitsRefusal n f p m s ≡ 0 → (low high : ℤ) → Spans (rounding p) n (twoRoundRule f) (lowests m s) (highests m s) low high
       → Answers n f p m s (Ranged.Range low high)
 
 -- one answer at most
@@ -77,13 +77,13 @@ OneAnswer = (n f p m : ℕ) (s : List ℕ) (a b : Ranged) → Answers n f p m s 
 abbrev pub TooFewAlike : Type 0
 TooFewAlike =
     (n f p m : ℕ) (s : List ℕ) → Answers n f p m s (Ranged.Refused refusal.too-few-trusted)
-    → (E : ℕ → Entry) → Choice n (lowests m s) (highests m s) E → settled (rounding p) n (twoRounds f) E ≡ Null
+    → (E : ℕ → Entry) → Choice n (lowests m s) (highests m s) E → settled (rounding p) n (twoRoundRule f) E ≡ Null
 
 -- and only there: limits that pass the checks before 25 are refused 25 if each choice has too few (Q95)
 abbrev pub TooFewOnly : Type 0
 TooFewOnly =
     (n f p m : ℕ) (s : List ℕ) → checkLimits n f p m s 0 ≡ 0
-    → ((E : ℕ → Entry) → Choice n (lowests m s) (highests m s) E → settled (rounding p) n (twoRounds f) E ≡ Null)
+    → ((E : ℕ → Entry) → Choice n (lowests m s) (highests m s) E → settled (rounding p) n (twoRoundRule f) E ≡ Null)
     → Answers n f p m s (Ranged.Refused refusal.too-few-trusted)
 
 -- a choice within the limits, given to the midpoint call as a list that it takes, brings a new position from the one end to the other
@@ -101,4 +101,4 @@ rangedOf (New k) (Refused c) = Ranged.Refused c
 rangedOf (New k) (New h) = Ranged.Range (k .position) (h .position)
 
 unfoldable pub rangeAt : (r n f marks : ℕ) (limits : List ℕ) → Ranged
-rangeAt r n f m s = rangedOf (settling r n (twoRounds f) (lowests m s)) (settling r n (twoRounds f) (highests m s))
+rangeAt r n f m s = rangedOf (settling r n (twoRoundRule f) (lowests m s)) (settling r n (twoRoundRule f) (highests m s))

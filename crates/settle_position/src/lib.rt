@@ -5,7 +5,7 @@ ghost use mathlib.Core.List.{[]};
 ghost use Prim.Native.Nat.{ℕ, _+_, _%_, _≤_, _<_};
 ghost use lib.ListN.{length, getD};
 ghost use Rattle.terms.specs.Counting.{Each, bit};
-ghost use Rattle.convergence.specs.Settling.{twoRounds};
+ghost use Rattle.convergence.specs.Settling.{twoRoundRule};
 ghost use Rattle.convergence.specs.Trust.{trusted};
 ghost use Rattle.settle_trust.specs.Received.{givenBy};
 ghost use Rattle.settle_position.specs.Reference.{sameNumber, isApart, Compares, Decides, Lacks};
@@ -211,7 +211,7 @@ pub fn settle_entries(
     up: bool,
 ) -> settle_midpoint::Settled
     ensures { λ r. ⌜ ((E : ℕ → Entry) → Prepared E (now (lists .entry)) (now (marks .entry)) (now (reference .entry)) (now (same .entry)) d
-        → r ≡ settling (bit up) n (twoRounds f) E) ⌝ }
+        → r ≡ settling (bit up) n (twoRoundRule f) E) ⌝ }
 {
     let count = terms::at_most_32(n as usize);
     let mut positions = [0i32; HEADS];
@@ -233,7 +233,7 @@ pub fn settle_by(
     f: u8,
     up: bool,
 ) -> settle_midpoint::Settled
-    ensures { λ r. ⌜ r ≡ settling (bit up) n (twoRounds f) (trusted n f (givenBy links (now (lists .entry)))) ⌝ }
+    ensures { λ r. ⌜ r ≡ settling (bit up) n (twoRoundRule f) (trusted n f (givenBy links (now (lists .entry)))) ⌝ }
 {
     let mut marks = [0u32; HEADS];
     let mut same = [0u32; HEADS];
@@ -243,7 +243,7 @@ pub fn settle_by(
 
 // The same of lists by value.
 pub fn settle(lists: Lists, links: Links, n: u8, f: u8, up: bool) -> settle_midpoint::Settled
-    ensures { λ r. ⌜ r ≡ settling (bit up) n (twoRounds f) (trusted n f (givenBy links lists)) ⌝ }
+    ensures { λ r. ⌜ r ≡ settling (bit up) n (twoRoundRule f) (trusted n f (givenBy links lists)) ⌝ }
 {
     settle_by(&lists, links, 0, n, f, up)
 }

@@ -21,7 +21,7 @@ use Rattle.terms.proofs.Whole.{eqZ→eq, eqZ-refl}
 use Rattle.fields.specs.Bytes.{signedOf, wordOf}
 use Rattle.marks.specs.Marks.{bitOf}
 use Rattle.entries.specs.Entries.{entryAt}
-use Rattle.entries.specs.Tables.{mark, number}
+use Rattle.entries.specs.Tables.{mark, valueOf}
 use Rattle.fields.proofs.Bytes.{toZ-signed, ofZ-word}
 use Rattle.terms.specs.Counting.{Each, sum, bit}
 use Rattle.convergence.specs.Trust.{is}
@@ -79,11 +79,11 @@ pub cell-mark : (x : ℕ) → (x ≡ 0 → ⊥) → 1 ≡ mark (cellEntry x)
 cell-mark zero h = absurd (h refl)
 cell-mark (suc w) h = refl
 
-pub cell-number : (x : ℕ) → (x ≡ 0 → ⊥) → signedOf ((x - 1) % 4294967296) ≡ number (cellEntry x)
+pub cell-number : (x : ℕ) → (x ≡ 0 → ⊥) → signedOf ((x - 1) % 4294967296) ≡ valueOf (cellEntry x)
 cell-number zero h = absurd (h refl)
 cell-number (suc w) h = let e : suc w - 1 ≡ w = omega arith in rw e
 
-pub cell-position : (x : ℕ) → (x ≡ 0 → ⊥) → Position (number (cellEntry x)) ≡ cellEntry x
+pub cell-position : (x : ℕ) → (x ≡ 0 → ⊥) → Position (valueOf (cellEntry x)) ≡ cellEntry x
 cell-position zero h = absurd (h refl)
 cell-position (suc w) h = refl
 

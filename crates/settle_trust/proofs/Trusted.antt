@@ -10,7 +10,7 @@ use lib.IntN.{ℤ}
 use borrow.Author.Tests.{ne-eqb}
 use Rattle.terms.specs.declared.Entry.{Entry}
 use Rattle.terms.specs.declared.Entry.the-variants.{Null}
-use Rattle.marks.specs.Marks.{bitOf, markedTo}
+use Rattle.marks.specs.Marks.{bitOf, countBelow}
 use Rattle.terms.specs.Counting.{Each, sum, bit}
 use Rattle.convergence.specs.Trust.{Given, nothing, confessed, gave, is, supports, support, hasConfessed, confessions, saysOf, none, seen, choose, trusted}
 use Rattle.marks.proofs.Marks.{bit-above}
@@ -100,7 +100,7 @@ module _ (g : Links) (lists : List (List ℤ)) (w : Words g) where
   abbrev G : ℕ → Given
   G = givenBy g lists
 
-  confessions-marked : (n : ℕ) → markedTo (g .confessed) (min n 32) ≡ confessions n G
+  confessions-marked : (n : ℕ) → countBelow (g .confessed) (min n 32) ≡ confessions n G
   unfolding confessions
   confessions-marked n =
       sum-first-32 (λ k. bit (bitOf (g .confessed) k)) (λ k l. ap bit (bit-above (g .confessed) 32 k (w .confessed) l)) n
@@ -109,17 +109,17 @@ module _ (g : Links) (lists : List (List ℤ)) (w : Words g) where
   says-nothing : (j k : ℕ) → 32 ≤ k → saysOf j (G k) ≡ Null
   says-nothing j k l = ap (saysOf j) (given-past g lists w k l)
 
-  pub support-counted : {m : ℕ} (n j : ℕ) (u : ℤ) → m ≡ min n 32 → markedTo (g .confessed) m + sum m (λ k. is u (saysOf j (G k))) ≡ support n G j u
+  pub support-counted : {m : ℕ} (n j : ℕ) (u : ℤ) → m ≡ min n 32 → countBelow (g .confessed) m + sum m (λ k. is u (saysOf j (G k))) ≡ support n G j u
   support-counted n j u e =
       rw (e, confessions-marked n, sum-first-32 (λ k. is u (saysOf j (G k))) (λ k l. ap (is u) (says-nothing j k l)) n) (sym (support-parts n G j u))
 
-  trusted-decided : {m need : ℕ} (n f j : ℕ) → m ≡ min n 32 → need ≡ n - f - markedTo (g .confessed) (min n 32)
+  trusted-decided : {m need : ℕ} (n f j : ℕ) → m ≡ min n 32 → need ≡ n - f - countBelow (g .confessed) (min n 32)
       → decided (bitOf (g .confessed) j) m need (λ k. saysOf j (G k)) ≡ trusted n f G j
   trusted-decided {need} n f j e q =
       rw (← confessed-given g lists j, e, agreed-first-32 need (λ k. saysOf j (G k)) (says-nothing j) n, q, confessions-marked n) (decided-trusted n f G j)
 
   -- what the lists and their marks decide is the trusted entry
-  pub decided-marked : {m need : ℕ} {marks : List ℕ} (n f j : ℕ) → m ≡ min n 32 → need ≡ n - f - markedTo (g .confessed) (min n 32) → marks ≡ marksTo g (min n 32)
+  pub decided-marked : {m need : ℕ} {marks : List ℕ} (n f j : ℕ) → m ≡ min n 32 → need ≡ n - f - countBelow (g .confessed) (min n 32) → marks ≡ marksTo g (min n 32)
       → decided (bitOf (g .confessed) j) m need (columnOf marks lists j) ≡ trusted n f G j
   decided-marked {m} {need} n f j e q h =
       decided-same (bitOf (g .confessed) j) m need _ _ (column-given g lists m j (omega arith) (h ∙ ap (marksTo g) (sym e))) ∙ trusted-decided n f j e q

@@ -4,9 +4,9 @@ ghost use mathlib.Core.Path.{_≡_};
 ghost use Prim.Native.Nat.{_+_, _-_, _≤_, _<_, min, ℕ};
 ghost use lib.ListN.{length, getD};
 ghost use mathlib.Core.List.{List};
-ghost use Rattle.marks.specs.Marks.{markedTo, bitOf};
+ghost use Rattle.marks.specs.Marks.{countBelow, bitOf};
 ghost use Rattle.entries.specs.Entries.{entryAt};
-ghost use Rattle.entries.specs.Tables.{mark, number, tableOf};
+ghost use Rattle.entries.specs.Tables.{mark, valueOf, tableOf};
 ghost use Rattle.settle_trust.specs.Cells.{marksGiven, marksTo, cellFor, cellEntry, CellOf, columnOf, HoldsEach, equalTo, isAnother, AgreedCell, decided};
 ghost use Rattle.settle_trust.specs.Voting.{Leads};
 ghost use Rattle.convergence.specs.Trust.{support, trusted};
@@ -27,9 +27,9 @@ pub struct Links {
 
 // How many lists have to agree on a position for it to be trusted; 0 if the confessions alone reach n - f.
 pub fn lists_needed(confessed: u32, n: u8, f: u8) -> usize
-    ensures { λ r. ⌜ r ≡ n - f - markedTo confessed (min n 32) ⌝ }
+    ensures { λ r. ⌜ r ≡ n - f - countBelow confessed (min n 32) ⌝ }
 {
-    let c = marks::marked_to(confessed, terms::at_most_32(n as usize));
+    let c = marks::count_below(confessed, terms::at_most_32(n as usize));
     if n <= f {
         return 0;
     }
@@ -89,9 +89,9 @@ fn mark_of(x: u64) -> u32
     if x == 0 { 0 } else { 1 }
 }
 
-// The number of the entry that a cell holds.
-fn number_of(x: u64) -> i32
-    ensures { λ r. ⌜ r ≡ number (cellEntry x) ⌝ }
+// The value of the entry that a cell holds.
+fn value_of(x: u64) -> i32
+    ensures { λ r. ⌜ r ≡ valueOf (cellEntry x) ⌝ }
 {
     if x == 0 {
         0
@@ -107,7 +107,7 @@ pub fn entry_of(x: u64) -> Entry
     if x == 0 {
         return Entry::Null;
     }
-    Entry::Position(number_of(x))
+    Entry::Position(value_of(x))
 }
 
 // ---- From what the links gave in a confession round to the trusted entries: support, and the one position that enough links support.
@@ -282,7 +282,7 @@ pub fn support(lists: Lists, links: Links, n: u8, j: usize, u: i32) -> usize
     let given = all_marks(links, n);
     let mut cells = [0u64; HEADS];
     column(&lists, &given, count, j, &mut cells);
-    marks::marked_to(links.confessed, count) + equal_to(&cells, count, cell_of(u))
+    marks::count_below(links.confessed, count) + equal_to(&cells, count, cell_of(u))
 }
 
 // Trusted entry j.
@@ -308,7 +308,7 @@ pub fn trusted_table(lists: Lists, links: Links, n: u8, f: u8) -> Table
     while j < count {
         let x = trusted_cell(&lists, &given, links.confessed, count, need, j);
         marks += mark_of(x) << j;
-        entries[j] = number_of(x);
+        entries[j] = value_of(x);
         j += 1;
     }
     Table { marks, entries }

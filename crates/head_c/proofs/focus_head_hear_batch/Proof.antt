@@ -4,7 +4,7 @@ use lib.ListN.{length}
 use denote.Ref.{now}
 use borrow.Author.Needs.{needs}
 use Rattle.head_spec.specs.declared.Answer.{Answer}
-use Rattle.head_spec.specs.Batch.{batchRefusal, entriesOf}
+use Rattle.head_spec.specs.Batch.{batchRefusal, deliveriesOf}
 use Rattle.head_spec.proofs.Batches.{taken-told, batch-heard, batch-refused}
 use Rattle.head_hear.specs.declared.Cuts.{Cuts}
 use Rattle.head_c.specs.Blocks.{IsBlock, headOf, heardEach}
@@ -20,7 +20,7 @@ module _ (c : tie.After-cut) where
   refusal : c .cut .result .refusal ≡ batchRefusal (now (first .args .batch)) (length (now (first .args .answers)))
   refusal = ap (λ (x : Cuts). x .refusal) (c .cut .ensures)
 
-  entries : c .cut .result .entries ≡ length (entriesOf (now (first .args .batch)))
+  entries : c .cut .result .entries ≡ length (deliveriesOf (now (first .args .batch)))
   entries = ap (λ (x : Cuts). x .entries) (c .cut .ensures)
 
 returns : tie.Need-returns
@@ -31,7 +31,7 @@ returns c =
     let (heard, answers, count) = batch-refused (headOf w) (now (a .batch)) (now (a .answers)) (now (a .count)) (refusal d) (c .if1 .taken) in
     record {
       refusal = refusal d;
-      block = unchanged (d .cut .result .refusal) (heardEach w (entriesOf (now (a .batch)))) w (c .if1 .taken);
+      block = unchanged (d .cut .result .refusal) (heardEach w (deliveriesOf (now (a .batch)))) w (c .if1 .taken);
       head = ap (λ (x : Answer). x .head) heard;
       answers = answers;
       count = count;

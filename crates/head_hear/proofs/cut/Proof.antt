@@ -11,7 +11,7 @@ use denote.Ref.{now}
 use borrow.Author.Needs.{needs}
 use borrow.Author.Tests.{le-leb, lt-leb}
 use Rattle.terms.specs.Refusals as refusal
-use Rattle.head_spec.specs.Batch.{entrySize, entriesOf, isBatch, batchRefusal, cutInto, isCutInto}
+use Rattle.head_spec.specs.Batch.{entrySize, deliveriesOf, isBatch, batchRefusal, cutInto, isCutInto}
 use Rattle.head_spec.proofs.Batches.{some-whole, none-torn, none-cut, torn-told, fits-here, cut-here, told-here}
 use Rattle.head_hear.proofs.cut.Statement.{statement}
 use Rattle.head_hear.proofs.cut.Tie as tie
@@ -20,7 +20,7 @@ record Cutting (s : List ℕ) (at i : ℕ) : Type 0 where
   inside : at ≤ length s
   few : i ≤ at
   told : isBatch (drop at s) ≡ isBatch s
-  count : i + length (entriesOf (drop at s)) ≡ length (entriesOf s)
+  count : i + length (deliveriesOf (drop at s)) ≡ length (deliveriesOf s)
 
 module _ {s : List ℕ} {at i : ℕ} (C : Cutting s at i) where
   -- an entry of n bytes is whole, or not
@@ -39,7 +39,7 @@ module _ {s : List ℕ} {at i : ℕ} (C : Cutting s at i) where
           count = omega (arith, ap length (cut-here s at w e), C .count);
         }
 
-    torn : n ≡ 0 → (room : ℕ) → (batchRefusal s room ≡ refusal.bad-batch-entry) × (length (entriesOf s) ≡ i)
+    torn : n ≡ 0 → (room : ℕ) → (batchRefusal s room ≡ refusal.bad-batch-entry) × (length (deliveriesOf s) ≡ i)
     unfolding batchRefusal
     torn z room =
         let w = none-torn (drop at s) e z in
@@ -48,7 +48,7 @@ module _ {s : List ℕ} {at i : ℕ} (C : Cutting s at i) where
 
   -- nothing remains
   module _ (l : length s ≤ at) where
-    all : length (entriesOf s) ≡ i
+    all : length (deliveriesOf s) ≡ i
     unfolding cutInto
     all = let none : drop at s ≡ [] = drop-of-length-le s l in omega (arith, rw none at (C .count))
 
@@ -58,11 +58,11 @@ module _ {s : List ℕ} {at i : ℕ} (C : Cutting s at i) where
 
     short : (room : ℕ) → room < i → batchRefusal s room ≡ refusal.buffer-too-short
     unfolding batchRefusal
-    short room m = rw (whole, lt-leb (length (entriesOf s)) room (omega (arith, all)))
+    short room m = rw (whole, lt-leb (length (deliveriesOf s)) room (omega (arith, all)))
 
     enough : (room : ℕ) → i ≤ room → batchRefusal s room ≡ 0
     unfolding batchRefusal
-    enough room m = rw (whole, le-leb (length (entriesOf s)) room (omega (arith, all)))
+    enough room m = rw (whole, le-leb (length (deliveriesOf s)) room (omega (arith, all)))
 
 abbrev Inv-loop : tie.InvT-loop
 Inv-loop batch room at₀ entries₀ at entries = Cutting batch at entries

@@ -3,7 +3,7 @@ use mathlib.Core.Path.{_≡_, ap, sym, _∙_}
 use lib.ListN.{length}
 use denote.Ref.{now}
 use borrow.Author.Needs.{needs}
-use Rattle.head_spec.specs.Batch.{batchRefusal, entriesOf}
+use Rattle.head_spec.specs.Batch.{batchRefusal, deliveriesOf}
 use Rattle.head_spec.proofs.Batches.{taken-told, batch-heard, batch-refused}
 use Rattle.head_hear.specs.declared.Cuts.{Cuts}
 use Rattle.head_hear.proofs.hear_batch.Statement.{statement}
@@ -17,7 +17,7 @@ module _ (c : tie.After-cut) where
   refusal : c .cut .result .refusal ≡ batchRefusal (now (first .args .batch)) (length (now (first .args .answers)))
   refusal = ap (λ (x : Cuts). x .refusal) (c .cut .ensures)
 
-  entries : c .cut .result .entries ≡ length (entriesOf (now (first .args .batch)))
+  entries : c .cut .result .entries ≡ length (deliveriesOf (now (first .args .batch)))
   entries = ap (λ (x : Cuts). x .entries) (c .cut .ensures)
 
 returns : tie.Need-returns

@@ -9,7 +9,7 @@ use Rattle.terms.specs.Refusals.{leaves}
 use Rattle.head_spec.specs.declared.Head.{Head}
 use Rattle.head_spec.specs.declared.Answer.{Answer}
 use Rattle.head_spec.specs.declared.Offer.{Offer}
-use Rattle.head_spec.specs.Batch.{hearBatch, batchRefusal, batchAnswers, batchCount, entriesOf}
+use Rattle.head_spec.specs.Batch.{hearBatch, batchRefusal, batchAnswers, batchCount, deliveriesOf}
 use Rattle.head_spec.specs.Calls.{Delivery, answersTo}
 use Rattle.head_spec.specs.Offers.{lapsedBy}
 use Rattle.head_spec.proofs.Batches.{answers-count}
@@ -19,12 +19,12 @@ use Rattle.headplay.proofs.batched.Statement.{statement}
 use Rattle.headplay.proofs.batched.Tie as tie
 
 module _ (h : Head) (b a : List ℕ) (o : Offer) where
-  lapses : lapsedBy (take (batchCount b (length a) 0) (batchAnswers h b a)) o ≡ leaves (batchRefusal b (length a)) (lapsedBy (answersTo h (entriesOf b)) o) o
+  lapses : lapsedBy (take (batchCount b (length a) 0) (batchAnswers h b a)) o ≡ leaves (batchRefusal b (length a)) (lapsedBy (answersTo h (deliveriesOf b)) o) o
   unfolding batchCount batchAnswers lapsedBy
   lapses = go (batchRefusal b (length a))
     where
       D : List Delivery
-      D = entriesOf b
+      D = deliveriesOf b
 
       go : (c : ℕ) → lapsedBy (take (leaves c (length D) 0) (leaves c (answersTo h D ++ drop (length D) a) a)) o ≡ leaves c (lapsedBy (answersTo h D) o) o
       go zero = rw (take-at (answersTo h D) (drop (length D) a) (length D) (answers-count D h))

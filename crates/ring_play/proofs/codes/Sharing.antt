@@ -7,7 +7,7 @@ use Prim.Native.Nat.{ℕ, _+_, _-_, _*_, _≤_, _<_, min}
 use native.Mathlib.Omega.{arith}
 use lib.IntN.{ℤ, pos}
 use lib.ListN.{getD}
-use Rattle.marks.specs.Marks.{bitOf, markedTo}
+use Rattle.marks.specs.Marks.{bitOf, countBelow}
 use Rattle.terms.specs.Counting.{Each, bit}
 use Rattle.convergence.specs.Trust.{Given, is, support, hasConfessed, confessions, saysOf}
 use Rattle.terms.proofs.Sums.{sums-le, sum-same}
@@ -22,7 +22,7 @@ use Rattle.ring_play.proofs.codes.Codes.{is-le-holds}
 use Rattle.ring_play.proofs.codes.Votes.{too-few}
 use Rattle.ring_play.proofs.codes.Lists.{counted, counted-le}
 
-pub confessions-marked : (n : ℕ) (g : Links) (lists : List (List ℤ)) → confessions n (givenBy g lists) ≡ markedTo (g .confessed) n
+pub confessions-marked : (n : ℕ) (g : Links) (lists : List (List ℤ)) → confessions n (givenBy g lists) ≡ countBelow (g .confessed) n
 unfolding confessions
 confessions-marked n g lists = sum-same n (λ k. bit (hasConfessed (givenBy g lists k))) (λ k. bit (bitOf (g .confessed) k)) (λ k l. ap bit (confessed-given g lists k))
 
@@ -42,7 +42,7 @@ module _ (n f struck : ℕ) (g : Links) (lists : List (List ℤ)) (codes codes�
         sums-le n ((λ k. is w (saysOf j (G k))) ∷ []) ((λ k. holds j w (G k)) ∷ []) (λ k l. omega (arith, is-le-holds j w (G k))),
       )
 
-  module _ {need count : ℕ} (small : n ≤ 32) (needed : need ≡ n - f - markedTo (g .confessed) (min n 32)) (enough : struck < need)
+  module _ {need count : ℕ} (small : n ≤ 32) (needed : need ≡ n - f - countBelow (g .confessed) (min n 32)) (enough : struck < need)
       (led : Each n (λ j. Leads (counted g lists j n) count (getD codes j (pos 0)) (getD leads j 0)))
       (apart : Each n (λ j. bitOf (g .confessed) j ≡ false → count < getD leads j 0 + 2 * (need - struck)))
       (tallied : Each n (λ j. getD same j 0 ≡ counted g lists j n (getD codes j (pos 0))))
@@ -53,7 +53,7 @@ module _ (n f struck : ℕ) (g : Links) (lists : List (List ℤ)) (codes codes�
     needs : need ≡ n - f - confessions n G
     needs =
         let m : min n 32 ≡ n = omega arith in
-        needed ∙ ap (λ (x : ℕ). n - f - markedTo (g .confessed) x) m ∙ ap (λ (x : ℕ). n - f - x) (sym (confessions-marked n g lists))
+        needed ∙ ap (λ (x : ℕ). n - f - countBelow (g .confessed) x) m ∙ ap (λ (x : ℕ). n - f - x) (sym (confessions-marked n g lists))
 
     pub shares-all : Shares n f struck G codes′ same
     shares-all =

@@ -13,14 +13,14 @@ use Rattle.terms.specs.declared.Entry.{Entry}
 use Rattle.terms.specs.declared.Entry.the-variants.{Null}
 use Rattle.terms.specs.declared.Table.{Table}
 use Rattle.marks.specs.Marks.{bitOf}
-use Rattle.entries.specs.Tables.{mark, number, marksOf, numbersOf, tableOf}
+use Rattle.entries.specs.Tables.{mark, valueOf, marksOf, valuesOf, tableOf}
 use Rattle.entries.proofs.Tables.{marks-same, numbers-same, table-same, put, put-same, put-other, numbers-put, marks-sum, marks-room}
 use Rattle.frame_spec.specs.Said.{collected, said}
 use Rattle.frame_spec.specs.Written.{frameOf}
 use Rattle.frame_spec.proofs.ReadsBack.{reads-back}
 use Rattle.head_spec.specs.Record.{heardEntry}
 use Rattle.ring_play.specs.declared.Stage.{Stage}
-use Rattle.convergence.specs.Settling.{oneRound}
+use Rattle.convergence.specs.Settling.{oneRoundRule}
 use Rattle.terms.specs.Positions.{rounding}
 use Rattle.settle_midpoint.specs.Answers.{settling}
 use Rattle.settle_midpoint.specs.declared.Settled.{Settled}
@@ -78,7 +78,7 @@ module _ (s : Stage) (plant : ℕ → ℕ → List ℕ) (i : ℕ) where
 
   module _ (m₀ : ℕ) (l₀ : List ℤ) (m : ℕ) (l : List ℤ) where
     abbrev pub ListTo : ℕ → Type 0
-    ListTo k = (S : SharedMarks s m₀) → (m ≡ marksOf (heads s) (heardTo (S .entry) k)) × ((N : SharedNumbers s (S .entry) l₀) → l ≡ numbersOf (heads s) (heardTo (N .entry) k))
+    ListTo k = (S : SharedMarks s m₀) → (m ≡ marksOf (heads s) (heardTo (S .entry) k)) × ((N : SharedNumbers s (S .entry) l₀) → l ≡ valuesOf (heads s) (heardTo (N .entry) k))
 
     pub list-walked : {k r : ℕ} → NextStruck s k r → ListTo k → WalkedTo s ListTo r
     list-walked h p =
@@ -115,7 +115,7 @@ module _ (s : Stage) (plant : ℕ → ℕ → List ℕ) (i : ℕ) where
       pub list-room : SharedMarks s m₀ → m + r * 2 ^ k % 4294967296 < 4294967296
       list-room S = marks-room (heardTo (S .entry) k) k (heads s) e (yet S) below (omega arith) (h S .0) q
 
-      pub list-next : {v : ℤ} → v ≡ number e → ListTo m₀ l₀ (m + r * 2 ^ k % 4294967296) (set l k v) (k + 1)
+      pub list-next : {v : ℤ} → v ≡ valueOf e → ListTo m₀ l₀ (m + r * 2 ^ k % 4294967296) (set l k v) (k + 1)
       list-next w S = (
         marks-sum (heardTo (S .entry) k) k (heads s) e (yet S) below (omega arith) (h S .0) q ∙ marks-same (heads s) _ _ (λ j x. put-heard (S .entry) k b is j),
         λ N. rw (h S .1 N, w) (sym (numbers-put (heardTo (N .entry) k) k e (heads s) below)) ∙ numbers-same (heads s) _ _ (λ j x. put-heard (N .entry) k b is j),
@@ -149,7 +149,7 @@ filled-row picked new old marks lists i {t} h a b e q =
 
 -- x: what was settled of the list t; n, r: the heads and the rounding, as the code has them
 pub position-settled : (s : Stage) (t : Table) {n r : ℕ} {x : Settled} → n ≡ heads s → r ≡ rounding (s .phase)
-    → x ≡ settling r n (oneRound (s .f)) (tableAt t) → positionOf x ≡ settledFrom s (tableAt t)
+    → x ≡ settling r n (oneRoundRule (s .f)) (tableAt t) → positionOf x ≡ settledFrom s (tableAt t)
 unfolding settledFrom
 position-settled s t p q e = ap positionOf (rw (p, q) at e)
 
@@ -157,5 +157,5 @@ pub concluded : (s : Stage) (positions : List ℤ) → s .phase < 65536 → InRa
     → settledFrom s (tableAt (tableOf (heads s) (heardWith s (sentBy s positions) plant i))) ≡ heardPosition s positions plant i
 unfolding settledFrom heardPosition
 concluded s positions small fit plant i =
-    ap (λ (t : Table). positionOf (settling (rounding (s .phase)) (heads s) (oneRound (s .f)) (tableAt t))) (heard-list s positions small fit plant i)
-    ∙ ap positionOf (settling-same (rounding (s .phase)) (heads s) (oneRound (s .f)) _ _ (table-at (heads s) (listEntry s positions plant i) (omega arith)))
+    ap (λ (t : Table). positionOf (settling (rounding (s .phase)) (heads s) (oneRoundRule (s .f)) (tableAt t))) (heard-list s positions small fit plant i)
+    ∙ ap positionOf (settling-same (rounding (s .phase)) (heads s) (oneRoundRule (s .f)) _ _ (table-at (heads s) (listEntry s positions plant i) (omega arith)))

@@ -10,7 +10,7 @@ use borrow.Author.Tests.{lt-ltb}
 use Rattle.terms.specs.Positions.{isPosition, rounding}
 use Rattle.terms.specs.declared.Entry.the-variants.{Position}
 use Rattle.marks.specs.Marks.{bitOf}
-use Rattle.convergence.specs.Settling.{twoRounds}
+use Rattle.convergence.specs.Settling.{twoRoundRule}
 use Rattle.convergence.specs.Trust.{Given, nothing, saysOf, trusted}
 use Rattle.convergence.proofs.Support.{not-null}
 use Rattle.settle_midpoint.specs.Answers.{settling}
@@ -31,7 +31,7 @@ use Rattle.ring_play.specs.Inner.Confession.{replied, Received, RowsKept
 
 -- x: what settling answered, from n heads, rounded by r
 pub settled-is : (s : Stage) (G : ℕ → Given) {n r : ℕ} {x : Settled} → n ≡ heads s → r ≡ rounding (s .phase)
-    → x ≡ settling r n (twoRounds (s .f)) (trusted n (s .f) G) → positionOf x ≡ positionSettled s G
+    → x ≡ settling r n (twoRoundRule (s .f)) (trusted n (s .f) G) → positionOf x ≡ positionSettled s G
 unfolding positionSettled
 settled-is s G p r e = ap positionOf e ∙ rw (p, r)
 

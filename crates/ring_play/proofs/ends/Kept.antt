@@ -16,7 +16,7 @@ use Rattle.terms.specs.declared.Entry.{Entry}
 use Rattle.terms.specs.declared.Entry.the-variants.{Null, Position}
 use Rattle.terms.proofs.Whole.{arithZ, not-le, decLeZ}
 use Rattle.terms.specs.Counting.{Each, sum, bit}
-use Rattle.convergence.specs.Settling.{isNull, nulls, ordered, lowKept, highKept, middle, enough, oneRound}
+use Rattle.convergence.specs.Settling.{isNull, nulls, ordered, lowKept, highKept, middle, enough, oneRoundRule}
 use Rattle.terms.proofs.Sums.{bit-le, bit-yes, sum-one, sums-le}
 use Rattle.convergence.proofs.Order.{passes, gt-fails, KeptRange, kept-counts, length-ordered, in-order, in-order-at}
 use Rattle.settle_midpoint.specs.Answers.{settling}
@@ -166,7 +166,7 @@ module _ (n f : ℕ) (H P E : ℕ → Entry) (split : (q : ℤ → Bool) → Eac
         kept-only n E f x y (omega arith) a b g d
 
     pub settled-inside : (r : ℕ)
-        → half r (getD l (f - c .low) (pos 0) +ℤ getD l (length l - 1 - (f - c .high)) (pos 0)) ≡ positionOf (settling r n (oneRound f) E)
+        → half r (getD l (f - c .low) (pos 0) +ℤ getD l (length l - 1 - (f - c .high)) (pos 0)) ≡ positionOf (settling r n (oneRoundRule f) E)
     unfolding settling enough middle
     settled-inside r =
         let few : nulls n E ≤ 2 * f = omega (arith, nulls-are, length-ordered n H, D .enough) in

@@ -10,7 +10,7 @@ use borrow.Author.Tests.{lt-ltb}
 use Rattle.terms.specs.declared.Entry.{Entry}
 use Rattle.marks.specs.Marks.{bitOf}
 use Rattle.terms.specs.Counting.{Each}
-use Rattle.convergence.specs.Settling.{twoRounds}
+use Rattle.convergence.specs.Settling.{twoRoundRule}
 use Rattle.convergence.specs.Trust.{Given, trusted}
 use Rattle.terms.specs.Positions.{rounding}
 use Rattle.convergence.proofs.Same.{trusted-same}
@@ -30,16 +30,16 @@ use Rattle.ring_play.specs.Inner.Told.{settledBy, settledAt, LastOf}
 pub settled-same : (s : Stage) (G G′ : ℕ → Given) → Each (heads s) (λ k. G k ≡ G′ k) → positionSettled s G ≡ positionSettled s G′
 unfolding positionSettled
 settled-same s G G′ h =
-    ap positionOf (settling-same (rounding (s .phase)) (heads s) (twoRounds (s .f)) _ _ (λ j l. trusted-same (heads s) (s .f) G G′ j l h))
+    ap positionOf (settling-same (rounding (s .phase)) (heads s) (twoRoundRule (s .f)) _ _ (λ j l. trusted-same (heads s) (s .f) G G′ j l h))
 
 -- from the trusted entries
 pub settled-entries : (s : Stage) (E E′ : ℕ → Entry) → Each (heads s) (λ j. E j ≡ E′ j) → settledBy s E ≡ settledBy s E′
 unfolding settledBy
-settled-entries s E E′ h = ap positionOf (settling-same (rounding (s .phase)) (heads s) (twoRounds (s .f)) E E′ h)
+settled-entries s E E′ h = ap positionOf (settling-same (rounding (s .phase)) (heads s) (twoRoundRule (s .f)) E E′ h)
 
 pub settled-trusted : (s : Stage) (G : ℕ → Given) (E : ℕ → Entry) → Each (heads s) (λ j. E j ≡ trusted (heads s) (s .f) G j) → settledBy s E ≡ positionSettled s G
 unfolding settledBy positionSettled
-settled-trusted s G E h = ap positionOf (settling-same (rounding (s .phase)) (heads s) (twoRounds (s .f)) E _ h)
+settled-trusted s G E h = ap positionOf (settling-same (rounding (s .phase)) (heads s) (twoRoundRule (s .f)) E _ h)
 
 pub codes-alike : (s : Stage) (a b : List ℤ) → Each (heads s) (λ j. getD a j (pos 0) ≡ getD b j (pos 0)) → settledAt s a ≡ settledAt s b
 codes-alike s a b h = settled-entries s _ _ (λ j l. ap entryOf (h j l))
@@ -63,7 +63,7 @@ told-settled s G plant i m h = settled-same s _ _ go
         pick false e = refl
 
 -- x: what settling answered, from the entries E of n heads, rounded by r
-pub at-entries : (s : Stage) (E : ℕ → Entry) {n r : ℕ} {x : Settled} → n ≡ heads s → r ≡ rounding (s .phase) → x ≡ settling r n (twoRounds (s .f)) E
+pub at-entries : (s : Stage) (E : ℕ → Entry) {n r : ℕ} {x : Settled} → n ≡ heads s → r ≡ rounding (s .phase) → x ≡ settling r n (twoRoundRule (s .f)) E
     → positionOf x ≡ settledBy s E
 unfolding settledBy
 at-entries s E p r e = ap positionOf e ∙ rw (p, r)

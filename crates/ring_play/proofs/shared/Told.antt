@@ -10,7 +10,7 @@ use lib.IntN.{ℤ, pos}
 use borrow.Author.Tests.{lt-ltb}
 use Rattle.terms.specs.Positions.{isPosition}
 use Rattle.terms.specs.declared.Entry.the-variants.{Position}
-use Rattle.marks.specs.Marks.{bitOf, markedTo}
+use Rattle.marks.specs.Marks.{bitOf, countBelow}
 use Rattle.terms.specs.Counting.{Each, sum, bit}
 use Rattle.convergence.specs.Trust.{Given, hasConfessed, confessions, saysOf, trusted}
 use Rattle.terms.proofs.Sums.{sums-le, sum-same}
@@ -44,7 +44,7 @@ given-positions n p r k bytes size j l u q = go (said n p r k bytes) refl q
 
 -- g and rows hold what is given all alike; n: the heads played; struck: how many of them are struck
 abbrev pub shared-by : (s : Stage) (g : Links) (rows : List (List ℤ)) {n struck need : ℕ} {codes : List ℤ} {counts : List ℕ} → n ≡ heads s
-    → struck ≡ markedTo (s .struck) n → Shares n (s .f) struck (givenBy g rows) codes counts → need ≡ n - s .f - markedTo (g .confessed) (min n 32)
+    → struck ≡ countBelow (s .struck) n → Shares n (s .f) struck (givenBy g rows) codes counts → need ≡ n - s .f - countBelow (g .confessed) (min n 32)
     → SharedBy s need codes counts
 shared-by s g rows {n} p q S e =
     let small : min n 32 ≡ heads s = omega arith in
@@ -69,7 +69,7 @@ module _ (s : Stage) (plant : ℕ → ℕ → List ℕ) (i : ℕ) {need : ℕ} {
   unfolding givenOrPlanted
   kept k e = rw e
 
-  struck-count : sum (heads s) (λ k. bit (isStruck s k)) ≡ markedTo (s .struck) (heads s)
+  struck-count : sum (heads s) (λ k. bit (isStruck s k)) ≡ countBelow (s .struck) (heads s)
   struck-count = sum-same (heads s) _ _ (λ k l. ap (λ (b : Bool). bit (b && bitOf (s .struck) k)) (lt-ltb k (heads s) l))
 
   abbrev n : ℕ
@@ -91,7 +91,7 @@ module _ (s : Stage) (plant : ℕ → ℕ → List ℕ) (i : ℕ) {need : ℕ} {
           go true e = rw (T .confesses k, e, planted k e, A .untold k e) (omega arith)
           go false e = rw (T .confesses k, e, kept k e) (omega arith)
 
-      confessions-here : confessions n G′ ≡ confessions n G + markedTo confessed n
+      confessions-here : confessions n G′ ≡ confessions n G + countBelow confessed n
       unfolding confessions
       confessions-here =
           let a : ℕ → ℕ = λ k. bit (hasConfessed (G′ k)) in
@@ -125,7 +125,7 @@ module _ (s : Stage) (plant : ℕ → ℕ → List ℕ) (i : ℕ) {need : ℕ} {
       trusted-here : Each n (λ j. takenHere s need codes same confessed j ≡ trusted n (s .f) G′ j)
       trusted-here j l =
           let needs : neededHere s need confessed ≡ n - s .f - confessions n G′ = omega (arith, S .needed, confessions-here) in
-          shared-trusted n (s .f) (markedTo (s .struck) n) G G′ (isStruck s) codes counts (S .shares) struck-count (λ k m. A .untold k) (λ k m. kept k) tidy j l
+          shared-trusted n (s .f) (countBelow (s .struck) n) G G′ (isStruck s) codes counts (S .shares) struck-count (λ k m. A .untold k) (λ k m. kept k) tidy j l
           needs (T .counts j l ∙ ap (λ (x : ℕ). getD counts j 0 + x) (added-here j (getD codes j (pos 0)))) (marked-here j) refl
 
       -- what the receiver settles

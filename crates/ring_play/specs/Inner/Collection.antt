@@ -9,13 +9,13 @@ use lib.IntN.{ℤ, pos}
 use Rattle.terms.specs.declared.Entry.{Entry}
 use Rattle.terms.specs.declared.Table.{Table}
 use Rattle.marks.specs.Marks.{bitOf}
-use Rattle.entries.specs.Tables.{marksOf, numbersOf, tableOf}
+use Rattle.entries.specs.Tables.{marksOf, valuesOf, tableOf}
 use Rattle.fields.specs.Bytes.{at2}
 use Rattle.frame_check.specs.Check.{lengthField, senderField, phaseField}
 use Rattle.frame_spec.specs.Said.{said}
 use Rattle.head_spec.specs.Record.{heardEntry}
 use Rattle.ring_play.specs.declared.Stage.{Stage}
-use Rattle.convergence.specs.Settling.{oneRound}
+use Rattle.convergence.specs.Settling.{oneRoundRule}
 use Rattle.terms.specs.Positions.{rounding}
 use Rattle.settle_midpoint.specs.Answers.{settling}
 use Rattle.ring_play.specs.Memory.{heads, positionOf}
@@ -55,9 +55,9 @@ pub record SharedMarks (s : Stage) (m : ℕ) : Type 0 where
 -- numbers of entries, of which those of the unstruck heads are E's
 pub record SharedNumbers (s : Stage) (E : ℕ → Entry) (l : List ℤ) : Type 0 where
   pub entry : ℕ → Entry
-  pub is : l ≡ numbersOf (heads s) entry
+  pub is : l ≡ valuesOf (heads s) entry
   pub sent : (k : ℕ) → bitOf (s .struck) k ≡ false → entry k ≡ E k
 
 -- the position that a receiver settles from these entries, in a phase of one round
 unfoldable pub settledFrom : Stage → (ℕ → Entry) → ℤ
-settledFrom s E = positionOf (settling (rounding (s .phase)) (heads s) (oneRound (s .f)) E)
+settledFrom s E = positionOf (settling (rounding (s .phase)) (heads s) (oneRoundRule (s .f)) E)

@@ -10,7 +10,7 @@ use Rattle.terms.specs.Positions.{isPosition, rounding}
 use Rattle.terms.specs.declared.Entry.the-variants.{Position}
 use Rattle.marks.specs.Marks.{bitOf}
 use Rattle.terms.specs.Counting.{Each}
-use Rattle.convergence.specs.Settling.{twoRounds}
+use Rattle.convergence.specs.Settling.{twoRoundRule}
 use Rattle.convergence.specs.Trust.{Given, nothing, saysOf, trusted}
 use Rattle.frame_spec.specs.Said.{said}
 use Rattle.settle_midpoint.specs.Answers.{settling}
@@ -28,7 +28,7 @@ givenOrPlanted s G plant i k = cond (isStruck s k) (givenOf (said (heads s) (s .
 
 -- the position that a receiver settles, from what its links give
 unfoldable pub positionSettled : Stage → (ℕ → Given) → ℤ
-positionSettled s G = positionOf (settling (rounding (s .phase)) (heads s) (twoRounds (s .f)) (trusted (heads s) (s .f) G))
+positionSettled s G = positionOf (settling (rounding (s .phase)) (heads s) (twoRoundRule (s .f)) (trusted (heads s) (s .f) G))
 
 -- G is what unstruck heads can give all: nothing comes from struck heads, and lists hold positions in range
 pub record Alike (s : Stage) (G : ℕ → Given) : Type 0 where

@@ -6,9 +6,9 @@ use Prim.Native.Nat.{ℕ, _+_, _-_, _<_}
 use lib.ListN.{getD}
 use lib.IntN.{ℤ, pos}
 use Rattle.terms.specs.declared.Entry.{Entry}
-use Rattle.marks.specs.Marks.{bitOf, withMark, markedTo}
+use Rattle.marks.specs.Marks.{bitOf, withMark, countBelow}
 use Rattle.terms.specs.Counting.{Each, sum}
-use Rattle.convergence.specs.Settling.{twoRounds}
+use Rattle.convergence.specs.Settling.{twoRoundRule}
 use Rattle.convergence.specs.Trust.{Given, hasConfessed, confessions}
 use Rattle.terms.specs.Positions.{rounding}
 use Rattle.frame_spec.specs.Said.{said}
@@ -40,12 +40,12 @@ pub record Told (s : Stage) (plant : ℕ → ℕ → List ℕ) (i : ℕ) (codes 
 -- what is given to all shows these codes and counts; need: how many lists are needed
 pub record SharedBy (s : Stage) (need : ℕ) (codes : List ℤ) (counts : List ℕ) : Type 0 where
   pub given : ℕ → Given
-  pub shares : Shares (heads s) (s .f) (markedTo (s .struck) (heads s)) given codes counts
+  pub shares : Shares (heads s) (s .f) (countBelow (s .struck) (heads s)) given codes counts
   pub needed : need ≡ heads s - s .f - confessions (heads s) given
 
 -- the position that a receiver settles, from its trusted entries
 unfoldable pub settledBy : Stage → (ℕ → Entry) → ℤ
-settledBy s E = positionOf (settling (rounding (s .phase)) (heads s) (twoRounds (s .f)) E)
+settledBy s E = positionOf (settling (rounding (s .phase)) (heads s) (twoRoundRule (s .f)) E)
 
 -- from their codes
 abbrev pub settledAt : Stage → List ℤ → ℤ
@@ -53,7 +53,7 @@ settledAt s codes = settledBy s (entryIn codes)
 
 -- how many lists a receiver needs if these links confessed to it too
 abbrev pub neededHere : Stage → ℕ → ℕ → ℕ
-neededHere s need confesses = need - markedTo confesses (heads s)
+neededHere s need confesses = need - countBelow confesses (heads s)
 
 -- the entries that it takes, from the shared codes and from how many lists it counted for each
 abbrev pub takenHere : Stage → ℕ → List ℤ → List ℕ → ℕ → ℕ → Entry

@@ -12,7 +12,7 @@ returns : tie.Need-returns
 returns c = ap cellEntry (sym (c .if1 .taken))
 
 returns-2 : tie.Need-returns-2
-returns-2 c = ap Position (toZ-ofZ (record { sfits = c .number-of .ok }) ∙ c .number-of .ensures) ∙ cell-position (c .before .before .args .x) (c .before .if1 .left)
+returns-2 c = ap Position (toZ-ofZ (record { sfits = c .value-of .ok }) ∙ c .value-of .ensures) ∙ cell-position (c .before .before .args .x) (c .before .if1 .left)
 
 pub entry-of-spec : {M : Type 1} → statement M
 entry-of-spec = tie.close (tie.spec returns (λ c κs. search needs) returns-2)

@@ -3,13 +3,13 @@ use mathlib.Core.Path.{_≡_, ap, _∙_}
 use Prim.Native.Nat.{min}
 use native.Mathlib.Omega.{arith}
 use borrow.Author.Needs.{needs}
-use Rattle.marks.specs.Marks.{markedTo}
+use Rattle.marks.specs.Marks.{countBelow}
 use Rattle.settle_trust.proofs.lists_needed.Statement.{statement}
 use Rattle.settle_trust.proofs.lists_needed.Tie as tie
 
 -- the confessions are counted among as many links as there are
-counted : (c : tie.After-marked-to) → c .marked-to .result ≡ markedTo (c .before .before .args .confessed) (min (c .before .before .args .n) 32)
-counted c = c .marked-to .ensures ∙ ap (markedTo (c .before .before .args .confessed)) (c .before .at-most-32 .ensures)
+counted : (c : tie.After-count-below) → c .count-below .result ≡ countBelow (c .before .before .args .confessed) (min (c .before .before .args .n) 32)
+counted c = c .count-below .ensures ∙ ap (countBelow (c .before .before .args .confessed)) (c .before .at-most-32 .ensures)
 
 returns-2 : tie.Need-returns-2
 returns-2 c = omega (arith, counted (c .before .before))

@@ -11,7 +11,7 @@ use Rattle.terms.specs.declared.Entry.{Entry}
 use Rattle.convergence.specs.Trust.{saysOf}
 use Rattle.settle_trust.specs.Received.{givenBy}
 use Rattle.settle_trust.specs.Cells.{marksTo}
-use Rattle.marks.specs.Marks.{bitOf, markedTo}
+use Rattle.marks.specs.Marks.{bitOf, countBelow}
 use Rattle.marks.proofs.Counts.{bits-le}
 use Rattle.settle_trust.proofs.Cells.{holds-position, holds-same, equal-held}
 use Rattle.settle_trust.proofs.Received.{column-given, words}
@@ -21,7 +21,7 @@ use Rattle.settle_trust.proofs.support.Tie as tie
 
 -- the places of the walk, from the last call back
 module _ (c : tie.After-equal-to) where
-  abbrev confessed : tie.After-marked-to
+  abbrev confessed : tie.After-count-below
   confessed = c .before .before .before
 
   abbrev filled : tie.After-column
@@ -43,7 +43,7 @@ add-result c =
     let b : ℕ → Bool = λ k. eqb (getD (filled c .column .last .1 .1 .1 .1 .0) k 0) x in
     omega (
       arith,
-      confessed c .marked-to .ensures,
+      confessed c .count-below .ensures,
       c .equal-to .ensures,
       bits-le m (bitOf (start c .args .links .confessed)),
       bits-le m b,
@@ -59,8 +59,8 @@ returns c =
     let e = counted c .at-most-32 .ensures in
     let q = column-given (a .links) (a .t1) m (a .j) (omega arith) (given c .all-marks .ensures ∙ ap (marksTo (a .links)) (sym e)) in
     let x = holds-position (s .fits .u) (c .before .cell-of .ensures) in
-    ap (λ (k : ℕ). k + c .equal-to .result) (confessed c .marked-to .ensures)
-    ∙ ap (λ (k : ℕ). markedTo (a .links .confessed) m + k)
+    ap (λ (k : ℕ). k + c .equal-to .result) (confessed c .count-below .ensures)
+    ∙ ap (λ (k : ℕ). countBelow (a .links .confessed) m + k)
     (c .equal-to .ensures ∙ equal-held m (filled c .column .last .1 .1 .1 .1 .0) E x (λ k l. holds-same (filled c .column .ensures k l) (q k l)))
     ∙ support-counted (a .links) (a .t1) (words (a .links) (s .good .1 .0)) (a .n) (a .j) (a .u) (counted c .at-most-32 .ensures)
 

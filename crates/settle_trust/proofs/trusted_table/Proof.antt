@@ -7,7 +7,7 @@ use mir.Facts.{toZ-ofZ}
 use borrow.Author.Needs.{needs}
 use Rattle.terms.specs.declared.Entry.{Entry}
 use Rattle.entries.specs.Entries.{zeros}
-use Rattle.entries.specs.Tables.{mark, number, marksOf, numbersOf}
+use Rattle.entries.specs.Tables.{mark, valueOf, marksOf, valuesOf}
 use Rattle.convergence.specs.Trust.{trusted}
 use Rattle.settle_trust.specs.Received.{givenBy}
 use Rattle.settle_trust.specs.Cells.{cellEntry}
@@ -19,13 +19,13 @@ use Rattle.settle_trust.proofs.trusted_table.Tie as tie
 
 abbrev Inv-loop : tie.InvT-loop
 Inv-loop links n f lists need count given marks₀ entries₀ j₀ marks entries j =
-    (j ≤ count) × (marks ≡ marksOf j (trusted n f (givenBy links lists))) × (entries ≡ numbersOf j (trusted n f (givenBy links lists)))
+    (j ≤ count) × (marks ≡ marksOf j (trusted n f (givenBy links lists))) × (entries ≡ valuesOf j (trusted n f (givenBy links lists)))
 
 abbrev μ-loop : tie.MeasureT-loop
 μ-loop links n f lists need count given marks₀ entries₀ j₀ marks entries j = count - j
 
 loop-holds : tie.Need-loop-holds Inv-loop μ-loop
-unfolding marksOf numbersOf zeros
+unfolding marksOf valuesOf zeros
 loop-holds c = (search needs, refl, refl)
 
 module _ (c : tie.After-trusted-cell Inv-loop μ-loop) where
@@ -64,7 +64,7 @@ loop-again c =
     let l = here t .loop in (
       search needs,
       marks-next (entries t) (l .j) (omega (arith, counted t .at-most-32 .ensures)) (l .inv .1) (m .mark-of .ensures ∙ ap mark (held t)),
-      numbers-next (entries t) (l .j) (l .inv .2) (toZ-ofZ (record { sfits = c .number-of .ok }) ∙ c .number-of .ensures ∙ ap number (held t)),
+      numbers-next (entries t) (l .j) (l .inv .2) (toZ-ofZ (record { sfits = c .value-of .ok }) ∙ c .value-of .ensures ∙ ap valueOf (held t)),
     )
 
 returns : tie.Need-returns Inv-loop μ-loop
@@ -76,7 +76,7 @@ returns c =
     let e : l .j ≡ min (a .n) 32 = omega (arith, n .at-most-32 .ensures) in
     let E = trusted (a .n) (a .f) (givenBy (a .links) (a .t1)) in
     table-first-32 E (trusted-past (a .links) (a .t1) (words (a .links) (s .good .1 .0)) (a .n) (a .f)) (a .n)
-    (l .inv .1 ∙ ap (λ (k : ℕ). marksOf k E) e) (l .inv .2 ∙ ap (λ (k : ℕ). numbersOf k E) e)
+    (l .inv .1 ∙ ap (λ (k : ℕ). marksOf k E) e) (l .inv .2 ∙ ap (λ (k : ℕ). valuesOf k E) e)
 
 pub trusted-table-spec : {M : Type 1} → statement M
 trusted-table-spec =

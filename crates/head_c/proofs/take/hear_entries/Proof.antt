@@ -8,7 +8,7 @@ use denote.Ref.{now}
 use borrow.Author.Needs.{needs}
 use Rattle.terms.specs.Refusals.{leaves}
 use Rattle.head_spec.specs.Calls.{saidTo, hear, Delivery}
-use Rattle.head_spec.specs.Batch.{entriesOf, cutInto}
+use Rattle.head_spec.specs.Batch.{deliveriesOf, cutInto}
 use Rattle.head_spec.proofs.BatchLoop.{Hearing, begins, ends, cut, fits, goes-on}
 use Rattle.head_c.specs.Blocks.{IsBlock, headOf, heardIn, Hears, heardEach}
 use Rattle.head_c.proofs.take.hear_entries.Statement.{statement}
@@ -17,7 +17,7 @@ use Rattle.head_c.proofs.take.hear_entries.Tie as tie
 -- the block so far, and what remains to be heard in it
 record Changing (w : List ℕ) (s : List ℕ) (v : List ℕ) (at : ℕ) : Type 0 where
   block : IsBlock v
-  each : heardEach v (entriesOf (drop at s)) ≡ heardEach w (entriesOf s)
+  each : heardEach v (deliveriesOf (drop at s)) ≡ heardEach w (deliveriesOf s)
 
 abbrev Inv-loop : tie.InvT-loop
 Inv-loop h₀ batch answers₀ at₀ i₀ h answers at i = Hearing (headOf h₀) batch answers₀ (headOf h) answers at i × Changing h₀ batch h at
@@ -64,7 +64,7 @@ loop-again c =
       goes-on (l .inv .0) taken rest-is size heard,
       record {
         block = d .hear .kept .0 ∙ l .inv .1 .block;
-        each = sym (each-next (entriesOf (drop (l .at + n) (batch e))) H) ∙ sym (ap (heardEach (l .h)) (cut (l .inv .0) taken rest-is size)) ∙ l .inv .1 .each;
+        each = sym (each-next (deliveriesOf (drop (l .at + n) (batch e))) H) ∙ sym (ap (heardEach (l .h)) (cut (l .inv .0) taken rest-is size)) ∙ l .inv .1 .each;
       },
     )
 

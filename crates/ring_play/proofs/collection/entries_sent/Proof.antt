@@ -8,7 +8,7 @@ use denote.Ref.{now}
 use borrow.Author.Needs.{needs}
 use borrow.Author.Tests.{not-true, not-false}
 use Rattle.entries.specs.Entries.{zeros}
-use Rattle.entries.specs.Tables.{mark, number, marksOf, numbersOf}
+use Rattle.entries.specs.Tables.{mark, valueOf, marksOf, valuesOf}
 use Rattle.entries.proofs.Tables.{marks-next, marks-fit, numbers-next}
 use Rattle.ring_play.specs.Inner.Collection.{sentBy}
 use Rattle.entries.proofs.Tables.{table-filled}
@@ -17,13 +17,13 @@ use Rattle.ring_play.proofs.collection.entries_sent.Tie as tie
 
 abbrev Inv-loop : tie.InvT-loop
 Inv-loop s positions n marks₀ entries₀ k₀ marks entries k =
-    (k ≤ n) × (marks ≡ marksOf k (sentBy s positions)) × (entries ≡ numbersOf k (sentBy s positions))
+    (k ≤ n) × (marks ≡ marksOf k (sentBy s positions)) × (entries ≡ valuesOf k (sentBy s positions))
 
 abbrev μ-loop : tie.MeasureT-loop
 μ-loop s positions n marks₀ entries₀ k₀ marks entries k = n - k
 
 loop-holds : tie.Need-loop-holds Inv-loop μ-loop
-unfolding marksOf numbersOf zeros
+unfolding marksOf valuesOf zeros
 loop-holds c = (search needs, refl, refl)
 
 module _ (c : tie.Joined1 Inv-loop μ-loop) where
@@ -55,7 +55,7 @@ loop-again c =
     let l = here j .loop in (
       search needs,
       marks-next _ (l .k) (below j) (l .inv .1) (m .mark-of .ensures ∙ ap mark (entry-is j)),
-      numbers-next _ (l .k) (l .inv .2) (toZ-ofZ (record { sfits = c .number-of .ok }) ∙ c .number-of .ensures ∙ ap number (entry-is j)),
+      numbers-next _ (l .k) (l .inv .2) (toZ-ofZ (record { sfits = c .value-of .ok }) ∙ c .value-of .ensures ∙ ap valueOf (entry-is j)),
     )
 
 returns : tie.Need-returns Inv-loop μ-loop

@@ -60,7 +60,7 @@ loop-again c =
       simp length-set (l .loop .inv .0),
       list-walked (a .s) (plant l) (a .i) _ _ _ _ (c .next-struck2 .ensures)
           (list-next (a .s) (plant l) (a .i) (l .loop .k) (l .loop .inv .1 .2) (omega (arith, count l)) (l .loop .inv .1 .1 (omega (arith, count l)))
-          (e .entry-planted .ensures) (m .mark-of .ensures) (toZ-ofZ (record { sfits = v .number-of .ok }) ∙ v .number-of .ensures)),
+          (e .entry-planted .ensures) (m .mark-of .ensures) (toZ-ofZ (record { sfits = v .value-of .ok }) ∙ v .value-of .ensures)),
     )
 
 returns : tie.Need-returns Inv-loop μ-loop

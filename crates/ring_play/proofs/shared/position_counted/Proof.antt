@@ -8,7 +8,7 @@ use mir.Facts.{toZ-ofZ}
 use denote.Ref.{now}
 use lib.IntN.{ℤ}
 use borrow.Author.Needs.{needs}
-use Rattle.marks.specs.Marks.{markedTo}
+use Rattle.marks.specs.Marks.{countBelow}
 use Rattle.ring_play.specs.Inner.Codes.{entryOf, codeTaken}
 use Rattle.ring_play.specs.Inner.Told.{settledBy, settledAt, neededHere, takenHere}
 use Rattle.ring_play.proofs.shared.Settling.{settled-entries, codes-alike, last-at}
@@ -32,7 +32,7 @@ module _ (t : tie.After-trust-codes) where
   needed : left .need-after .result ≡ neededHere (start .args .s) (start .args .need) (start .args .confessed)
   needed =
       let a = start .args in
-      left .need-after .ensures ∙ ap (λ (x : ℕ). a .need - markedTo (a .confessed) x) (played .head-count .ensures)
+      left .need-after .ensures ∙ ap (λ (x : ℕ). a .need - countBelow (a .confessed) x) (played .head-count .ensures)
 
   own-taken : let a = start .args in settledAt (a .s) own ≡ settledBy (a .s) (takenHere (a .s) (a .need) (now (a .codes)) (now (a .same)) (a .confessed))
   own-taken =

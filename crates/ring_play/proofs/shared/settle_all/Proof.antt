@@ -28,7 +28,7 @@ module _ (needed : tie.After-lists-needed) where
       let f = i .before in
       let m = f .before .before .before in
       let a = start .args in
-      shared-by (a .s) (a .links) (now (a .rows)) (m .before .head-count .ensures) (m .marked-to .ensures) (f .share .ensures (not-false _ (i .if2 .left)))
+      shared-by (a .s) (a .links) (now (a .rows)) (m .before .head-count .ensures) (m .count-below .ensures) (f .share .ensures (not-false _ (i .if2 .left)))
       (needed .lists-needed .ensures)
 
 fill-positions-requires : tie.Need-fill-positions-requires

@@ -1,4 +1,4 @@
--- `marks::marked_to` meets its contract: the set bits of the word's rest by 2 ^ n, and from 32 on of the whole word, which is below 2 ^ 32.
+-- `marks::count_below` meets its contract: the set bits of the word's rest by 2 ^ n, and from 32 on of the whole word, which is below 2 ^ 32.
 use mathlib.Core.Path.{ap, _∙_}
 use Prim.Native.Nat.{ℕ, _%_, _^_, _≤_}
 use native.Mathlib.Omega.{arith}
@@ -7,8 +7,8 @@ use lib.Count.{ones, ones-le}
 use lib.Pow.{pow-pos, pow-mono}
 use borrow.Author.Needs.{needs}
 use Rattle.marks.proofs.Ones.{ones-marked, ones-rest}
-use Rattle.marks.proofs.marked_to.Statement.{statement}
-use Rattle.marks.proofs.marked_to.Tie as tie
+use Rattle.marks.proofs.count_below.Statement.{statement}
+use Rattle.marks.proofs.count_below.Tie as tie
 
 rem-result : tie.Need-rem-result
 rem-result c = rw (c .mark .ensures) (pow-pos (c .before .before .args .n))
@@ -32,5 +32,5 @@ returns-2 c =
     let h : 2 ^ 32 ≤ 2 ^ a .n = pow-mono (c .if1 .left) in
     ones-marked (a .n) (a .m) (omega (arith, c .before .fits .m .fits))
 
-pub marked-to-spec : {M : Type 1} → statement M
-marked-to-spec = tie.close (tie.spec (λ c κs. search needs) rem-result cast-result returns cast-result-2 returns-2)
+pub count-below-spec : {M : Type 1} → statement M
+count-below-spec = tie.close (tie.spec (λ c κs. search needs) rem-result cast-result returns cast-result-2 returns-2)
