@@ -24,8 +24,8 @@ use Rattle.terms.specs.Counting.{Each}
 use Rattle.convergence.specs.Phases.{End, join, soundAt, lowest, highest}
 use Rattle.terms.proofs.Sums.{each-last, each-less}
 use Rattle.ring_spec.specs.Rounds.{receivers, isReceiver, isOut}
-use Rattle.run_listing.specs.Held.{endIn, firstSound}
-use Rattle.run_listing.specs.Heights.{outward, Found}
+use Rattle.run_listing.specs.Held.{endIn}
+use Rattle.run_listing.specs.Heights.{outward, Found, firstSound}
 use Rattle.run_listing.specs.Inner.{Reaches}
 
 outward-is : (high : Bool) (v w : ℤ) → outward high v w ≡ cond (Bool·beq (leZ v w) high) w v

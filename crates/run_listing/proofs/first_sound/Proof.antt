@@ -8,7 +8,8 @@ use borrow.Author.Tests.{not-true, not-false}
 use borrow.Author.Needs.{needs}
 use Rattle.terms.specs.declared.Entry.the-variants.{Null}
 use Rattle.ring_spec.specs.Rounds.{receivers}
-use Rattle.run_listing.specs.Held.{endIn, firstSound}
+use Rattle.run_listing.specs.Held.{endIn}
+use Rattle.run_listing.specs.Heights.{firstSound}
 use Rattle.run_listing.proofs.Lowest.{first-none, first-struck, first-sound}
 use Rattle.run_listing.proofs.first_sound.Statement.{statement}
 use Rattle.run_listing.proofs.first_sound.Tie as tie
