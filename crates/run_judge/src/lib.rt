@@ -184,7 +184,7 @@ fn comes_after(last: Pair, from: u8, to: u8) -> bool
 }
 
 // Whether i is one of n heads or of m listeners.
-pub fn is_receiver(i: usize, n: u8, m: u8) -> bool
+pub fn is_receiver(n: u8, m: u8, i: usize) -> bool
     ensures { λ r. ⌜ r ≡ isReceiver n m i ⌝ }
 {
     if i < n as usize {
@@ -198,13 +198,13 @@ pub fn is_receiver(i: usize, n: u8, m: u8) -> bool
 
 // Whether a pair may be planted: a sender among n heads that is struck, a receiver among them or m listeners that is not, after the last
 // pair.
-fn pair_fits(from: u8, to: u8, n: u8, m: u8, struck: u64, last: Pair) -> bool
+fn pair_fits(n: u8, m: u8, struck: u64, last: Pair, from: u8, to: u8) -> bool
     ensures { λ r. ⌜ r ≡ pairFits n m struck last from to ⌝ }
 {
     if n <= from {
         return false;
     }
-    if !is_receiver(to as usize, n, m) {
+    if !is_receiver(n, m, to as usize) {
         return false;
     }
     if !marks::marked_wide(struck, from as usize) {
@@ -222,7 +222,7 @@ pub fn plant_fault(bytes: &[u8], n: u8, m: u8, struck: u64, last: Pair) -> u8
 {
     let from = fields::byte_at(bytes, 4);
     let to = fields::byte_at(bytes, 5);
-    if pair_fits(from, to, n, m, struck, last) {
+    if pair_fits(n, m, struck, last, from, to) {
         return 0;
     }
     refusal::BAD_RUN_RECORD

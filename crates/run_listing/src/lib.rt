@@ -74,17 +74,17 @@ fn reach(n: u8, m: u8) -> usize
 }
 
 // Whether receiver j is there, and the mark word leaves it.
-fn is_sound(struck: u64, n: u8, m: u8, j: usize) -> bool
+fn is_sound(n: u8, m: u8, struck: u64, j: usize) -> bool
     ensures { λ r. ⌜ r ≡ not (isOut n m struck j) ⌝ }
 {
-    if run_judge::is_receiver(j, n, m) {
+    if run_judge::is_receiver(n, m, j) {
         return !marks::marked_wide(struck, j);
     }
     false
 }
 
 // The lowest and the highest position of the heads and listeners that the mark word leaves.
-pub fn ends_of(positions: &Positions, struck: u64, n: u8, m: u8) -> Ends
+pub fn ends_of(n: u8, m: u8, struck: u64, positions: &Positions) -> Ends
     ensures { λ r. ⌜ Found receivers (endIn n m struck (now (positions .entry))) (r .low) (r .high) ⌝ }
 {
     let count = reach(n, m);
@@ -92,7 +92,7 @@ pub fn ends_of(positions: &Positions, struck: u64, n: u8, m: u8) -> Ends
     let mut high = Entry::Null;
     let mut j: usize = 0;
     while j < count {
-        if is_sound(struck, n, m, j) {
+        if is_sound(n, m, struck, j) {
             let v = position_at(positions, j);
             low = outer(v, low, false);
             high = outer(v, high, true);
@@ -103,12 +103,12 @@ pub fn ends_of(positions: &Positions, struck: u64, n: u8, m: u8) -> Ends
 }
 
 // The position of the first head or listener that the mark word leaves.
-pub fn first_sound(positions: &Positions, struck: u64, n: u8, m: u8) -> Entry
+pub fn first_sound(n: u8, m: u8, struck: u64, positions: &Positions) -> Entry
     ensures { λ r. ⌜ r ≡ firstSound receivers (endIn n m struck (now (positions .entry))) ⌝ }
 {
     let mut first: usize = 0;
     while first < RECEIVERS {
-        if is_sound(struck, n, m, first) {
+        if is_sound(n, m, struck, first) {
             return Entry::Position(position_at(positions, first));
         }
         first += 1;
@@ -132,11 +132,11 @@ fn spread_of(low: Entry, high: Entry) -> u32
 }
 
 // Whether all heads and listeners that the mark word leaves hold one position. If they do, it becomes that of all places.
-pub fn level(positions: &mut Positions, struck: u64, n: u8, m: u8) -> bool
+pub fn level(n: u8, m: u8, struck: u64, positions: &mut Positions) -> bool
     ensures is { λ r. ⌜ r ≡ isAgreed (heldByAll (endIn n m struck (now (positions .entry)))) ⌝ }
     ensures becomes { λ _. ⌜ now (positions .exit) ≡ levelled (heldByAll (endIn n m struck (now (positions .entry)))) (now (positions .entry)) ⌝ }
 {
-    let ends = ends_of(positions, struck, n, m);
+    let ends = ends_of(n, m, struck, positions);
     let low = ends.low;
     let high = ends.high;
     let Entry::Position(a) = low else {

@@ -49,13 +49,13 @@ fn ends_at(p: Player, positions: &Positions) -> Ends
         → Found receivers (endIn (p .n) (p .listeners) (p .struck) (now (positions .entry))) (r .low) (r .high)) ⌝ }
 {
     if p.agreed {
-        let held = run_listing::first_sound(positions, p.struck, p.n, p.listeners);
+        let held = run_listing::first_sound(p.n, p.listeners, p.struck, positions);
         return Ends {
             low: held,
             high: held,
         };
     }
-    run_listing::ends_of(positions, p.struck, p.n, p.listeners)
+    run_listing::ends_of(p.n, p.listeners, p.struck, positions)
 }
 
 // The line of the pending round's phase, once it is played, if it ends its phase.
@@ -154,5 +154,5 @@ pub fn agree(p: Player, positions: &mut Positions) -> bool
     if !run_state::ends_phase(family, p.given) {
         return false;
     }
-    run_listing::level(positions, p.struck, p.n, p.listeners)
+    run_listing::level(p.n, p.listeners, p.struck, positions)
 }

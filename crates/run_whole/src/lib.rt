@@ -12,6 +12,7 @@ ghost use Rattle.run_whole.specs.Whole.{Whole, Plays, PlaysInto};
 ghost use Rattle.run_whole.specs.Inner.{Put, soundNumber, soundRow, wordAt, EndKept, Going};
 use frame_slots::PlantedBytes;
 use frame_slots::PlantedLengths;
+use run_judge::HEAD_MARKS;
 use run_state::Carry;
 use run_state::Counts;
 use run_state::Player;
@@ -101,7 +102,7 @@ fn put(out: &mut [u8], len: usize, t: Text) -> usize
 fn number_at(positions: &Positions, n: u8, m: u8, word: u64, i: usize) -> i32
     ensures { λ r. ⌜ r ≡ soundNumber n m word (now (positions .entry)) i ⌝ }
 {
-    if !run_judge::is_receiver(i, n, m) {
+    if !run_judge::is_receiver(n, m, i) {
         return 0;
     }
     if marks::marked_wide(word, i) {
@@ -123,13 +124,15 @@ fn fill_row(rows: &mut [i32], base: usize, positions: &Positions, n: u8, m: u8, 
     }
 }
 
-// The mark word of the phase end with this number: at the start, which is the first, every listener counts as struck (`allListeners`, in
-// crates/ring_spec/specs/Rounds.antt).
+// The marks of all listeners: `allListeners`, in crates/ring_spec/specs/Rounds.antt.
+const ALL_LISTENERS: u64 = 65535 * HEAD_MARKS;
+
+// The mark word of the phase end with this number: at the start, which is the first, every listener counts as struck.
 fn word_at(count: usize, struck: u64) -> u64
     ensures { λ r. ⌜ r ≡ wordAt count struck ⌝ }
 {
     if count == 0 {
-        return 281470681743360;
+        return ALL_LISTENERS;
     }
     struck
 }

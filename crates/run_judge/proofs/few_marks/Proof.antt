@@ -4,7 +4,7 @@ use borrow.Author.Needs.{needs}
 use borrow.Author.Tests.{not-true, not-false, ltb-true}
 use Rattle.marks.specs.Marks.{marksBelow}
 use Rattle.run_spec.specs.RunFile.{fewMarks}
-use Rattle.run_judge.proofs.Ones.{ones-marked}
+use Rattle.marks.proofs.Ones.{ones-marked}
 use Rattle.run_judge.proofs.few_marks.Statement.{statement}
 use Rattle.run_judge.proofs.few_marks.Tie as tie
 

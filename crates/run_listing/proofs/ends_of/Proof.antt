@@ -15,10 +15,10 @@ use Rattle.run_listing.proofs.ends_of.Statement.{statement}
 use Rattle.run_listing.proofs.ends_of.Tie as tie
 
 abbrev Inv-loop : tie.InvT-loop
-Inv-loop positions struck n m count low₀ high₀ j₀ low high j = (j ≤ count) × Found j (endIn n m struck positions) low high
+Inv-loop n m struck positions count low₀ high₀ j₀ low high j = (j ≤ count) × Found j (endIn n m struck positions) low high
 
 abbrev μ-loop : tie.MeasureT-loop
-μ-loop positions struck n m count low₀ high₀ j₀ low high j = count - j
+μ-loop n m struck positions count low₀ high₀ j₀ low high j = count - j
 
 loop-holds : tie.Need-loop-holds Inv-loop μ-loop
 loop-holds c = (search needs, found-none _)

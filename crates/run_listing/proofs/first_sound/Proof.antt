@@ -15,10 +15,10 @@ use Rattle.run_listing.proofs.first_sound.Statement.{statement}
 use Rattle.run_listing.proofs.first_sound.Tie as tie
 
 abbrev Inv-loop : tie.InvT-loop
-Inv-loop positions struck n m j₀ j = (j ≤ receivers) × (firstSound j (endIn n m struck positions) ≡ Null)
+Inv-loop n m struck positions j₀ j = (j ≤ receivers) × (firstSound j (endIn n m struck positions) ≡ Null)
 
 abbrev μ-loop : tie.MeasureT-loop
-μ-loop positions struck n m j₀ j = receivers - j
+μ-loop n m struck positions j₀ j = receivers - j
 
 loop-holds : tie.Need-loop-holds Inv-loop μ-loop
 loop-holds c = (omega arith, first-none _)

@@ -24,7 +24,7 @@ returns-4 c =
     let b = t .before .before in
     let ends = sym (t .before .ends-phase .ensures) ∙ not-false _ (t .if3 .left) in
     let (is, becomes) = c .level .ensures in
-    λ a M begun T H. at-end a M begun T H (b .before .before .if1 .left) (not-false _ (b .if2 .left)) ends (c .level .last .0) is becomes
+    λ a M begun T H. at-end a M begun T H (b .before .before .if1 .left) (not-false _ (b .if2 .left)) ends (c .level .last .1 .1 .1 .0) is becomes
 
 pub agree-spec : {M : Type 1} → statement M
 agree-spec = tie.close (tie.spec returns returns-2 (λ c κs. search needs) returns-3 (λ c κs. search needs) returns-4)
