@@ -140,16 +140,52 @@ pub fn put_word(s: &mut [u8], at: usize, x: u32)
     }
 }
 
-// Copies bytes over a slice from a place on, all of which is there.
+// Copies eight bytes over a slice from a place on, all of which is there. They are read before one is written, so that it can be done at once.
+fn copy_eight(s: &mut [u8], at: usize, bytes: &[u8])
+    requires { ⌜ (at + 8 ≤ length (now s)) × (8 ≤ length (now bytes)) ⌝ }
+    ensures { λ _. ⌜ now (s .exit) ≡ paste (now (s .entry)) at (now (bytes .entry)) 8 ⌝ }
+{
+    let b0 = bytes[0];
+    let b1 = bytes[1];
+    let b2 = bytes[2];
+    let b3 = bytes[3];
+    let b4 = bytes[4];
+    let b5 = bytes[5];
+    let b6 = bytes[6];
+    let b7 = bytes[7];
+    s[at] = b0;
+    s[at + 1] = b1;
+    s[at + 2] = b2;
+    s[at + 3] = b3;
+    s[at + 4] = b4;
+    s[at + 5] = b5;
+    s[at + 6] = b6;
+    s[at + 7] = b7;
+}
+
+// The same of the first `count` bytes, one by one.
+fn copy_few(s: &mut [u8], at: usize, bytes: &[u8], count: usize)
+    requires { ⌜ (at + count ≤ length (now s)) × (count ≤ length (now bytes)) ⌝ }
+    ensures { λ _. ⌜ now (s .exit) ≡ paste (now (s .entry)) at (now (bytes .entry)) count ⌝ }
+{
+    let mut j: usize = 0;
+    while j < count {
+        s[at + j] = bytes[j];
+        j += 1;
+    }
+}
+
+// The same of all bytes.
 fn copy_within(s: &mut [u8], at: usize, bytes: &[u8])
     requires { ⌜ at + length (now bytes) ≤ length (now s) ⌝ }
     ensures { λ _. ⌜ now (s .exit) ≡ paste (now (s .entry)) at (now (bytes .entry)) (length (now (bytes .entry))) ⌝ }
 {
     let mut j: usize = 0;
-    while j < bytes.len() {
-        s[at + j] = bytes[j];
-        j += 1;
+    while 8 <= bytes.len() - j {
+        copy_eight(s, at + j, &bytes[j..]);
+        j += 8;
     }
+    copy_few(s, at + j, &bytes[j..], bytes.len() % 8);
 }
 
 // Copies bytes over a slice from a place on, if they fit there.

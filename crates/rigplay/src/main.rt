@@ -14,6 +14,9 @@ use terms::Positions;
 use terms::RECEIVERS;
 use terms::Words;
 
+// How many bytes are read at a time, at most.
+const PIECE: usize = 131072;
+
 // Makes the system call that is asked for.
 fn call(ask: Ask, piece: &mut [u8], page: &Page) -> Did {
     match ask {
@@ -63,7 +66,7 @@ fn run(
 }
 
 fn main() {
-    let mut piece = io::large_buffer();
+    let mut piece = [0u8; PIECE];
     let mut page = io::buffer();
     let mut carry = [0u8; run_state::CARRY];
     let mut positions = [0i32; RECEIVERS];
