@@ -9,7 +9,7 @@ use lib.Dec.{ltb, leb}
 use borrow.Author.Tests.{le-ltb, ltb-false, leb-true}
 use Rattle.terms.proofs.Booleans.{and-both}
 use lib.ListN.{length, take, drop, length-drop, length-take}
-use lib.Seq.{take-add, take-all, take-take, drop-drop, length-take-le}
+use lib.Seq.{take-add, take-take, drop-drop, length-take-le}
 use Rattle.run_spec.specs.RunFile.{readFile}
 use Rattle.run_spec.specs.Listing.{title, shown, listing}
 use Rattle.run_state.specs.declared.Player.{Player}
