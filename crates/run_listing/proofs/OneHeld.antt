@@ -2,7 +2,6 @@
 use mathlib.Core.Path.{_≡_, refl, ap, ap₂, sym, subst, _∙_}
 use mathlib.Core.Bool.{Bool, true, false, cond}
 use mathlib.Core.List.{List}
-use Prim.Native.Nat.{ℕ}
 use lib.Dec.{T}
 use lib.ListN.{replicate}
 use lib.IntN.{ℤ}
@@ -13,7 +12,7 @@ use Rattle.terms.specs.Positions.{eqZ}
 use Rattle.terms.specs.declared.Entry.{Entry}
 use Rattle.terms.specs.declared.Entry.the-variants.{Null, Position}
 use Rattle.terms.proofs.Whole.{eqZ→eq, eqZ-refl}
-use Rattle.convergence.specs.Phases.{End, lowest, highest}
+use Rattle.convergence.specs.Phases.{End}
 use Rattle.ring_spec.specs.Rounds.{receivers}
 use Rattle.ring_spec.specs.Agreed.{common, heldByAll, isAgreed}
 use Rattle.run_listing.specs.Heights.{Found}

@@ -2,7 +2,7 @@
 // last line.
 ghost use mathlib.Core.Path.{_≡_};
 ghost use mathlib.Core.Bool.{not};
-ghost use Prim.Native.Nat.{_+_, _%_, _<_, _≤_};
+ghost use Prim.Native.Nat.{_+_, _%_, _≤_};
 ghost use lib.ListN.{getD};
 ghost use lib.IntN.{pos};
 ghost use Rattle.convergence.specs.Phases.{join, apart};

@@ -95,8 +95,8 @@ module _ {a : List ℕ} {p : Player} {before : List ℕ} {M : Memory} (L : State
 
   -- a planted record b without a fault is taken
   pub plant-there : {used : ℕ} {b : List ℕ} (rest : List ℕ) → Plants rest used → b ≡ take used rest → plantFault count number marks pair rest ≡ 0
-      → {last : Pair} → last ≡ pairIn rest → {bytes lengths : List ℕ}
-      → PlantedThen (last .from) (last .to) (drop 6 b) (M .planted) (M .lengths) bytes lengths
+      → {last : Pair} → last ≡ pairIn b → {bytes lengths : List ℕ}
+      → PlantedThen (senderIn b) (receiverIn b) (drop 6 b) (M .planted) (M .lengths) bytes lengths
       → AdvancesOnce a (take used rest) p M (withPairPlanted p last) [] before (withSlots M bytes lengths)
   plant-there {used} {b} rest P e sound {last} l {bytes} {lengths} new =
       let t : Text = record { len = 0; bytes = [] } in
@@ -110,7 +110,7 @@ module _ {a : List ℕ} {p : Player} {before : List ℕ} {M : Memory} (L : State
       λ a′ T H.
       let fault : recordFault plant (readFile a′) b ≡ 0 = plant-fault-as T b ∙ rw (W .n, W .listeners, W .struck, W .last, from, to) sound in
       rw (judged-taken plant (readFile a′) b (sym fault) refl)
-      (plant-next b H (plant-short P e) (λ k i x y z. rw (from, to, ← ap (λ (x : Pair). x .from) l, ← ap (λ (x : Pair). x .to) l) (new (plant-short P e) k i x y z)) T (rw (l, from, to)) refl) in
+      (plant-next b H (plant-short P e) new T (ap (withPairPlanted p) l) refl) in
       rw (empty-text t refl) at
       (stands-there L {r = record { player = q; used = used; text = t }} {t = record { player = q; text = t }} {carry = before} {M′ = withSlots M bytes lengths} rest (W .sound)
       (record { player = refl; used = refl; text = refl })

@@ -3,7 +3,7 @@
 ghost use mathlib.Core.Bool.{true};
 ghost use mathlib.Core.List.{_++_};
 ghost use mathlib.Core.Path.{_≡_};
-ghost use Prim.Native.Nat.{_+_, _≤_, _<_, min};
+ghost use Prim.Native.Nat.{_+_, _≤_, min};
 ghost use lib.ListN.{length, take};
 ghost use Rattle.run_state.specs.Memory.{memoryBefore, memoryAfter};
 ghost use Rattle.run_state.specs.Changes.{halted, withPairPlanted};
@@ -206,9 +206,7 @@ pub fn pass_plant(
     if run_judge::plant_fault(rest, n, m, struck, last) != 0 {
         return PlantResult { used: 0, last };
     }
-    let pair = run_record::pair_in(rest);
-    let frame = fields::bytes_from(front(rest, used), 6);
-    frame_slots::plant(planted, lengths, pair.from, pair.to, frame);
+    let pair = run_record::plant_in(front(rest, used), planted, lengths);
     PlantResult { used, last: pair }
 }
 

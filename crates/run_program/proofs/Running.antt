@@ -1,16 +1,15 @@
 -- What each step makes of what the program holds.
 use mathlib.Core.Path.{_≡_, refl, ap, ap₂, sym, subst, _∙_}
-use mathlib.Core.Logic.{_⊎_, ⊎-elim}
 use mathlib.Core.Bool.{Bool, true, false, true≢false}
 use mathlib.Core.List.{List, [], _++_, append-nil, append-assoc}
 use Prim.Native.Nat.{ℕ, zero, suc, _+_, _-_, _≤_, _<_}
 use native.Mathlib.Omega.{arith}
 use native.Mathlib.Decide.{decLe}
 use lib.Dec.{ltb, leb}
-use borrow.Author.Tests.{ltb-false, leb-true}
+use borrow.Author.Tests.{le-ltb, ltb-false, leb-true}
 use Rattle.terms.proofs.Booleans.{and-both}
 use lib.ListN.{length, take, drop, length-drop, length-take}
-use lib.Seq.{take-add, take-all, take-take, drop-drop, length-take-le}
+use lib.Seq.{take-add, take-take, drop-drop, length-take-le}
 use Rattle.run_spec.specs.RunFile.{readFile}
 use Rattle.run_spec.specs.Listing.{title, shown, listing}
 use Rattle.run_state.specs.declared.Player.{Player}
@@ -24,8 +23,8 @@ use Rattle.run_program.specs.declared.Stage.{Stage}
 use Rattle.run_program.specs.declared.Program.{Program}
 use Rattle.run_program.specs.Calls.{part, unwritten, unplayed, askAt, askOf, isTitle, asksRead, leftOf, fits, stageAfter}
 use Rattle.run_program.specs.declared.Did.{Did}
-use Rattle.run_program.specs.Running.{Opens, Plays, Closes, RunningAt}
-use Rattle.run_program.specs.Inner.{placed, advanced, Between}
+use Rattle.run_program.specs.Running.{Opens, Plays, Closes, RunningAt, Running}
+use Rattle.run_program.specs.Inner.{placed, advanced, Between, Turning, within-input, after-input}
 
 -- ---- parts of a list
 
@@ -58,6 +57,33 @@ all-used {u} {r} F z = go (decLe (length u) (r .used))
     go (yes h) = h
     go (no h) = absurd (omega (arith, F .full (omega arith)))
 
+-- when nothing is left to be written
+none-unwritten : (out page : List ℕ) (p : Program) {shows : List ℕ} → p .to ≤ p .from → out ++ unwritten p page ≡ shows → out ≡ shows
+none-unwritten out page p done e = sym (append-nil out) ∙ ap (λ (l : List ℕ). out ++ l) (sym (part-none (p .from) (p .to) page done)) ∙ e
+
+-- ---- while the input is read
+
+pub playing : {a out : List ℕ} {p : Program} {piece page carry : List ℕ} {M : Memory} → p .stage ≡ Stage.Going
+    → RunningAt (p .stage) a out p piece page carry M → Plays a out p piece page carry M
+playing {a} {out} {p} {piece} {page} {carry} {M} e R = subst (λ (s : Stage). RunningAt s a out p piece page carry M) e R
+
+-- a program that goes on
+pub going : {a out : List ℕ} {p : Program} {piece page carry : List ℕ} {M : Memory} → p .stage ≡ Stage.Going → Plays a out p piece page carry M
+    → RunningAt (p .stage) a out p piece page carry M
+going {a} {out} {p} {piece} {page} {carry} {M} e P = subst (λ (s : Stage). RunningAt s a out p piece page carry M) (sym e) P
+
+-- a read: while the input is read, and nothing is left to be written
+pub reading : (p : Program) → asksRead (askOf p) ≡ true → (p .stage ≡ Stage.Going) × (p .to ≤ p .from)
+reading p e = go (p .stage) (ltb (p .from) (p .to)) refl e
+  where
+    go : (s : Stage) (more : Bool) → ltb (p .from) (p .to) ≡ more → asksRead (askAt s more (p .from) (p .to)) ≡ true → (s ≡ Stage.Going) × (p .to ≤ p .from)
+    go Stage.Title more m t = absurd (true≢false (sym t))
+    go Stage.Going true m t = absurd (true≢false (sym t))
+    go Stage.Going false m t = (refl, ltb-false (p .from) (p .to) m)
+    go Stage.Last true m t = absurd (true≢false (sym t))
+    go Stage.Last false m t = absurd (true≢false (sym t))
+    go Stage.Failed more m t = absurd (true≢false (sym t))
+
 -- ---- the first page
 
 pub opens : {a out : List ℕ} {p : Player} {carry : List ℕ} {M : Memory} (to : ℕ) (piece page : List ℕ) → Opens a out p carry M → to ≤ 4096 → take to page ≡ title
@@ -75,40 +101,53 @@ opens to piece page O room t =
 
 -- ---- a page of the piece
 
-module _ {a out : List ℕ} {p : Program} {piece carry : List ℕ} {M : Memory} (B : Between a out p piece carry M) where
-  -- nothing is left to be played
-  pub none-left : (page : List ℕ) → p .end ≤ p .at → Plays a out (placed (p .player) Stage.Going (p .at) (p .end) 0) piece page carry M
-  none-left page h =
-      record {
-        played = B .played;
-        state = B .state;
-        read = B .read;
-        shows = append-nil out ∙ B .shows;
-        waits = λ z. h;
-        here = B .here;
-        room = omega arith;
-      }
+module _ {a out : List ℕ} {p : Program} {piece page carry : List ℕ} {M : Memory} where
+  -- as long as bytes are left to be written, none has to be played
+  plays : Between a out p piece page carry M → (p .to ≤ p .from → p .end ≤ p .at) → Plays a out p piece page carry M
+  plays B waits = record { played = B .played; state = B .state; read = B .read; shows = B .shows; waits = waits; here = B .here; room = B .room }
 
-  -- some of it is
-  pub page-filled : {u page carry′ : List ℕ} {M′ : Memory} (r : FillResult) → p .at < p .end → u ≡ unplayed p piece → Fills u r
-      → ((b : List ℕ) → StateAt b (p .player) carry M → Advances b (take (r .used) u) (p .player) M (r .player) (take (r .len) page) carry′ M′)
-      → Plays a out (placed (r .player) Stage.Going (p .at + r .used) (p .end) (r .len)) piece page carry′ M′
-  page-filled {page} r some is F adv =
-      let long : length (unplayed p piece) ≡ p .end - p .at = part-long (p .at) (p .end) piece (B .here) in
-      let within : r .used ≤ p .end - p .at = omega (arith, F .within, ap length is) in
-      let A = adv (B .played) (B .state) in
-      record {
-        played = B .played ++ take (r .used) (unplayed p piece);
-        state = rw is at (A .state);
-        read =
-            append-assoc (B .played) (take (r .used) (unplayed p piece)) _
-            ∙ ap (λ (l : List ℕ). B .played ++ l) (part-split (r .used) (p .at) (p .end) piece within)
-            ∙ B .read;
-        shows = rw (part-front (r .len) page) (ap (λ (l : List ℕ). l ++ take (r .len) page) (B .shows) ∙ sym (rw is at (A .shows)));
-        waits = λ z. omega (arith, all-used F z, ap length is);
-        here = B .here;
-        room = F .room;
-      }
+  module _ (T : Turning a out p piece page carry M) where
+    -- no page is turned: bytes are left to be written, or it is the last
+    pub page-kept : asksRead (askOf p) ≡ false → Running a out p piece page carry M
+    page-kept e = go T
+      where
+        go : Turning a out p piece page carry M → Running a out p piece page carry M
+        go (within-input g B) = going g (plays B (λ z. absurd (true≢false (rw (g, le-ltb (p .from) (p .to) z) at e))))
+        go (after-input l C) = subst (λ (s : Stage). RunningAt s a out p piece page carry M) (sym l) C
+
+    module _ (asks : asksRead (askOf p) ≡ true) where
+      between : Between a out p piece page carry M
+      between = go T
+        where
+          go : Turning a out p piece page carry M → Between a out p piece page carry M
+          go (within-input g B) = B
+          go (after-input l C) = absurd (true≢false (ap (λ (s : Stage). asksRead (askAt s false 0 0)) (sym (reading p asks .0) ∙ l)))
+
+      -- nothing is left to be played
+      pub none-left : p .end ≤ p .at → Running a out p piece page carry M
+      none-left h = going (reading p asks .0) (plays between (λ z. h))
+
+      -- some of it is
+      pub page-filled : {u page′ carry′ : List ℕ} {M′ : Memory} (r : FillResult) → p .at < p .end → u ≡ unplayed p piece → Fills u r
+          → ((b : List ℕ) → StateAt b (p .player) carry M → Advances b (take (r .used) u) (p .player) M (r .player) (take (r .len) page′) carry′ M′)
+          → Plays a out (placed (r .player) Stage.Going (p .at + r .used) (p .end) (r .len)) piece page′ carry′ M′
+      page-filled {page′ = page′} r some is F adv =
+          let B = between in
+          let long : length (unplayed p piece) ≡ p .end - p .at = part-long (p .at) (p .end) piece (B .here) in
+          let within : r .used ≤ p .end - p .at = omega (arith, F .within, ap length is) in
+          let A = adv (B .played) (B .state) in
+          record {
+            played = B .played ++ take (r .used) (unplayed p piece);
+            state = rw is at (A .state);
+            read =
+                append-assoc (B .played) (take (r .used) (unplayed p piece)) _
+                ∙ ap (λ (l : List ℕ). B .played ++ l) (part-split (r .used) (p .at) (p .end) piece within)
+                ∙ B .read;
+            shows = rw (part-front (r .len) page′) (ap (λ (l : List ℕ). l ++ take (r .len) page′) (none-unwritten out page p (reading p asks .1) (B .shows)) ∙ sym (rw is at (A .shows)));
+            waits = λ z. omega (arith, all-used F z, ap length is);
+            here = B .here;
+            room = F .room;
+          }
 
 -- ---- after a read
 
@@ -120,17 +159,18 @@ module _ {a out : List ℕ} {p : Program} {piece page carry : List ℕ} {M : Mem
       ∙ P .read
 
   all-written : out ≡ shown (readFile (P .played))
-  all-written = sym (append-nil out) ∙ ap (λ (l : List ℕ). out ++ l) (sym (part-none (p .from) (p .to) page done)) ∙ P .shows
+  all-written = none-unwritten out page p done (P .shows)
 
   -- of some bytes
-  pub bytes-came : (k : ℕ) → k ≤ length piece → Between (a ++ take k piece) out (placed (p .player) Stage.Going 0 k 0) piece carry M
+  pub bytes-came : (k : ℕ) → k ≤ length piece → Between (a ++ take k piece) out (placed (p .player) Stage.Going 0 k 0) piece page carry M
   bytes-came k h =
       record {
         played = P .played;
         state = P .state;
         read = rw (part-front k piece) (ap (λ (l : List ℕ). l ++ take k piece) all-played);
-        shows = all-written;
+        shows = append-nil out ∙ all-written;
         here = h;
+        room = omega arith;
       }
 
   -- at the end
@@ -147,48 +187,6 @@ module _ {a out : List ℕ} {p : Program} {piece page carry : List ℕ} {M : Mem
 
 -- ---- after a write
 
--- what is written and what is still to be written are the same together
-module _ (out page : List ℕ) (p : Program) (k : ℕ) (fits : k ≤ p .to - p .from) where
-  same-text : (out ++ take k (unwritten p page)) ++ unwritten (advanced p k) page ≡ out ++ unwritten p page
-  same-text =
-      append-assoc out (take k (unwritten p page)) _ ∙ ap (λ (l : List ℕ). out ++ l) (part-split k (p .from) (p .to) page fits)
-
--- k of the bytes asked for were written
-module _ {a out : List ℕ} {p : Program} {page : List ℕ} (k : ℕ) (h : k ≤ p .to - p .from) where
-  -- none is left: of a page of the piece
-  pub page-written : {piece carry : List ℕ} {M : Memory} → p .to ≤ p .from + k → Plays a out p piece page carry M
-      → Between a (out ++ take k (unwritten p page)) (advanced p k) piece carry M
-  page-written l P =
-      record {
-        played = P .played;
-        state = P .state;
-        read = P .read;
-        shows =
-            sym (append-nil _)
-            ∙ ap (λ (x : List ℕ). (out ++ take k (unwritten p page)) ++ x) (sym (part-none (p .from + k) (p .to) page l))
-            ∙ same-text out page p k h
-            ∙ P .shows;
-        here = P .here;
-      }
-
-  -- some are left
-  part-written : {piece carry : List ℕ} {M : Memory} → p .from + k < p .to → Plays a out p piece page carry M
-      → Plays a (out ++ take k (unwritten p page)) (advanced p k) piece page carry M
-  part-written l P =
-      record {
-        played = P .played;
-        state = P .state;
-        read = P .read;
-        shows = same-text out page p k h ∙ P .shows;
-        waits = λ z. absurd (omega arith);
-        here = P .here;
-        room = P .room;
-      }
-
-  -- of the last page
-  last-written : Closes a out p page → Closes a (out ++ take k (unwritten p page)) (advanced p k) page
-  last-written C = record { shows = same-text out page p k h ∙ C .shows; room = C .room }
-
 -- how many bytes are asked for, and that they are asked for of a page
 asked : (s : Stage) (more : Bool) (from to k : ℕ) → 0 < k → k ≤ leftOf (askAt s more from to) → k ≤ to - from
 asked Stage.Title more from to k some h = absurd (omega arith)
@@ -198,35 +196,25 @@ asked Stage.Last true from to k some h = h
 asked Stage.Last false from to k some h = absurd (omega arith)
 asked Stage.Failed more from to k some h = absurd (omega arith)
 
-module _ (p : Program) (k : ℕ) (some : 0 < k) where
-  pub within-page : k ≤ leftOf (askOf p) → k ≤ p .to - p .from
-  within-page h = asked (p .stage) (ltb (p .from) (p .to)) (p .from) (p .to) k some h
+-- k of the bytes asked for were written
+module _ (p : Program) (k : ℕ) (some : 0 < k) (left : k ≤ leftOf (askOf p)) where
+  pub within-page : k ≤ p .to - p .from
+  within-page = asked (p .stage) (ltb (p .from) (p .to)) (p .from) (p .to) k some left
 
-  -- some bytes of the page are left
-  pub some-written : (s : Stage) (a out piece page carry : List ℕ) (M : Memory) → k ≤ leftOf (askAt s (ltb (p .from) (p .to)) (p .from) (p .to))
-      → p .from + k < p .to → RunningAt s a out p piece page carry M → RunningAt s a (out ++ take k (unwritten p page)) (advanced p k) piece page carry M
-  some-written Stage.Title a out piece page carry M h l R = absurd (omega arith)
-  some-written Stage.Going a out piece page carry M h l R = part-written k (asked Stage.Going (ltb (p .from) (p .to)) (p .from) (p .to) k some h) l R
-  some-written Stage.Last a out piece page carry M h l R = last-written k (asked Stage.Last (ltb (p .from) (p .to)) (p .from) (p .to) k some h) R
-  some-written Stage.Failed a out piece page carry M h l R = absurd R
+  pub page-written : (a out piece page carry : List ℕ) (M : Memory) → Running a out p piece page carry M
+      → Turning a (out ++ take k (unwritten p page)) (advanced p k) piece page carry M
+  page-written a out piece page carry M = go (p .stage) refl left
+    where
+      -- what is written and what is still to be written are the same together
+      same : (out ++ take k (unwritten p page)) ++ unwritten (advanced p k) page ≡ out ++ unwritten p page
+      same = append-assoc out (take k (unwritten p page)) _ ∙ ap (λ (l : List ℕ). out ++ l) (part-split k (p .from) (p .to) page within-page)
 
-  -- none is left, of the last page
-  pub all-written-last : (s : Stage) (a out piece page carry : List ℕ) (M : Memory) → s ≡ Stage.Last → k ≤ p .to - p .from
-      → RunningAt s a out p piece page carry M → RunningAt s a (out ++ take k (unwritten p page)) (advanced p k) piece page carry M
-  all-written-last s a out piece page carry M e h R = rw e (last-written k h (rw e at R))
-
-  -- a program that asks for nothing to be written
-  pub nothing-asked : {s : Stage} → (s ≡ Stage.Title) ⊎ (s ≡ Stage.Failed) → k ≤ leftOf (askAt s (ltb (p .from) (p .to)) (p .from) (p .to)) → ⊥
-  nothing-asked e h = ⊎-elim (λ t. omega (arith, rw t at h)) (λ t. omega (arith, rw t at h)) e
-
-pub playing : {a out : List ℕ} {p : Program} {piece page carry : List ℕ} {M : Memory} → p .stage ≡ Stage.Going
-    → RunningAt (p .stage) a out p piece page carry M → Plays a out p piece page carry M
-playing {a} {out} {p} {piece} {page} {carry} {M} e R = subst (λ (s : Stage). RunningAt s a out p piece page carry M) e R
-
--- a program that goes on
-pub going : {a out : List ℕ} {p : Program} {piece page carry : List ℕ} {M : Memory} → p .stage ≡ Stage.Going → Plays a out p piece page carry M
-    → RunningAt (p .stage) a out p piece page carry M
-going {a} {out} {p} {piece} {page} {carry} {M} e P = subst (λ (s : Stage). RunningAt s a out p piece page carry M) (sym e) P
+      go : (s : Stage) → p .stage ≡ s → k ≤ leftOf (askAt s (ltb (p .from) (p .to)) (p .from) (p .to)) → RunningAt s a out p piece page carry M
+          → Turning a (out ++ take k (unwritten p page)) (advanced p k) piece page carry M
+      go Stage.Title e h R = absurd (omega arith)
+      go Stage.Going e h R = within-input e record { played = R .played; state = R .state; read = R .read; shows = same ∙ R .shows; here = R .here; room = R .room }
+      go Stage.Last e h R = after-input e record { shows = same ∙ R .shows; room = R .room }
+      go Stage.Failed e h R = absurd R
 
 -- a read that brings bytes goes on
 pub bytes-stage : (k : ℕ) (s : Stage) → (k ≡ 0 → ⊥) → stageAfter (Did.Read k) s ≡ Stage.Going
@@ -245,18 +233,6 @@ opening {a} {out} {carry} {M} p piece page e R = go (p .stage) e R
     go Stage.Going t r = absurd (true≢false (sym t))
     go Stage.Last t r = absurd (true≢false (sym t))
     go Stage.Failed t r = absurd r
-
--- a read: while the input is read, and nothing is left to be written
-pub reading : (p : Program) → asksRead (askOf p) ≡ true → (p .stage ≡ Stage.Going) × (p .to ≤ p .from)
-reading p e = go (p .stage) (ltb (p .from) (p .to)) refl e
-  where
-    go : (s : Stage) (more : Bool) → ltb (p .from) (p .to) ≡ more → asksRead (askAt s more (p .from) (p .to)) ≡ true → (s ≡ Stage.Going) × (p .to ≤ p .from)
-    go Stage.Title more m t = absurd (true≢false (sym t))
-    go Stage.Going true m t = absurd (true≢false (sym t))
-    go Stage.Going false m t = (refl, ltb-false (p .from) (p .to) m)
-    go Stage.Last true m t = absurd (true≢false (sym t))
-    go Stage.Last false m t = absurd (true≢false (sym t))
-    go Stage.Failed more m t = absurd (true≢false (sym t))
 
 pub read-fits : (p : Program) (k size : ℕ) → fits (Did.Read k) p size ≡ true → (p .stage ≡ Stage.Going) × (p .to ≤ p .from) × (k ≤ size)
 read-fits p k size e =

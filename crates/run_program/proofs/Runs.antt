@@ -1,7 +1,7 @@
 -- Each turn keeps what the program holds: a read changes the piece only when all of it is played. So at the end all of the listing is written.
 use mathlib.Core.Path.{_≡_, refl, ap, sym, _∙_}
 use mathlib.Core.Bool.{Bool, true, false}
-use mathlib.Core.List.{List, [], _++_, append-nil}
+use mathlib.Core.List.{List, _++_, append-nil}
 use Prim.Native.Nat.{ℕ, _≤_}
 use native.Mathlib.Omega.{arith}
 use lib.Dec.{ltb}
@@ -12,8 +12,8 @@ use Rattle.run_state.specs.Memory.{Memory}
 use Rattle.run_program.specs.declared.Ask.{Ask}
 use Rattle.run_program.specs.declared.Stage.{Stage}
 use Rattle.run_program.specs.declared.Program.{Program}
-use Rattle.run_program.specs.Calls.{askAt, askOf}
-use Rattle.run_program.specs.Running.{Plays, Closes, RunningAt, Running}
+use Rattle.run_program.specs.Calls.{askAt}
+use Rattle.run_program.specs.Running.{Plays, RunningAt, Running}
 use Rattle.run_program.specs.Runs.{Left, Ran, begins, turns, AnyRun}
 use Rattle.run_program.proofs.Running.{part-none}
 

@@ -1,9 +1,9 @@
 -- What the program asks of the system, and what the system did.
-use mathlib.Core.Bool.{Bool, true, false, cond, _&&_}
+use mathlib.Core.Bool.{Bool, true, false, _&&_}
 use mathlib.Core.List.{List, _++_}
 use Prim.Native.Nat.{ℕ, zero, suc, _-_}
 use lib.Dec.{ltb, leb}
-use lib.ListN.{length, take, drop}
+use lib.ListN.{take, drop}
 use lib.IntN.{ℤ, pos, negsuc}
 use Rattle.run_program.specs.declared.Did.{Did}
 use Rattle.run_program.specs.declared.Ask.{Ask}

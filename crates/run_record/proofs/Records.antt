@@ -21,7 +21,7 @@ use Rattle.run_spec.specs.RunFile.{File, roundsGiven, RecordKind, start, round,
 use Rattle.run_spec.specs.Listing.{title, shown}
 use Rattle.run_spec.proofs.Bytes.{first-begun}
 use Rattle.run_spec.proofs.Streaming.{start-shows, plant-shows, listeners-shows, strikes-shows, stop-shows}
-use Rattle.frame_slots.specs.Slots.{plantedIn}
+use Rattle.frame_slots.specs.Slots.{plantedIn, PlantedThen}
 use Rattle.texts.specs.declared.Text.{Text}
 use Rattle.texts.specs.Texts.{bytesOf}
 use Rattle.run_listing.specs.Texts.{endLine}
@@ -158,8 +158,7 @@ module _ {F : File} {p : Player} {M : Memory} {r : RecordResult} where
 
     -- a planted record: what it plants is added
     pub plant-next : {bytes lengths : List ℕ} → MemoryOf F M → length (drop 6 s) ≤ 140
-        → ((k i : ℕ) → k < 32 → i < 48 → length (plantedIn (M .planted) (M .lengths) k i) ≤ 140
-        → plantedIn bytes lengths k i ≡ cond (eqb (senderIn s) k && eqb (receiverIn s) i) (drop 6 s) (plantedIn (M .planted) (M .lengths) k i))
+        → PlantedThen (senderIn s) (receiverIn s) (drop 6 s) (M .planted) (M .lengths) bytes lengths
         → PlayerOf p F → r .player ≡ withPairPlanted p (pairIn s) → r .text .len ≡ 0
         → Next F (withRecord plant F s) p M r (withSlots M bytes lengths)
     plant-next H few new T is none =
@@ -170,7 +169,7 @@ module _ {F : File} {p : Player} {M : Memory} {r : RecordResult} where
               record {
                 keeps = λ b. same-keeps (H .keeps b);
                 level = H .level;
-                slots = λ w k i a m b. rw (new k i a b (rw (H .slots w k i a m b) (H .short w k i)), H .slots w k i a m b);
+                slots = λ w k i a m b. rw (new few k i a b (rw (H .slots w k i a m b) (H .short w k i)), H .slots w k i a m b);
                 short = λ w k i. either-short (eqb (senderIn s) k && eqb (receiverIn s) i) (drop 6 s) _ few (H .short w k i);
               };
           refused = λ h. absurd (h refl);

@@ -5,7 +5,8 @@ ghost use mathlib.Core.Path.{_≡_};
 ghost use Prim.Native.Nat.{ℕ, _≤_, _<_};
 ghost use lib.ListN.{length, getD, drop};
 ghost use lib.IntN.{pos};
-ghost use Rattle.run_spec.specs.RunFile.{File, readFile, start, round, plant, listeners, strikes, isFirst, isBare, kindIn, lengthIn, isAllowed, judged, stopped};
+ghost use Rattle.run_spec.specs.RunFile.{File, readFile, start, round, plant, listeners, strikes, isFirst, isBare, kindIn, lengthIn, isAllowed, judged, stopped, senderIn, receiverIn};
+ghost use Rattle.frame_slots.specs.Slots.{withPlanted, withLength, PlantedThen};
 ghost use Rattle.run_state.specs.Memory.{Memory, memoryBefore, memoryAfter, withPositions, withSlots};
 ghost use Rattle.run_state.specs.Changes.{pairIn};
 ghost use Rattle.run_state.specs.State.{PlayerOf, MemoryOf};
@@ -152,14 +153,22 @@ fn take_round(
     }
 }
 
-// The sender and receiver of a planted record.
-pub fn pair_in(bytes: &[u8]) -> Pair
-    ensures { λ r. ⌜ r ≡ pairIn (now (bytes .entry)) ⌝ }
+// Plants the bytes of a planted record on the link that it names, and answers its sender and receiver.
+pub fn plant_in(bytes: &[u8], planted: &mut PlantedBytes, lengths: &mut PlantedLengths) -> Pair
+    ensures pair { λ r. ⌜ r ≡ pairIn (now (bytes .entry)) ⌝ }
+    ensures bytes { λ _. ⌜ now (planted .exit) ≡ withPlanted (now (planted .entry)) (senderIn (now (bytes .entry))) (receiverIn (now (bytes .entry))) (drop 6 (now (bytes .entry))) ⌝ }
+    ensures lengths { λ _. ⌜ now (lengths .exit) ≡ withLength (now (lengths .entry)) (senderIn (now (bytes .entry))) (receiverIn (now (bytes .entry))) (drop 6 (now (bytes .entry))) ⌝ }
+    ensures reads { λ _. ⌜ PlantedThen (senderIn (now (bytes .entry))) (receiverIn (now (bytes .entry))) (drop 6 (now (bytes .entry)))
+        (now (planted .entry)) (now (lengths .entry)) (now (planted .exit)) (now (lengths .exit)) ⌝ }
 {
+    let from = fields::byte_at(bytes, 4);
+    let to = fields::byte_at(bytes, 5);
+    let frame = fields::bytes_from(bytes, 6);
+    frame_slots::plant(planted, lengths, from, to, frame);
     Pair {
         some: true,
-        from: fields::byte_at(bytes, 4),
-        to: fields::byte_at(bytes, 5),
+        from,
+        to,
     }
 }
 
@@ -179,9 +188,7 @@ fn take_plant(
     if fault != 0 {
         return refuse(p, fault);
     }
-    let pair = pair_in(bytes);
-    let frame = fields::bytes_from(bytes, 6);
-    frame_slots::plant(planted, lengths, pair.from, pair.to, frame);
+    let pair = plant_in(bytes, planted, lengths);
     RecordResult {
         player: run_state::planted_pair(p, pair),
         text: texts::empty(),

@@ -8,18 +8,16 @@ use native.Mathlib.Omega.{arith}
 use lib.ListN.{length, getD}
 use lib.IntN.{ℤ, pos}
 use Rattle.terms.specs.Sizes.{endsWith}
-use Rattle.terms.specs.declared.Entry.{Entry}
 use Rattle.terms.specs.declared.Entry.the-variants.{Null, Position}
 use Rattle.terms.specs.declared.Family.{Family}
 use Rattle.terms.specs.Counting.{Each}
 use Rattle.head_spec.specs.declared.Head.{Head}
 use Rattle.ring_spec.specs.Rounds.{Round, PhaseEnd, phaseEnd, receivers, asEnd, withEnd, ringAfter, endsAfter}
-use Rattle.ring_spec.specs.Agreed.{agreedOn, heldByAll, firstHeld}
+use Rattle.ring_spec.specs.Agreed.{agreedOn, heldByAll}
 use Rattle.ring_spec.proofs.Agreed.{agreed-held}
 use Rattle.run_spec.specs.RunFile.{File, thenPlayed, allRounds, endsFrom, ringFrom}
 use Rattle.run_spec.proofs.Reached.{Reached}
 use Rattle.run_spec.proofs.Demand3.{played-converges}
-use Rattle.ring_spec.specs.Converges.{AnyTwo}
 use Rattle.run_state.specs.Memory.{Memory}
 use Rattle.run_state.specs.State.{ringBefore, agreedBefore}
 use Rattle.run_round.specs.Agrees.{agreedAfterAll}

@@ -4,17 +4,14 @@ use mathlib.Core.Path.{_≡_, refl, ap, ap₂, sym, subst, _∙_}
 use mathlib.Core.Bool.{Bool, true, false, true≢false}
 use mathlib.Core.List.{List, _∷_}
 use Prim.Native.Nat.{ℕ}
-use native.Mathlib.Omega.{arith}
 use lib.ListN.{getD, getD-replicate}
 use lib.IntN.{ℤ, pos}
 use Rattle.terms.specs.Sizes.{endsWith}
 use Rattle.terms.specs.declared.Entry.{Entry}
 use Rattle.terms.specs.declared.Entry.the-variants.{Null, Position}
 use Rattle.terms.specs.Counting.{Each}
-use Rattle.head_spec.specs.declared.Head.{Head}
-use Rattle.ring_spec.specs.Rounds.{PhaseEnd, phaseEnd, receivers, asEnd, endsPhase, afterRound, ringAfter}
+use Rattle.ring_spec.specs.Rounds.{receivers, asEnd, endsPhase, afterRound, ringAfter}
 use Rattle.ring_spec.specs.Agreed.{common, heldByAll, isAgreed}
-use Rattle.ring_spec.proofs.OneRound.{RingReady}
 use Rattle.run_spec.specs.RunFile.{File, readFile, ringFrom}
 use Rattle.run_spec.proofs.Reached.{taken}
 use Rattle.run_listing.specs.Held.{endIn}
@@ -24,7 +21,7 @@ use Rattle.run_state.specs.declared.Player.{Player}
 use Rattle.run_state.specs.Memory.{Memory, withPositions}
 use Rattle.run_state.specs.State.{ringBefore, agreedBefore, PlayerOf}
 use Rattle.run_round.specs.Agrees.{ringAfterAll, agreedAfterAll, HoldsAll, Agrees}
-use Rattle.run_round.proofs.Keeping.{no-position, end-keeps}
+use Rattle.run_round.proofs.Keeping.{end-keeps}
 use Rattle.run_round.proofs.Waiting.{ends-as, waiting-playable}
 use Rattle.run_round.proofs.Converging.{phase-end-as, held-at-end}
 use Rattle.run_round.proofs.Agreeing.{agreed-stays, unplayed-same, opened-same, agreed-there, agreed-end, e, ends-with}

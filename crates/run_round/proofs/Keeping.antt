@@ -13,7 +13,7 @@ use lib.IntN.{ℤ, pos}
 use Rattle.terms.specs.declared.Entry.{Entry}
 use Rattle.terms.specs.declared.Family.{Family}
 use Rattle.terms.specs.declared.Family.the-variants.{TwoRounds, OneRound}
-use Rattle.terms.specs.Sizes.{roundsOf, endsWith}
+use Rattle.terms.specs.Sizes.{endsWith}
 use Rattle.marks.specs.Marks.{bitOf}
 use Rattle.entries.specs.Tables.{tableAt, tableOf}
 use Rattle.terms.specs.Counting.{Each, AtMost}

@@ -6,7 +6,7 @@ ghost use Prim.Native.Nat.{ℕ, _≤_};
 ghost use Rattle.terms.specs.declared.Entry.{Entry};
 ghost use Rattle.ring_spec.specs.Agreed.{isAgreed};
 ghost use Rattle.ring_spec.specs.Rounds.{receivers};
-ghost use Rattle.run_spec.specs.RunFile.{roundsGiven, readFile};
+ghost use Rattle.run_spec.specs.RunFile.{readFile};
 ghost use Rattle.run_listing.specs.Held.{endIn};
 ghost use Rattle.run_listing.specs.Heights.{Found};
 ghost use Rattle.run_state.specs.Memory.{Memory, memoryBefore, memoryAfter, withPositions};

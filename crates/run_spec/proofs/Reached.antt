@@ -15,7 +15,6 @@ use borrow.Author.Tests.{leb-true, ltb-true, ltb-false, leb-false, not-true}
 use Rattle.terms.specs.Sizes.{isCount, isLimit}
 use Rattle.terms.proofs.Sizes.{size-passed}
 use Rattle.terms.specs.declared.Family.{Family}
-use Rattle.terms.specs.declared.Family.the-variants.{TwoRounds, OneRound}
 use Rattle.terms.specs.Positions.{isPosition}
 use Rattle.marks.specs.Marks.{bitOf, marksBelow}
 use Rattle.marks.proofs.Marks.{bit-above}

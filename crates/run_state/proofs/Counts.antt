@@ -1,11 +1,10 @@
 -- The counts, place by place, and that a round keeps them: it makes of the counts after the rounds before it those after it.
-use mathlib.Core.Path.{_≡_, refl, ap, sym, _∙_}
+use mathlib.Core.Path.{_≡_, refl, sym, _∙_}
 use mathlib.Core.Bool.{Bool, true, false, cond}
 use mathlib.Core.List.{List, [], _∷_}
 use Prim.Native.Nat.{ℕ, zero, suc, _+_, _/_, _^_, _≤_, _<_, min}
 use native.Mathlib.Omega.{arith}
 use native.Mathlib.Decide.{decLt, le-ind}
-use lib.Dec.{eqb}
 use lib.ListN.{length, getD, set, replicate, length-set, getD-replicate}
 use lib.Seq.{getD-set-same, getD-set-other}
 use borrow.Author.Tests.{eq-eqb, ltb-true}
@@ -15,7 +14,6 @@ use Rattle.marks.proofs.Marks.{bit-above, shift-none}
 use Rattle.terms.specs.Counting.{bit}
 use Rattle.head_spec.specs.Seats.{mostCounted}
 use Rattle.ring_spec.specs.Rounds.{Round, receivers, endsPhase, endsSince}
-use Rattle.ring_spec.specs.Converges.{countAfter}
 use Rattle.run_state.specs.Counts.{CountsOf, aged, cleared, countsThen}
 
 -- ---- a phase end more

@@ -13,12 +13,12 @@ use Rattle.terms.specs.declared.Entry.the-variants.{Null, Position}
 use Rattle.terms.specs.declared.Family.{Family}
 use Rattle.terms.specs.declared.Family.the-variants.{TwoRounds}
 use Rattle.marks.specs.Marks.{bitOf}
-use Rattle.ring_spec.specs.Rounds.{Round, PhaseEnd, phaseEnd, isReceiver, isOut, withEnd, ringAfter, endsAfter}
+use Rattle.ring_spec.specs.Rounds.{Round, PhaseEnd, phaseEnd, isReceiver, withEnd, ringAfter, endsAfter}
 use Rattle.ring_spec.specs.Converges.{noEnd}
-use Rattle.run_spec.specs.RunFile.{File, readFile, roundsPlayed, endsPlayed, endsFrom}
+use Rattle.run_spec.specs.RunFile.{File, readFile, roundsPlayed, endsPlayed}
 use Rattle.run_listing.specs.Held.{endIn}
 use Rattle.run_whole.specs.Whole.{endNumber}
-use Rattle.run_whole.specs.Quiet.{InNeither, QuietPhase}
+use Rattle.run_whole.specs.Quiet.{QuietPhase}
 
 -- each end but the start
 abbrev ByConfession : List PhaseEnd → Type 0

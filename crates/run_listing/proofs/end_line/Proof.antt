@@ -1,11 +1,8 @@
 -- `run_listing::end_line` meets its contract: each field is put behind the text so far, and their bounds, 11 + 12 + 12 + 11 + 9 + 9, leave room for all.
 use mathlib.Core.Path.{refl, _∙_}
-use mathlib.Core.List.{[], _∷_, _++_}
 use native.Mathlib.Omega.{arith}
 use native.Mathlib.Nat.{le-of-eq}
 use borrow.Author.Needs.{needs}
-use Rattle.texts.specs.Numbers.{decimal}
-use Rattle.texts.specs.Texts.{textIn, Longer}
 use Rattle.texts.proofs.Digits.{decimal-short, hex-length}
 use Rattle.texts.proofs.Writing.{from-empty, longer-then, put-fits}
 use Rattle.run_listing.proofs.Lines.{fields-are}

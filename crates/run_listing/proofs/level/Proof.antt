@@ -1,5 +1,4 @@
 -- `run_listing::level` meets its contract: the lowest and the highest are found, and they are one position or not.
-use mathlib.Core.Path.{_≡_, refl}
 use denote.Ref.{now}
 use borrow.Author.Needs.{needs}
 use Rattle.run_listing.proofs.OneHeld.{none-lowest, none-highest, two-positions, one-position}

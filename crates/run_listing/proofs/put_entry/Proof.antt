@@ -1,5 +1,5 @@
 -- `run_listing::put_entry` meets its contract: a null has the empty text, and a position is read back as it was held.
-use mathlib.Core.Path.{refl, ap}
+use mathlib.Core.Path.{ap}
 use mathlib.Core.List.{[], _∷_, _++_}
 use native.Mathlib.Omega.{arith}
 use lib.IntN.{ℤ}

@@ -1,7 +1,6 @@
 -- `run_listing::reach` meets its contract: no receiver is at 48 or above, and without listeners none is at n or above.
 use mathlib.Core.Path.{_≡_, _∙_}
 use native.Mathlib.Omega.{arith}
-use borrow.Author.Needs.{needs}
 use borrow.Author.Tests.{le-ltb}
 use Rattle.run_listing.proofs.Lowest.{no-listener}
 use Rattle.run_listing.proofs.reach.Statement.{statement}

@@ -20,29 +20,18 @@ there : (e : tie.Else1) → Plants (now (e .before .before .before .args .rest))
 there e = size-plants (now (e .before .before .before .args .rest)) (e .before .plant-size .ensures) (e .if1 .left)
 
 front-requires : tie.Need-front-requires
-front-requires c κs = there (c .before .before .before) .within
+front-requires c κs = there (c .before .before) .within
 
 returns-3 : tie.Need-returns-3
 returns-3 c =
     let x = c .before .before .before in
-    let k = x .before .before in
-    let t = k .before in
+    let t = x .before in
     let i = t .before .before in
-    let sound = sym (t .before .plant-fault .ensures) ∙ t .if2 .left in (
+    let sound = sym (t .before .plant-fault .ensures) ∙ t .if2 .left in
+    let (pair, (_, (_, reads))) = c .plant-in .ensures in (
       rw (← t .before .plant-fault .ensures, eq-eqb _ _ (t .if2 .left)) (i .before .plant-size .ensures),
-      λ p W a carry M L. plant-there L W _ (there i) (x .before .front .ensures) sound (k .pair-in .ensures) (rw (← x .bytes-from .ensures) (c .plant .ensures .1 .1)),
+      λ p W a carry M L. plant-there L W _ (there i) (x .front .ensures) sound pair reads,
     )
 
 pub pass-plant-spec : {M : Type 1} → statement M
-pass-plant-spec =
-    tie.close
-    (tie.spec
-    (λ c κs. search needs)
-    returns
-    (λ c κs. search needs)
-    returns-2
-    (λ c κs. search needs)
-    front-requires
-    (λ c κs. search needs)
-    (λ c κs. search needs)
-    returns-3)
+pass-plant-spec = tie.close (tie.spec (λ c κs. search needs) returns (λ c κs. search needs) returns-2 front-requires (λ c κs. search needs) returns-3)

@@ -1,5 +1,5 @@
 -- `run_record::is_due` meets its contract: it asks what the definition asks, in its order.
-use mathlib.Core.Path.{_≡_, sym, _∙_}
+use mathlib.Core.Path.{sym, _∙_}
 use lib.ListN.{length}
 use denote.Ref.{now}
 use borrow.Author.Needs.{needs}

@@ -5,7 +5,6 @@ use Prim.Native.Nat.{ℕ}
 use native.Mathlib.Omega.{arith}
 use denote.Ref.{now}
 use borrow.Author.Needs.{needs}
-use Rattle.run_spec.specs.declared.Pair.{Pair}
 use Rattle.run_spec.specs.RunFile.{File, plant, plantFault, recordFault}
 use Rattle.run_state.specs.declared.Player.{Player}
 use Rattle.run_state.specs.Changes.{withPairPlanted}
@@ -28,21 +27,16 @@ returns c =
 
 returns-2 : tie.Need-returns-2
 returns-2 c =
-    let q = c .before in
-    let v = q .before in
-    let x = v .before .before .before in
-    let k = x .before in
-    let t = k .before in
+    let k = c .before .before in
+    let t = k .before .before .before in
     let a = t .before .before .before .args in
-    let s = now (a .bytes) in (
+    let s = now (a .bytes) in
+    let (pair, (_, (_, reads))) = k .plant-in .ensures in (
       λ F M few T H.
           rw (judged-taken plant F s (fault T s (t .before .plant-fault .ensures)) (t .if1 .left))
-          (plant-next s H few
-          (λ m j m-below j-below fits. rw (← ap (λ (q : Pair). q .from) (k .pair-in .ensures), ← ap (λ (q : Pair). q .to) (k .pair-in .ensures), ← x .bytes-from .ensures)
-          (v .plant .ensures .1 .1 (rw (x .bytes-from .ensures) few) m j m-below j-below fits))
-          T (q .planted-pair .ensures ∙ ap (withPairPlanted (a .p)) (k .pair-in .ensures)) (c .empty .ensures)),
+          (plant-next s H few reads T (c .before .planted-pair .ensures ∙ ap (withPairPlanted (a .p)) pair) (c .empty .ensures)),
       omega (arith, c .empty .ensures),
     )
 
 pub take-plant-spec : {M : Type 1} → statement M
-take-plant-spec = tie.close (tie.spec (λ c κs. search needs) (λ c κs. search needs) returns (λ c κs. search needs) (λ c κs. search needs) (λ c κs. search needs) (λ c κs. search needs) (λ c κs. search needs) returns-2)
+take-plant-spec = tie.close (tie.spec (λ c κs. search needs) (λ c κs. search needs) returns (λ c κs. search needs) (λ c κs. search needs) (λ c κs. search needs) returns-2)

@@ -1,5 +1,5 @@
 -- `run_state::counts_played` meets its contract, by whether a round is pending and ends a phase.
-use mathlib.Core.Path.{_≡_, sym, _∙_}
+use mathlib.Core.Path.{sym, _∙_}
 use borrow.Author.Needs.{needs}
 use borrow.Author.Tests.{not-true, not-false}
 use Rattle.run_state.proofs.counts_played.Statement.{statement}

@@ -1,8 +1,8 @@
--- `run_program::fits` meets its contract: it asks what the definition asks, in its order.
+-- `run_program::calls::fits` meets its contract: it asks what the definition asks, in its order.
 use borrow.Author.Tests.{le-leb, lt-leb}
 use borrow.Author.Needs.{needs}
-use Rattle.run_program.proofs.fits.Statement.{statement}
-use Rattle.run_program.proofs.fits.Tie as tie
+use Rattle.run_program.proofs.calls.fits.Statement.{statement}
+use Rattle.run_program.proofs.calls.fits.Tie as tie
 
 returns : tie.Need-returns
 returns c = rw (c .before .enum-told .given .1) (c .is-title .ensures)

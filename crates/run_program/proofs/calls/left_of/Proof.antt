@@ -1,7 +1,7 @@
--- `run_program::left_of` meets its contract: it looks at what is asked for.
+-- `run_program::calls::left_of` meets its contract: it looks at what is asked for.
 use borrow.Author.Needs.{needs}
-use Rattle.run_program.proofs.left_of.Statement.{statement}
-use Rattle.run_program.proofs.left_of.Tie as tie
+use Rattle.run_program.proofs.calls.left_of.Statement.{statement}
+use Rattle.run_program.proofs.calls.left_of.Tie as tie
 
 returns : tie.Need-returns
 returns c = rw (← c .before .before .ask-of .ensures, c .enum-told .given .1)

@@ -1,7 +1,7 @@
--- `run_program::is_title` meets its contract, stage by stage.
+-- `run_program::calls::is_title` meets its contract, stage by stage.
 use borrow.Author.Needs.{needs}
-use Rattle.run_program.proofs.is_title.Statement.{statement}
-use Rattle.run_program.proofs.is_title.Tie as tie
+use Rattle.run_program.proofs.calls.is_title.Statement.{statement}
+use Rattle.run_program.proofs.calls.is_title.Tie as tie
 
 returns : tie.Need-returns
 returns c = rw (c .enum-told .given .1)

@@ -1,8 +1,8 @@
--- `run_program::ask_of` meets its contract: it asks what the definition asks.
+-- `run_program::calls::ask_of` meets its contract: it asks what the definition asks.
 use borrow.Author.Needs.{needs}
 use borrow.Author.Tests.{lt-ltb, le-ltb}
-use Rattle.run_program.proofs.ask_of.Statement.{statement}
-use Rattle.run_program.proofs.ask_of.Tie as tie
+use Rattle.run_program.proofs.calls.ask_of.Statement.{statement}
+use Rattle.run_program.proofs.calls.ask_of.Tie as tie
 
 returns : tie.Need-returns
 returns c = rw (c .before .enum-told2 .given .1, lt-ltb _ _ (c .if1 .taken))

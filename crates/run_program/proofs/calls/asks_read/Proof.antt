@@ -1,7 +1,7 @@
--- `run_program::asks_read` meets its contract: it looks at what is asked for.
+-- `run_program::calls::asks_read` meets its contract: it looks at what is asked for.
 use borrow.Author.Needs.{needs}
-use Rattle.run_program.proofs.asks_read.Statement.{statement}
-use Rattle.run_program.proofs.asks_read.Tie as tie
+use Rattle.run_program.proofs.calls.asks_read.Statement.{statement}
+use Rattle.run_program.proofs.calls.asks_read.Tie as tie
 
 returns : tie.Need-returns
 returns c = rw (← c .before .before .ask-of .ensures, c .enum-told .given .1)
