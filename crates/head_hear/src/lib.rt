@@ -105,26 +105,16 @@ pub fn hear(h: Head, link: u32, frame: &[u8]) -> Answer
                 head: h, // as it was
             };
         }
-        Said::Collection(entry) => {
-            let list = h.list;
-            let filled = with_entry(list, k, entry);
-            next.list = filled;
-        }
+        Said::Collection(entry) => next.list = with_entry(h.list, k, entry),
         Said::List => {
             let table = frame_codec::table_in(frame, seat.n);
-            let links = h.links;
-            let listed = with_list(links, k, table);
-            next.links = listed;
+            next.links = with_list(h.links, k, table);
             if k < 32 {
                 let entries = table.entries;
                 next.lists[k] = Row { entries };
             }
         }
-        Said::Confession => {
-            let links = h.links;
-            let confessed = with_confession(links, k);
-            next.links = confessed;
-        }
+        Said::Confession => next.links = with_confession(h.links, k),
     }
     Answer {
         refusal: 0,
@@ -189,39 +179,15 @@ fn hear_entries(h: Head, batch: &[u8], answers: &mut [u8]) -> Head
     ensures head { λ r. ⌜ r ≡ hearEach h (deliveriesOf (now (batch .entry))) ⌝ }
     ensures answers { λ r. ⌜ now (answers .exit) ≡ answersTo h (deliveriesOf (now (batch .entry))) ++ drop (length (deliveriesOf (now (batch .entry)))) (now (answers .entry)) ⌝ }
 {
-    let seat = h.seat;
     let mut next = h;
     let mut at: usize = 0;
     let mut i: usize = 0;
     while at < batch.len() {
         let rest = fields::bytes_from(batch, at);
         let size = entry_size(rest);
-        let frame = &rest[1..size];
-        let link = rest[0] as u32;
-        let k = link as usize;
-        let heard = next.heard;
-        let mut number: u8 = 0;
-        match said_on(seat, heard, link, frame) {
-            Said::Refused(refused) => number = refused,
-            Said::Collection(entry) => {
-                next.heard = marks::with_mark(heard, k);
-                next.list = with_entry(next.list, k, entry);
-            }
-            Said::List => {
-                next.heard = marks::with_mark(heard, k);
-                let table = frame_codec::table_in(frame, seat.n);
-                next.links = with_list(next.links, k, table);
-                if k < 32 {
-                    let entries = table.entries;
-                    next.lists[k] = Row { entries };
-                }
-            }
-            Said::Confession => {
-                next.heard = marks::with_mark(heard, k);
-                next.links = with_confession(next.links, k);
-            }
-        }
-        answers[i] = number;
+        let heard = hear(next, rest[0] as u32, &rest[1..size]);
+        next = heard.head;
+        answers[i] = heard.refusal;
         at += size;
         i += 1;
     }
