@@ -1,16 +1,15 @@
-// What hearing changes in a block.
+// What hearing changes in a block. It has words for links 0 to 31: of another link nothing is taken.
 ghost use mathlib.Core.Path.{_≡_};
 ghost use mathlib.Core.Bool.{true};
 ghost use mathlib.Core.List.{_++_};
 ghost use Prim.Native.Nat.{_≤_, _<_};
 ghost use lib.ListN.{length, getD, drop};
-ghost use Rattle.frame_spec.specs.Said.{collected, listed, confessed, restField, tableIn, saidOf, meant};
+ghost use Rattle.frame_spec.specs.Said.{collected, listed, confessed, saidOf};
 ghost use Rattle.head_spec.specs.Calls.{hearEach, answersTo};
 ghost use Rattle.head_spec.specs.Batch.{isBatch, deliveriesOf};
 ghost use Rattle.head_hear.specs.Steps.{linkRefusal, saidOn};
 ghost use Rattle.head_c.specs.Places as place;
-ghost use Rattle.head_c.specs.Blocks.{IsBlock, seatOf, headOf, marked, heardOn, changed, Hears, heardEach};
-ghost use Rattle.head_c.specs.Steps.{numberOf};
+ghost use Rattle.head_c.specs.Blocks.{IsBlock, seatOf, headOf, marked, heardOn, heardIn, Hears, heardEach};
 use crate::block::put_numbers;
 use crate::place;
 use frame_spec::Said;
@@ -37,9 +36,12 @@ fn put_heard(h: &mut [u32], k: usize)
 
 // Takes an entry of link k.
 fn take_entry(h: &mut [u32], k: usize, e: Entry)
-    requires { ⌜ IsBlock (now h) × (k < 32) ⌝ }
-    ensures { λ _. ⌜ now (h .exit) ≡ changed (now (h .entry)) k (collected e) ⌝ }
+    requires { ⌜ IsBlock (now h) ⌝ }
+    ensures { λ _. ⌜ now (h .exit) ≡ heardIn (now (h .entry)) k (collected e) ⌝ }
 {
+    if 32 <= k {
+        return;
+    }
     put_heard(h, k);
     match e {
         Entry::Null => {}
@@ -52,9 +54,12 @@ fn take_entry(h: &mut [u32], k: usize, e: Entry)
 
 // Takes a list of link k.
 fn take_list(h: &mut [u32], k: usize, t: Table)
-    requires { ⌜ IsBlock (now h) × (k < 32) ⌝ }
-    ensures { λ _. ⌜ now (h .exit) ≡ changed (now (h .entry)) k (listed t) ⌝ }
+    requires { ⌜ IsBlock (now h) ⌝ }
+    ensures { λ _. ⌜ now (h .exit) ≡ heardIn (now (h .entry)) k (listed t) ⌝ }
 {
+    if 32 <= k {
+        return;
+    }
     put_heard(h, k);
     put_mark(h, place::LISTED, k);
     h[place::LIST_MARKS + k] = t.marks;
@@ -63,24 +68,14 @@ fn take_list(h: &mut [u32], k: usize, t: Table)
 
 // Takes a confession of link k.
 fn take_confession(h: &mut [u32], k: usize)
-    requires { ⌜ IsBlock (now h) × (k < 32) ⌝ }
-    ensures { λ _. ⌜ now (h .exit) ≡ changed (now (h .entry)) k confessed ⌝ }
+    requires { ⌜ IsBlock (now h) ⌝ }
+    ensures { λ _. ⌜ now (h .exit) ≡ heardIn (now (h .entry)) k confessed ⌝ }
 {
+    if 32 <= k {
+        return;
+    }
     put_heard(h, k);
     put_mark(h, place::CONFESSED, k);
-}
-
-// Takes what was said on link k, in a frame to one of n heads; a refusal changes nothing.
-fn take_said(h: &mut [u32], k: usize, what: Said, frame: &[u8], n: u8)
-    requires { ⌜ IsBlock (now h) × (k < 32) ⌝ }
-    ensures { λ _. ⌜ now (h .exit) ≡ changed (now (h .entry)) k (meant what (tableIn n (restField (now (frame .entry))))) ⌝ }
-{
-    match what {
-        Said::Refused(_) => {}
-        Said::Collection(entry) => take_entry(h, k, entry),
-        Said::List => take_list(h, k, frame_codec::table_in(frame, n)),
-        Said::Confession => take_confession(h, k),
-    }
 }
 
 // Refusals 26, 3 and 21 of a link.
@@ -116,30 +111,20 @@ fn said_on(h: &[u32], link: u32, frame: &[u8]) -> Said
     frame_codec::read(frame, n, phase, round, link as u8)
 }
 
-// The number of a refusal, 0 if something is said.
-fn number_in(what: Said) -> u8
-    ensures { λ r. ⌜ r ≡ numberOf what ⌝ }
-{
-    match what {
-        Said::Refused(number) => number,
-        Said::Collection(_) => 0,
-        Said::List => 0,
-        Said::Confession => 0,
-    }
-}
-
 // Hears a frame on a link.
 pub(crate) fn hear(h: &mut [u32], link: u32, frame: &[u8]) -> u8
     requires { ⌜ IsBlock (now h) ⌝ }
     ensures { λ r. ⌜ Hears (now (h .entry)) link (now (frame .entry)) r (now (h .exit)) ⌝ }
 {
     let n = (h[place::N] % 256) as u8;
-    let what = said_on(h, link, frame);
-    let number = number_in(what);
-    if link < 32 {
-        take_said(h, link as usize, what, frame, n);
+    let k = link as usize;
+    match said_on(h, link, frame) {
+        Said::Refused(number) => return number,
+        Said::Collection(entry) => take_entry(h, k, entry),
+        Said::List => take_list(h, k, frame_codec::table_in(frame, n)),
+        Said::Confession => take_confession(h, k),
     }
-    number
+    0
 }
 
 // Hears the frames of a batch that is whole, and answers each where there is room for its answer.
