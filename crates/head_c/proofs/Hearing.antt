@@ -151,7 +151,7 @@ module _ (w : List ℕ) (block : IsBlock w) (k : ℕ) (s : List ℕ) where
   -- what the link says changes what the frame alone does, unless hearing is refused
   pub link-block : heardIn w k (linkSays h k s) ≡ leaves (hear h k s .refusal) (heardIn w k (saidTo (h .seat) k s)) w
   link-block =
-      go (linkRefusal (h .seat) (h .heard) k) (saidTo (h .seat) k s)
+      go (linkRefusal (h .seat .ended) (h .seat .n) (h .heard) k) (saidTo (h .seat) k s)
       ∙ ap (λ (a : Answer). leaves (a .refusal) (heardIn w k (saidTo (h .seat) k s)) w) (link-answered h k s)
     where
       go : (c : ℕ) (m : Meaning) → let x = unlessRefused refused c m in heardIn w k x ≡ leaves (answered h k x .refusal) (heardIn w k m) w

@@ -43,13 +43,13 @@ module _ (w : List ℕ) (block : IsBlock w) (k : ℕ) (s : List ℕ) where
   unfolding said
   offer-heard small =
       ap offerOf (sym (link-block w block k s))
-      ∙ go (linkRefusal x (headOf w .heard) k) (refusalTo x k s) (kindField s) below
+      ∙ go (linkRefusal (x .ended) (x .n) (headOf w .heard) k) (refusalTo x k s) (kindField s) below
       ∙ ap (λ (c : ℕ). lapsed c (offerOf w)) (ap (λ (a : Answer). a .refusal) (link-answered (headOf w) k s))
     where
       x : Seat
       x = headOf w .seat
 
-      below : linkRefusal x (headOf w .heard) k ≡ 0 → k < 32
+      below : linkRefusal (x .ended) (x .n) (headOf w .heard) k ≡ 0 → k < 32
       below e = omega (arith, ltb-true k (x .n) (passed (ltb k (x .n)) 2 (passed (not (x .ended)) 25 e .1) .0))
 
       go : (c d : ℕ) (K : Kind) → (c ≡ 0 → k < 32) → let m = unlessRefused refused c (unlessRefused refused d (meaning K (x .n) (restField s))) in

@@ -3,19 +3,16 @@ ghost use mathlib.Core.Path.{_≡_};
 ghost use mathlib.Core.Bool.{true};
 ghost use mathlib.Core.List.{_++_};
 ghost use Prim.Native.Nat.{_≤_, _<_};
-ghost use lib.ListN.{length, getD, drop};
-ghost use Rattle.frame_spec.specs.Said.{collected, listed, confessed, saidOf};
+ghost use lib.ListN.{length, drop};
+ghost use Rattle.frame_spec.specs.Said.{collected, listed, confessed};
 ghost use Rattle.head_spec.specs.Calls.{hearEach, answersTo};
 ghost use Rattle.head_spec.specs.Batch.{isBatch, deliveriesOf};
-ghost use Rattle.head_hear.specs.Steps.{linkRefusal, saidOn};
-ghost use Rattle.head_c.specs.Places as place;
-ghost use Rattle.head_c.specs.Blocks.{IsBlock, seatOf, headOf, marked, heardOn, heardIn, Hears, heardEach};
+ghost use Rattle.head_c.specs.Blocks.{IsBlock, headOf, marked, heardOn, heardIn, Hears, heardEach};
 use crate::block::put_numbers;
 use crate::place;
 use frame_spec::Said;
 use terms::Entry;
 use terms::Table;
-use terms::refusal;
 
 // Sets bit k of a word.
 fn put_mark(h: &mut [u32], at: usize, k: usize)
@@ -78,47 +75,18 @@ fn take_confession(h: &mut [u32], k: usize)
     put_mark(h, place::CONFESSED, k);
 }
 
-// Refusals 26, 3 and 21 of a link.
-fn link_refusal(h: &[u32], link: u32) -> u8
-    requires { ⌜ IsBlock (now h) ⌝ }
-    ensures { λ r. ⌜ r ≡ linkRefusal (seatOf (now (h .entry))) (getD (now (h .entry)) place.heard 0) link ⌝ }
-{
-    let again = marks::marked(h[place::HEARD], link as usize);
-    if h[place::ENDED] != 0 {
-        return refusal::RUN_HAS_ENDED;
-    }
-    if h[place::N] % 256 <= link {
-        return refusal::NUMBER_TOO_HIGH;
-    }
-    if again {
-        return refusal::ALREADY_HEARD;
-    }
-    0
-}
-
-// What a link says to the head: refused for itself, or what its frame says.
-fn said_on(h: &[u32], link: u32, frame: &[u8]) -> Said
-    requires { ⌜ IsBlock (now h) ⌝ }
-    ensures { λ r. ⌜ r ≡ saidOf (saidOn (seatOf (now (h .entry))) (getD (now (h .entry)) place.heard 0) link (now (frame .entry))) ⌝ }
-{
-    let refused = link_refusal(h, link);
-    if refused != 0 {
-        return Said::Refused(refused);
-    }
-    let n = (h[place::N] % 256) as u8;
-    let phase = (h[place::PHASE] % 65536) as u16;
-    let round = (h[place::ROUND] % 256) as u8;
-    frame_codec::read(frame, n, phase, round, link as u8)
-}
-
 // Hears a frame on a link.
 pub(crate) fn hear(h: &mut [u32], link: u32, frame: &[u8]) -> u8
     requires { ⌜ IsBlock (now h) ⌝ }
     ensures { λ r. ⌜ Hears (now (h .entry)) link (now (frame .entry)) r (now (h .exit)) ⌝ }
 {
+    let ended = h[place::ENDED] != 0;
     let n = (h[place::N] % 256) as u8;
+    let phase = (h[place::PHASE] % 65536) as u16;
+    let round = (h[place::ROUND] % 256) as u8;
+    let heard = h[place::HEARD];
     let k = link as usize;
-    match said_on(h, link, frame) {
+    match head_hear::said_on(ended, n, phase, round, heard, link, frame) {
         Said::Refused(number) => return number,
         Said::Collection(entry) => take_entry(h, k, entry),
         Said::List => take_list(h, k, frame_codec::table_in(frame, n)),

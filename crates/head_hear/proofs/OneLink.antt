@@ -46,7 +46,7 @@ says-something n p r k s e =
 
 -- what link k says
 abbrev pub linkSays : Head → ℕ → List ℕ → Meaning
-linkSays h k s = saidOn (h .seat) (h .heard) k s
+linkSays h k s = let x = h .seat in saidOn (x .ended) (x .n) (x .phase) (x .round) (h .heard) k s
 
 -- what hearing answers to what a link says
 abbrev pub answered : Head → ℕ → Meaning → Answer
@@ -86,7 +86,7 @@ module _ (h : Head) (k : ℕ) (s : List ℕ) where
 
   -- the code has what is said as an enum, with the table of a list beside it
   meant-link : meant (saidOf (linkSays h k s)) (tableIn (h .seat .n) (restField s)) ≡ linkSays h k s
-  meant-link = go (linkRefusal (h .seat) (h .heard) k)
+  meant-link = go (linkRefusal (h .seat .ended) (h .seat .n) (h .heard) k)
     where
       go : (c : ℕ) → let m = unlessRefused refused c (saidTo (h .seat) k s) in meant (saidOf m) (tableIn (h .seat .n) (restField s)) ≡ m
       go zero = meant-said (h .seat .n) (h .seat .phase) (h .seat .round) k s

@@ -13,21 +13,20 @@ use frame_spec::Said;
 use head_spec::Answer;
 use head_spec::Head;
 use head_spec::Row;
-use head_spec::Seat;
 use settle_trust::Links;
 use terms::Entry;
 use terms::Table;
 use terms::refusal;
 
 // Refusals 26, 3 and 21 of a link.
-fn link_refusal(seat: Seat, heard: u32, link: u32) -> u8
-    ensures { λ r. ⌜ r ≡ linkRefusal seat heard link ⌝ }
+fn link_refusal(ended: bool, n: u8, heard: u32, link: u32) -> u8
+    ensures { λ r. ⌜ r ≡ linkRefusal ended n heard link ⌝ }
 {
     let again = marks::marked(heard, link as usize);
-    if seat.ended {
+    if ended {
         return refusal::RUN_HAS_ENDED;
     }
-    if seat.n as u32 <= link {
+    if n as u32 <= link {
         return refusal::NUMBER_TOO_HIGH;
     }
     if again {
@@ -36,15 +35,23 @@ fn link_refusal(seat: Seat, heard: u32, link: u32) -> u8
     0
 }
 
-// What a link says to a head that has heard these links: refused for itself, or what its frame says.
-fn said_on(seat: Seat, heard: u32, link: u32, frame: &[u8]) -> Said
-    ensures { λ r. ⌜ r ≡ saidOf (saidOn seat heard link (now (frame .entry))) ⌝ }
+// What a link says to a head in this phase and round that has heard these links: refused for itself, or what its frame says.
+pub fn said_on(
+    ended: bool,
+    n: u8,
+    phase: u16,
+    round: u8,
+    heard: u32,
+    link: u32,
+    frame: &[u8],
+) -> Said
+    ensures { λ r. ⌜ r ≡ saidOf (saidOn ended n phase round heard link (now (frame .entry))) ⌝ }
 {
-    let refused = link_refusal(seat, heard, link);
+    let refused = link_refusal(ended, n, heard, link);
     if refused != 0 {
         return Said::Refused(refused);
     }
-    frame_codec::read(frame, seat.n, seat.phase, seat.round, link as u8)
+    frame_codec::read(frame, n, phase, round, link as u8)
 }
 
 // A list with position v at k, if it has such a place.
@@ -98,7 +105,15 @@ pub fn hear(h: Head, link: u32, frame: &[u8]) -> Answer
     let k = link as usize;
     let mut next = h;
     next.heard = marks::with_mark(h.heard, k);
-    match said_on(seat, h.heard, link, frame) {
+    match said_on(
+        seat.ended,
+        seat.n,
+        seat.phase,
+        seat.round,
+        h.heard,
+        link,
+        frame,
+    ) {
         Said::Refused(refused) => {
             return Answer {
                 refusal: refused,

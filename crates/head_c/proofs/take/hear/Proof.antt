@@ -17,7 +17,7 @@ use Rattle.head_c.proofs.take.hear.Tie as tie
 -- what was said
 module _ (d : tie.After-said-on) where
   abbrev first : tie.Start
-  first = d .before .before .before .before .before
+  first = d .before .before .before .before .before .before .before .before
 
   abbrev w : List ℕ
   w = now (first .args .h)
@@ -61,8 +61,13 @@ hear-spec =
     (tie.spec
     (λ c. search needs)
     (λ c. search needs)
-    (λ c κs. search needs)
     (λ c. search needs)
+    (λ c. search needs)
+    (λ c. search needs)
+    (λ c. search needs)
+    (λ c. search needs)
+    (λ c. search needs)
+    (λ c κs. search needs)
     (λ c. search needs)
     returns
     (λ c. search needs)
