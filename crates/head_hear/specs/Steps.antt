@@ -1,4 +1,5 @@
--- Hearing, cut into the steps of the code.
+-- What a link says, as `said_on` reads it for a record and for C's block: its own checks, and then its frame. Nothing here is needed to read what `hear`
+-- promises.
 use mathlib.Core.Bool.{Bool, not}
 use mathlib.Core.List.{List}
 use Prim.Native.Nat.{ℕ}

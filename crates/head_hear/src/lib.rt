@@ -1,5 +1,6 @@
 // Hearing, on a head's record by value: one frame, and a round's frames in one call. Each promise is an equation with a definition of
-// head_spec's specs/Calls.antt or specs/Batch.antt; a refusal gives its number and leaves the record, and what else is lent, as it was.
+// head_spec's specs/Calls.antt or specs/Batch.antt, that of `said_on` with one of specs/Steps.antt; a refusal gives its number and leaves
+// the record, and what else is lent, as it was.
 ghost use mathlib.Core.Bool.{true};
 ghost use mathlib.Core.List.{_++_};
 ghost use mathlib.Core.Path.{_≡_};
@@ -101,19 +102,11 @@ fn with_list(links: Links, k: usize, table: Table) -> Links
 pub fn hear(h: Head, link: u32, frame: &[u8]) -> Answer
     ensures { λ r. ⌜ r ≡ hear h link (now (frame .entry)) ⌝ }
 {
-    let seat = h.seat;
+    let s = h.seat;
     let k = link as usize;
     let mut next = h;
     next.heard = marks::with_mark(h.heard, k);
-    match said_on(
-        seat.ended,
-        seat.n,
-        seat.phase,
-        seat.round,
-        h.heard,
-        link,
-        frame,
-    ) {
+    match said_on(s.ended, s.n, s.phase, s.round, h.heard, link, frame) {
         Said::Refused(refused) => {
             return Answer {
                 refusal: refused,
@@ -122,7 +115,7 @@ pub fn hear(h: Head, link: u32, frame: &[u8]) -> Answer
         }
         Said::Collection(entry) => next.list = with_entry(h.list, k, entry),
         Said::List => {
-            let table = frame_codec::table_in(frame, seat.n);
+            let table = frame_codec::table_in(frame, s.n);
             next.links = with_list(h.links, k, table);
             if k < 32 {
                 let entries = table.entries;
