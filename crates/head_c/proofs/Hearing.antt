@@ -1,7 +1,7 @@
 -- Hearing in a block: it changes what hearing changes of the record that the block is, for all that a frame can say, and the code changes just that.
 use mathlib.Core.Path.{_≡_, refl, ap, sym, _∙_}
 use mathlib.Core.Logic.{by-cases}
-use mathlib.Core.Bool.{Bool, true, false, not, cond}
+use mathlib.Core.Bool.{Bool, true, false, cond}
 use mathlib.Core.List.{List}
 use Prim.Native.Nat.{ℕ, zero, suc, _+_, _*_, _≤_, _<_}
 use native.Mathlib.Omega.{arith}
@@ -12,11 +12,9 @@ use lib.Seq.{set-out, getD-set-same, getD-set-other}
 use lib.IntN.{pos}
 use borrow.Author.Tests.{lt-ltb, le-ltb}
 use Rattle.terms.specs.Refusals.{leaves, unlessRefused}
-use Rattle.terms.specs.Refusals as refusal
-use Rattle.terms.specs.Refusals.{check}
 use Rattle.terms.specs.declared.Entry.{Entry}
 use Rattle.fields.specs.Bytes.{at4, signedOf, signedAt}
-use Rattle.marks.specs.Marks.{bitOf, withMark}
+use Rattle.marks.specs.Marks.{withMark}
 use Rattle.marks.proofs.Marks.{with-past}
 use Rattle.entries.specs.Entries.{zeros, numbers}
 use Rattle.entries.proofs.Entries.{numbers-length}
@@ -24,14 +22,12 @@ use Rattle.frame_check.specs.Check.{Kind, position, silence, list, confession, 
 use Rattle.frame_spec.specs.declared.Said.{Said}
 use Rattle.frame_spec.specs.Said.{Meaning, refused, collected, listed, confessed, restField, entriesIn, refusalOf, tableIn, meaning}
 use Rattle.frame_spec.specs.Said.{said, saidOf, meant}
-use Rattle.frame_spec.proofs.OneMeaning.{meant-said}
 use Rattle.head_spec.specs.declared.Head.{Head}
 use Rattle.head_spec.specs.declared.Answer.{Answer}
-use Rattle.head_spec.specs.Calls.{answer, saidTo, refusalTo, hearRefusal, taken, hear}
+use Rattle.head_spec.specs.Calls.{answer, saidTo, hearRefusal, taken, hear}
 use Rattle.head_hear.specs.Steps.{linkRefusal}
-use Rattle.head_hear.proofs.OneLink.{linkSays, refused-heard, entry-heard, list-heard, confession-heard}
+use Rattle.head_hear.proofs.OneLink.{linkSays, answered, link-answered, link-said}
 use Rattle.head_c.specs.Blocks.{IsBlock, numbersAt, listAt, headOf, changed, heardIn, Hears}
-use Rattle.head_c.specs.Steps.{numberOf}
 use Rattle.head_c.proofs.Changes.{set-apart, null-is, position-is, list-is, confession-is}
 use Rattle.head_c.proofs.Copying.{upTo-long}
 use Rattle.head_c.proofs.Blocks.{Fits32, signed-fits, FitNumbers, FitEntry}
@@ -129,9 +125,6 @@ module _ (w : List ℕ) (block : IsBlock w) (k : ℕ) (s : List ℕ) where
       go zero = let x = headOf w .seat in heard-is w block k m (said-fits (x .n) (x .phase) (x .round) k s)
       go (suc c) = refl
 
-  hears : {r : ℕ} {w′ : List ℕ} → r ≡ hear (headOf w) k s .refusal → w′ ≡ leaves r (heardIn w k (saidTo (headOf w .seat) k s)) w → Hears w k s r w′
-  hears e q = record { refusal = e; block = q; head = rw (q, e) head-heard }
-
 -- ---- what the code makes of a block
 
 pub heard-below : (w : List ℕ) (k : ℕ) (m : Meaning) → k < 32 → heardIn w k m ≡ changed w k m
@@ -155,44 +148,25 @@ module _ (w : List ℕ) (block : IsBlock w) (k : ℕ) (s : List ℕ) where
   abbrev h : Head
   h = headOf w
 
-  -- the number that was said is that of hearing
-  pub number-said : (what : Said) → what ≡ saidOf (linkSays h k s) → numberOf what ≡ hear h k s .refusal
-  number-said (Said.Refused c) e = ap (λ (a : Answer). a .refusal) (refused-heard h k s e refl)
-  number-said (Said.Collection x) e = ap (λ (a : Answer). a .refusal) (entry-heard h k s e refl refl refl)
-  number-said Said.List e = ap (λ (a : Answer). a .refusal) (list-heard h k s e refl refl refl refl refl)
-  number-said Said.Confession e = ap (λ (a : Answer). a .refusal) (confession-heard h k s e refl refl refl)
-
-  -- what was said, with the table of a list beside it, is what the link says
-  meant-link : meant (saidOf (linkSays h k s)) (tableIn (h .seat .n) (restField s)) ≡ linkSays h k s
-  meant-link = go (linkRefusal (h .seat) (h .heard) k)
-    where
-      go : (c : ℕ) → let m = unlessRefused refused c (saidTo (h .seat) k s) in meant (saidOf m) (tableIn (h .seat .n) (restField s)) ≡ m
-      go zero = meant-said (h .seat .n) (h .seat .phase) (h .seat .round) k s
-      go (suc c) = refl
-
-  -- it changes what the frame alone does, unless hearing is refused
+  -- what the link says changes what the frame alone does, unless hearing is refused
   pub link-block : heardIn w k (linkSays h k s) ≡ leaves (hear h k s .refusal) (heardIn w k (saidTo (h .seat) k s)) w
-  unfolding hear hearRefusal said
-  link-block = go (not (h .seat .ended)) (ltb k (h .seat .n)) (not (bitOf (h .heard) k))
+  link-block =
+      go (linkRefusal (h .seat .ended) (h .seat .n) (h .heard) k) (saidTo (h .seat) k s)
+      ∙ ap (λ (a : Answer). leaves (a .refusal) (heardIn w k (saidTo (h .seat) k s)) w) (link-answered h k s)
     where
-      row : Bool → Bool → Bool → ℕ → ℕ
-      row a b c rest = check a refusal.run-has-ended (check b refusal.number-too-high (check c refusal.already-heard rest))
+      go : (c : ℕ) (m : Meaning) → let x = unlessRefused refused c m in heardIn w k x ≡ leaves (answered h k x .refusal) (heardIn w k m) w
+      go zero (refused zero) = refl
+      go zero (refused (suc c)) = heard-refused w k (suc c)
+      go zero (collected x) = refl
+      go zero (listed t) = refl
+      go zero confessed = refl
+      go (suc c) m = heard-refused w k (suc c)
 
-      frame : (c : ℕ) (m : Meaning) (new : Head)
-          → heardIn w k (unlessRefused refused c m) ≡ leaves (answer c new h .refusal) (heardIn w k (unlessRefused refused c m)) w
-      frame zero m new = refl
-      frame (suc c) m new = heard-refused w k (suc c)
-
-      go : (a b c : Bool) → let m = saidTo (h .seat) k s in
-          heardIn w k (unlessRefused refused (row a b c 0) m) ≡ leaves (answer (row a b c (refusalTo (h .seat) k s)) (taken h k m) h .refusal) (heardIn w k m) w
-      go true true true = frame (refusalTo (h .seat) k s) (meaning (kindField s) (h .seat .n) (restField s)) _
-      go true true false = heard-refused w k _
-      go true false c = heard-refused w k _
-      go false b c = heard-refused w k _
-
-  pub hears-said : {what : Said} {r : ℕ} {w′ : List ℕ} → what ≡ saidOf (linkSays h k s) → r ≡ numberOf what
-      → w′ ≡ heardIn w k (meant what (tableIn (h .seat .n) (restField s))) → Hears w k s r w′
-  hears-said {what} {r} {w′} e a q =
-      let n = a ∙ number-said what e in
-      let m : meant what (tableIn (h .seat .n) (restField s)) ≡ linkSays h k s = rw e meant-link in
-      hears w block k s n (q ∙ ap (heardIn w k) m ∙ link-block ∙ rw n)
+  -- by what was said, with the table of a list beside it
+  pub hears-said : {what x : Said} {w′ : List ℕ} → what ≡ saidOf (linkSays h k s) → what ≡ x → let m = meant x (tableIn (h .seat .n) (restField s)) in
+      w′ ≡ heardIn w k m → Hears w k s (answered h k m .refusal) w′
+  hears-said {what} {x} {w′} e q new =
+      let m = link-said h k s e q in
+      let number = ap (λ (y : Meaning). answered h k y .refusal) m ∙ ap (λ (a : Answer). a .refusal) (link-answered h k s) in
+      let left = new ∙ ap (heardIn w k) m ∙ link-block in
+      record { refusal = number; block = rw number left; head = rw left (head-heard w block k s) }

@@ -10,20 +10,20 @@ use borrow.Author.Tests.{ltb-true}
 use Rattle.terms.specs.Refusals.{leaves, unlessRefused}
 use Rattle.frame_check.specs.Check.{Kind, position, silence, list, confession, unknown, kindField}
 use Rattle.terms.proofs.Checks.{passed}
-use Rattle.frame_spec.specs.Said.{Meaning, refused, restField, meaning, said, saidOf}
+use Rattle.frame_spec.specs.Said.{Meaning, refused, restField, meaning, said}
 use Rattle.frame_spec.specs.Proper.{AcceptedMeaning}
 use Rattle.head_spec.specs.declared.Seat.{Seat}
 use Rattle.head_spec.specs.declared.Head.{Head}
+use Rattle.head_spec.specs.declared.Answer.{Answer}
 use Rattle.head_spec.specs.declared.Offer.{Offer}
 use Rattle.head_spec.specs.Calls.{Delivery, hear, saidTo, refusalTo, answersTo}
 use Rattle.head_spec.specs.Offers.{lapsed, lapsedBy}
 use Rattle.head_spec.proofs.Taking.{hear-keeps}
 use Rattle.head_hear.specs.Steps.{linkRefusal}
-use Rattle.head_hear.proofs.OneLink.{linkSays}
+use Rattle.head_hear.proofs.OneLink.{answered, link-answered}
 use Rattle.head_c.specs.Blocks.{IsBlock, headOf, offerOf, changed, heardIn, heardEach}
-use Rattle.head_c.specs.Steps.{numberOf}
 use Rattle.head_c.proofs.Offers.{no-offer}
-use Rattle.head_c.proofs.Hearing.{head-heard, heard-below, heard-refused, number-said, link-block}
+use Rattle.head_c.proofs.Hearing.{head-heard, heard-below, heard-refused, link-block}
 use Rattle.head_c.proofs.Registers.{either-way, changed-registers, heard-block}
 
 module _ (w : List ℕ) (block : IsBlock w) (k : ℕ) (s : List ℕ) where
@@ -43,17 +43,17 @@ module _ (w : List ℕ) (block : IsBlock w) (k : ℕ) (s : List ℕ) where
   unfolding said
   offer-heard small =
       ap offerOf (sym (link-block w block k s))
-      ∙ go (linkRefusal x (headOf w .heard) k) (refusalTo x k s) (kindField s) below
-      ∙ ap (λ (c : ℕ). lapsed c (offerOf w)) (number-said w block k s (saidOf (linkSays (headOf w) k s)) refl)
+      ∙ go (linkRefusal (x .ended) (x .n) (headOf w .heard) k) (refusalTo x k s) (kindField s) below
+      ∙ ap (λ (c : ℕ). lapsed c (offerOf w)) (ap (λ (a : Answer). a .refusal) (link-answered (headOf w) k s))
     where
       x : Seat
       x = headOf w .seat
 
-      below : linkRefusal x (headOf w .heard) k ≡ 0 → k < 32
+      below : linkRefusal (x .ended) (x .n) (headOf w .heard) k ≡ 0 → k < 32
       below e = omega (arith, ltb-true k (x .n) (passed (ltb k (x .n)) 2 (passed (not (x .ended)) 25 e .1) .0))
 
       go : (c d : ℕ) (K : Kind) → (c ≡ 0 → k < 32) → let m = unlessRefused refused c (unlessRefused refused d (meaning K (x .n) (restField s))) in
-          offerOf (heardIn w k m) ≡ lapsed (numberOf (saidOf m)) (offerOf w)
+          offerOf (heardIn w k m) ≡ lapsed (answered (headOf w) k m .refusal) (offerOf w)
       go (suc c) d K l = ap offerOf (heard-refused w k (suc c))
       go zero (suc d) K l = ap offerOf (heard-refused w k (suc d))
       go zero zero position l = lapses (l refl) _ tt

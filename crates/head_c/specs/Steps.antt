@@ -4,20 +4,12 @@ use mathlib.Core.List.{List}
 use Prim.Native.Nat.{ℕ, _+_, _*_}
 use lib.IntN.{ℤ}
 use lib.ListN.{take, drop}
-use Rattle.frame_spec.specs.declared.Said.{Said}
 use Rattle.head_spec.specs.declared.Head.{Head}
 use Rattle.head_spec.specs.declared.Closed.{Closed}
 use Rattle.head_spec.specs.declared.Closing.{Closing}
 use Rattle.head_spec.specs.Record.{opened}
 use Rattle.head_c.specs.Places as place
 use Rattle.head_c.specs.Blocks.{upTo, numbersAt, withClosing}
-
--- the number of a refusal, 0 if something is said
-abbrev pub numberOf : Said → ℕ
-numberOf (Said.Refused c) = c
-numberOf (Said.Collection e) = 0
-numberOf Said.List = 0
-numberOf Said.Confession = 0
 
 -- the record with nothing heard that has the seat and the list of h
 abbrev pub bare : Head → Head

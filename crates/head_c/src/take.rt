@@ -1,22 +1,18 @@
-// What hearing changes in a block.
+// What hearing changes in a block. It has words for links 0 to 31: of another link nothing is taken.
 ghost use mathlib.Core.Path.{_≡_};
 ghost use mathlib.Core.Bool.{true};
 ghost use mathlib.Core.List.{_++_};
 ghost use Prim.Native.Nat.{_≤_, _<_};
-ghost use lib.ListN.{length, getD, drop};
-ghost use Rattle.frame_spec.specs.Said.{collected, listed, confessed, restField, tableIn, saidOf, meant};
+ghost use lib.ListN.{length, drop};
+ghost use Rattle.frame_spec.specs.Said.{collected, listed, confessed};
 ghost use Rattle.head_spec.specs.Calls.{hearEach, answersTo};
 ghost use Rattle.head_spec.specs.Batch.{isBatch, deliveriesOf};
-ghost use Rattle.head_hear.specs.Steps.{linkRefusal, saidOn};
-ghost use Rattle.head_c.specs.Places as place;
-ghost use Rattle.head_c.specs.Blocks.{IsBlock, seatOf, headOf, marked, heardOn, changed, Hears, heardEach};
-ghost use Rattle.head_c.specs.Steps.{numberOf};
+ghost use Rattle.head_c.specs.Blocks.{IsBlock, headOf, marked, heardOn, heardIn, Hears, heardEach};
 use crate::block::put_numbers;
 use crate::place;
 use frame_spec::Said;
 use terms::Entry;
 use terms::Table;
-use terms::refusal;
 
 // Sets bit k of a word.
 fn put_mark(h: &mut [u32], at: usize, k: usize)
@@ -37,9 +33,12 @@ fn put_heard(h: &mut [u32], k: usize)
 
 // Takes an entry of link k.
 fn take_entry(h: &mut [u32], k: usize, e: Entry)
-    requires { ⌜ IsBlock (now h) × (k < 32) ⌝ }
-    ensures { λ _. ⌜ now (h .exit) ≡ changed (now (h .entry)) k (collected e) ⌝ }
+    requires { ⌜ IsBlock (now h) ⌝ }
+    ensures { λ _. ⌜ now (h .exit) ≡ heardIn (now (h .entry)) k (collected e) ⌝ }
 {
+    if 32 <= k {
+        return;
+    }
     put_heard(h, k);
     match e {
         Entry::Null => {}
@@ -52,9 +51,12 @@ fn take_entry(h: &mut [u32], k: usize, e: Entry)
 
 // Takes a list of link k.
 fn take_list(h: &mut [u32], k: usize, t: Table)
-    requires { ⌜ IsBlock (now h) × (k < 32) ⌝ }
-    ensures { λ _. ⌜ now (h .exit) ≡ changed (now (h .entry)) k (listed t) ⌝ }
+    requires { ⌜ IsBlock (now h) ⌝ }
+    ensures { λ _. ⌜ now (h .exit) ≡ heardIn (now (h .entry)) k (listed t) ⌝ }
 {
+    if 32 <= k {
+        return;
+    }
     put_heard(h, k);
     put_mark(h, place::LISTED, k);
     h[place::LIST_MARKS + k] = t.marks;
@@ -63,69 +65,14 @@ fn take_list(h: &mut [u32], k: usize, t: Table)
 
 // Takes a confession of link k.
 fn take_confession(h: &mut [u32], k: usize)
-    requires { ⌜ IsBlock (now h) × (k < 32) ⌝ }
-    ensures { λ _. ⌜ now (h .exit) ≡ changed (now (h .entry)) k confessed ⌝ }
+    requires { ⌜ IsBlock (now h) ⌝ }
+    ensures { λ _. ⌜ now (h .exit) ≡ heardIn (now (h .entry)) k confessed ⌝ }
 {
+    if 32 <= k {
+        return;
+    }
     put_heard(h, k);
     put_mark(h, place::CONFESSED, k);
-}
-
-// Takes what was said on link k, in a frame to one of n heads; a refusal changes nothing.
-fn take_said(h: &mut [u32], k: usize, what: Said, frame: &[u8], n: u8)
-    requires { ⌜ IsBlock (now h) × (k < 32) ⌝ }
-    ensures { λ _. ⌜ now (h .exit) ≡ changed (now (h .entry)) k (meant what (tableIn n (restField (now (frame .entry))))) ⌝ }
-{
-    match what {
-        Said::Refused(_) => {}
-        Said::Collection(entry) => take_entry(h, k, entry),
-        Said::List => take_list(h, k, frame_codec::table_in(frame, n)),
-        Said::Confession => take_confession(h, k),
-    }
-}
-
-// Refusals 26, 3 and 21 of a link.
-fn link_refusal(h: &[u32], link: u32) -> u8
-    requires { ⌜ IsBlock (now h) ⌝ }
-    ensures { λ r. ⌜ r ≡ linkRefusal (seatOf (now (h .entry))) (getD (now (h .entry)) place.heard 0) link ⌝ }
-{
-    let again = marks::marked(h[place::HEARD], link as usize);
-    if h[place::ENDED] != 0 {
-        return refusal::RUN_HAS_ENDED;
-    }
-    if h[place::N] % 256 <= link {
-        return refusal::NUMBER_TOO_HIGH;
-    }
-    if again {
-        return refusal::ALREADY_HEARD;
-    }
-    0
-}
-
-// What a link says to the head: refused for itself, or what its frame says.
-fn said_on(h: &[u32], link: u32, frame: &[u8]) -> Said
-    requires { ⌜ IsBlock (now h) ⌝ }
-    ensures { λ r. ⌜ r ≡ saidOf (saidOn (seatOf (now (h .entry))) (getD (now (h .entry)) place.heard 0) link (now (frame .entry))) ⌝ }
-{
-    let refused = link_refusal(h, link);
-    if refused != 0 {
-        return Said::Refused(refused);
-    }
-    let n = (h[place::N] % 256) as u8;
-    let phase = (h[place::PHASE] % 65536) as u16;
-    let round = (h[place::ROUND] % 256) as u8;
-    frame_codec::read(frame, n, phase, round, link as u8)
-}
-
-// The number of a refusal, 0 if something is said.
-fn number_in(what: Said) -> u8
-    ensures { λ r. ⌜ r ≡ numberOf what ⌝ }
-{
-    match what {
-        Said::Refused(number) => number,
-        Said::Collection(_) => 0,
-        Said::List => 0,
-        Said::Confession => 0,
-    }
 }
 
 // Hears a frame on a link.
@@ -133,13 +80,19 @@ pub(crate) fn hear(h: &mut [u32], link: u32, frame: &[u8]) -> u8
     requires { ⌜ IsBlock (now h) ⌝ }
     ensures { λ r. ⌜ Hears (now (h .entry)) link (now (frame .entry)) r (now (h .exit)) ⌝ }
 {
+    let ended = h[place::ENDED] != 0;
     let n = (h[place::N] % 256) as u8;
-    let what = said_on(h, link, frame);
-    let number = number_in(what);
-    if link < 32 {
-        take_said(h, link as usize, what, frame, n);
+    let phase = (h[place::PHASE] % 65536) as u16;
+    let round = (h[place::ROUND] % 256) as u8;
+    let heard = h[place::HEARD];
+    let k = link as usize;
+    match head_hear::said_on(ended, n, phase, round, heard, link, frame) {
+        Said::Refused(number) => return number,
+        Said::Collection(entry) => take_entry(h, k, entry),
+        Said::List => take_list(h, k, frame_codec::table_in(frame, n)),
+        Said::Confession => take_confession(h, k),
     }
-    number
+    0
 }
 
 // Hears the frames of a batch that is whole, and answers each where there is room for its answer.

@@ -1,3 +1,2 @@
 -- What other crates may cite: what hearing makes of a record, link by link.
-pub mod Held
 pub mod OneLink

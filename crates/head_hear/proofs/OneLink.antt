@@ -46,9 +46,10 @@ says-something n p r k s e =
 
 -- what link k says
 abbrev pub linkSays : Head → ℕ → List ℕ → Meaning
-linkSays h k s = saidOn (h .seat) (h .heard) k s
+linkSays h k s = let x = h .seat in saidOn (x .ended) (x .n) (x .phase) (x .round) (h .heard) k s
 
-abbrev answered : Head → ℕ → Meaning → Answer
+-- what hearing answers to what a link says
+abbrev pub answered : Head → ℕ → Meaning → Answer
 answered h k (refused c) = record { refusal = c; head = h }
 answered h k (collected x) = record { refusal = 0; head = taken h k (collected x) }
 answered h k (listed t) = record { refusal = 0; head = taken h k (listed t) }
@@ -69,7 +70,7 @@ module _ (h : Head) (k : ℕ) (s : List ℕ) where
       go (suc c) m a = refl
 
   -- before them those of the link
-  link-answered : answered h k (linkSays h k s) ≡ hear h k s
+  pub link-answered : answered h k (linkSays h k s) ≡ hear h k s
   unfolding hear hearRefusal
   link-answered = sym (go (not (h .seat .ended)) (ltb k (h .seat .n)) (not (bitOf (h .heard) k)))
     where
@@ -85,7 +86,7 @@ module _ (h : Head) (k : ℕ) (s : List ℕ) where
 
   -- the code has what is said as an enum, with the table of a list beside it
   meant-link : meant (saidOf (linkSays h k s)) (tableIn (h .seat .n) (restField s)) ≡ linkSays h k s
-  meant-link = go (linkRefusal (h .seat) (h .heard) k)
+  meant-link = go (linkRefusal (h .seat .ended) (h .seat .n) (h .heard) k)
     where
       go : (c : ℕ) → let m = unlessRefused refused c (saidTo (h .seat) k s) in meant (saidOf m) (tableIn (h .seat .n) (restField s)) ≡ m
       go zero = meant-said (h .seat .n) (h .seat .phase) (h .seat .round) k s
@@ -94,13 +95,16 @@ module _ (h : Head) (k : ℕ) (s : List ℕ) where
 -- ---- what the code makes of the record
 
 -- with the links heard, the list that is being filled, and what the links gave
-abbrev pub holding : Head → ℕ → Table → Links → List Row → Head
+abbrev holding : Head → ℕ → Table → Links → List Row → Head
 holding h heard t g l = record { seat = h .seat; heard = heard; list = t; links = g; lists = l }
 
 -- it is what hearing makes of it, by what was said
 module _ (h : Head) (k : ℕ) (s : List ℕ) {what : Said} (e : what ≡ saidOf (linkSays h k s)) where
+  pub link-said : {w : Said} → what ≡ w → meant w (tableIn (h .seat .n) (restField s)) ≡ linkSays h k s
+  link-said q = ap (λ (w : Said). meant w (tableIn (h .seat .n) (restField s))) (sym q ∙ e) ∙ meant-link h k s
+
   as-said : {w : Said} → what ≡ w → answered h k (meant w (tableIn (h .seat .n) (restField s))) ≡ hear h k s
-  as-said q = ap (answered h k) (ap (λ (w : Said). meant w (tableIn (h .seat .n) (restField s))) (sym q ∙ e) ∙ meant-link h k s) ∙ link-answered h k s
+  as-said q = ap (answered h k) (link-said q) ∙ link-answered h k s
 
   pub refused-heard : {c : ℕ} → what ≡ Said.Refused c → record { refusal = c; head = h } ≡ hear h k s
   refused-heard q = as-said q

@@ -1,2 +1,2 @@
--- Hearing cut into the steps of the code: what its private functions promise each other.
+-- Hearing cut into the steps of the code: what a link says, before it is taken.
 pub mod Steps

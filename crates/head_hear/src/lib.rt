@@ -1,5 +1,6 @@
 // Hearing, on a head's record by value: one frame, and a round's frames in one call. Each promise is an equation with a definition of
-// head_spec's specs/Calls.antt or specs/Batch.antt; a refusal gives its number and leaves the record, and what else is lent, as it was.
+// head_spec's specs/Calls.antt or specs/Batch.antt, that of `said_on` with one of specs/Steps.antt; a refusal gives its number and leaves
+// the record, and what else is lent, as it was.
 ghost use mathlib.Core.Bool.{true};
 ghost use mathlib.Core.List.{_++_};
 ghost use mathlib.Core.Path.{_≡_};
@@ -13,21 +14,20 @@ use frame_spec::Said;
 use head_spec::Answer;
 use head_spec::Head;
 use head_spec::Row;
-use head_spec::Seat;
 use settle_trust::Links;
 use terms::Entry;
 use terms::Table;
 use terms::refusal;
 
 // Refusals 26, 3 and 21 of a link.
-fn link_refusal(seat: Seat, heard: u32, link: u32) -> u8
-    ensures { λ r. ⌜ r ≡ linkRefusal seat heard link ⌝ }
+fn link_refusal(ended: bool, n: u8, heard: u32, link: u32) -> u8
+    ensures { λ r. ⌜ r ≡ linkRefusal ended n heard link ⌝ }
 {
     let again = marks::marked(heard, link as usize);
-    if seat.ended {
+    if ended {
         return refusal::RUN_HAS_ENDED;
     }
-    if seat.n as u32 <= link {
+    if n as u32 <= link {
         return refusal::NUMBER_TOO_HIGH;
     }
     if again {
@@ -36,15 +36,23 @@ fn link_refusal(seat: Seat, heard: u32, link: u32) -> u8
     0
 }
 
-// What a link says to a head that has heard these links: refused for itself, or what its frame says.
-fn said_on(seat: Seat, heard: u32, link: u32, frame: &[u8]) -> Said
-    ensures { λ r. ⌜ r ≡ saidOf (saidOn seat heard link (now (frame .entry))) ⌝ }
+// What a link says to a head in this phase and round that has heard these links: refused for itself, or what its frame says.
+pub fn said_on(
+    ended: bool,
+    n: u8,
+    phase: u16,
+    round: u8,
+    heard: u32,
+    link: u32,
+    frame: &[u8],
+) -> Said
+    ensures { λ r. ⌜ r ≡ saidOf (saidOn ended n phase round heard link (now (frame .entry))) ⌝ }
 {
-    let refused = link_refusal(seat, heard, link);
+    let refused = link_refusal(ended, n, heard, link);
     if refused != 0 {
         return Said::Refused(refused);
     }
-    frame_codec::read(frame, seat.n, seat.phase, seat.round, link as u8)
+    frame_codec::read(frame, n, phase, round, link as u8)
 }
 
 // A list with position v at k, if it has such a place.
@@ -94,37 +102,27 @@ fn with_list(links: Links, k: usize, table: Table) -> Links
 pub fn hear(h: Head, link: u32, frame: &[u8]) -> Answer
     ensures { λ r. ⌜ r ≡ hear h link (now (frame .entry)) ⌝ }
 {
-    let seat = h.seat;
+    let s = h.seat;
     let k = link as usize;
     let mut next = h;
     next.heard = marks::with_mark(h.heard, k);
-    match said_on(seat, h.heard, link, frame) {
+    match said_on(s.ended, s.n, s.phase, s.round, h.heard, link, frame) {
         Said::Refused(refused) => {
             return Answer {
                 refusal: refused,
                 head: h, // as it was
             };
         }
-        Said::Collection(entry) => {
-            let list = h.list;
-            let filled = with_entry(list, k, entry);
-            next.list = filled;
-        }
+        Said::Collection(entry) => next.list = with_entry(h.list, k, entry),
         Said::List => {
-            let table = frame_codec::table_in(frame, seat.n);
-            let links = h.links;
-            let listed = with_list(links, k, table);
-            next.links = listed;
+            let table = frame_codec::table_in(frame, s.n);
+            next.links = with_list(h.links, k, table);
             if k < 32 {
                 let entries = table.entries;
                 next.lists[k] = Row { entries };
             }
         }
-        Said::Confession => {
-            let links = h.links;
-            let confessed = with_confession(links, k);
-            next.links = confessed;
-        }
+        Said::Confession => next.links = with_confession(h.links, k),
     }
     Answer {
         refusal: 0,
@@ -189,39 +187,15 @@ fn hear_entries(h: Head, batch: &[u8], answers: &mut [u8]) -> Head
     ensures head { λ r. ⌜ r ≡ hearEach h (deliveriesOf (now (batch .entry))) ⌝ }
     ensures answers { λ r. ⌜ now (answers .exit) ≡ answersTo h (deliveriesOf (now (batch .entry))) ++ drop (length (deliveriesOf (now (batch .entry)))) (now (answers .entry)) ⌝ }
 {
-    let seat = h.seat;
     let mut next = h;
     let mut at: usize = 0;
     let mut i: usize = 0;
     while at < batch.len() {
         let rest = fields::bytes_from(batch, at);
         let size = entry_size(rest);
-        let frame = &rest[1..size];
-        let link = rest[0] as u32;
-        let k = link as usize;
-        let heard = next.heard;
-        let mut number: u8 = 0;
-        match said_on(seat, heard, link, frame) {
-            Said::Refused(refused) => number = refused,
-            Said::Collection(entry) => {
-                next.heard = marks::with_mark(heard, k);
-                next.list = with_entry(next.list, k, entry);
-            }
-            Said::List => {
-                next.heard = marks::with_mark(heard, k);
-                let table = frame_codec::table_in(frame, seat.n);
-                next.links = with_list(next.links, k, table);
-                if k < 32 {
-                    let entries = table.entries;
-                    next.lists[k] = Row { entries };
-                }
-            }
-            Said::Confession => {
-                next.heard = marks::with_mark(heard, k);
-                next.links = with_confession(next.links, k);
-            }
-        }
-        answers[i] = number;
+        let heard = hear(next, rest[0] as u32, &rest[1..size]);
+        next = heard.head;
+        answers[i] = heard.refusal;
         at += size;
         i += 1;
     }

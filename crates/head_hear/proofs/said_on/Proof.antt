@@ -16,13 +16,13 @@ returns : tie.Need-returns
 returns c = rw (← c .before .link-refusal .ensures) (ap saidOf (refuses refused _ _ (c .if1 .taken)))
 
 -- past the test no check of the link failed
-none : (c : tie.Else1) → let a = c .before .before .before .args in linkRefusal (a .seat) (a .heard) (a .link) ≡ 0
+none : (c : tie.Else1) → let a = c .before .before .before .args in linkRefusal (a .ended) (a .n) (a .heard) (a .link) ≡ 0
 none c = sym (c .before .link-refusal .ensures) ∙ c .if1 .left
 
 cast-read : tie.Need-cast-read
 cast-read c =
     let a = c .before .before .before .args in
-    omega (arith, ltb-true (a .link) (a .seat .n) (both-passed (not (a .seat .ended)) (ltb (a .link) (a .seat .n)) 25 2 (none c) .1))
+    omega (arith, ltb-true (a .link) (a .n) (both-passed (not (a .ended)) (ltb (a .link) (a .n)) 25 2 (none c) .1))
 
 returns-2 : tie.Need-returns-2
 returns-2 c = rw (none (c .before)) (c .read .ensures)
