@@ -79,9 +79,6 @@ pub(crate) fn is_same_planted(s: Stage, planted: &[u8], lengths: &[u8], i: usize
     requires { ⌜ (i < 48) × (m < 48) ⌝ }
     ensures { λ r. ⌜ (r ≡ true) ↔ SamePlanted s (plantedIn (now (planted .entry)) (now (lengths .entry))) i m ⌝ }
 {
-    if s.struck == 0 {
-        return true;
-    }
     let n = head_count(s) as usize;
     let mut k = next_struck(s, 0);
     while k < n {

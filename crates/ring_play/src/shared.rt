@@ -183,8 +183,8 @@ fn fill_positions(
 }
 
 // Stores the new position of each unstruck receiver, from what the links give all of them and from what is planted. Answers no, and leaves
-// the positions as they were, if no head is struck or if what is given to all does not decide which positions can be trusted. When it
-// answers no is free, and shows in the time alone.
+// the positions as they were, if what is given to all does not decide which positions can be trusted. When it answers no is free, and shows
+// in the time alone.
 pub(crate) fn settle_all(
     s: Stage,
     rows: &Lists,
@@ -195,9 +195,6 @@ pub(crate) fn settle_all(
 ) -> bool
     ensures { λ r. ⌜ SettlesAll r s (givenBy links (now (rows .entry))) (plantedIn (now (planted .entry)) (now (lengths .entry))) (now (positions .entry)) (now (positions .exit)) ⌝ }
 {
-    if s.struck == 0 {
-        return false;
-    }
     let n = round::head_count(s);
     let struck = marks::count_below(s.struck, n as usize);
     let mut codes = [0i32; HEADS];
