@@ -8,14 +8,14 @@ ghost use lib.IntN.{pos};
 ghost use lib.ListN.{length, getD};
 ghost use Rattle.terms.specs.Positions.{eqZ};
 ghost use Rattle.marks.specs.Marks.{bitOf};
-ghost use Rattle.terms.specs.Counting.{Each, sum, bit};
-ghost use Rattle.convergence.specs.Settling.{twoRoundRule};
+ghost use Rattle.terms.specs.Counting.{Each, sum};
 ghost use Rattle.settle_trust.specs.Received.{givenBy};
-ghost use Rattle.settle_midpoint.specs.Orders.{OrderAfter};
-ghost use Rattle.settle_midpoint.specs.Answers.{settling};
-ghost use Rattle.ring_play.specs.Inner.Codes.{noCode, entryOf, entryIn, codeAt, codeLeft, codeTaken, holds, Tallied};
+ghost use Rattle.ring_play.specs.Inner.Codes.{noCode, entryOf, codeAt, codeLeft, codeTaken, holds, Tallied};
 ghost use Rattle.ring_play.specs.Inner.Shares.{Shares};
+ghost use Rattle.ring_play.specs.Inner.Told.{settledAt};
 ghost use Rattle.ring_play.specs.Inner.Votes.{Voted, Leads, givesList};
+use crate::Stage;
+use crate::round;
 use settle_midpoint::Order;
 use settle_trust::Links;
 use terms::Entry;
@@ -277,26 +277,21 @@ fn entry_of(c: i32) -> Entry
     Entry::Position(c)
 }
 
-// Puts entry j in its place in the order, as a head does that closes a round (document 02, A3); answers how many positions there are then.
-fn take_entry(codes: &Numbers, j: usize, positions: &mut Numbers, len: usize) -> usize
-    requires { ⌜ j < 32 ⌝ }
-    ensures { λ r. ⌜ (OrderAfter j (entryIn (now (codes .entry))) len (now (positions .entry)) → OrderAfter (j + 1) (entryIn (now (codes .entry))) r (now (positions .exit))) ⌝ }
+// The position that a receiver settles from the codes of its trusted entries; 0 if it is refused. They are put in order one by one, as a
+// head does that closes a round (document 02, A3).
+pub(crate) fn settle_codes(s: Stage, codes: &Numbers) -> i32
+    ensures { λ r. ⌜ r ≡ settledAt s (now (codes .entry)) ⌝ }
 {
-    settle_midpoint::place(entry_of(codes[j]), positions, len)
-}
-
-// The new position from the codes of the trusted entries, put in order one by one. `up`: whether an odd sum is rounded up.
-pub(crate) fn settle_codes(codes: &Numbers, n: u8, f: u8, up: bool) -> settle_midpoint::Settled
-    requires { ⌜ n ≤ 32 ⌝ }
-    ensures { λ r. ⌜ r ≡ settling (bit up) n (twoRoundRule f) (entryIn (now (codes .entry))) ⌝ }
-{
+    let n = round::head_count(s);
     let count = n as usize;
     let mut positions = [0i32; HEADS];
     let mut len: usize = 0;
     let mut j: usize = 0;
     while j < count {
-        len = take_entry(codes, j, &mut positions, len);
+        len = settle_midpoint::place(entry_of(codes[j]), &mut positions, len);
         j += 1;
     }
-    settle_midpoint::middle_of(Order { len, positions }, Family::TwoRounds, n, f, up)
+    let up = terms::rounds_up(s.phase);
+    let order = Order { len, positions };
+    round::position_in(settle_midpoint::middle_of(order, Family::TwoRounds, n, s.f, up))
 }

@@ -19,7 +19,6 @@ use crate::Stage;
 use crate::ends;
 use crate::round;
 use settle_midpoint::Order;
-use settle_midpoint::Settled;
 use terms::Entry;
 use terms::Family;
 use terms::HEADS;
@@ -202,10 +201,7 @@ fn position_of(s: Stage, list: Table) -> i32
 {
     let n = round::head_count(s);
     let up = terms::rounds_up(s.phase);
-    match settle_midpoint::settle_table(list, Family::OneRound, n, s.f, up) {
-        Settled::Refused(_) => 0,
-        Settled::New(kept) => kept.position,
-    }
+    round::position_in(settle_midpoint::settle_table(list, Family::OneRound, n, s.f, up))
 }
 
 // The new position of receiver i: from what all hear, given as a table and in order, and what is planted to it.

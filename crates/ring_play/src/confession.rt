@@ -16,7 +16,6 @@ use crate::Stage;
 use crate::round;
 use crate::shared;
 use frame_spec::Said;
-use settle_midpoint::Settled;
 use settle_trust::Links;
 use terms::Lists;
 use terms::Positions;
@@ -113,10 +112,7 @@ fn settled(s: Stage, rows: &Lists, links: Links, reference: usize) -> i32
 {
     let n = round::head_count(s);
     let up = terms::rounds_up(s.phase);
-    match settle_position::settle_by(rows, links, reference, n, s.f, up) {
-        Settled::Refused(_) => 0,
-        Settled::New(kept) => kept.position,
-    }
+    round::position_in(settle_position::settle_by(rows, links, reference, n, s.f, up))
 }
 
 // The new position of receiver i. The reference is a list that all receivers hear.

@@ -19,7 +19,6 @@ use crate::round;
 use crate::round::Before;
 use crate::round::Two;
 use frame_spec::Said;
-use settle_midpoint::Settled;
 use settle_trust::Links;
 use terms::HEADS;
 use terms::Lists;
@@ -94,18 +93,6 @@ fn need_after(need: u32, confessed: u32, n: usize) -> u32
     if all <= c { 0 } else { (all - c) as u32 }
 }
 
-// The position that a receiver settles from the codes of its trusted entries; 0 if it is refused.
-fn position_from(s: Stage, codes: &Numbers) -> i32
-    ensures { λ r. ⌜ r ≡ settledAt s (now (codes .entry)) ⌝ }
-{
-    let n = round::head_count(s);
-    let up = terms::rounds_up(s.phase);
-    match codes::settle_codes(codes, n, s.f, up) {
-        Settled::Refused(_) => 0,
-        Settled::New(kept) => kept.position,
-    }
-}
-
 // The position that a receiver settles, by what it counted, how many lists are needed of what all hear, and who confessed to it. `last` is
 // what was settled last, from the codes `settled`: a receiver with the same trusted entries settles the same.
 fn position_counted(
@@ -128,7 +115,7 @@ fn position_counted(
             return position;
         }
     }
-    position_from(s, settled)
+    codes::settle_codes(s, settled)
 }
 
 // Stores the new position of each unstruck receiver.
