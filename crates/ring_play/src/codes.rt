@@ -163,21 +163,15 @@ fn tally_all(lists: &Lists, links: Links, n: usize, codes: &Numbers, same: &mut 
     }
 }
 
-fn wide(x: u32) -> usize
-    ensures { λ r. ⌜ (r ≡ x) × (r < 4294967296) ⌝ }
-{
-    x as usize
-}
-
 // Whether the codes that lead leave all others with fewer than `most` of `count` lists. Entries of links that confessed are never trusted.
 fn are_alone(leads: &Words, confessed: u32, n: usize, count: usize, most: usize) -> bool
-    requires { ⌜ (n ≤ 32) × (most ≤ 255) ⌝ }
+    requires { ⌜ (n ≤ 32) × (most ≤ 255) × (count ≤ n) × Each n (λ j. getD (now leads) j 0 ≤ count) ⌝ }
     ensures { λ r. ⌜ (r ≡ true → Each n (λ j. bitOf confessed j ≡ false → count < getD (now (leads .entry)) j 0 + 2 * most)) ⌝ }
 {
     let mut j: usize = 0;
     while j < n {
         if !marks::marked(confessed, j) {
-            if wide(leads[j]) + 2 * most <= count {
+            if leads[j] as usize + 2 * most <= count {
                 return false;
             }
         }

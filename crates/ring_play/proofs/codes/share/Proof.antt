@@ -13,6 +13,9 @@ use Rattle.ring_play.proofs.codes.share.Tie as tie
 vote-all-requires : tie.Need-vote-all-requires
 vote-all-requires c κs = (search needs, search needs, search needs, λ j l. getD-replicate 32 j 0 0 (omega arith))
 
+are-alone-requires : tie.Need-are-alone-requires
+are-alone-requires c κs = let v = c .before .before .vote-all .ensures in (search needs, search needs, v .2, λ j l. v .3 j l .within)
+
 tally-all-requires : tie.Need-tally-all-requires
 tally-all-requires c κs = (search needs, search needs, λ j l. getD-replicate 32 j 0 0 (omega arith))
 
@@ -39,7 +42,7 @@ share-spec =
     (λ c. search needs)
     vote-all-requires
     (λ c. search needs)
-    (λ c κs. search needs)
+    are-alone-requires
     (λ c e. absurd (true≢false (sym e)))
     tally-all-requires
     (λ c κs. search needs)
