@@ -54,7 +54,6 @@ fn hear(links: Links, rows: &mut Lists, k: usize, frame: &[u8], n: u8, phase: u1
     let mut out = links;
     match frame_codec::read(frame, n, phase, 1, k as u8) {
         Said::Refused(_) => {}
-
         Said::Collection(_) => {}
         Said::List => {
             let table = frame_codec::table_in(frame, n);

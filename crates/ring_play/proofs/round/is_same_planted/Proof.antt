@@ -1,6 +1,6 @@
 -- `ring_play::round::is_same_planted` meets its contract: before head k, the struck heads below k have the same planted to both.
 use mathlib.Core.Path.{refl, sym, _∙_}
-use mathlib.Core.Bool.{true, true≢false}
+use mathlib.Core.Bool.{true≢false}
 use Prim.Native.Nat.{_-_}
 use native.Mathlib.Omega.{arith}
 use denote.Ref.{now}
