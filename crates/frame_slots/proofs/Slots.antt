@@ -2,13 +2,13 @@
 -- any other slot, of at most 140 bytes, what it held.
 use mathlib.Core.Path.{_≡_, refl, ap, sym, _∙_}
 use mathlib.Core.Bool.{Bool, true, false, cond, _&&_, and-false}
-use mathlib.Core.List.{List, _++_, append-assoc, append-nil}
+use mathlib.Core.List.{List, _++_, append-assoc}
 use Prim.Native.Nat.{ℕ, zero, suc, _+_, _*_, _-_, _≤_, _<_}
 use native.Mathlib.Omega.{arith}
 use native.Mathlib.Decide.{decLt}
 use borrow.Author.Tests.{eqb-true, eqb-false, ne-eqb, lt-ltb, le-ltb, le-leb, lt-leb}
 use lib.Dec.{eqb}
-use lib.ListN.{length, getD, set, take, drop, replicate, length-take, length-drop, take-append-drop, drop-of-length-le}
+use lib.ListN.{length, getD, set, take, drop, replicate, length-take, length-drop, take-append-drop}
 use lib.Seq.{take-append-le, drop-append-le, take-append-seam, drop-at, take-length, length-take-le, drop-drop, getD-set-same, getD-set-other, paste, drop-paste}
 use Rattle.fields.proofs.Copying.{copied-fits}
 use Rattle.frame_slots.specs.Slots.{slot, plantedIn, isPlantable, withPlanted, withLength}

@@ -8,14 +8,14 @@ ghost use lib.IntN.{pos};
 ghost use lib.ListN.{length, getD};
 ghost use Rattle.terms.specs.Positions.{eqZ};
 ghost use Rattle.marks.specs.Marks.{bitOf};
-ghost use Rattle.terms.specs.Counting.{Each, sum, bit};
-ghost use Rattle.convergence.specs.Settling.{twoRoundRule};
+ghost use Rattle.terms.specs.Counting.{Each, sum};
 ghost use Rattle.settle_trust.specs.Received.{givenBy};
-ghost use Rattle.settle_midpoint.specs.Orders.{OrderAfter};
-ghost use Rattle.settle_midpoint.specs.Answers.{settling};
-ghost use Rattle.ring_play.specs.Inner.Codes.{noCode, entryOf, entryIn, codeAt, codeTaken, holds, Tallied};
+ghost use Rattle.ring_play.specs.Inner.Codes.{noCode, entryOf, codeAt, codeLeft, codeTaken, holds, Tallied};
 ghost use Rattle.ring_play.specs.Inner.Shares.{Shares};
+ghost use Rattle.ring_play.specs.Inner.Told.{settledAt};
 ghost use Rattle.ring_play.specs.Inner.Votes.{Voted, Leads, givesList};
+use crate::Stage;
+use crate::round;
 use settle_midpoint::Order;
 use settle_trust::Links;
 use terms::Entry;
@@ -30,62 +30,43 @@ const NONE: i32 = 1000001;
 
 // ---- Lists as codes.
 
-// The code of an entry with the number v, by its mark.
-fn code(m: u32, j: usize, v: i32) -> i32
-    ensures { λ r. ⌜ r ≡ cond (bitOf m j) v noCode ⌝ }
-{
-    if marks::marked(m, j) { v } else { NONE }
-}
-
-// The codes of the first n entries of a list.
-fn codes_of(m: u32, list: &Numbers, n: usize) -> Numbers
+// The first n codes, but none for the entries that are marked, or for those that are not.
+fn codes_left(list: &Numbers, m: u32, marked: bool, n: usize) -> Numbers
     requires { ⌜ n ≤ 32 ⌝ }
-    ensures { λ r. ⌜ Each n (λ j. getD r j (pos 0) ≡ codeAt m (now (list .entry)) j) ⌝ }
+    ensures { λ r. ⌜ Each n (λ j. getD r j (pos 0) ≡ codeLeft m marked (now (list .entry)) j) ⌝ }
 {
-    let mut codes = [0i32; HEADS];
+    let mut codes = [NONE; HEADS];
     let mut j: usize = 0;
     while j < n {
-        let v = code(m, j, list[j]);
-        codes[j] = v;
+        if marks::marked(m, j) != marked {
+            codes[j] = list[j];
+        }
         j += 1;
     }
     codes
 }
 
-// One more for each of the first n entries of a list that has the code.
-fn count_codes(m: u32, list: &Numbers, codes: &Numbers, same: &mut [u32], n: usize)
-    requires { ⌜ (n ≤ 32) × (length (now same) ≡ 32) ⌝ }
-    ensures { λ _. ⌜ Tallied n m (now (list .entry)) (now (codes .entry)) (now (same .entry)) (now (same .exit)) ⌝ }
-{
-    let mut j: usize = 0;
-    while j < n {
-        let x = code(m, j, list[j]);
-        same[j] = std::num::wrapping_add_u32(same[j], (x == codes[j]) as u32);
-        j += 1;
-    }
-}
-
-// The same of a list without nulls, whose codes are its numbers.
-fn count_numbers(m: u32, list: &Numbers, codes: &Numbers, same: &mut [u32], n: usize)
-    requires { ⌜ (n ≤ 32) × (length (now same) ≡ 32) × Each n (λ j. bitOf m j ≡ true) ⌝ }
-    ensures { λ _. ⌜ Tallied n m (now (list .entry)) (now (codes .entry)) (now (same .entry)) (now (same .exit)) ⌝ }
-{
-    let mut j: usize = 0;
-    while j < n {
-        same[j] = std::num::wrapping_add_u32(same[j], (list[j] == codes[j]) as u32);
-        j += 1;
-    }
-}
-
-// The same of any list.
-pub(crate) fn tally(m: u32, list: &Numbers, codes: &Numbers, same: &mut [u32], n: usize)
-    requires { ⌜ (n ≤ 32) × (length (now same) ≡ 32) ⌝ }
-    ensures { λ _. ⌜ Tallied n m (now (list .entry)) (now (codes .entry)) (now (same .entry)) (now (same .exit)) ⌝ }
+// The codes of the first n entries of a list: the list itself if all are marked, else `row`, into which they are put.
+pub(crate) fn codes_of<'a>(m: u32, list: &'a Numbers, n: usize, row: &'a mut Numbers) -> &'a Numbers
+    requires { ⌜ n ≤ 32 ⌝ }
+    ensures { λ r. ⌜ Each n (λ j. getD (now r) j (pos 0) ≡ codeAt m (now (list .entry)) j) ⌝ }
 {
     if marks::all_marked(m, n) {
-        count_numbers(m, list, codes, same, n);
-    } else {
-        count_codes(m, list, codes, same, n);
+        return list;
+    }
+    *row = codes_left(list, m, false, n);
+    row
+}
+
+// One more for each of the first n entries of a row that has the code.
+pub(crate) fn tally(row: &Numbers, codes: &Numbers, same: &mut [u32], n: usize)
+    requires { ⌜ (n ≤ 32) × (length (now same) ≡ 32) ⌝ }
+    ensures { λ _. ⌜ Tallied n (λ j. getD (now (row .entry)) j (pos 0)) (now (codes .entry)) (now (same .entry)) (now (same .exit)) ⌝ }
+{
+    let mut j: usize = 0;
+    while j < n {
+        same[j] = std::num::wrapping_add_u32(same[j], (row[j] == codes[j]) as u32);
+        j += 1;
     }
 }
 
@@ -131,21 +112,6 @@ fn vote(row: &Numbers, codes: &mut [i32], leads: &mut [u32], n: usize)
     }
 }
 
-// A list votes.
-fn vote_for(m: u32, list: &Numbers, codes: &mut [i32], leads: &mut [u32], n: usize)
-    requires { ⌜ (n ≤ 32) × (length (now codes) ≡ 32) × (length (now leads) ≡ 32) × Each n (λ j. getD (now leads) j 0 < 4294967295) ⌝ }
-    ensures { λ _. ⌜ (length (now (codes .exit)) ≡ 32) × (length (now (leads .exit)) ≡ 32)
-        × Each n (λ j. Voted (codeAt m (now (list .entry)) j) (getD (now (codes .entry)) j (pos 0)) (getD (now (leads .entry)) j 0)
-        (getD (now (codes .exit)) j (pos 0)) (getD (now (leads .exit)) j 0)) ⌝ }
-{
-    if marks::all_marked(m, n) {
-        vote(list, codes, leads, n);
-    } else {
-        let row = codes_of(m, list, n);
-        vote(&row, codes, leads, n);
-    }
-}
-
 // ---- The lists that all receivers hear.
 
 // Whether link k gives a list.
@@ -165,11 +131,13 @@ fn vote_all(lists: &Lists, links: Links, n: usize, codes: &mut [i32], leads: &mu
         × Each n (λ j. Leads (λ w. sum n (λ k. holds j w (givenBy links (now (lists .entry)) k))) r
         (getD (now (codes .exit)) j (pos 0)) (getD (now (leads .exit)) j 0)) ⌝ }
 {
+    let mut spare = [0i32; HEADS];
     let mut count: usize = 0;
     let mut k: usize = 0;
     while k < n {
         if gives_list(links.confessed, links.listed, k) {
-            vote_for(links.marks[k], &lists[k], codes, leads, n);
+            let row = codes_of(links.marks[k], &lists[k], n, &mut spare);
+            vote(row, codes, leads, n);
             count += 1;
         }
         k += 1;
@@ -184,51 +152,32 @@ fn tally_all(lists: &Lists, links: Links, n: usize, codes: &Numbers, same: &mut 
         × Each n (λ j. getD (now (same .exit)) j 0
         ≡ sum n (λ k. holds j (getD (now (codes .entry)) j (pos 0)) (givenBy links (now (lists .entry)) k))) ⌝ }
 {
+    let mut spare = [0i32; HEADS];
     let mut k: usize = 0;
     while k < n {
         if gives_list(links.confessed, links.listed, k) {
-            tally(links.marks[k], &lists[k], codes, same, n);
+            let row = codes_of(links.marks[k], &lists[k], n, &mut spare);
+            tally(row, codes, same, n);
         }
         k += 1;
     }
 }
 
-fn wide(x: u32) -> usize
-    ensures { λ r. ⌜ (r ≡ x) × (r < 4294967296) ⌝ }
-{
-    x as usize
-}
-
 // Whether the codes that lead leave all others with fewer than `most` of `count` lists. Entries of links that confessed are never trusted.
 fn are_alone(leads: &Words, confessed: u32, n: usize, count: usize, most: usize) -> bool
-    requires { ⌜ (n ≤ 32) × (most ≤ 255) ⌝ }
+    requires { ⌜ (n ≤ 32) × (most ≤ 255) × (count ≤ n) × Each n (λ j. getD (now leads) j 0 ≤ count) ⌝ }
     ensures { λ r. ⌜ (r ≡ true → Each n (λ j. bitOf confessed j ≡ false → count < getD (now (leads .entry)) j 0 + 2 * most)) ⌝ }
 {
     let mut j: usize = 0;
     while j < n {
         if !marks::marked(confessed, j) {
-            if wide(leads[j]) + 2 * most <= count {
+            if leads[j] as usize + 2 * most <= count {
                 return false;
             }
         }
         j += 1;
     }
     true
-}
-
-// No code for the entries of links that confessed.
-fn drop_confessed(codes: &mut [i32], confessed: u32, n: usize)
-    requires { ⌜ (n ≤ 32) × (length (now codes) ≡ 32) ⌝ }
-    ensures { λ _. ⌜ (length (now (codes .exit)) ≡ 32)
-        × Each n (λ j. getD (now (codes .exit)) j (pos 0) ≡ cond (bitOf confessed j) noCode (getD (now (codes .entry)) j (pos 0))) ⌝ }
-{
-    let mut j: usize = 0;
-    while j < n {
-        if marks::marked(confessed, j) {
-            codes[j] = NONE;
-        }
-        j += 1;
-    }
 }
 
 // What the links gave all receivers shows of the trusted entries, if `struck` links give each receiver something else: for each entry the
@@ -258,7 +207,7 @@ pub(crate) fn share(
     }
     *same = [0u32; HEADS];
     tally_all(lists, links, heads, codes, same);
-    drop_confessed(codes, links.confessed, heads);
+    *codes = codes_left(codes, links.confessed, true, heads);
     true
 }
 
@@ -291,13 +240,6 @@ fn pick(codes: &Numbers, same: &Words, need: u32, n: usize, taken: &mut [i32]) -
     alike
 }
 
-// The same codes, to be changed.
-fn copied(codes: &Numbers) -> Numbers
-    ensures { λ r. ⌜ r ≡ now (codes .entry) ⌝ }
-{
-    *codes
-}
-
 // Takes the codes of a receiver's trusted entries: of those that enough lists have, but for the entries of links that confessed. Answers
 // whether all are as they were.
 pub(crate) fn trust_codes(
@@ -315,8 +257,7 @@ pub(crate) fn trust_codes(
     if confessed == 0 {
         return pick(codes, same, need, n, taken);
     }
-    let mut own = copied(codes);
-    drop_confessed(&mut own, confessed, n);
+    let own = codes_left(codes, confessed, true, n);
     pick(&own, same, need, n, taken)
 }
 
@@ -330,26 +271,21 @@ fn entry_of(c: i32) -> Entry
     Entry::Position(c)
 }
 
-// Puts entry j in its place in the order, as a head does that closes a round (document 02, A3); answers how many positions there are then.
-fn take_entry(codes: &Numbers, j: usize, positions: &mut Numbers, len: usize) -> usize
-    requires { ⌜ j < 32 ⌝ }
-    ensures { λ r. ⌜ (OrderAfter j (entryIn (now (codes .entry))) len (now (positions .entry)) → OrderAfter (j + 1) (entryIn (now (codes .entry))) r (now (positions .exit))) ⌝ }
+// The position that a receiver settles from the codes of its trusted entries; 0 if it is refused. They are put in order one by one, as a
+// head does that closes a round (document 02, A3).
+pub(crate) fn settle_codes(s: Stage, codes: &Numbers) -> i32
+    ensures { λ r. ⌜ r ≡ settledAt s (now (codes .entry)) ⌝ }
 {
-    settle_midpoint::place(entry_of(codes[j]), positions, len)
-}
-
-// The new position from the codes of the trusted entries, put in order one by one. `up`: whether an odd sum is rounded up.
-pub(crate) fn settle_codes(codes: &Numbers, n: u8, f: u8, up: bool) -> settle_midpoint::Settled
-    requires { ⌜ n ≤ 32 ⌝ }
-    ensures { λ r. ⌜ r ≡ settling (bit up) n (twoRoundRule f) (entryIn (now (codes .entry))) ⌝ }
-{
+    let n = round::head_count(s);
     let count = n as usize;
     let mut positions = [0i32; HEADS];
     let mut len: usize = 0;
     let mut j: usize = 0;
     while j < count {
-        len = take_entry(codes, j, &mut positions, len);
+        len = settle_midpoint::place(entry_of(codes[j]), &mut positions, len);
         j += 1;
     }
-    settle_midpoint::middle_of(Order { len, positions }, Family::TwoRounds, n, f, up)
+    let up = terms::rounds_up(s.phase);
+    let order = Order { len, positions };
+    round::position_in(settle_midpoint::middle_of(order, Family::TwoRounds, n, s.f, up))
 }

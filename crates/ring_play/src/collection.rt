@@ -1,7 +1,6 @@
 // The rounds of a whole ring in which heads send positions, played on the heads' memory: a collection round, which leaves the list of each
 // head that is not struck, and a phase of one round, which leaves a position. What all unstruck heads say is heard once.
 ghost use mathlib.Core.Bool.{cond};
-ghost use mathlib.Core.List.{List};
 ghost use mathlib.Core.Path.{_≡_};
 ghost use Prim.Native.Nat.{ℕ, _<_};
 ghost use lib.ListN.{length, getD};
@@ -19,7 +18,6 @@ use crate::Stage;
 use crate::ends;
 use crate::round;
 use settle_midpoint::Order;
-use settle_midpoint::Settled;
 use terms::Entry;
 use terms::Family;
 use terms::HEADS;
@@ -202,10 +200,7 @@ fn position_of(s: Stage, list: Table) -> i32
 {
     let n = round::head_count(s);
     let up = terms::rounds_up(s.phase);
-    match settle_midpoint::settle_table(list, Family::OneRound, n, s.f, up) {
-        Settled::Refused(_) => 0,
-        Settled::New(kept) => kept.position,
-    }
+    round::position_in(settle_midpoint::settle_table(list, Family::OneRound, n, s.f, up))
 }
 
 // The new position of receiver i: from what all hear, given as a table and in order, and what is planted to it.
@@ -256,19 +251,8 @@ fn fill_positions(
     }
 }
 
-// Settles all receivers if no head is struck: they hear the same, so once.
-fn conclude_quiet(s: Stage, sent: Table, positions: &mut Positions)
-    ensures { λ _. ⌜ (s .struck ≡ 0 → (S : Shared s sent) (plant : ℕ → ℕ → List ℕ) (i : ℕ) → getD (now (positions .exit)) i (pos 0)
-        ≡ cond (settles s i)
-        (settledFrom s (tableAt (tableOf (heads s) (heardWith s (S .entry) plant i))))
-        (getD (now (positions .entry)) i (pos 0))) ⌝ }
-{
-    let position = position_of(s, sent);
-    round::fill_same(s, position, positions);
-}
-
 // A phase of one round: the new position of each receiver that is not struck, from the positions, which are in range, and what is planted.
-// The other positions stay as they were.
+// The other positions stay as they were. If no head is struck, all hear the same and one settles for all.
 pub fn conclude(s: Stage, positions: &mut Positions, planted: &[u8], lengths: &[u8])
     ensures { λ _. ⌜ (InRange s (now (positions .entry)) → (i : ℕ) → getD (now (positions .exit)) i (pos 0)
         ≡ cond (settles s i)
@@ -277,7 +261,7 @@ pub fn conclude(s: Stage, positions: &mut Positions, planted: &[u8], lengths: &[
 {
     let sent = entries_sent(s, positions);
     if s.struck == 0 {
-        conclude_quiet(s, sent, positions);
+        round::fill_same(s, position_of(s, sent), positions);
         return;
     }
     let order = settle_midpoint::order_of(sent, round::head_count(s));

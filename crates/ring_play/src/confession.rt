@@ -1,7 +1,6 @@
 // A confession round of a whole ring, played on the heads' memory: each receiver, head or listener, that is not struck settles by the same
 // functions that the head's calls are made of. What all unstruck heads say is read once.
 ghost use mathlib.Core.Bool.{cond};
-ghost use mathlib.Core.List.{List};
 ghost use mathlib.Core.Path.{_≡_};
 ghost use Prim.Native.Nat.{ℕ, _<_};
 ghost use lib.ListN.{length, getD};
@@ -11,12 +10,11 @@ ghost use Rattle.settle_trust.specs.Received.{givenBy};
 ghost use Rattle.ring_play.specs.Memory.{settles, Sayable, newPosition};
 ghost use Rattle.frame_slots.specs.Slots.{plantedIn};
 ghost use Rattle.ring_play.specs.Inner.Confession.{linksWith, rowsWith, Received, RowsKept, Unplanted, OwnLinks};
-ghost use Rattle.ring_play.specs.Inner.Planted.{givenOrPlanted, positionSettled, AllSettled};
+ghost use Rattle.ring_play.specs.Inner.Planted.{givenOrPlanted, positionSettled};
 use crate::Stage;
 use crate::round;
 use crate::shared;
 use frame_spec::Said;
-use settle_midpoint::Settled;
 use settle_trust::Links;
 use terms::Lists;
 use terms::Positions;
@@ -56,7 +54,6 @@ fn hear(links: Links, rows: &mut Lists, k: usize, frame: &[u8], n: u8, phase: u1
     let mut out = links;
     match frame_codec::read(frame, n, phase, 1, k as u8) {
         Said::Refused(_) => {}
-
         Said::Collection(_) => {}
         Said::List => {
             let table = frame_codec::table_in(frame, n);
@@ -113,10 +110,7 @@ fn settled(s: Stage, rows: &Lists, links: Links, reference: usize) -> i32
 {
     let n = round::head_count(s);
     let up = terms::rounds_up(s.phase);
-    match settle_position::settle_by(rows, links, reference, n, s.f, up) {
-        Settled::Refused(_) => 0,
-        Settled::New(kept) => kept.position,
-    }
+    round::position_in(settle_position::settle_by(rows, links, reference, n, s.f, up))
 }
 
 // The new position of receiver i. The reference is a list that all receivers hear.
@@ -162,15 +156,6 @@ fn fill_positions(
     }
 }
 
-// Settles all receivers if no head is struck: they hear the same, so once.
-fn settle_quiet(s: Stage, lists: &Lists, links: Links, positions: &mut Positions)
-    ensures { λ _. ⌜ (s .struck ≡ 0 → (plant : ℕ → ℕ → List ℕ)
-        → AllSettled s (givenBy links (now (lists .entry))) plant (now (positions .entry)) (now (positions .exit))) ⌝ }
-{
-    let position = settled(s, lists, links, first_listed(links.listed));
-    round::fill_same(s, position, positions);
-}
-
 // The same lists, to be changed.
 fn copied(lists: &Lists) -> Lists
     ensures { λ r. ⌜ r ≡ now (lists .entry) ⌝ }
@@ -179,7 +164,8 @@ fn copied(lists: &Lists) -> Lists
 }
 
 // A confession round: the new position of each receiver that is not struck, from the lists, which are such that a frame can say them, and
-// what is planted. The other positions stay as they were. An honest frame reads back as what it says, so none is written.
+// what is planted. The other positions stay as they were. If no head is struck, all hear the same and one settles for all. An honest frame
+// reads back as what it says, so none is written.
 pub fn confess(
     s: Stage,
     marks: &Words,
@@ -195,7 +181,8 @@ pub fn confess(
 {
     let links = links_of(s, marks);
     if s.struck == 0 {
-        settle_quiet(s, lists, links, positions);
+        let position = settled(s, lists, links, first_listed(links.listed));
+        round::fill_same(s, position, positions);
         return;
     }
     if shared::settle_all(s, lists, links, planted, lengths, positions) {

@@ -6,12 +6,13 @@ ghost use Prim.Native.Nat.{ℕ, _≤_, _<_};
 ghost use lib.ListN.{length, getD};
 ghost use lib.IntN.{pos};
 ghost use Rattle.frame_slots.specs.Slots.{plantedIn};
-ghost use Rattle.ring_play.specs.Memory.{heads, listeners, receiverEnd, settles, SamePlanted};
+ghost use Rattle.ring_play.specs.Memory.{heads, listeners, receiverEnd, settles, SamePlanted, positionOf};
 ghost use Rattle.ring_play.specs.declared.Stage.{Stage};
 ghost use Rattle.ring_play.specs.declared.round.Before.the-variants.{As};
 ghost use Rattle.ring_play.specs.Inner.Before.{SettlesBefore, AsBefore};
 ghost use Rattle.ring_play.specs.Inner.Struck.{NextStruck};
 use crate::Stage;
+use settle_midpoint::Settled;
 
 // How many heads are played.
 pub(crate) fn head_count(s: Stage) -> u8
@@ -51,6 +52,16 @@ pub(crate) fn next_struck(s: Stage, k: usize) -> usize
     if j < n { j } else { n }
 }
 
+// The position that settling answers; 0 if it refuses.
+pub(crate) fn position_in(answer: Settled) -> i32
+    ensures { λ r. ⌜ r ≡ positionOf answer ⌝ }
+{
+    match answer {
+        Settled::Refused(_) => 0,
+        Settled::New(kept) => kept.position,
+    }
+}
+
 // A receiver that settles before another; none before the first.
 pub(crate) enum Before {
     None,
@@ -79,9 +90,6 @@ pub(crate) fn is_same_planted(s: Stage, planted: &[u8], lengths: &[u8], i: usize
     requires { ⌜ (i < 48) × (m < 48) ⌝ }
     ensures { λ r. ⌜ (r ≡ true) ↔ SamePlanted s (plantedIn (now (planted .entry)) (now (lengths .entry))) i m ⌝ }
 {
-    if s.struck == 0 {
-        return true;
-    }
     let n = head_count(s) as usize;
     let mut k = next_struck(s, 0);
     while k < n {

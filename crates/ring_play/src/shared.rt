@@ -19,7 +19,6 @@ use crate::round;
 use crate::round::Before;
 use crate::round::Two;
 use frame_spec::Said;
-use settle_midpoint::Settled;
 use settle_trust::Links;
 use terms::HEADS;
 use terms::Lists;
@@ -52,7 +51,9 @@ fn count_frame(
         Said::List => {
             let table = frame_codec::table_in(frame, n);
             let entries = table.entries;
-            codes::tally(table.marks, &entries, codes, same, n as usize);
+            let mut spare = [0i32; HEADS];
+            let row = codes::codes_of(table.marks, &entries, n as usize, &mut spare);
+            codes::tally(row, codes, same, n as usize);
             confessed
         }
         Said::Confession => marks::with_mark(confessed, k),
@@ -92,18 +93,6 @@ fn need_after(need: u32, confessed: u32, n: usize) -> u32
     if all <= c { 0 } else { (all - c) as u32 }
 }
 
-// The position that a receiver settles from the codes of its trusted entries; 0 if it is refused.
-fn position_from(s: Stage, codes: &Numbers) -> i32
-    ensures { λ r. ⌜ r ≡ settledAt s (now (codes .entry)) ⌝ }
-{
-    let n = round::head_count(s);
-    let up = terms::rounds_up(s.phase);
-    match codes::settle_codes(codes, n, s.f, up) {
-        Settled::Refused(_) => 0,
-        Settled::New(kept) => kept.position,
-    }
-}
-
 // The position that a receiver settles, by what it counted, how many lists are needed of what all hear, and who confessed to it. `last` is
 // what was settled last, from the codes `settled`: a receiver with the same trusted entries settles the same.
 fn position_counted(
@@ -126,7 +115,7 @@ fn position_counted(
             return position;
         }
     }
-    position_from(s, settled)
+    codes::settle_codes(s, settled)
 }
 
 // Stores the new position of each unstruck receiver.
@@ -181,8 +170,8 @@ fn fill_positions(
 }
 
 // Stores the new position of each unstruck receiver, from what the links give all of them and from what is planted. Answers no, and leaves
-// the positions as they were, if no head is struck or if what is given to all does not decide which positions can be trusted. When it
-// answers no is free, and shows in the time alone.
+// the positions as they were, if what is given to all does not decide which positions can be trusted. When it answers no is free, and shows
+// in the time alone.
 pub(crate) fn settle_all(
     s: Stage,
     rows: &Lists,
@@ -193,9 +182,6 @@ pub(crate) fn settle_all(
 ) -> bool
     ensures { λ r. ⌜ SettlesAll r s (givenBy links (now (rows .entry))) (plantedIn (now (planted .entry)) (now (lengths .entry))) (now (positions .entry)) (now (positions .exit)) ⌝ }
 {
-    if s.struck == 0 {
-        return false;
-    }
     let n = round::head_count(s);
     let struck = marks::count_below(s.struck, n as usize);
     let mut codes = [0i32; HEADS];

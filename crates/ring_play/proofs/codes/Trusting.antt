@@ -19,7 +19,6 @@ use Rattle.convergence.specs.Trust.{Given, nothing, is, supports, support, hasC
 use Rattle.terms.proofs.Sums.{sums-le, sum-same, sum-none}
 use Rattle.convergence.proofs.Support.{trusted-is, trusted-only, is-other}
 use Rattle.convergence.proofs.Links.{supports-le}
-use Rattle.settle_trust.proofs.Search.{}
 use Rattle.settle_trust.proofs.Trusted.{support-parts}
 use Rattle.ring_play.specs.Inner.Codes.{noCode, entryOf, holds}
 use Rattle.ring_play.specs.Inner.Shares.{Shares}

@@ -1,9 +1,10 @@
 -- `ring_play::codes::are_alone` meets its contract: at each entry below j whose link has not confessed, the code that leads leaves the others too few lists.
 use mathlib.Core.Path.{_≡_, sym, _∙_}
 use mathlib.Core.Logic.{⊎-elim}
-use mathlib.Core.Bool.{true, false, true≢false}
+use mathlib.Core.Bool.{false, true≢false}
 use Prim.Native.Nat.{_+_, _-_, _*_, _≤_, _<_}
 use native.Mathlib.Omega.{arith}
+use denote.Ref.{now}
 use lib.ListN.{getD}
 use borrow.Author.Needs.{needs}
 use borrow.Author.Tests.{not-false}
@@ -22,6 +23,9 @@ abbrev μ-loop : tie.MeasureT-loop
 loop-holds : tie.Need-loop-holds Inv-loop μ-loop
 loop-holds c = (search needs, λ i l. absurd (omega arith))
 
+led : (c : tie.After-if22 Inv-loop μ-loop) → let h = c .before .before .before .before in getD (now (h .before .args .leads)) (h .loop .j) 0 ≤ 32
+led c = let h = c .before .before .before .before in omega (arith, h .before .pre .3 (h .loop .j) (omega arith))
+
 returns : tie.Need-returns Inv-loop μ-loop
 returns c e = absurd (true≢false (sym e))
 
@@ -30,7 +34,7 @@ loop-again c =
     let m = c .before in
     let l = m .before .before .loop in
     ⊎-elim
-    (λ w. (search needs, below-more _ (l .j) (l .inv .1) (λ e. omega (arith, w .2 .ensures, w .3 .left))))
+    (λ w. (search needs, below-more _ (l .j) (l .inv .1) (λ e. omega (arith, w .2 .left))))
     (λ w. (search needs, below-more _ (l .j) (l .inv .1) (λ e. absurd (true≢false (sym (not-false _ (w .left)) ∙ m .marked .ensures ∙ e)))))
     (c .if1 .came)
 
@@ -47,9 +51,9 @@ are-alone-spec =
     (λ c κs. search needs)
     (λ c. search needs)
     (λ c. search needs)
-    (λ c κs. search needs)
+    (λ c. let z = led c in record { fits = omega arith })
     (λ c. search needs)
-    (λ c. search needs)
+    (λ c. let z = led c in search needs)
     returns
     (λ c. search needs)
     (λ c. search needs)

@@ -1,5 +1,5 @@
 -- `ring_play::collection::is_position_frame` meets its contract: the first field that differs answers no.
-use mathlib.Core.Path.{_≡_, refl, ap, sym, _∙_}
+use mathlib.Core.Path.{refl, ap, sym, _∙_}
 use mathlib.Core.Bool.{and-false}
 use Prim.Native.Nat.{ℕ}
 use lib.Dec.{eqb}

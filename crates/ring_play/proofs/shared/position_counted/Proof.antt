@@ -53,7 +53,7 @@ returns c =
 returns-2 : tie.Need-returns-2
 returns-2 c =
     let t = c .before .before .before in
-    let e = toZ-ofZ (record { sfits = c .position-from .ok }) ∙ c .position-from .ensures in
+    let e = toZ-ofZ (record { sfits = c .settle-codes .ok }) ∙ c .settle-codes .ensures in
     (e ∙ own-taken t, e)
 
 pub position-counted-spec : {M : Type 1} → statement M

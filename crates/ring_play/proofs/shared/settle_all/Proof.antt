@@ -12,13 +12,10 @@ use Rattle.ring_play.proofs.shared.settle_all.Tie as tie
 returns : tie.Need-returns
 returns c = record { settles = λ e. absurd (true≢false (sym e)); stays = λ e. refl }
 
-returns-2 : tie.Need-returns-2
-returns-2 c = record { settles = λ e. absurd (true≢false (sym e)); stays = λ e. refl }
-
 -- the lists show codes and counts
 module _ (needed : tie.After-lists-needed) where
   abbrev start : tie.Start
-  start = needed .before .before .before .before .before .before .before .before .before .before .before
+  start = needed .before .before .before .before .before .before .before .before .before
 
   abbrev shared :
       let o = needed .before .before .share .last .1 .1 .1 .1 .1 in
@@ -28,14 +25,14 @@ module _ (needed : tie.After-lists-needed) where
       let f = i .before in
       let m = f .before .before .before in
       let a = start .args in
-      shared-by (a .s) (a .links) (now (a .rows)) (m .before .head-count .ensures) (m .count-below .ensures) (f .share .ensures (not-false _ (i .if2 .left)))
+      shared-by (a .s) (a .links) (now (a .rows)) (m .before .head-count .ensures) (m .count-below .ensures) (f .share .ensures (not-false _ (i .if1 .left)))
       (needed .lists-needed .ensures)
 
 fill-positions-requires : tie.Need-fill-positions-requires
 fill-positions-requires c κs = (c .fill-positions-arg .given .0 .1, shared (c .before .before .before))
 
-returns-3 : tie.Need-returns-3
-returns-3 c =
+returns-2 : tie.Need-returns-2
+returns-2 c =
     record {
       settles = λ e A. c .fill-positions .ensures (shared (c .before .before .before .before)) A;
       stays = λ e. absurd (true≢false e);
@@ -45,13 +42,12 @@ pub settle-all-spec : {M : Type 1} → statement M
 settle-all-spec =
     tie.close
     (tie.spec
+    (λ c κs. search needs)
+    (λ c. search needs)
+    (λ c κs. search needs)
+    (λ c κs. search needs)
     returns
     (λ c κs. search needs)
     (λ c. search needs)
-    (λ c κs. search needs)
-    (λ c κs. search needs)
-    returns-2
-    (λ c κs. search needs)
-    (λ c. search needs)
     fill-positions-requires
-    returns-3)
+    returns-2)
