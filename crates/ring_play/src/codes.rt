@@ -10,7 +10,7 @@ ghost use Rattle.terms.specs.Positions.{eqZ};
 ghost use Rattle.marks.specs.Marks.{bitOf};
 ghost use Rattle.terms.specs.Counting.{Each, sum};
 ghost use Rattle.settle_trust.specs.Received.{givenBy};
-ghost use Rattle.ring_play.specs.Inner.Codes.{noCode, entryOf, codeAt, codeLeft, codeTaken, holds, Tallied};
+ghost use Rattle.ring_play.specs.Inner.Codes.{noCode, entryOf, codeAt, codeTaken, holds, Tallied};
 ghost use Rattle.ring_play.specs.Inner.Shares.{Shares};
 ghost use Rattle.ring_play.specs.Inner.Told.{settledAt};
 ghost use Rattle.ring_play.specs.Inner.Votes.{Voted, Leads, givesList};
@@ -30,43 +30,62 @@ const NONE: i32 = 1000001;
 
 // ---- Lists as codes.
 
-// The first n codes, but none for the entries that are marked, or for those that are not.
-fn codes_left(list: &Numbers, m: u32, marked: bool, n: usize) -> Numbers
-    requires { ⌜ n ≤ 32 ⌝ }
-    ensures { λ r. ⌜ Each n (λ j. getD r j (pos 0) ≡ codeLeft m marked (now (list .entry)) j) ⌝ }
+// The code of an entry with the number v, by its mark.
+fn code(m: u32, j: usize, v: i32) -> i32
+    ensures { λ r. ⌜ r ≡ cond (bitOf m j) v noCode ⌝ }
 {
-    let mut codes = [NONE; HEADS];
+    if marks::marked(m, j) { v } else { NONE }
+}
+
+// The codes of the first n entries of a list.
+fn codes_of(m: u32, list: &Numbers, n: usize) -> Numbers
+    requires { ⌜ n ≤ 32 ⌝ }
+    ensures { λ r. ⌜ Each n (λ j. getD r j (pos 0) ≡ codeAt m (now (list .entry)) j) ⌝ }
+{
+    let mut codes = [0i32; HEADS];
     let mut j: usize = 0;
     while j < n {
-        if marks::marked(m, j) != marked {
-            codes[j] = list[j];
-        }
+        let v = code(m, j, list[j]);
+        codes[j] = v;
         j += 1;
     }
     codes
 }
 
-// The codes of the first n entries of a list: the list itself if all are marked, else `row`, into which they are put.
-pub(crate) fn codes_of<'a>(m: u32, list: &'a Numbers, n: usize, row: &'a mut Numbers) -> &'a Numbers
-    requires { ⌜ n ≤ 32 ⌝ }
-    ensures { λ r. ⌜ Each n (λ j. getD (now r) j (pos 0) ≡ codeAt m (now (list .entry)) j) ⌝ }
-{
-    if marks::all_marked(m, n) {
-        return list;
-    }
-    *row = codes_left(list, m, false, n);
-    row
-}
-
-// One more for each of the first n entries of a row that has the code.
-pub(crate) fn tally(row: &Numbers, codes: &Numbers, same: &mut [u32], n: usize)
+// One more for each of the first n entries of a list that has the code.
+fn count_codes(m: u32, list: &Numbers, codes: &Numbers, same: &mut [u32], n: usize)
     requires { ⌜ (n ≤ 32) × (length (now same) ≡ 32) ⌝ }
-    ensures { λ _. ⌜ Tallied n (λ j. getD (now (row .entry)) j (pos 0)) (now (codes .entry)) (now (same .entry)) (now (same .exit)) ⌝ }
+    ensures { λ _. ⌜ Tallied n m (now (list .entry)) (now (codes .entry)) (now (same .entry)) (now (same .exit)) ⌝ }
 {
     let mut j: usize = 0;
     while j < n {
-        same[j] = std::num::wrapping_add_u32(same[j], (row[j] == codes[j]) as u32);
+        let x = code(m, j, list[j]);
+        same[j] = std::num::wrapping_add_u32(same[j], (x == codes[j]) as u32);
         j += 1;
+    }
+}
+
+// The same of a list without nulls, whose codes are its numbers.
+fn count_numbers(m: u32, list: &Numbers, codes: &Numbers, same: &mut [u32], n: usize)
+    requires { ⌜ (n ≤ 32) × (length (now same) ≡ 32) × Each n (λ j. bitOf m j ≡ true) ⌝ }
+    ensures { λ _. ⌜ Tallied n m (now (list .entry)) (now (codes .entry)) (now (same .entry)) (now (same .exit)) ⌝ }
+{
+    let mut j: usize = 0;
+    while j < n {
+        same[j] = std::num::wrapping_add_u32(same[j], (list[j] == codes[j]) as u32);
+        j += 1;
+    }
+}
+
+// The same of any list.
+pub(crate) fn tally(m: u32, list: &Numbers, codes: &Numbers, same: &mut [u32], n: usize)
+    requires { ⌜ (n ≤ 32) × (length (now same) ≡ 32) ⌝ }
+    ensures { λ _. ⌜ Tallied n m (now (list .entry)) (now (codes .entry)) (now (same .entry)) (now (same .exit)) ⌝ }
+{
+    if marks::all_marked(m, n) {
+        count_numbers(m, list, codes, same, n);
+    } else {
+        count_codes(m, list, codes, same, n);
     }
 }
 
@@ -112,6 +131,21 @@ fn vote(row: &Numbers, codes: &mut [i32], leads: &mut [u32], n: usize)
     }
 }
 
+// A list votes.
+fn vote_for(m: u32, list: &Numbers, codes: &mut [i32], leads: &mut [u32], n: usize)
+    requires { ⌜ (n ≤ 32) × (length (now codes) ≡ 32) × (length (now leads) ≡ 32) × Each n (λ j. getD (now leads) j 0 < 4294967295) ⌝ }
+    ensures { λ _. ⌜ (length (now (codes .exit)) ≡ 32) × (length (now (leads .exit)) ≡ 32)
+        × Each n (λ j. Voted (codeAt m (now (list .entry)) j) (getD (now (codes .entry)) j (pos 0)) (getD (now (leads .entry)) j 0)
+        (getD (now (codes .exit)) j (pos 0)) (getD (now (leads .exit)) j 0)) ⌝ }
+{
+    if marks::all_marked(m, n) {
+        vote(list, codes, leads, n);
+    } else {
+        let row = codes_of(m, list, n);
+        vote(&row, codes, leads, n);
+    }
+}
+
 // ---- The lists that all receivers hear.
 
 // Whether link k gives a list.
@@ -131,13 +165,11 @@ fn vote_all(lists: &Lists, links: Links, n: usize, codes: &mut [i32], leads: &mu
         × Each n (λ j. Leads (λ w. sum n (λ k. holds j w (givenBy links (now (lists .entry)) k))) r
         (getD (now (codes .exit)) j (pos 0)) (getD (now (leads .exit)) j 0)) ⌝ }
 {
-    let mut spare = [0i32; HEADS];
     let mut count: usize = 0;
     let mut k: usize = 0;
     while k < n {
         if gives_list(links.confessed, links.listed, k) {
-            let row = codes_of(links.marks[k], &lists[k], n, &mut spare);
-            vote(row, codes, leads, n);
+            vote_for(links.marks[k], &lists[k], codes, leads, n);
             count += 1;
         }
         k += 1;
@@ -152,12 +184,10 @@ fn tally_all(lists: &Lists, links: Links, n: usize, codes: &Numbers, same: &mut 
         × Each n (λ j. getD (now (same .exit)) j 0
         ≡ sum n (λ k. holds j (getD (now (codes .entry)) j (pos 0)) (givenBy links (now (lists .entry)) k))) ⌝ }
 {
-    let mut spare = [0i32; HEADS];
     let mut k: usize = 0;
     while k < n {
         if gives_list(links.confessed, links.listed, k) {
-            let row = codes_of(links.marks[k], &lists[k], n, &mut spare);
-            tally(row, codes, same, n);
+            tally(links.marks[k], &lists[k], codes, same, n);
         }
         k += 1;
     }
@@ -178,6 +208,21 @@ fn are_alone(leads: &Words, confessed: u32, n: usize, count: usize, most: usize)
         j += 1;
     }
     true
+}
+
+// No code for the entries of links that confessed.
+fn drop_confessed(codes: &mut [i32], confessed: u32, n: usize)
+    requires { ⌜ (n ≤ 32) × (length (now codes) ≡ 32) ⌝ }
+    ensures { λ _. ⌜ (length (now (codes .exit)) ≡ 32)
+        × Each n (λ j. getD (now (codes .exit)) j (pos 0) ≡ cond (bitOf confessed j) noCode (getD (now (codes .entry)) j (pos 0))) ⌝ }
+{
+    let mut j: usize = 0;
+    while j < n {
+        if marks::marked(confessed, j) {
+            codes[j] = NONE;
+        }
+        j += 1;
+    }
 }
 
 // What the links gave all receivers shows of the trusted entries, if `struck` links give each receiver something else: for each entry the
@@ -207,7 +252,7 @@ pub(crate) fn share(
     }
     *same = [0u32; HEADS];
     tally_all(lists, links, heads, codes, same);
-    *codes = codes_left(codes, links.confessed, true, heads);
+    drop_confessed(codes, links.confessed, heads);
     true
 }
 
@@ -240,6 +285,13 @@ fn pick(codes: &Numbers, same: &Words, need: u32, n: usize, taken: &mut [i32]) -
     alike
 }
 
+// The same codes, to be changed.
+fn copied(codes: &Numbers) -> Numbers
+    ensures { λ r. ⌜ r ≡ now (codes .entry) ⌝ }
+{
+    *codes
+}
+
 // Takes the codes of a receiver's trusted entries: of those that enough lists have, but for the entries of links that confessed. Answers
 // whether all are as they were.
 pub(crate) fn trust_codes(
@@ -257,7 +309,8 @@ pub(crate) fn trust_codes(
     if confessed == 0 {
         return pick(codes, same, need, n, taken);
     }
-    let own = codes_left(codes, confessed, true, n);
+    let mut own = copied(codes);
+    drop_confessed(&mut own, confessed, n);
     pick(&own, same, need, n, taken)
 }
 

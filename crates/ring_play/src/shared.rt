@@ -51,9 +51,7 @@ fn count_frame(
         Said::List => {
             let table = frame_codec::table_in(frame, n);
             let entries = table.entries;
-            let mut spare = [0i32; HEADS];
-            let row = codes::codes_of(table.marks, &entries, n as usize, &mut spare);
-            codes::tally(row, codes, same, n as usize);
+            codes::tally(table.marks, &entries, codes, same, n as usize);
             confessed
         }
         Said::Confession => marks::with_mark(confessed, k),

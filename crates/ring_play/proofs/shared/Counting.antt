@@ -35,7 +35,7 @@ module _ (n : ℕ) (codes : List ℤ) (k : ℕ) (same : List ℕ) (marked : ℕ)
   pub counted-confession : Counted n codes k confessed same marked same (withMark marked k)
   counted-confession = record { counts = λ j l m. omega arith; confesses = refl }
 
-  pub counted-list : (t : Table) {same′ : List ℕ} → Tallied n (codeAt (t .marks) (t .entries)) codes same same′ → Counted n codes k (gave (tableAt t)) same marked same′ marked
+  pub counted-list : (t : Table) {same′ : List ℕ} → Tallied n (t .marks) (t .entries) codes same same′ → Counted n codes k (gave (tableAt t)) same marked same′ marked
   counted-list t {same′} T = record { counts = go; confesses = refl }
     where
       go : (j : ℕ) → j < n → getD same j 0 < 4294967295 → getD same′ j 0 ≡ getD same j 0 + holds j (getD codes j (pos 0)) (gave (tableAt t))

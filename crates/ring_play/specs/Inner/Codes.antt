@@ -1,6 +1,6 @@
 -- Entries as codes: one number for each, so that two entries are the same if their codes are.
 use mathlib.Core.Path.{_≡_}
-use mathlib.Core.Bool.{Bool, cond}
+use mathlib.Core.Bool.{cond}
 use mathlib.Core.List.{List}
 use Prim.Native.Nat.{ℕ, _+_, _%_}
 use lib.Dec.{leb}
@@ -33,10 +33,6 @@ entryIn codes j = entryOf (getD codes j (pos 0))
 abbrev pub codeAt : ℕ → List ℤ → ℕ → ℤ
 codeAt m E j = cond (bitOf m j) (getD E j (pos 0)) noCode
 
--- the code of entry j that is left if those of marked entries are dropped, or those of the others
-abbrev pub codeLeft : ℕ → Bool → List ℤ → ℕ → ℤ
-codeLeft m marked codes j = let c = getD codes j (pos 0) in cond (bitOf m j) (cond marked noCode c) (cond marked c noCode)
-
 -- the code that a receiver takes for entry j: the shared one if as many lists have it as are needed, and none if the entry's link confessed
 abbrev pub codeTaken : (codes : List ℤ) (same : List ℕ) (need confesses j : ℕ) → ℤ
 codeTaken codes same need confesses j = cond (bitOf confesses j) noCode (cond (leb need (getD same j 0)) (getD codes j (pos 0)) noCode)
@@ -48,6 +44,6 @@ holds j c confessed = 0
 holds j c (gave l) = bit (eqZ (codeOf (l j)) c)
 
 -- one more for each entry at which a list has the code; counts are words
-pub record Tallied (n : ℕ) (x : ℕ → ℤ) (codes : List ℤ) (same same′ : List ℕ) : Type 0 where
+pub record Tallied (n m : ℕ) (E codes : List ℤ) (same same′ : List ℕ) : Type 0 where
   pub long : length same′ ≡ length same
-  pub counts : Each n (λ j. getD same′ j 0 ≡ (getD same j 0 + bit (eqZ (x j) (getD codes j (pos 0)))) % 4294967296)
+  pub counts : Each n (λ j. getD same′ j 0 ≡ (getD same j 0 + bit (eqZ (codeAt m E j) (getD codes j (pos 0)))) % 4294967296)

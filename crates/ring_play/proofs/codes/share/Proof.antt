@@ -10,6 +10,9 @@ use Rattle.ring_play.proofs.codes.Sharing.{shares-all}
 use Rattle.ring_play.proofs.codes.share.Statement.{statement}
 use Rattle.ring_play.proofs.codes.share.Tie as tie
 
+returns : tie.Need-returns
+returns c e = absurd (true≢false (sym e))
+
 vote-all-requires : tie.Need-vote-all-requires
 vote-all-requires c κs = (search needs, search needs, search needs, λ j l. getD-replicate 32 j 0 0 (omega arith))
 
@@ -18,6 +21,9 @@ are-alone-requires c κs = let v = c .before .before .vote-all .ensures in (sear
 
 tally-all-requires : tie.Need-tally-all-requires
 tally-all-requires c κs = (search needs, search needs, λ j l. getD-replicate 32 j 0 0 (omega arith))
+
+drop-confessed-requires : tie.Need-drop-confessed-requires
+drop-confessed-requires c κs = search needs
 
 returns-3 : tie.Need-returns-3
 returns-3 c e =
@@ -31,19 +37,19 @@ returns-3 c e =
     let r = s .args in
     let o = v .vote-all .last .1 .1 .1 in
     shares-all (r .n) (r .f) (r .struck) (r .links) (now (r .lists)) (o .0) _ (o .1 .0) _ (s .pre) (n .lists-needed .ensures) (i .if1 .left)
-    (v .vote-all .ensures .3) (a .are-alone .ensures (not-false _ (q .if2 .left))) (t .tally-all .ensures .1) (c .codes-left .ensures)
+    (v .vote-all .ensures .3) (a .are-alone .ensures (not-false _ (q .if2 .left))) (t .tally-all .ensures .1) (c .drop-confessed .ensures .1)
 
 pub share-spec : {M : Type 1} → statement M
 share-spec =
     tie.close
     (tie.spec
     (λ c κs. search needs)
-    (λ c e. absurd (true≢false (sym e)))
+    returns
     (λ c. search needs)
     vote-all-requires
     (λ c. search needs)
     are-alone-requires
     (λ c e. absurd (true≢false (sym e)))
     tally-all-requires
-    (λ c κs. search needs)
+    drop-confessed-requires
     returns-3)

@@ -1,64 +1,30 @@
--- `ring_play::codes::tally` meets its contract: before entry j, the counts below j have one more if the row has the code, and the others are as they were.
-use mathlib.Core.Path.{_≡_, refl, sym, _∙_}
-use Prim.Native.Nat.{ℕ, _+_, _-_, _%_, _≤_}
-use native.Mathlib.Omega.{arith}
-use denote.Ref.{now}
-use lib.IntN.{pos}
-use lib.ListN.{length, getD, length-set}
+-- `ring_play::codes::tally` meets its contract: a list without nulls has its numbers for codes.
+use mathlib.Core.Path.{sym, _∙_}
 use borrow.Author.Needs.{needs}
-use Rattle.terms.specs.Positions.{eqZ}
-use Rattle.terms.specs.Counting.{Each, bit}
-use Rattle.ring_play.proofs.codes.Codes.{added-bit}
-use Rattle.ring_play.proofs.codes.Storing.{each-set, later-set}
+use Rattle.marks.proofs.Marks.{all-bits}
 use Rattle.ring_play.proofs.codes.tally.Statement.{statement}
 use Rattle.ring_play.proofs.codes.tally.Tie as tie
 
-abbrev Inv-loop : tie.InvT-loop
-Inv-loop row codes same₀ n j₀ same j =
-    (j ≤ n) × (length same ≡ 32)
-    × Each j (λ i. getD same i 0 ≡ (getD same₀ i 0 + bit (eqZ (getD row i (pos 0)) (getD codes i (pos 0)))) % 4294967296)
-    × ((i : ℕ) → j ≤ i → getD same i 0 ≡ getD same₀ i 0)
+count-numbers-requires : tie.Need-count-numbers-requires
+count-numbers-requires c κs =
+    let m = c .before .before in
+    let s = m .before .before in
+    (s .pre .0, s .pre .1, λ j l. all-bits (s .args .m) (s .args .n) j (sym (m .all-marked .ensures) ∙ c .before .if1 .taken) l)
 
-abbrev μ-loop : tie.MeasureT-loop
-μ-loop row codes same₀ n j₀ same j = n - j
+returns : tie.Need-returns
+returns c = search needs
 
-loop-holds : tie.Need-loop-holds Inv-loop μ-loop
-loop-holds c = (search needs, c .before .pre .1, λ i l. absurd (omega arith), λ i l. refl)
-
-loop-again : tie.Need-loop-again Inv-loop μ-loop
-loop-again c =
-    let h = c .before .before .before .before .before in
-    let l = h .loop in
-    let a = h .before .before .args in (
-      search needs,
-      simp length-set (l .inv .1),
-      each-set 0 (l .same) (l .j) _ (λ i v. v ≡ (getD (now (a .same)) i 0 + bit (eqZ (getD (now (a .row)) i (pos 0)) (getD (now (a .codes)) i (pos 0)))) % 4294967296) (omega arith) (l .inv .2)
-          (c .wrapping-add-u32 .ensures ∙ added-bit (record { sfits = c .before .before .wrapping-add-u32-arg .given }) (record { sfits = c .before .wrapping-add-u32-arg2 .given }) (l .inv .3 (l .j) (omega arith)) refl),
-      λ i q. later-set 0 (l .same) (l .j) _ i q ∙ l .inv .3 i (omega arith),
-    )
-
-returns : tie.Need-returns Inv-loop μ-loop
-returns c = record { long = c .before .loop .inv .1 ∙ sym (c .before .before .before .pre .1); counts = λ j l. c .before .loop .inv .2 j (omega arith) }
+returns-2 : tie.Need-returns-2
+returns-2 c = search needs
 
 pub tally-spec : {M : Type 1} → statement M
 tally-spec =
     tie.close
     (tie.spec
-    Inv-loop
-    μ-loop
-    loop-holds
-    (λ c. search needs)
-    (λ c. search needs)
-    (λ c. search needs)
-    (λ c. search needs)
-    (λ c. search needs)
-    (λ c. search needs)
-    (λ c. search needs)
+    (λ c κs. search needs)
+    count-numbers-requires
     (λ c κs. search needs)
     (λ c. search needs)
+    returns
     (λ c. search needs)
-    (λ c. search needs)
-    (λ c. search needs)
-    loop-again
-    (λ c. search needs)
-    returns)
+    returns-2)

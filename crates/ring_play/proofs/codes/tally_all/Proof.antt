@@ -13,15 +13,18 @@ use Rattle.ring_play.proofs.codes.tally_all.Statement.{statement}
 use Rattle.ring_play.proofs.codes.tally_all.Tie as tie
 
 abbrev Inv-loop : tie.InvT-loop
-Inv-loop lists n codes same₀ links spare₀ k₀ same spare k =
+Inv-loop lists n codes same₀ links k₀ same k =
     (k ≤ n) × (length same ≡ 32) × Each n (λ j. getD same j 0 ≡ counted links lists j k (getD codes j (pos 0)))
 
 abbrev μ-loop : tie.MeasureT-loop
-μ-loop lists n codes same₀ links spare₀ k₀ same spare k = n - k
+μ-loop lists n codes same₀ links k₀ same k = n - k
 
 loop-holds : tie.Need-loop-holds Inv-loop μ-loop
 unfolding sum
 loop-holds c = (search needs, c .before .pre .1, c .before .pre .2)
+
+tally-requires : tie.Need-tally-requires Inv-loop μ-loop
+tally-requires c κs = search needs
 
 loop-again : tie.Need-loop-again Inv-loop μ-loop
 loop-again c =
@@ -33,8 +36,8 @@ loop-again c =
     ⊎-elim
     (λ w. (
       search needs,
-      rw (w .10) (w .6 .ensures .long ∙ l .inv .1),
-      rw (w .10) (λ j q. tally-given (a .t2) (now (a .lists)) j (l .k) (getD (now (a .codes)) j (pos 0)) (l .inv .2 j q) (e ∙ w .0 .taken) (omega arith) (rw (← w .4 .ensures j q) (w .6 .ensures .counts j q))),
+      rw (w .7) (w .4 .ensures .long ∙ l .inv .1),
+      rw (w .7) (λ j q. tally-given (a .t2) (now (a .lists)) j (l .k) (getD (now (a .codes)) j (pos 0)) (l .inv .2 j q) (e ∙ w .0 .taken) (omega arith) (w .4 .ensures .counts j q)),
     ))
     (λ w. (
       search needs,
@@ -61,8 +64,7 @@ tally-all-spec =
     (λ c. search needs)
     (λ c. search needs)
     (λ c. search needs)
-    (λ c κs. search needs)
-    (λ c κs. search needs)
+    tally-requires
     (λ c. search needs)
     (λ c. search needs)
     loop-again

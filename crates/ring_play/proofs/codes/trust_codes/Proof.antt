@@ -24,14 +24,18 @@ returns c =
 
 returns-2 : tie.Need-returns-2
 returns-2 c =
-    let d = c .before .before .before in
-    let a = d .before .before .args in (
+    let d = c .before .before .before .before in
+    let k = d .before .before in
+    let a = k .before .before .args in (
       λ j l. c .pick2 .ensures .1 j l
           ∙ ap (λ (v : ℤ). cond (leb (a .need) (getD (now (a .same)) j 0)) v noCode)
-          (d .codes-left .ensures j l)
+          (d .drop-confessed .ensures .1 j l ∙ ap (λ (x : List ℤ). cond (bitOf (a .confessed) j) noCode (getD x j (pos 0))) (k .copied .ensures))
           ∙ either (leb (a .need) (getD (now (a .same)) j 0)) (bitOf (a .confessed) j) _,
       c .pick2 .ensures .2,
     )
 
+aggregate : tie.Need-slice-aggregate-drop-confessed
+aggregate c = let e : length (c .before .copied .result) ≡ 32 = search needs in sym e
+
 pub trust-codes-spec : {M : Type 1} → statement M
-trust-codes-spec = tie.close (tie.spec (λ c κs. search needs) returns (λ c κs. search needs) (λ c κs. search needs) returns-2)
+trust-codes-spec = tie.close (tie.spec (λ c κs. search needs) returns (λ c κs. search needs) aggregate (λ c κs. search needs) (λ c κs. search needs) returns-2)

@@ -15,12 +15,12 @@ use Rattle.ring_play.proofs.codes.vote_all.Statement.{statement}
 use Rattle.ring_play.proofs.codes.vote_all.Tie as tie
 
 abbrev Inv-loop : tie.InvT-loop
-Inv-loop lists n codes₀ leads₀ links spare₀ count₀ k₀ codes leads spare count k =
+Inv-loop lists n codes₀ leads₀ links count₀ k₀ codes leads count k =
     (k ≤ n) × (length codes ≡ 32) × (length leads ≡ 32) × (count ≤ k)
     × Each n (λ j. Leads (counted links lists j k) count (getD codes j (pos 0)) (getD leads j 0))
 
 abbrev μ-loop : tie.MeasureT-loop
-μ-loop lists n codes₀ leads₀ links spare₀ count₀ k₀ codes leads spare count k = n - k
+μ-loop lists n codes₀ leads₀ links count₀ k₀ codes leads count k = n - k
 
 loop-holds : tie.Need-loop-holds Inv-loop μ-loop
 unfolding sum
@@ -28,9 +28,9 @@ loop-holds c =
     let p = c .before .pre in
     (search needs, p .1, p .2, search needs, λ j l. rw (p .3 j l) (leads-none _ (λ w. refl) _))
 
-vote-requires : tie.Need-vote-requires Inv-loop μ-loop
-vote-requires c κs =
-    let l = c .before .before .before .before .before .before .before .before .before .loop in
+vote-for-requires : tie.Need-vote-for-requires Inv-loop μ-loop
+vote-for-requires c κs =
+    let l = c .before .before .before .before .before .before .before .loop in
     (search needs, l .inv .1, l .inv .2, λ j q. omega (arith, l .inv .4 j q .within))
 
 add-count : tie.Need-add-count Inv-loop μ-loop
@@ -46,17 +46,17 @@ loop-again c =
     ⊎-elim
     (λ w. (
       search needs,
-      rw (w .12) (w .7 .ensures .0),
-      rw (w .13) (w .7 .ensures .1),
-      rw (w .15) (omega arith),
-      rw (w .12, w .13, w .15) (λ j q. vote-given (a .t2) (now (a .lists)) j (l .k) (l .inv .4 j q) (e ∙ w .0 .taken) (rw (← w .4 .ensures j q) (w .7 .ensures .2 j q))),
+      rw (w .9) (w .5 .ensures .0),
+      rw (w .10) (w .5 .ensures .1),
+      rw (w .11) (omega arith),
+      rw (w .9, w .10, w .11) (λ j q. vote-given (a .t2) (now (a .lists)) j (l .k) (l .inv .4 j q) (e ∙ w .0 .taken) (w .5 .ensures .2 j q)),
     ))
     (λ w. (
       search needs,
       rw (w .1) (l .inv .1),
       rw (w .2) (l .inv .2),
-      rw (w .4) (omega arith),
-      rw (w .1, w .2, w .4) (λ j q. vote-skipped (a .t2) (now (a .lists)) j (l .k) (l .inv .4 j q) (e ∙ w .0 .left)),
+      rw (w .3) (omega arith),
+      rw (w .1, w .2, w .3) (λ j q. vote-skipped (a .t2) (now (a .lists)) j (l .k) (l .inv .4 j q) (e ∙ w .0 .left)),
     ))
     (c .if1 .came)
 
@@ -78,8 +78,7 @@ vote-all-spec =
     (λ c. search needs)
     (λ c. search needs)
     (λ c. search needs)
-    (λ c κs. search needs)
-    vote-requires
+    vote-for-requires
     add-count
     (λ c. search needs)
     (λ c. search needs)

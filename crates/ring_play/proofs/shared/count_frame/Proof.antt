@@ -22,13 +22,9 @@ returns-2 c = rw (by-what (c .before .before) (c .enum-told2 .given .1)) (counte
 
 returns-3 : tie.Need-returns-3
 returns-3 c =
-    let y = c .before in
-    let o = y .before .before in
-    let t = o .before .before .before .before in
+    let t = c .before .before .before .before in
     let r = t .before .before .before in
-    let T = y .tally .ensures in
-    rw (by-what r (t .before .enum-told3 .given .1), ← (t .table-in .ensures))
-    (counted-list _ _ _ _ _ (t .table-in .result) (record { long = T .long; counts = λ j l. rw (← o .codes-of .ensures j l) (T .counts j l) }))
+    rw (by-what r (t .before .enum-told3 .given .1), ← (t .table-in .ensures)) (counted-list _ _ _ _ _ (t .table-in .result) (c .tally .ensures))
 
 returns-4 : tie.Need-returns-4
 returns-4 c = rw (by-what (c .before .before .before) (c .before .enum-told4 .given .1), c .with-mark .ensures) (counted-confession _ _ _ _ _)
@@ -42,7 +38,6 @@ count-frame-spec =
     (λ c. search needs)
     (λ c. search needs)
     (λ c. search needs)
-    (λ c κs. search needs)
     (λ c κs. search needs)
     (λ c κs. search needs)
     (λ c. search needs)
