@@ -25,7 +25,7 @@ pub type PlantedLengths = [u8; LINKS];
 pub fn slot<'a, 'b>(bytes: &'a [u8], lengths: &'b [u8], k: u16) -> &'a [u8]
     ensures { λ r. ⌜ now r ≡ slot (now (bytes .entry)) (now (lengths .entry)) k ⌝ }
 {
-    let from = 140 * (k as usize);
+    let from = SLOT * (k as usize);
     let size = bytes.len();
     if size <= from {
         return &bytes[..0];
@@ -115,10 +115,10 @@ pub fn plant(planted: &mut PlantedBytes, lengths: &mut PlantedLengths, k: u8, i:
         return;
     }
     let len = bytes.len();
-    if 140 < len {
+    if SLOT < len {
         return;
     }
     let slot = 48 * (k as usize) + (i as usize);
-    fields::put_bytes(planted, 140 * slot, bytes);
+    fields::put_bytes(planted, SLOT * slot, bytes);
     put_length(lengths, slot, len as u8);
 }

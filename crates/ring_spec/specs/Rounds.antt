@@ -1,7 +1,7 @@
 -- Document 01, "Strikes", for the records of a whole ring: memory lost, healed heads restarted, frames sent and delivered, rounds closed.
 use mathlib.Core.Bool.{Bool, true, false, not, cond, _&&_, _||_}
 use mathlib.Core.List.{List, [], _∷_}
-use Prim.Native.Nat.{ℕ, zero, suc, _+_, _*_, _/_, _%_}
+use Prim.Native.Nat.{ℕ, zero, suc, _+_, _*_, _/_, _%_, _^_}
 use lib.Dec.{eqb, ltb, leb}
 use lib.ListN.{length}
 use lib.IntN.{ℤ}
@@ -136,7 +136,7 @@ asEnd n m e = record { struck = isOut n m (e .struck); at = λ i. e .heads i .se
 
 -- the marks of all listeners (Q58)
 abbrev pub allListeners : ℕ
-allListeners = 65535 * 4294967296
+allListeners = 65535 * 2 ^ 32
 
 -- the last round of a phase ends it
 abbrev pub withEnd : Bool → PhaseEnd → List PhaseEnd → List PhaseEnd

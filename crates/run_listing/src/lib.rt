@@ -2,7 +2,7 @@
 // last line.
 ghost use mathlib.Core.Path.{_≡_};
 ghost use mathlib.Core.Bool.{not};
-ghost use Prim.Native.Nat.{_+_, _%_, _≤_};
+ghost use Prim.Native.Nat.{_+_, _%_, _≤_, _^_};
 ghost use lib.ListN.{getD};
 ghost use lib.IntN.{pos};
 ghost use Rattle.convergence.specs.Phases.{join, apart};
@@ -205,7 +205,7 @@ pub fn verdict_line(number: u8) -> Text
 
 // The marks of the heads in a mark word for heads and listeners.
 fn heads_of(marks: u64) -> u32
-    ensures { λ r. ⌜ r ≡ marks % 4294967296 ⌝ }
+    ensures { λ r. ⌜ r ≡ marks % 2 ^ 32 ⌝ }
 {
     (marks % HEAD_MARKS) as u32
 }

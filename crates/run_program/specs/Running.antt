@@ -14,6 +14,7 @@ use Rattle.run_program.specs.declared.Stage.{Stage}
 use Rattle.run_program.specs.declared.Program.{Program}
 use Rattle.run_program.specs.declared.Stepped.{Stepped}
 use Rattle.run_program.specs.Calls.{unwritten, unplayed, askOf, fits, stageAfter, readThen, writtenThen}
+use Rattle.run_stream.specs.Pages.{pageSize}
 
 -- before the first step nothing was read or written
 pub record Opens (a out : List ℕ) (p : Player) (carry : List ℕ) (M : Memory) : Type 0 where
@@ -31,12 +32,12 @@ pub record Plays (a out : List ℕ) (p : Program) (piece page carry : List ℕ) 
   pub shows : out ++ unwritten p page ≡ shown (readFile played)
   pub waits : p .to ≤ p .from → p .end ≤ p .at
   pub here : p .end ≤ length piece
-  pub room : p .to ≤ 4096
+  pub room : p .to ≤ pageSize
 
 -- After the end of the input: what was written, and what of the page is still to be written, is the listing.
 pub record Closes (a out : List ℕ) (p : Program) (page : List ℕ) : Type 0 where
   pub shows : out ++ unwritten p page ≡ listing a
-  pub room : p .to ≤ 4096
+  pub room : p .to ≤ pageSize
 
 abbrev pub RunningAt : (stage : Stage) (a out : List ℕ) (p : Program) (piece page carry : List ℕ) (M : Memory) → Type 0
 RunningAt Stage.Title a out p piece page carry M = Opens a out (p .player) carry M

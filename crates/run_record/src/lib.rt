@@ -6,7 +6,7 @@ ghost use Prim.Native.Nat.{ℕ, _≤_, _<_};
 ghost use lib.ListN.{length, getD, drop};
 ghost use lib.IntN.{pos};
 ghost use Rattle.run_spec.specs.RunFile.{File, readFile, start, round, plant, listeners, strikes, isFirst, isBare, kindIn, lengthIn, isAllowed, judged, stopped, senderIn, receiverIn};
-ghost use Rattle.frame_slots.specs.Slots.{withPlanted, withLength, PlantedThen};
+ghost use Rattle.frame_slots.specs.Slots.{withPlanted, withLength, PlantedThen, slotSize};
 ghost use Rattle.run_state.specs.Memory.{Memory, memoryBefore, memoryAfter, withPositions, withSlots};
 ghost use Rattle.run_state.specs.Changes.{pairIn};
 ghost use Rattle.run_state.specs.State.{PlayerOf, MemoryOf};
@@ -179,7 +179,7 @@ fn take_plant(
     planted: &mut PlantedBytes,
     lengths: &mut PlantedLengths,
 ) -> RecordResult
-    ensures { λ r. ⌜ ((F : File) (M : Memory) → length (drop 6 (now (bytes .entry))) ≤ 140 → PlayerOf p F
+    ensures { λ r. ⌜ ((F : File) (M : Memory) → length (drop 6 (now (bytes .entry))) ≤ slotSize → PlayerOf p F
         → MemoryOf F (withSlots M (now (planted .entry)) (now (lengths .entry)))
         → Next F (judged plant F (now (bytes .entry))) p (withSlots M (now (planted .entry)) (now (lengths .entry))) r (withSlots M (now (planted .exit)) (now (lengths .exit)))) ⌝ }
     ensures { λ r. ⌜ r .text .len ≤ 64 ⌝ }

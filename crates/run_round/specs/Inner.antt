@@ -2,7 +2,7 @@
 use mathlib.Core.Bool.{cond, true, false}
 use mathlib.Core.List.{List, []}
 use mathlib.Core.Path.{_≡_}
-use Prim.Native.Nat.{ℕ, _/_, _%_}
+use Prim.Native.Nat.{ℕ, _/_, _%_, _^_}
 use lib.ListN.{getD}
 use lib.IntN.{ℤ, pos}
 use Rattle.terms.specs.Sizes.{endsWith}
@@ -25,10 +25,10 @@ stageOf p =
       n = p .n;
       f = p .f;
       phase = phaseOf (p .family) (p .given) % 65536;
-      before = p .before % 4294967296;
-      struck = p .struck % 4294967296;
+      before = p .before % 2 ^ 32;
+      struck = p .struck % 2 ^ 32;
       listeners = p .listeners;
-      away = p .struck / 4294967296 % 4294967296;
+      away = p .struck / 2 ^ 32 % 2 ^ 32;
     }
 
 -- the line of the pending round's phase, by the positions when it is played; nothing if it does not end its phase

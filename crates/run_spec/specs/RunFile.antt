@@ -1,7 +1,7 @@
 -- Document 01, "The run file": what bytes say, record by record, as they come; how a file ends; and which rounds are played.
 use mathlib.Core.Bool.{Bool, true, false, not, cond, _&&_, _||_}
 use mathlib.Core.List.{List, [], _∷_, _++_}
-use Prim.Native.Nat.{ℕ, zero, suc, _+_, _*_}
+use Prim.Native.Nat.{ℕ, zero, suc, _+_, _*_, _^_}
 use lib.Dec.{ltb, leb, eqb}
 use lib.ListN.{length, getD, drop}
 use lib.IntN.{ℤ, pos}
@@ -84,10 +84,10 @@ kindIn s = recordKind (at2 s 2)
 
 -- the lengths that some start record has, of up to 255 positions, and some planted record, of up to 140 bytes
 abbrev pub isStartLength : ℕ → Bool
-isStartLength len = leb 6 len && leb len 1026
+isStartLength len = leb 6 len && leb len (6 + 4 * 255)
 
 abbrev pub isPlantLength : ℕ → Bool
-isPlantLength len = leb 6 len && leb len 146
+isPlantLength len = leb 6 len && leb len (6 + 140)
 
 -- By its first four bytes: a start first and once, a round after it, a planted record after a round; the number of listeners just after the
 -- start, and a round's struck listeners just after its record; the lengths that some record of that kind has. begun: a start was accepted;
@@ -227,7 +227,7 @@ withStrikes R marks =
     record {
       played = R .played;
       pending = R .pending;
-      last = record { struck = R .last .struck + 4294967296 * marks; amended = true; plants = R .last .plants };
+      last = record { struck = R .last .struck + 2 ^ 32 * marks; amended = true; plants = R .last .plants };
     }
 
 -- bytes planted in the last round

@@ -2,7 +2,7 @@
 -- by the number of listeners, by a round's struck listeners.
 use mathlib.Core.Bool.{Bool, true, false, cond}
 use mathlib.Core.List.{List, [], _∷_}
-use Prim.Native.Nat.{ℕ, _+_, _*_, _%_, min}
+use Prim.Native.Nat.{ℕ, _+_, _*_, _%_, min, _^_}
 use lib.ListN.{replicate}
 use Rattle.terms.specs.declared.Family.{Family}
 use Rattle.terms.specs.declared.Family.the-variants.{TwoRounds}
@@ -95,4 +95,4 @@ withListenersGiven p m = changed p m (p .struck) (p .amended) (p .last) 0 0
 
 -- the struck listeners of the last round: bit j of the marks for listener 32 + j
 abbrev pub withStrikesGiven : Player → ℕ → Player
-withStrikesGiven p marks = changed p (p .listeners) (p .struck % 4294967296 + 4294967296 * marks) true (p .last) 0 0
+withStrikesGiven p marks = changed p (p .listeners) (p .struck % 2 ^ 32 + 2 ^ 32 * marks) true (p .last) 0 0

@@ -11,7 +11,7 @@ use Rattle.terms.specs.Counting.{Each}
 use Rattle.ring_spec.specs.Rounds.{Ring, planted, receivers}
 use Rattle.ring_spec.specs.Agreed.{agreedOn, isAgreed}
 use Rattle.run_spec.specs.RunFile.{File, roundsGiven, lastPair, ringFrom, endsFrom}
-use Rattle.frame_slots.specs.Slots.{plantedIn}
+use Rattle.frame_slots.specs.Slots.{plantedIn, slotSize}
 use Rattle.run_state.specs.declared.Player.{Player}
 use Rattle.run_state.specs.Memory.{Memory}
 use Rattle.run_state.specs.Heads.{HeadsOf}
@@ -53,6 +53,6 @@ pub record PlayerOf (p : Player) (F : File) : Type 0 where
 pub record MemoryOf (F : File) (M : Memory) : Type 0 where
   pub keeps : F .setup .begun ≡ true → HeadsOf (F .setup .n) (F .setup .listeners) (agreedBefore F) (ringBefore F) M
   pub level : F .setup .begun ≡ true → Level (agreedBefore F) (M .positions)
-  pub slots : F .rounds .pending ≡ true → (k i : ℕ) → k < 32 → k < F .setup .n → i < 48
+  pub slots : F .rounds .pending ≡ true → (k i : ℕ) → k < 32 → k < F .setup .n → i < receivers
       → plantedIn (M .planted) (M .lengths) k i ≡ planted (F .rounds .last .plants) k i
-  pub short : F .rounds .pending ≡ true → (k i : ℕ) → length (planted (F .rounds .last .plants) k i) ≤ 140
+  pub short : F .rounds .pending ≡ true → (k i : ℕ) → length (planted (F .rounds .last .plants) k i) ≤ slotSize

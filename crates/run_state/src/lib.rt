@@ -3,7 +3,7 @@
 ghost use mathlib.Core.Bool.{false, cond};
 ghost use mathlib.Core.List.{[]};
 ghost use mathlib.Core.Path.{_≡_};
-ghost use Prim.Native.Nat.{_+_, _*_, _%_, min};
+ghost use Prim.Native.Nat.{_+_, _*_, _%_, min, _^_};
 ghost use Rattle.head_spec.specs.Seats.{mostCounted};
 ghost use Rattle.terms.specs.declared.Family.the-variants.{TwoRounds};
 ghost use Rattle.ring_spec.specs.Rounds.{phaseOf, endsPhase, mostRounds, receivers};
@@ -262,7 +262,7 @@ pub fn given_listeners(p: Player, m: u8) -> Player
 
 // The mark word of struck heads with that of struck listeners above it.
 fn with_listeners(struck: u64, marks: u16) -> u64
-    ensures { λ r. ⌜ r ≡ struck % 4294967296 + 4294967296 * marks ⌝ }
+    ensures { λ r. ⌜ r ≡ struck % 2 ^ 32 + 2 ^ 32 * marks ⌝ }
 {
     struck % HEAD_MARKS + HEAD_MARKS * (marks as u64)
 }

@@ -10,7 +10,7 @@ ghost use Rattle.run_state.specs.Changes.{withPairPlanted};
 ghost use Rattle.run_piece.specs.Advances.{StateAt, AdvancesOnce, Advances};
 ghost use Rattle.run_piece.specs.Steps.{Used, Reads, Waits, Passes};
 ghost use Rattle.run_stream.specs.Ends.{Ends, EndsWith};
-ghost use Rattle.run_stream.specs.Pages.{Fills};
+ghost use Rattle.run_stream.specs.Pages.{Fills, pageSize};
 ghost use Rattle.run_spec.specs.Listing.{title};
 ghost use Rattle.run_stream.specs.Inner.{endingOf, Follows};
 use frame_slots::PlantedBytes;
@@ -257,8 +257,8 @@ fn pass_rounds(
     from: usize,
     positions: &Positions,
 ) -> FillResult
-    requires { ⌜ from ≤ 4096 ⌝ }
-    ensures { λ r. ⌜ (r .used ≤ length (now (bytes .entry))) × (r .len ≤ 4096) ⌝ }
+    requires { ⌜ from ≤ pageSize ⌝ }
+    ensures { λ r. ⌜ (r .used ≤ length (now (bytes .entry))) × (r .len ≤ pageSize) ⌝ }
     ensures { λ r. ⌜ Follows p (now (bytes .entry)) (now (positions .entry)) (take from (now (page .entry)))
         (r .player) (r .used) (take (r .len) (now (page .exit))) ⌝ }
 {
@@ -331,7 +331,7 @@ pub fn fill(
 
 // The first page: the title. What the page holds after it is free.
 pub fn first_page(page: &mut Page) -> usize
-    ensures { λ r. ⌜ (r ≤ 4096) × (take r (now (page .exit)) ≡ title) ⌝ }
+    ensures { λ r. ⌜ (r ≤ pageSize) × (take r (now (page .exit)) ≡ title) ⌝ }
 {
     put(page, 0, run_listing::title_line())
 }
@@ -346,7 +346,7 @@ pub fn last_page(
     planted: &PlantedBytes,
     lengths: &PlantedLengths,
 ) -> usize
-    ensures { λ r. ⌜ r ≤ 4096 ⌝ }
+    ensures { λ r. ⌜ r ≤ pageSize ⌝ }
     ensures { λ r. ⌜ ((a carry : List ℕ) → StateAt a p carry (memoryBefore positions marks lists planted lengths)
         → Ends a (memoryBefore positions marks lists planted lengths) (take r (now (page .exit))) (memoryAfter positions marks lists planted lengths)) ⌝ }
 {

@@ -9,6 +9,7 @@ use lib.IntN.{ℤ}
 use denote.Ref.{now}
 use Rattle.fields.specs.Bytes.{at2}
 use Rattle.run_state.specs.Memory.{Lent}
+use Rattle.ring_spec.specs.Rounds.{receivers}
 
 pub record Buffers : Type 0 where
   pub out : List ℕ
@@ -42,8 +43,8 @@ mostEnds file = min allEnds (endsByBytes file)
 
 -- whether buffers of these lengths have room for a file: 64 bytes for each line, 48 numbers and a word for each phase end
 unfoldable pub hasRoom : (file : List ℕ) (out rows words : ℕ) → Bool
-hasRoom file out rows words = leb (64 * (mostEnds file + 2)) out && leb (48 * mostEnds file) rows && leb (mostEnds file) words
+hasRoom file out rows words = leb (64 * (mostEnds file + 2)) out && leb (receivers * mostEnds file) rows && leb (mostEnds file) words
 
 -- row e of a table with 48 numbers to a row
 abbrev pub row : ℕ → List ℤ → List ℤ
-row e rows = take 48 (drop (48 * e) rows)
+row e rows = take receivers (drop (receivers * e) rows)

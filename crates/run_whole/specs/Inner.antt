@@ -6,7 +6,7 @@ use Prim.Native.Nat.{ℕ, zero, suc, _+_, _*_, _≤_, _<_}
 use lib.ListN.{length, getD, set, take, drop}
 use lib.Seq.{paste}
 use lib.IntN.{ℤ, pos}
-use Rattle.ring_spec.specs.Rounds.{PhaseEnd, allListeners}
+use Rattle.ring_spec.specs.Rounds.{PhaseEnd, allListeners, receivers}
 use Rattle.run_spec.specs.RunFile.{readFile, endsSoFar}
 use Rattle.run_spec.specs.Listing.{shown}
 use Rattle.texts.specs.declared.Text.{Text}
@@ -39,8 +39,8 @@ wordAt (suc e) struck = struck
 -- a phase end is kept, if there is one and room for it
 abbrev pub EndKept : (ended : Bool) (n m struck : ℕ) (positions : List ℤ) (count r : ℕ) (rows : List ℤ) (words : List ℕ) (rows′ : List ℤ) (words′ : List ℕ) → Type 0
 EndKept true n m struck positions count r rows words rows′ words′ =
-    48 * count + 48 ≤ length rows → count < length words
-    → (r ≡ count + 1) × (rows′ ≡ paste rows (48 * count) (soundRow n m (wordAt count struck) positions 48) 48) × (words′ ≡ set words count (wordAt count struck))
+    receivers * count + receivers ≤ length rows → count < length words
+    → (r ≡ count + 1) × (rows′ ≡ paste rows (receivers * count) (soundRow n m (wordAt count struck) positions 48) 48) × (words′ ≡ set words count (wordAt count struck))
 EndKept false n m struck positions count r rows words rows′ words′ = (r ≡ count) × (rows′ ≡ rows) × (words′ ≡ words)
 
 -- rows and words hold the phase ends es, which have the latest first
@@ -54,7 +54,7 @@ pub record HoldsSoFar (n m : ℕ) (text : List ℕ) (es : List PhaseEnd) (l c : 
   pub out : B .out ≡ text ++ drop l (B₀ .out)
   pub count : c ≡ length es
   pub rows : Rows n m es (B .rows) (B .words)
-  pub more-rows : drop (48 * c) (B .rows) ≡ drop (48 * c) (B₀ .rows)
+  pub more-rows : drop (receivers * c) (B .rows) ≡ drop (receivers * c) (B₀ .rows)
   pub more-words : drop c (B .words) ≡ drop c (B₀ .words)
   pub long : length (B .rows) ≡ length (B₀ .rows)
   pub wide : length (B .words) ≡ length (B₀ .words)

@@ -51,7 +51,7 @@ pub record Whole (s : List ℕ) (r : PlayResult) (B B′ : Buffers) : Type 0 whe
   pub count : r .ends ≡ length (endsPlayed (readFile s))
   pub rows : let S = readFile s .setup in
       (e : ℕ) → e < r .ends → HoldsEnd (S .n) (S .listeners) (endNumber (endsPlayed (readFile s)) e) (row e (B′ .rows)) (getD (B′ .words) e 0)
-  pub more-rows : drop (48 * r .ends) (B′ .rows) ≡ drop (48 * r .ends) (B .rows)
+  pub more-rows : drop (receivers * r .ends) (B′ .rows) ≡ drop (receivers * r .ends) (B .rows)
   pub more-words : drop (r .ends) (B′ .words) ≡ drop (r .ends) (B .words)
   pub demand3 : let S = readFile s .setup in
       (m e k : ℕ) → m ≤ S .listeners → e + k < r .ends

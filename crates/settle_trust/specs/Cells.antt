@@ -4,7 +4,7 @@ use mathlib.Core.Path.{_≡_}
 use mathlib.Core.Bool.{Bool, true, false, not, _&&_}
 use mathlib.Core.Logic.{_≢_}
 use mathlib.Core.List.{List, []}
-use Prim.Native.Nat.{ℕ, zero, suc, _%_, _≤_}
+use Prim.Native.Nat.{ℕ, zero, suc, _%_, _≤_, _^_}
 use lib.Dec.{eqb, leb}
 use lib.IntN.{ℤ}
 use lib.ListN.{getD, set, replicate}
@@ -43,7 +43,7 @@ cellFor (Position v) = suc (wordOf v)
 -- the entry that a cell holds
 abbrev pub cellEntry : ℕ → Entry
 cellEntry zero = Null
-cellEntry (suc w) = Position (signedOf (w % 4294967296))
+cellEntry (suc w) = Position (signedOf (w % 2 ^ 32))
 
 -- x is the cell of the entry e, and e is read back from it, as is every position of 32 bits
 pub record CellOf (x : ℕ) (e : Entry) : Type 0 where

@@ -2,7 +2,7 @@
 use mathlib.Core.Path.{_≡_}
 use mathlib.Core.Bool.{cond}
 use mathlib.Core.List.{List}
-use Prim.Native.Nat.{ℕ, _+_, _%_}
+use Prim.Native.Nat.{ℕ, _+_, _%_, _^_}
 use lib.Dec.{leb}
 use lib.IntN.{ℤ, pos}
 use lib.ListN.{length, getD}
@@ -46,4 +46,4 @@ holds j c (gave l) = bit (eqZ (codeOf (l j)) c)
 -- one more for each entry at which a list has the code; counts are words
 pub record Tallied (n m : ℕ) (E codes : List ℤ) (same same′ : List ℕ) : Type 0 where
   pub long : length same′ ≡ length same
-  pub counts : Each n (λ j. getD same′ j 0 ≡ (getD same j 0 + bit (eqZ (codeAt m E j) (getD codes j (pos 0)))) % 4294967296)
+  pub counts : Each n (λ j. getD same′ j 0 ≡ (getD same j 0 + bit (eqZ (codeAt m E j) (getD codes j (pos 0)))) % 2 ^ 32)
