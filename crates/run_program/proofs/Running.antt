@@ -68,7 +68,7 @@ pub playing : {a out : List ℕ} {p : Program} {piece page carry : List ℕ} {M 
 playing {a} {out} {p} {piece} {page} {carry} {M} e R = subst (λ (s : Stage). RunningAt s a out p piece page carry M) e R
 
 -- a program that goes on
-pub going : {a out : List ℕ} {p : Program} {piece page carry : List ℕ} {M : Memory} → p .stage ≡ Stage.Going → Plays a out p piece page carry M
+going : {a out : List ℕ} {p : Program} {piece page carry : List ℕ} {M : Memory} → p .stage ≡ Stage.Going → Plays a out p piece page carry M
     → RunningAt (p .stage) a out p piece page carry M
 going {a} {out} {p} {piece} {page} {carry} {M} e P = subst (λ (s : Stage). RunningAt s a out p piece page carry M) (sym e) P
 
