@@ -34,8 +34,8 @@ fn row_in(h: &[u32], k: usize) -> &[u32]
     requires { ⌜ IsBlock (now h) × (k < 32) ⌝ }
     ensures { λ r. ⌜ now r ≡ rowWords (now (h .entry)) k ⌝ }
 {
-    let from = place::LISTS + 32 * k;
-    &h[from..from + 32]
+    let from = place::LISTS + terms::HEADS * k;
+    &h[from..from + terms::HEADS]
 }
 
 // One more for each entry at which two lists have the same number.
@@ -79,7 +79,7 @@ fn cell_at(h: &[u32], k: usize, m: u32, j: usize) -> u64
     ensures { λ r. ⌜ CellOf r (entryAt m (getD (rowsIn (now (h .entry))) k []) j) ⌝ }
 {
     if marks::marked(m, j) {
-        return 1 + h[place::LISTS + 32 * k + j] as u64;
+        return 1 + h[place::LISTS + terms::HEADS * k + j] as u64;
     }
     0
 }

@@ -60,7 +60,7 @@ fn take_list(h: &mut [u32], k: usize, t: Table)
     put_heard(h, k);
     put_mark(h, place::LISTED, k);
     h[place::LIST_MARKS + k] = t.marks;
-    put_numbers(h, place::LISTS + 32 * k, &t.entries);
+    put_numbers(h, place::LISTS + terms::HEADS * k, &t.entries);
 }
 
 // Takes a confession of link k.

@@ -61,7 +61,7 @@ fn with_position(list: Table, k: usize, v: i32) -> Table
 {
     let mut next = list;
     next.marks = marks::with_mark(list.marks, k);
-    if k < 32 {
+    if k < terms::HEADS {
         next.entries[k] = v;
     }
     next
@@ -92,7 +92,7 @@ fn with_list(links: Links, k: usize, table: Table) -> Links
 {
     let mut next = links;
     next.listed = marks::with_mark(links.listed, k);
-    if k < 32 {
+    if k < terms::HEADS {
         next.marks[k] = table.marks;
     }
     next
@@ -117,7 +117,7 @@ pub fn hear(h: Head, link: u32, frame: &[u8]) -> Answer
         Said::List => {
             let table = frame_codec::table_in(frame, s.n);
             next.links = with_list(h.links, k, table);
-            if k < 32 {
+            if k < terms::HEADS {
                 let entries = table.entries;
                 next.lists[k] = Row { entries };
             }

@@ -8,7 +8,7 @@ use lib.Dec.{ltb}
 use lib.ListN.{length}
 use lib.IntN.{ℤ}
 use Rattle.terms.specs.Positions.{isPosition}
-use Rattle.terms.specs.Sizes.{endsWith}
+use Rattle.terms.specs.Sizes.{endsWith, firstListener}
 use Rattle.terms.specs.declared.Family.{Family}
 use Rattle.marks.specs.Marks.{bitOf}
 use Rattle.terms.specs.Counting.{Each, AtMost}
@@ -96,7 +96,7 @@ pub record BlockRing : Type 0 where
 module _ (K : Family) (n f : ℕ) where
   -- the restart of device i
   abbrev pub againCall : (i p r : ℕ) → Call
-  againCall i p r = cond (ltb i 32) (restarts K n f i p r) (restartsListener K n f i p r)
+  againCall i p r = cond (ltb i firstListener) (restarts K n f i p r) (restartsListener K n f i p r)
 
   module _ (R : BlockRing) where
     -- block i as the next round opens: one that was marked in the round before is restarted
@@ -146,7 +146,7 @@ module _ (K : Family) (n f : ℕ) where
 
 module _ (K : Family) (n f : ℕ) (v : ℕ → ℤ) (memory : ℕ → List ℕ) where
   unfoldable pub startedBlock : ℕ → List ℕ
-  startedBlock i = blockAfter (memory i) (cond (ltb i 32) (starts K n f i (v i)) (startsListener K n f i))
+  startedBlock i = blockAfter (memory i) (cond (ltb i firstListener) (starts K n f i (v i)) (startsListener K n f i))
 
   unfoldable pub blocksAfter : List BlockRound → BlockRing
   blocksAfter [] = record { phase = 1; round = 0; before = 0; blocks = startedBlock }

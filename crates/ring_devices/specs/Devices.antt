@@ -10,7 +10,7 @@ use lib.ListN.{length}
 use lib.IntN.{ℤ}
 use Rattle.terms.specs.Refusals.{leaves}
 use Rattle.terms.specs.Positions.{isPosition}
-use Rattle.terms.specs.Sizes.{endsWith}
+use Rattle.terms.specs.Sizes.{endsWith, firstListener}
 use Rattle.terms.specs.declared.Family.{Family}
 use Rattle.marks.specs.Marks.{bitOf}
 use Rattle.terms.specs.Counting.{Each, AtMost}
@@ -73,7 +73,7 @@ marksOf (w ∷ ws) = w .marks ∷ marksOf ws
 module _ (K : Family) (n f : ℕ) where
   -- device i is restarted, whatever it holds
   abbrev pub again : (h : Head) (i p r : ℕ) → Answer
-  again h i p r = cond (ltb i 32) (restart h K n f i p r) (restartListener h K n f i p r)
+  again h i p r = cond (ltb i firstListener) (restart h K n f i p r) (restartListener h K n f i p r)
 
   -- the record of device i as the next round opens: one that was marked in the round before is restarted
   unfoldable pub openedBy : Ring → ℕ → Head
@@ -105,7 +105,7 @@ module _ (K : Family) (n f : ℕ) where
 
 module _ (K : Family) (n f : ℕ) (v : ℕ → ℤ) (memory : ℕ → Head) where
   unfoldable pub startedBy : ℕ → Head
-  startedBy i = cond (ltb i 32) (start (memory i) K n f i (v i)) (startListener (memory i) K n f i) .head
+  startedBy i = cond (ltb i firstListener) (start (memory i) K n f i (v i)) (startListener (memory i) K n f i) .head
 
   unfoldable pub devicesAfter : List DeviceRound → Ring
   devicesAfter [] = record { phase = 1; round = 0; before = 0; heads = startedBy }

@@ -23,6 +23,7 @@ use Rattle.settle_midpoint.specs.declared.Settled.the-variants.{Refused, New}
 use Rattle.head_spec.specs.Record.{heardEntry, givenOf}
 use Rattle.ring_spec.specs.Rounds.{isReceiver}
 use Rattle.ring_play.specs.declared.Stage.{Stage}
+use Rattle.terms.specs.Sizes.{firstListener}
 
 -- the heads that are played: 32 at most
 abbrev pub heads : Stage → ℕ
@@ -38,7 +39,7 @@ hears s i = ltb i (heads s) && not (bitOf (s .struck) i)
 
 -- whether receiver i is struck in this round
 abbrev pub isAway : Stage → ℕ → Bool
-isAway s i = cond (ltb i 32) (bitOf (s .struck) i) (bitOf (s .away) (i - 32))
+isAway s i = cond (ltb i firstListener) (bitOf (s .struck) i) (bitOf (s .away) (i - firstListener))
 
 -- whether receiver i, a head or a listener, is played and not struck in this round
 abbrev pub settles : Stage → ℕ → Bool
@@ -46,7 +47,7 @@ settles s i = isReceiver (heads s) (listeners s) i && not (isAway s i)
 
 -- the number after the last receiver that is played
 abbrev pub receiverEnd : Stage → ℕ
-receiverEnd s = cond (eqb (listeners s) 0) (heads s) (32 + listeners s)
+receiverEnd s = cond (eqb (listeners s) 0) (heads s) (firstListener + listeners s)
 
 -- What link k carries to receiver i in round r: what is planted there, or the frame that says m, what head k has to say.
 abbrev pub carries : Stage → (ℕ → ℕ → List ℕ) → ℕ → ℕ → Meaning → List ℕ

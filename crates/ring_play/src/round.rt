@@ -36,7 +36,7 @@ pub(crate) fn receiver_end(s: Stage) -> usize
     if m == 0 {
         return head_count(s) as usize;
     }
-    32 + m
+    terms::FIRST_LISTENER + m
 }
 
 // The first struck head at k or above; if there is none, how many heads are played.
@@ -72,13 +72,13 @@ pub(crate) enum Before {
 pub(crate) fn settles(s: Stage, i: usize) -> bool
     ensures { λ r. ⌜ r ≡ settles s i ⌝ }
 {
-    if i < 32 {
+    if i < terms::FIRST_LISTENER {
         if i < head_count(s) as usize {
             return !marks::marked(s.struck, i);
         }
         return false;
     }
-    let j = i - 32;
+    let j = i - terms::FIRST_LISTENER;
     if j < listener_count(s) as usize {
         return !marks::marked(s.away, j);
     }

@@ -5,7 +5,7 @@ use Prim.Native.Nat.{ℕ, zero, suc, _+_, _*_, _/_, _%_, _^_}
 use lib.Dec.{eqb, ltb, leb}
 use lib.ListN.{length}
 use lib.IntN.{ℤ}
-use Rattle.terms.specs.Sizes.{endsWith}
+use Rattle.terms.specs.Sizes.{endsWith, firstListener}
 use Rattle.terms.specs.declared.Entry.{Entry}
 use Rattle.terms.specs.declared.Family.{Family}
 use Rattle.terms.specs.declared.Family.the-variants.{TwoRounds, OneRound}
@@ -123,7 +123,7 @@ receivers = 48
 
 -- whether number i is a head or listener of n heads and m listeners: n to 31 name nobody (Q40)
 abbrev pub isReceiver : (n m i : ℕ) → Bool
-isReceiver n m i = ltb i n || (leb 32 i && ltb i (32 + m))
+isReceiver n m i = ltb i n || (leb firstListener i && ltb i (firstListener + m))
 
 -- struck by a mark word, or not there
 abbrev pub isOut : (n m marks i : ℕ) → Bool
@@ -145,7 +145,7 @@ withEnd true e es = e ∷ es
 
 module _ (K : Family) (n f : ℕ) (v : ℕ → ℤ) where
   unfoldable pub firstHeads : ℕ → Head
-  firstHeads i = cond (ltb i 32) (started K n f i (v i)) (startedListener K n f i)
+  firstHeads i = cond (ltb i firstListener) (started K n f i (v i)) (startedListener K n f i)
 
   -- the start, as an end: each listener counts as struck, since it holds no position yet
   abbrev pub firstEnd : PhaseEnd

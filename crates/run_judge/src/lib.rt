@@ -190,10 +190,10 @@ pub fn is_receiver(n: u8, m: u8, i: usize) -> bool
     if i < n as usize {
         return true;
     }
-    if i < 32 {
+    if i < terms::FIRST_LISTENER {
         return false;
     }
-    i < 32 + (m as usize)
+    i < terms::FIRST_LISTENER + (m as usize)
 }
 
 // Whether a pair may be planted: a sender among n heads that is struck, a receiver among them or m listeners that is not, after the last

@@ -160,7 +160,7 @@ pub fn prepare(
     ensures { λ r. ⌜ Prepared (trusted n f (givenBy links (now (lists .entry)))) (now (lists .entry)) (now (marks .exit)) (getD (now (lists .entry)) (reference % 32) [])
         (now (same .exit)) r ⌝ }
 {
-    let first = reference % 32;
+    let first = reference % HEADS;
     let count = terms::at_most_32(n as usize);
     *marks = settle_trust::all_marks(links, n);
     let comparison = compare(lists, marks, count, first);
@@ -192,7 +192,7 @@ pub fn decide_entry(
     ensures { λ r. ⌜ ((E : ℕ → Entry) → Prepared E (now (lists .entry)) (now (marks .entry)) (now (reference .entry)) (now (same .entry)) d
         → OrderAfter j E len (now (positions .entry)) → OrderAfter (j + 1) E r (now (positions .exit))) ⌝ }
 {
-    if 32 <= j {
+    if HEADS <= j {
         return len;
     }
     let x = cell_by(lists, marks, reference, same, d, j);
@@ -238,7 +238,7 @@ pub fn settle_by(
     let mut marks = [0u32; HEADS];
     let mut same = [0u32; HEADS];
     let d = prepare(lists, links, reference, n, f, &mut marks, &mut same);
-    settle_entries(lists, &marks, &lists[reference % 32], &same, d, n, f, up)
+    settle_entries(lists, &marks, &lists[reference % HEADS], &same, d, n, f, up)
 }
 
 // The same of lists by value.

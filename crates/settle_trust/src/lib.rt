@@ -75,7 +75,7 @@ pub fn entry_cell(m: u32, list: &Numbers, j: usize) -> u64
     ensures { λ r. ⌜ CellOf r (entryAt m (now (list .entry)) j) ⌝ }
 {
     if marks::marked(m, j) {
-        if j < 32 {
+        if j < HEADS {
             return cell_of(list[j]);
         }
     }

@@ -26,8 +26,11 @@ abbrev pub isPhase : ℕ → Bool
 isPhase p = leb 1 p && leb p 65535
 
 -- listeners, which receive and decide but send nothing, are numbered 32 to 47 (document 02, A6)
+abbrev pub firstListener : ℕ
+firstListener = 32
+
 unfoldable pub isListener : ℕ → Bool
-isListener i = leb 32 i && leb i 47
+isListener i = leb firstListener i && leb i 47
 
 -- 1, then 2 or 18, before the checks that follow
 abbrev pub checkSize : (K : Family) (n f rest : ℕ) → ℕ

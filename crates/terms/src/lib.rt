@@ -16,10 +16,12 @@ pub const HEADS: usize = 32;
 pub fn at_most_32(n: usize) -> usize
     ensures { λ r. ⌜ r ≡ min n 32 ⌝ }
 {
-    if n < 32 { n } else { 32 }
+    if n < HEADS { n } else { HEADS }
 }
 
 // Receivers are the heads, 0 to 31, and the listeners, 32 to 47.
+pub const FIRST_LISTENER: usize = 32;
+
 pub const RECEIVERS: usize = 48;
 
 // Whether a number is a listener's.
