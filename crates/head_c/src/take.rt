@@ -36,7 +36,7 @@ fn take_entry(h: &mut [u32], k: usize, e: Entry)
     requires { ⌜ IsBlock (now h) ⌝ }
     ensures { λ _. ⌜ now (h .exit) ≡ heardIn (now (h .entry)) k (collected e) ⌝ }
 {
-    if 32 <= k {
+    if terms::HEADS <= k {
         return;
     }
     put_heard(h, k);
@@ -54,7 +54,7 @@ fn take_list(h: &mut [u32], k: usize, t: Table)
     requires { ⌜ IsBlock (now h) ⌝ }
     ensures { λ _. ⌜ now (h .exit) ≡ heardIn (now (h .entry)) k (listed t) ⌝ }
 {
-    if 32 <= k {
+    if terms::HEADS <= k {
         return;
     }
     put_heard(h, k);
@@ -68,7 +68,7 @@ fn take_confession(h: &mut [u32], k: usize)
     requires { ⌜ IsBlock (now h) ⌝ }
     ensures { λ _. ⌜ now (h .exit) ≡ heardIn (now (h .entry)) k confessed ⌝ }
 {
-    if 32 <= k {
+    if terms::HEADS <= k {
         return;
     }
     put_heard(h, k);

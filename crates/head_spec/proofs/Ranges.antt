@@ -19,7 +19,7 @@ use Rattle.head_spec.specs.declared.Seat.{Seat}
 use Rattle.head_spec.specs.declared.Head.{Head}
 use Rattle.head_spec.specs.declared.Closed.{Closed}
 use Rattle.head_spec.specs.Record.{entriesBy}
-use Rattle.head_spec.specs.Calls.{started, restarted, startedListener, closedCollection, closedPhase, closing, endSettled, endIn, isLastRound, endRound}
+use Rattle.head_spec.specs.Calls.{started, restarted, startedListener, closedCollection, closedPhase, closing, endSettled, endBy, isLastRound, endRound}
 use Rattle.head_spec.specs.Demand2.{Reachable}
 use Rattle.head_spec.specs.Demand2 as reachable
 use Rattle.head_spec.specs.Ranges.{passing, Passed, HoldsPassed, InRange, PassedInRange, ListenerHoldsNone}
@@ -79,7 +79,7 @@ module _ (h : Head) (P : ProperHead h) where
       settles true e = settled-sound e
       settles false e = s
 
-      go : (b r : Bool) → Sound (cond b (closing (Closed.Refused refusal.run-has-ended) h) (endIn r h) .head .seat .kept)
+      go : (b r : Bool) → Sound (cond b (closing (Closed.Refused refusal.run-has-ended) h) (endBy r h) .head .seat .kept)
       go true r = s
       go false false = s
       go false true = settles (enoughTrusted h) refl

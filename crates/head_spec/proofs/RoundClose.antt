@@ -9,7 +9,7 @@ use Rattle.settle_midpoint.specs.declared.Settled.{Settled}
 use Rattle.head_spec.specs.declared.Head.{Head}
 use Rattle.head_spec.specs.declared.Closed.{Closed}
 use Rattle.head_spec.specs.declared.Closing.{Closing}
-use Rattle.head_spec.specs.Calls.{closedCollection, closedPhase, closing, settlingOf, endSettled, endIn, endRound, offerSettled, closeIn, isLastRound, close}
+use Rattle.head_spec.specs.Calls.{closedCollection, closedPhase, closing, settlingOf, endSettled, endBy, endRound, offerSettled, closeIn, isLastRound, close}
 use Rattle.head_spec.proofs.Proper.{ProperKept, ProperHead}
 use Rattle.head_spec.proofs.RoundEnd.{settledBy, enoughTrusted, proper-collection, settled-proper}
 
@@ -36,7 +36,7 @@ Closes Closed.Listed h h′ = (h′ ≡ closedCollection h) × (endRound h ≡ c
 Closes (Closed.Settled k) h h′ = (h′ ≡ h) × Stands h k
 
 -- the end of the round, where its seat is known
-end-by : (h : Head) {b r : Bool} → h .seat .ended ≡ b → isLastRound (h .seat) ≡ r → endRound h ≡ cond b (closing (Closed.Refused refusal.run-has-ended) h) (endIn r h)
+end-by : (h : Head) {b r : Bool} → h .seat .ended ≡ b → isLastRound (h .seat) ≡ r → endRound h ≡ cond b (closing (Closed.Refused refusal.run-has-ended) h) (endBy r h)
 unfolding endRound
 end-by h e q = rw (e, q)
 

@@ -21,7 +21,7 @@ use Rattle.head_spec.specs.declared.Head.{Head}
 use Rattle.head_spec.specs.declared.Closed.{Closed}
 use Rattle.head_spec.specs.Record.{entriesBy}
 use Rattle.head_spec.specs.Seats.{confessionSeat, isLast, nextSeat}
-use Rattle.head_spec.specs.Calls.{closedCollection, closedPhase, closing, settlingOf, endSettled, endIn, isLastRound, endRound}
+use Rattle.head_spec.specs.Calls.{closedCollection, closedPhase, closing, settlingOf, endSettled, endBy, isLastRound, endRound}
 use Rattle.head_spec.proofs.Proper.{ProperKept, ProperSeat, ProperHead, first-round, no-entries, no-entry, proper-opened}
 use Rattle.head_spec.proofs.Hearing.{Fresh}
 use Rattle.head_spec.proofs.Range.{kept-proper, entries-positions}
@@ -81,7 +81,7 @@ answers h = go (h .seat .ended) (isLastRound (h .seat))
     settles (Settled.Refused c) = refl
     settles (Settled.New k) = refl
 
-    go : (b r : Bool) → let a = cond b (closing (Closed.Refused refusal.run-has-ended) h) (endIn r h) in Answers (a .closed) h (a .head)
+    go : (b r : Bool) → let a = cond b (closing (Closed.Refused refusal.run-has-ended) h) (endBy r h) in Answers (a .closed) h (a .head)
     go true r = refl
     go false false = refl
     go false true = settles (settlingOf h)
@@ -149,7 +149,7 @@ module _ (h : Head) (P : ProperHead h) where
       settles true = proper-phase (settledBy h) settled-proper
       settles false = P
 
-      go : (b r : Bool) → isLastRound (h .seat) ≡ r → ProperHead (cond b (closing (Closed.Refused refusal.run-has-ended) h) (endIn r h) .head)
+      go : (b r : Bool) → isLastRound (h .seat) ≡ r → ProperHead (cond b (closing (Closed.Refused refusal.run-has-ended) h) (endBy r h) .head)
       go true r c = P
       go false false c = proper-collection c
       go false true c = settles (enoughTrusted h)

@@ -202,15 +202,15 @@ endSettled (settled.Refused c) h = closing (Closed.Refused c) h
 endSettled (settled.New k) h = closing (Closed.Settled k) (closedPhase h k)
 
 -- the end of a round in one step, closing and adopting together; last: the round is the last of its phase (P29, P31)
-abbrev pub endIn : Bool → Head → Closing
-endIn false h = closing Closed.Listed (closedCollection h)
-endIn true h = endSettled (settlingOf h) h
+abbrev pub endBy : Bool → Head → Closing
+endBy false h = closing Closed.Listed (closedCollection h)
+endBy true h = endSettled (settlingOf h) h
 
 abbrev pub isLastRound : Seat → Bool
 isLastRound s = endsWith (s .family) (s .round)
 
 unfoldable pub endRound : Head → Closing
-endRound h = cond (h .seat .ended) (closing (Closed.Refused refusal.run-has-ended) h) (endIn (isLastRound (h .seat)) h)
+endRound h = cond (h .seat .ended) (closing (Closed.Refused refusal.run-has-ended) h) (endBy (isLastRound (h .seat)) h)
 
 -- ---- closing; checks 26, 25. It ends a collection round; in the last round of a phase it only offers the position, and the record stays
 -- as it is (document 02, A8)

@@ -20,10 +20,10 @@ use Rattle.head_c.specs.Events.{starts, restarts, startsListener, restartsListe
 use Rattle.head_c.proofs.Events.{offer-after, head-started, head-restarted, listener-started, listener-restarted}
 use Rattle.ring_spec.specs.Rounds.{Ring, roundEnded, mostRounds, PhaseEnd, phaseEnd, isReceiver, allListeners}
 use Rattle.ring_spec.specs.Converges.{noEnd}
-use Rattle.ring_devices.specs.Devices.{heardBy, firstFrame, broughtBy, DeviceRound, marksOf, again, openedBy, closedBy, Carries, afterDevices, startedBy, devicesAfter, endsOfDevices, RoundsWithin, DevicesWithin}
+use Rattle.ring_devices.specs.Devices.{heardBy, firstFrame, broughtBy, DeviceRound, deviceMarks, again, openedBy, closedBy, Carries, afterDevices, startedBy, devicesAfter, endsOfDevices, RoundsWithin, DevicesWithin}
 use Rattle.ring_devices.proofs.Planting.{head-receives, sound-receives}
 use Rattle.ring_devices.proofs.Devices.{SameRecords, SameEnds, phase-same, same-with, promised-same, devices-converge, starts-taken, restarts-taken, opens-fresh}
-use Rattle.ring_blocks.specs.Blocks.{BlockCall, callOf, blockBy, hearings, endCall, EndsBy, BlockRound, marksIn, BlockRing, againCall, openedBlock, closedBlock, CarriesTo, RoundWithin, afterBlocks, startedBlock, blocksAfter, shown, endsOfBlocks, BlocksWithin, BlocksConverge}
+use Rattle.ring_blocks.specs.Blocks.{BlockCall, callOf, blockBy, hearings, endCall, EndsBy, BlockRound, blockMarks, BlockRing, againCall, openedBlock, closedBlock, CarriesTo, RoundWithin, afterBlocks, startedBlock, blocksAfter, blockHeads, endsOfBlocks, BlocksWithin, BlocksConverge}
 use Rattle.ring_blocks.proofs.Kept.{block-after}
 use Rattle.ring_blocks.proofs.Calls.{InRound, round-ends}
 
@@ -179,8 +179,8 @@ module _ (K : Family) (n f : ℕ) (v : ℕ → ℤ) (memory : ℕ → List ℕ) 
   as-many [] = refl
   as-many (w ∷ ws) = ap suc (as-many ws)
 
-  same-marks : (ws : List BlockRound) → marksOf (asDevices ws) ≡ marksIn ws
-  unfolding marksOf marksIn
+  same-marks : (ws : List BlockRound) → deviceMarks (asDevices ws) ≡ blockMarks ws
+  unfolding deviceMarks blockMarks
   same-marks [] = refl
   same-marks (w ∷ ws) = ap (λ (xs : List ℕ). w .marks ∷ xs) (same-marks ws)
 
@@ -286,12 +286,12 @@ module _ (K : Family) (n m f : ℕ) (v : ℕ → ℤ) (memory : ℕ → List ℕ
           )
 
   end-same : (w : BlockRound) (ws : List BlockRound) → BlocksWithin K n m f v memory (w ∷ ws)
-      → SameRecords n m (phaseEnd K (B ws .before) (w .marks) (shown K n f v memory (w ∷ ws)))
+      → SameRecords n m (phaseEnd K (B ws .before) (w .marks) (blockHeads K n f v memory (w ∷ ws)))
       (phaseEnd K (R ws .before) (w .marks) (R (w ∷ ws) .heads))
   end-same w ws X =
       phase-same K n m _ _ (w .marks) (λ i q. blocks-same (w ∷ ws) X .0 .heads i (sound-receives n m (w .marks) i q .0))
 
-  start-same : ((i : ℕ) → IsBlock (memory i)) → (j : ℕ) → shown K n f v memory [] j ≡ startedBy K n f v records j
+  start-same : ((i : ℕ) → IsBlock (memory i)) → (j : ℕ) → blockHeads K n f v memory [] j ≡ startedBy K n f v records j
   unfolding blocksAfter
   start-same whole j = started-head K n f v memory j (whole j)
 
@@ -303,7 +303,7 @@ module _ (K : Family) (n m f : ℕ) (v : ℕ → ℤ) (memory : ℕ → List ℕ
       start-end : (ℕ → Head) → PhaseEnd
       start-end h = record { collect = 0; confess = 0; struck = allListeners; heads = h }
 
-      first : (i : ℕ) → SameRecords n m (getD (start-end (shown K n f v memory []) ∷ []) i noEnd)
+      first : (i : ℕ) → SameRecords n m (getD (start-end (blockHeads K n f v memory []) ∷ []) i noEnd)
           (getD (start-end (startedBy K n f v records) ∷ []) i noEnd)
       first zero = record { struck = refl; heads = λ j q. start-same (X .blocks) j }
       first (suc i) = record { struck = refl; heads = λ j q. refl }

@@ -83,9 +83,9 @@ pub record BlockRound : Type 0 where
   pub left : ℕ → List ℕ
   pub calls : ℕ → List BlockCall
 
-unfoldable pub marksIn : List BlockRound → List ℕ
-marksIn [] = []
-marksIn (w ∷ ws) = w .marks ∷ marksIn ws
+unfoldable pub blockMarks : List BlockRound → List ℕ
+blockMarks [] = []
+blockMarks (w ∷ ws) = w .marks ∷ blockMarks ws
 
 pub record BlockRing : Type 0 where
   pub phase : ℕ
@@ -153,13 +153,13 @@ module _ (K : Family) (n f : ℕ) (v : ℕ → ℤ) (memory : ℕ → List ℕ) 
   blocksAfter (w ∷ ws) = afterBlocks K n f (blocksAfter ws) w
 
   -- a phase end shows the record that each block is
-  abbrev pub shown : List BlockRound → ℕ → Head
-  shown ws i = headOf (blocksAfter ws .blocks i)
+  abbrev pub blockHeads : List BlockRound → ℕ → Head
+  blockHeads ws i = headOf (blocksAfter ws .blocks i)
 
   unfoldable pub endsOfBlocks : List BlockRound → List PhaseEnd
-  endsOfBlocks [] = record { collect = 0; confess = 0; struck = allListeners; heads = shown [] } ∷ []
+  endsOfBlocks [] = record { collect = 0; confess = 0; struck = allListeners; heads = blockHeads [] } ∷ []
   endsOfBlocks (w ∷ ws) =
-      withEnd (endsWith K (blocksAfter ws .round)) (phaseEnd K (blocksAfter ws .before) (w .marks) (shown (w ∷ ws))) (endsOfBlocks ws)
+      withEnd (endsWith K (blocksAfter ws .round)) (phaseEnd K (blocksAfter ws .before) (w .marks) (blockHeads (w ∷ ws))) (endsOfBlocks ws)
 
   abbrev pub EachWithin : ℕ → List BlockRound → Type 0
   EachWithin m [] = Unit {0}
@@ -181,7 +181,7 @@ pub record BlocksWithin (K : Family) (n m f : ℕ) (v : ℕ → ℤ) (memory : �
 abbrev pub BlocksConverge : Type 0
 BlocksConverge =
     (K : Family) (n m f : ℕ) (v : ℕ → ℤ) (memory : ℕ → List ℕ) (ws : List BlockRound) → BlocksWithin K n m f v memory ws
-    → Promised K n m f (marksIn ws) (endsOfBlocks K n f v memory ws) (shown K n f v memory ws)
+    → Promised K n m f (blockMarks ws) (endsOfBlocks K n f v memory ws) (blockHeads K n f v memory ws)
 
 -- What is owed to m listeners is owed to the first k of them: so the same holds of the heads with these, and of the heads alone.
 abbrev pub FewerListeners : Type 0

@@ -34,7 +34,7 @@ use Rattle.ring_spec.proofs.Counts.{Counted, counted}
 use Rattle.ring_spec.proofs.Demand3.{Playable, playable, within-sized, ring-converges, ring-keeps-between, ring-quiet}
 use Rattle.ring_spec.proofs.Since.{ring-counts}
 use Rattle.ring_devices.specs.Promised.{marking, Promised}
-use Rattle.ring_devices.specs.Devices.{isAccepted, DeviceRound, marksOf, again, openedBy, startedBy, devicesAfter, endsOfDevices, RoundsWithin, DevicesWithin, DevicesConverge, DevicesUnrefused}
+use Rattle.ring_devices.specs.Devices.{isAccepted, DeviceRound, deviceMarks, again, openedBy, startedBy, devicesAfter, endsOfDevices, RoundsWithin, DevicesWithin, DevicesConverge, DevicesUnrefused}
 use Rattle.ring_devices.proofs.Planting.{receives, sound-receives}
 use Rattle.ring_devices.proofs.OneRound.{asRound, SameSound, restart-taken, opened-same, H, frame-taken, closes-in, next-same}
 
@@ -175,8 +175,8 @@ module _ (K : Family) (n f : ℕ) (v : ℕ → ℤ) (memory : ℕ → Head) wher
 
   -- ---- counts look at marks alone
 
-  marks-many : (ws : List DeviceRound) → length (marksOf ws) ≡ length ws
-  unfolding marksOf
+  marks-many : (ws : List DeviceRound) → length (deviceMarks ws) ≡ length ws
+  unfolding deviceMarks
   marks-many [] = refl
   marks-many (w ∷ ws) = ap suc (marks-many ws)
 
@@ -185,15 +185,15 @@ module _ (K : Family) (n f : ℕ) (v : ℕ → ℤ) (memory : ℕ → Head) wher
   marking-many [] = refl
   marking-many (x ∷ xs) = ap suc (marking-many xs)
 
-  since-marked : (i : ℕ) (ws : List DeviceRound) → endsSince K i (asRounds ws) ≡ endsSince K i (marking (marksOf ws))
-  unfolding endsSince marking marksOf asRound
+  since-marked : (i : ℕ) (ws : List DeviceRound) → endsSince K i (asRounds ws) ≡ endsSince K i (marking (deviceMarks ws))
+  unfolding endsSince marking deviceMarks asRound
   since-marked i [] = refl
   since-marked i (w ∷ ws) =
-      let e : length (asRounds ws) ≡ length (marking (marksOf ws)) = as-many ws ∙ sym (marks-many ws) ∙ sym (marking-many (marksOf ws)) in
+      let e : length (asRounds ws) ≡ length (marking (deviceMarks ws)) = as-many ws ∙ sym (marks-many ws) ∙ sym (marking-many (deviceMarks ws)) in
       λ t. cond (bitOf (w .marks) i) 0 (since-marked i ws t + bit (endsPhase K (suc (e t))))
 
-  before-marked : (ws : List DeviceRound) → ringAfter K n f v (asRounds ws) .before ≡ getD (marksOf ws) 0 0
-  unfolding ringAfter afterRound marksOf asRound
+  before-marked : (ws : List DeviceRound) → ringAfter K n f v (asRounds ws) .before ≡ getD (deviceMarks ws) 0 0
+  unfolding ringAfter afterRound deviceMarks asRound
   before-marked [] = refl
   before-marked (w ∷ ws) = refl
 
@@ -226,7 +226,7 @@ module _ (K : Family) (n m f : ℕ) (v : ℕ → ℤ) (memory : ℕ → Head) (w
   sized : Sized K n f
   sized = within-sized Y
 
-  plain-promised : Promised K n m f (marksOf ws) (endsAfter K n f v plain) (ringAfter K n f v plain .heads)
+  plain-promised : Promised K n m f (deviceMarks ws) (endsAfter K n f v plain) (ringAfter K n f v plain .heads)
   plain-promised =
       record {
         many = ends-many K (counted K n f v plain)
@@ -242,7 +242,7 @@ module _ (K : Family) (n m f : ℕ) (v : ℕ → ℤ) (memory : ℕ → Head) (w
   sound-same : SameSound n m (devicesAfter K n f v memory ws) (ringAfter K n f v plain)
   sound-same = devices-same K n f v memory m (X .listeners) sized (X .range) ws (X .each) (X .rounds)
 
-  promised : Promised K n m f (marksOf ws) (endsOfDevices K n f v memory ws) (devicesAfter K n f v memory ws .heads)
+  promised : Promised K n m f (deviceMarks ws) (endsOfDevices K n f v memory ws) (devicesAfter K n f v memory ws .heads)
   promised =
       promised-same (ends-same K n f v memory m (X .listeners) sized (X .range) ws (X .each) (X .rounds))
       (λ i t q. sound-same .heads i t (ap (λ (x : ℕ). bitOf x i) (before-marked K n f v memory ws) ∙ q))

@@ -66,9 +66,9 @@ pub record DeviceRound : Type 0 where
   pub left : ℕ → Head
   pub calls : ℕ → List HearCall
 
-unfoldable pub marksOf : List DeviceRound → List ℕ
-marksOf [] = []
-marksOf (w ∷ ws) = w .marks ∷ marksOf ws
+unfoldable pub deviceMarks : List DeviceRound → List ℕ
+deviceMarks [] = []
+deviceMarks (w ∷ ws) = w .marks ∷ deviceMarks ws
 
 module _ (K : Family) (n f : ℕ) where
   -- device i is restarted, whatever it holds
@@ -136,7 +136,7 @@ pub record DevicesWithin (K : Family) (n m f : ℕ) (v : ℕ → ℤ) (memory : 
 abbrev pub DevicesConverge : Type 0
 DevicesConverge =
     (K : Family) (n m f : ℕ) (v : ℕ → ℤ) (memory : ℕ → Head) (ws : List DeviceRound) → DevicesWithin K n m f v memory ws
-    → Promised K n m f (marksOf ws) (endsOfDevices K n f v memory ws) (devicesAfter K n f v memory ws .heads)
+    → Promised K n m f (deviceMarks ws) (endsOfDevices K n f v memory ws) (devicesAfter K n f v memory ws .heads)
 
 -- ---- and no call that a round asks for is refused
 

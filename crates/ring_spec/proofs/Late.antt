@@ -21,7 +21,7 @@ use Rattle.head_spec.specs.declared.Head.{Head}
 use Rattle.ring_spec.specs.Rounds.{Plant, Round, planted, Ring, openedAt, carried, closedAt, afterRound, ringAfter}
 use Rattle.ring_spec.specs.Rounds.{PhaseEnd, phaseEnd, receivers, asEnd, withEnd, endsAfter}
 use Rattle.ring_spec.specs.Converges.{FewStruckIn, noEnd, Within}
-use Rattle.ring_spec.specs.Late.{LateRound, roundsOf, openedLate, carriedLate, closedLate, afterLate, ringAfterLate, endsAfterLate, LateConverges}
+use Rattle.ring_spec.specs.Late.{LateRound, lateRounds, openedLate, carriedLate, closedLate, afterLate, ringAfterLate, endsAfterLate, LateConverges}
 use Rattle.ring_spec.proofs.Receivers.{hears}
 use Rattle.ring_spec.proofs.HeadsAlone.{links-same}
 use Rattle.ring_spec.proofs.Demand3.{ring-converges}
@@ -154,8 +154,8 @@ same-with n m true e e′ es es′ s S = record { many = ap suc (S .many); each 
 
 -- ---- a run
 
-many-rounds : (ws : List LateRound) → length (roundsOf ws) ≡ length ws
-unfolding roundsOf
+many-rounds : (ws : List LateRound) → length (lateRounds ws) ≡ length ws
+unfolding lateRounds
 many-rounds [] = refl
 many-rounds (w ∷ ws) = ap suc (many-rounds ws)
 
@@ -169,8 +169,8 @@ module _ (K : Family) (n f : ℕ) (v : ℕ → ℤ) where
   as-many (w ∷ ws) = ap suc (as-many ws)
 
   -- the same are counted as struck
-  few-late : (ws : List LateRound) → FewStruckIn n f (roundsOf ws) → FewStruckIn n f (asRounds ws)
-  unfolding roundsOf asRound
+  few-late : (ws : List LateRound) → FewStruckIn n f (lateRounds ws) → FewStruckIn n f (asRounds ws)
+  unfolding lateRounds asRound
   few-late [] W = W
   few-late (w ∷ ws) W = (W .0, few-late ws (W .1))
 
@@ -204,7 +204,7 @@ module _ (K : Family) (n f : ℕ) (v : ℕ → ℤ) where
         (same-with n m (endsWith K (ringAfterLate K n f v ws .round)) _ _ _ _ (end-same m w ws _ _) (ends-same m ws))
 
 -- what the plain ring gives
-late-within : {K : Family} {n m f : ℕ} {v : ℕ → ℤ} (ws : List LateRound) → Within K n m f v (roundsOf ws) → Within K n m f v (asRounds K n f v ws)
+late-within : {K : Family} {n m f : ℕ} {v : ℕ → ℤ} (ws : List LateRound) → Within K n m f v (lateRounds ws) → Within K n m f v (asRounds K n f v ws)
 late-within {K} {n} {m} {f} {v} ws X =
     let y = as-many K n f v ws in
     let z = many-rounds ws in

@@ -22,9 +22,9 @@ pub record LateRound : Type 0 where
   pub left : ℕ → Head
 
 -- the mark words of late rounds as those of rounds: who is counted as struck
-unfoldable pub roundsOf : List LateRound → List Round
-roundsOf [] = []
-roundsOf (w ∷ ws) = w .round ∷ roundsOf ws
+unfoldable pub lateRounds : List LateRound → List Round
+lateRounds [] = []
+lateRounds (w ∷ ws) = w .round ∷ lateRounds ws
 
 module _ (K : Family) (n f : ℕ) (R : Ring) (w : LateRound) where
   -- counted as struck, and struck in truth
@@ -71,4 +71,4 @@ module _ (K : Family) (n f : ℕ) (v : ℕ → ℤ) where
 -- demand 3, with those that did not adopt counted as struck
 abbrev pub LateConverges : Type 0
 LateConverges =
-    (K : Family) (n m f : ℕ) (v : ℕ → ℤ) (ws : List LateRound) → Within K n m f v (roundsOf ws) → AnyTwo K n m f (endsAfterLate K n f v ws)
+    (K : Family) (n m f : ℕ) (v : ℕ → ℤ) (ws : List LateRound) → Within K n m f v (lateRounds ws) → AnyTwo K n m f (endsAfterLate K n f v ws)

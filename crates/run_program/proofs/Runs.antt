@@ -14,7 +14,7 @@ use Rattle.run_program.specs.declared.Stage.{Stage}
 use Rattle.run_program.specs.declared.Program.{Program}
 use Rattle.run_program.specs.Calls.{askAt}
 use Rattle.run_program.specs.Running.{Plays, RunningAt, Running}
-use Rattle.run_program.specs.Runs.{Left, Ran, begins, turns, AnyRun}
+use Rattle.run_program.specs.Runs.{Left, Ran, begins, turns, WritesListing}
 use Rattle.run_program.proofs.Running.{part-none}
 
 -- the piece may change when all of it is played
@@ -55,6 +55,6 @@ ran-running (begins R) = R
 ran-running (turns {a} {out} {p} {piece} {page} {carry} {M} {piece′} d left fit S) =
     S .runs fit a out (left-by a out p piece piece′ page carry M (p .stage) (ltb (p .from) (p .to)) refl left (ran-running d))
 
-pub any-run : AnyRun
-any-run a out p piece page carry M d last stop =
+pub writes-listing : WritesListing
+writes-listing a out p piece page carry M d last stop =
     all-there a out p piece piece page carry M (p .stage) (ltb (p .from) (p .to)) refl last stop (ran-running d)

@@ -29,7 +29,7 @@ pub data Ran : List ℕ → List ℕ → Program → List ℕ → List ℕ → L
       → Ran (readThen did a piece′) (writtenThen did out (unwritten p page)) (r .program) piece′ page′ carry′ M′
 
 -- a run that has come to its end wrote the listing of what it read (D15)
-abbrev pub AnyRun : Type 0
-AnyRun =
+abbrev pub WritesListing : Type 0
+WritesListing =
     (a out : List ℕ) (p : Program) (piece page carry : List ℕ) (M : Memory) → Ran a out p piece page carry M → p .stage ≡ Stage.Last → askOf p ≡ Ask.Stop
     → out ≡ listing a
