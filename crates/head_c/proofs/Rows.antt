@@ -42,10 +42,10 @@ module _ (w : List ℕ) where
   pub row-number : (k j : ℕ) → k < 32 → j < 32 → getD (getD (rowsIn w) k []) j (pos 0) ≡ signedOf (getD w (92 + 32 * k + j) 0)
   row-number k j l m = ap (λ (E : List ℤ). getD E j (pos 0)) (upTo-at 32 _ k [] l) ∙ number-at w (92 + 32 * k) j m
 
-  pub same-number : (a b j : ℕ) → a < 32 → b < 32 → j < 32
-      → eqZ (signedOf (getD (rowWords w a) j 0)) (signedOf (getD (rowWords w b) j 0)) ≡ sameNumber (getD (rowsIn w) a []) (getD (rowsIn w) b []) j
-  same-number a b j l m n =
-      ap₂ eqZ (ap signedOf (row-word a j n) ∙ sym (row-number a j l n)) (ap signedOf (row-word b j n) ∙ sym (row-number b j m n))
+  pub same-number : {u v : List ℕ} (a b j : ℕ) → a < 32 → b < 32 → j < 32 → u ≡ rowWords w a → v ≡ rowWords w b
+      → eqZ (signedOf (getD u j 0)) (signedOf (getD v j 0)) ≡ sameNumber (getD (rowsIn w) a []) (getD (rowsIn w) b []) j
+  same-number a b j l m n p q =
+      rw (p, q) (ap₂ eqZ (ap signedOf (row-word a j n) ∙ sym (row-number a j l n)) (ap signedOf (row-word b j n) ∙ sym (row-number b j m n)))
 
   -- what the links gave is no other by the lists of the record: these are the same for each link that gave one
   abbrev entries : Row → List ℤ

@@ -8,7 +8,8 @@ use Prim.Native.Nat.{ℕ, _+_, _≤_, _<_}
 use native.Mathlib.Omega.{arith}
 use lib.Dec.{T, eqb, eqb→eq}
 use lib.IntN.{ℤ, pos, ℤ-discrete}
-use lib.ListN.{getD}
+use mir.Val.{boolByte}
+use lib.ListN.{getD, replicate, getD-replicate}
 use borrow.Author.Tests.{eq-eqb, ne-eqb, le-leb, lt-leb, leb-true}
 use Rattle.terms.specs.Positions.{eqZ}
 use Rattle.terms.specs.declared.Entry.{Entry}
@@ -17,7 +18,7 @@ use Rattle.terms.proofs.Whole.{eqZ→eq, eqZ-refl}
 use Rattle.marks.specs.Marks.{bitOf}
 use Rattle.entries.specs.Entries.{entryAt}
 use Rattle.marks.proofs.Marks.{bit-none}
-use Rattle.terms.specs.Counting.{sum, bit}
+use Rattle.terms.specs.Counting.{Each, sum, bit}
 use Rattle.convergence.specs.Trust.{is, choose}
 use Rattle.terms.proofs.Sums.{sums-le}
 use Rattle.convergence.proofs.Support.{same-position, not-null, is-same, is-other}
@@ -27,7 +28,7 @@ use Rattle.settle_position.specs.Reference.{sameNumber, isApart, agrees,
 use Rattle.settle_position.specs.declared.Comparison.{Comparison}
 use Rattle.settle_position.specs.declared.Deciding.{Deciding}
 use Rattle.settle_position.specs.Deciding.{Prepared}
-use Rattle.marks.proofs.Counts.{sum-next}
+use Rattle.marks.proofs.Counts.{byte-bit, sum-next, bits-le}
 use Rattle.settle_trust.proofs.Search.{only-seen, none-seen}
 use Rattle.settle_trust.proofs.Trusted.{decided-confessed, decided-by-lists}
 
@@ -106,19 +107,44 @@ and-le true true = omega arith
 and-le true false = omega arith
 and-le false t = omega arith
 
--- ---- counting the lists that agree, link by link
+-- ---- comparing list after list
 
-module _ (marks : List ℕ) (lists : List (List ℤ)) (reference j k : ℕ) {c : ℕ} (h : c ≡ agreeing k marks lists reference j) where
-  abbrev next : ℕ → ℕ
-  next i = bit (agrees marks lists reference j i)
+module _ {marks : List ℕ} {lists : List (List ℤ)} {reference : ℕ} where
+  pub compares-none : Compares 0 marks lists reference (record { alike = 0; apart = 0; same = replicate 32 0 })
+  unfolding sum
+  compares-none = record { alike = refl; apart = refl; same = λ j l. getD-replicate 32 j 0 0 l }
 
-  pub agree-more : {d : ℕ} → getD marks k 0 ≡ getD marks reference 0 → d ≡ c + bit (sameNumber (getD lists k []) (getD lists reference []) j) → d ≡ agreeing (k + 1) marks lists reference j
-  agree-more e q = q ∙ sum-next next k h (rw (eq-eqb (getD marks k 0) (getD marks reference 0) e))
+  module _ {k : ℕ} {r : Comparison} (C : Compares k marks lists reference r) where
+    -- no count is above k
+    pub compares-few : (r .alike ≤ k) × (r .apart ≤ k) × Each 32 (λ j. getD (r .same) j 0 ≤ k)
+    compares-few =
+        let m = getD marks reference 0 in (
+          omega (arith, C .alike, bits-le k (λ i. eqb (getD marks i 0) m)),
+          omega (arith, C .apart, bits-le k (λ i. isApart (getD marks i 0) m)),
+          λ j l. omega (arith, C .same j l, bits-le k (agrees marks lists reference j)),
+        )
 
-  pub agree-skip : (getD marks k 0 ≡ getD marks reference 0 → ⊥) → c ≡ agreeing (k + 1) marks lists reference j
-  agree-skip e =
-      let z : 0 ≡ next k = rw (ne-eqb (getD marks k 0) (getD marks reference 0) e) in
-      omega (arith, sum-next next k h z)
+    -- one list more: it has the reference's marks, or others
+    module _ {b : Bool} (e : b ≡ isApart (getD marks k 0) (getD marks reference 0)) where
+      abbrev Next : List ℕ → Type 0
+      Next same =
+          Compares (k + 1) marks lists reference
+          (record { alike = r .alike + boolByte (eqb (getD marks k 0) (getD marks reference 0)); apart = r .apart + boolByte b; same = same })
+
+      next : {same : List ℕ} → Each 32 (λ j. getD same j 0 ≡ getD (r .same) j 0 + bit (agrees marks lists reference j k)) → Next same
+      next h =
+          record {
+            alike = sum-next _ k (C .alike) (byte-bit (eqb (getD marks k 0) (getD marks reference 0)));
+            apart = sum-next _ k (C .apart) (byte-bit b ∙ ap bit e);
+            same = λ j l. h j l ∙ sum-next _ k (C .same j l) refl;
+          }
+
+      pub compares-alike : {same : List ℕ} → getD marks k 0 ≡ getD marks reference 0
+          → Each 32 (λ j. getD same j 0 ≡ getD (r .same) j 0 + bit (sameNumber (getD lists k []) (getD lists reference []) j)) → Next same
+      compares-alike q h = next (λ j l. rw (eq-eqb (getD marks k 0) (getD marks reference 0) q) (h j l))
+
+      pub compares-other : (getD marks k 0 ≡ getD marks reference 0 → ⊥) → Next (r .same)
+      compares-other q = next (λ j l. rw (ne-eqb (getD marks k 0) (getD marks reference 0) q) (omega arith))
 
 -- ---- all lists
 
