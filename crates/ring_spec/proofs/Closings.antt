@@ -8,7 +8,6 @@ use borrow.Author.Tests.{lt-leb}
 use Rattle.terms.specs.Sizes.{roundsOf, endsWith}
 use Rattle.terms.specs.declared.Entry.{Entry}
 use Rattle.terms.specs.declared.Family.{Family}
-use Rattle.terms.specs.declared.Family.the-variants.{TwoRounds, OneRound}
 use Rattle.marks.specs.Marks.{bitOf}
 use Rattle.convergence.specs.Settling.{nulls, ruleOf, ordered, midpoint, enough}
 use Rattle.terms.specs.Positions.{rounding}

@@ -23,7 +23,7 @@ use Rattle.marks.proofs.Marks.{bit-none}
 use Rattle.terms.specs.Counting.{Each, bit, AtMost}
 use Rattle.convergence.specs.Settling.{ruleOf, enough}
 use Rattle.convergence.specs.Phases.{End, Faults, lowest, highest, startEnd, after, endAfter}
-use Rattle.convergence.specs.Demand3.{AcceptedSize, FewStruck}
+use Rattle.convergence.specs.Demand3.{FewStruck}
 use Rattle.terms.proofs.Sums.{sum-same, sum-none}
 use Rattle.convergence.proofs.Same.{SameEnd, same-bounds, demand3-same}
 use Rattle.convergence.proofs.Demand3.{size-large, few-struck, kept-between-in-ring, converges}
@@ -32,7 +32,6 @@ use Rattle.head_spec.specs.declared.LastKept.{LastKept}
 use Rattle.head_spec.specs.Record.{entriesBy}
 use Rattle.head_spec.specs.Calls.{started, startedListener}
 use Rattle.head_spec.proofs.Proper.{Sized, first-round, start-accepted, start-listener-accepted}
-use Rattle.head_spec.proofs.RoundEnd.{not-last}
 use Rattle.head_spec.proofs.Hearing.{fresh-started, fresh-started-listener}
 use Rattle.ring_spec.specs.Rounds.{Round, Ring, mostRounds, roundThen, afterRound, PhaseEnd, phaseEnd, receivers, isOut, asEnd, allListeners, withEnd, firstHeads, ringAfter, endsAfter}
 use Rattle.ring_spec.specs.Converges.{FewStruckIn, noEnd, Within, RingConverges, HoldsBetween, RingKeepsBetween, RingQuiet}
@@ -40,7 +39,7 @@ use Rattle.ring_spec.proofs.Receivers.{Hears, listener-large, head-out,
 use Rattle.ring_spec.proofs.OneRound.{Ready, RingReady, heardAt}
 use Rattle.ring_spec.proofs.Closings.{after-confession, collection-next, confession-next}
 use Rattle.ring_spec.proofs.OnePhase.{faultsIn, faultsInOne, endAt, markedEnd, calm, keeps-as, phase-same, calm-one, keeps-one, round-same}
-use Rattle.ring_spec.proofs.Counts.{counted, phase-most, phase-more}
+use Rattle.ring_spec.proofs.Counts.{counted, phase-more}
 
 -- ---- the faults of a run
 

@@ -6,7 +6,7 @@ use mathlib.Core.Path.{_≡_, refl, ap, ap₂, sym, subst, _∙_}
 use mathlib.Core.Logic.{_≢_, inl}
 use mathlib.Core.Bool.{Bool, true, false, cond}
 use mathlib.Core.List.{List}
-use Prim.Native.Nat.{ℕ, _*_, _≤_, _<_}
+use Prim.Native.Nat.{ℕ, _≤_, _<_}
 use native.Mathlib.Omega.{arith}
 use lib.IntN.{ℤ}
 use borrow.Author.Tests.{le-leb}
@@ -19,7 +19,7 @@ use Rattle.terms.proofs.Sizes.{member-not-listener}
 use Rattle.marks.specs.Marks.{bitOf}
 use Rattle.entries.specs.Tables.{tableAt}
 use Rattle.terms.specs.Counting.{Each, AtMost}
-use Rattle.convergence.specs.Settling.{nulls, ruleOf, ordered, midpoint, enough}
+use Rattle.convergence.specs.Settling.{nulls, ruleOf, ordered, enough}
 use Rattle.convergence.specs.Trust.{Given, gave, hasConfessed, saysOf, trusted}
 use Rattle.convergence.specs.Trust as Trust
 use Rattle.convergence.specs.Phases.{End, Faults, gives, listOf, givenTo, entriesAt, after}

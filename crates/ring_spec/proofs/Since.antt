@@ -1,10 +1,10 @@
 -- Phases since the last strike (document 02, A10): the count of a record is the number of phase ends since the last round that marks it. A round that marks it leaves
 -- the count to a restart, which clears it; the end of a phase adds one; nothing else touches it.
-use mathlib.Core.Path.{_≡_, refl, ap, ap₂, sym, _∙_}
-use mathlib.Core.Bool.{Bool, true, false, cond, true≢false}
+use mathlib.Core.Path.{_≡_, refl, ap, sym, _∙_}
+use mathlib.Core.Bool.{Bool, true, false, cond}
 use mathlib.Core.Logic.{inl, inr}
 use mathlib.Core.List.{List, [], _∷_}
-use Prim.Native.Nat.{ℕ, zero, suc, _+_, _≤_, _<_, min}
+use Prim.Native.Nat.{ℕ, suc, _+_, _≤_, _<_, min}
 use native.Mathlib.Omega.{arith}
 use borrow.Author.Tests.{lt-ltb, le-ltb}
 use lib.Dec.{ltb}
@@ -21,10 +21,10 @@ use Rattle.head_spec.specs.declared.Head.{Head}
 use Rattle.head_spec.specs.Seats.{mostCounted}
 use Rattle.head_spec.specs.Calls.{started, startedListener, restarted, closedCollection, closedPhase}
 use Rattle.head_spec.proofs.Proper.{Sized}
-use Rattle.ring_spec.specs.Rounds.{Round, Ring, openedAt, closedAt, mostRounds, endsPhase, afterRound, receivers, isOut, isReceiver, firstHeads, ringAfter, endsSince}
-use Rattle.ring_spec.specs.Converges.{FewStruckIn, Within, countAfter, RingCounts}
+use Rattle.ring_spec.specs.Rounds.{Round, Ring, openedAt, closedAt, mostRounds, endsPhase, afterRound, receivers, isReceiver, firstHeads, ringAfter, endsSince}
+use Rattle.ring_spec.specs.Converges.{FewStruckIn, countAfter, RingCounts}
 use Rattle.ring_spec.proofs.Receivers.{Hears, listener-large, hears}
-use Rattle.ring_spec.proofs.OneRound.{RingReady, heardAt, heard-seat}
+use Rattle.ring_spec.proofs.OneRound.{heardAt, heard-seat}
 use Rattle.ring_spec.proofs.Closings.{collection-closed, confession-closed}
 use Rattle.ring_spec.proofs.Counts.{next-ends}
 use Rattle.ring_spec.proofs.Demand3.{Playable, playable, within-sized}

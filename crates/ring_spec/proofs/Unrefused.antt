@@ -4,17 +4,15 @@ use mathlib.Core.Path.{_≡_, refl, ap}
 use mathlib.Core.Logic.{_≢_}
 use mathlib.Core.Bool.{Bool, true, false}
 use mathlib.Core.List.{List}
-use Prim.Native.Nat.{ℕ, zero, suc, _≤_, _<_}
+use Prim.Native.Nat.{ℕ, _<_}
 use native.Mathlib.Omega.{arith}
 use lib.ListN.{length, getD}
 use lib.IntN.{ℤ}
 use Rattle.terms.specs.Refusals as refusal
 use Rattle.terms.specs.declared.Family.{Family}
 use Rattle.terms.specs.Sizes.{endsWith, isListener}
-use Rattle.terms.specs.Positions.{isPosition}
 use Rattle.marks.specs.Marks.{bitOf}
 use Rattle.terms.specs.Counting.{Each, AtMost}
-use Rattle.convergence.specs.Demand3.{AcceptedSize}
 use Rattle.convergence.proofs.Ends.{AllHold, held-position}
 use Rattle.frame_spec.specs.Said.{said}
 use Rattle.head_spec.specs.declared.Closed.{Closed}
