@@ -47,7 +47,7 @@ pub record Waits (p : Player) (count number marks : ℕ) (pair : Pair) : Type 0 
   pub n : p .n ≡ count
   pub listeners : p .listeners ≡ number
   pub struck : p .struck ≡ marks
-  pub last : p .last ≡ pair
+  pub last-pair : p .last-pair ≡ pair
 
 -- the size of the planted record that a piece begins with; 0 if it begins with no whole one
 abbrev pub plantSize : List ℕ → ℕ
@@ -59,7 +59,7 @@ plantPassed n m struck last s = cond (eqb (plantFault n m struck last s) 0) (pla
 
 -- whether the ring has agreed, nothing is planted in the pending round, and no record is cut or refused
 abbrev pub isSettled : Player → Bool
-isSettled p = p .agreed && p .pending && not (p .last .some) && eqb (p .have) 0 && eqb (p .fault) 0
+isSettled p = p .agreed && p .pending && not (p .last-pair .some) && eqb (p .have) 0 && eqb (p .fault) 0
 
 -- whether a piece begins with a whole round record that has no fault, in a ring that is settled
 abbrev pub isCalm : Player → List ℕ → Bool

@@ -161,7 +161,7 @@ pub struct PassResult {
 // A planted record passed: how many bytes it takes, and the last planted pair after it.
 pub struct PlantResult {
     pub used: usize,
-    pub last: Pair,
+    pub pair: Pair,
 }
 
 // The size of the planted record at the front of a piece; 0 if there is no whole one.
@@ -196,18 +196,24 @@ pub fn pass_plant(
     lengths: &mut PlantedLengths,
 ) -> PlantResult
     ensures { λ r. ⌜ r .used ≡ plantPassed n m struck last (now (rest .entry)) ⌝ }
-    ensures { λ r. ⌜ ((p : Player) → Waits p n m struck last → Passes p (now (rest .entry)) (record { player = withPairPlanted p (r .last); used = r .used })
+    ensures { λ r. ⌜ ((p : Player) → Waits p n m struck last → Passes p (now (rest .entry)) (record { player = withPairPlanted p (r .pair); used = r .used })
         (now (planted .entry)) (now (lengths .entry)) (now (planted .exit)) (now (lengths .exit))) ⌝ }
 {
     let used = plant_size(rest);
     if used == 0 {
-        return PlantResult { used: 0, last };
+        return PlantResult {
+            used: 0,
+            pair: last,
+        };
     }
     if run_judge::plant_fault(rest, n, m, struck, last) != 0 {
-        return PlantResult { used: 0, last };
+        return PlantResult {
+            used: 0,
+            pair: last,
+        };
     }
     let pair = run_record::plant_in(front(rest, used), planted, lengths);
-    PlantResult { used, last: pair }
+    PlantResult { used, pair }
 }
 
 // One step: a whole record, or bytes of one that is cut. After a fault nothing is read. How many bytes it takes is free: one at least, if
@@ -249,7 +255,7 @@ fn is_settled(p: Player) -> bool
     if !p.pending {
         return false;
     }
-    if p.last.some {
+    if p.last_pair.some {
         return false;
     }
     if p.have != 0 {

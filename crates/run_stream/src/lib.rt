@@ -56,7 +56,7 @@ fn passed(p: Player, last: Pair, used: usize) -> PassResult
 
 // Whether a planted record may come next.
 fn awaits_plants(p: Player) -> bool
-    ensures { λ r. ⌜ (r ≡ true → Waits p (p .n) (p .listeners) (p .struck) (p .last)) ⌝ }
+    ensures { λ r. ⌜ (r ≡ true → Waits p (p .n) (p .listeners) (p .struck) (p .last-pair)) ⌝ }
 {
     if p.fault != 0 {
         return false;
@@ -80,14 +80,14 @@ fn pass_plants(
     if !awaits_plants(p) {
         return PassResult { player: p, used: 0 };
     }
-    let mut last = p.last;
+    let mut last = p.last_pair;
     let mut used: usize = 0;
     let n = p.n;
     let m = p.listeners;
     let struck = p.struck;
     while used < bytes.len() {
         let one = run_piece::pass_plant(n, m, struck, last, &bytes[used..], planted, lengths);
-        last = one.last;
+        last = one.pair;
         if one.used == 0 {
             return passed(p, last, used);
         }
