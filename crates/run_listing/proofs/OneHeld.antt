@@ -25,12 +25,6 @@ module _ {e : End} {low high : Entry} (f : Found receivers e low high) where
   pub unlevelled : {ps : List ℤ} → common low high ≡ Null → (false ≡ isAgreed (heldByAll e)) × (ps ≡ levelled (heldByAll e) ps)
   unlevelled c = rw (held-as c) (refl, refl)
 
-  pub none-lowest : {ps : List ℤ} → low ≡ Null → (false ≡ isAgreed (heldByAll e)) × (ps ≡ levelled (heldByAll e) ps)
-  none-lowest l = unlevelled (rw l)
-
-  pub none-highest : {ps : List ℤ} {a : ℤ} → low ≡ Position a → high ≡ Null → (false ≡ isAgreed (heldByAll e)) × (ps ≡ levelled (heldByAll e) ps)
-  none-highest l h = unlevelled (rw (l, h))
-
   module _ {a b : ℤ} (l : low ≡ Position a) (h : high ≡ Position b) where
     pub two-positions : {ps : List ℤ} → (ofZ w32 a ≡ ofZ w32 b → ⊥) → (false ≡ isAgreed (heldByAll e)) × (ps ≡ levelled (heldByAll e) ps)
     two-positions differ = unlevelled (rw (l, h) (go (eqZ a b) (eqZ→eq a b)))

@@ -1,17 +1,17 @@
 -- `run_listing::level` meets its contract: the lowest and the highest are found, and they are one position or not.
 use denote.Ref.{now}
 use borrow.Author.Needs.{needs}
-use Rattle.run_listing.proofs.OneHeld.{none-lowest, none-highest, two-positions, one-position}
+use Rattle.run_listing.proofs.OneHeld.{unlevelled, two-positions, one-position}
 use Rattle.run_listing.proofs.level.Statement.{statement}
 use Rattle.run_listing.proofs.level.Tie as tie
 
 returns : tie.Need-returns
-returns c = none-lowest (c .before .before .ends-of .ensures) (c .enum-told .given .1)
+returns c = unlevelled (c .before .before .ends-of .ensures) (rw (c .enum-told .given .1))
 
 returns-2 : tie.Need-returns-2
 returns-2 c =
     let a = c .before .before in
-    none-highest (a .before .before .before .ends-of .ensures) (a .before .low .given .1) (c .enum-told2 .given .1)
+    unlevelled (a .before .before .before .ends-of .ensures) (rw (a .before .low .given .1, c .enum-told2 .given .1))
 
 returns-3 : tie.Need-returns-3
 returns-3 c =
