@@ -1,10 +1,11 @@
 -- `ring_play::codes::trust_codes` meets its contract: the codes are picked, from those that are left if the codes of links that confessed are dropped.
-use mathlib.Core.Path.{_≡_, refl, ap, _∙_}
+use mathlib.Core.Path.{_≡_, refl, ap, sym, _∙_}
 use mathlib.Core.Bool.{Bool, true, false, cond}
+use mathlib.Core.List.{List}
 use denote.Ref.{now}
 use lib.Dec.{leb}
-use lib.IntN.{ℤ}
-use lib.ListN.{getD}
+use lib.IntN.{ℤ, pos}
+use lib.ListN.{length, getD}
 use borrow.Author.Needs.{needs}
 use Rattle.marks.specs.Marks.{bitOf}
 use Rattle.marks.proofs.Marks.{bit-none}
