@@ -22,7 +22,7 @@ use Rattle.settle_trust.specs.declared.Links.{Links}
 use Rattle.head_spec.specs.declared.Row.{Row}
 use Rattle.head_spec.specs.declared.Head.{Head}
 use Rattle.head_spec.specs.declared.Answer.{Answer}
-use Rattle.head_spec.specs.Calls.{answer, saidTo, refusalTo, hearRefusal, withEntry, withConfession, withList, taken, hear}
+use Rattle.head_spec.specs.Calls.{answer, saidTo, refusalTo, hearRefusal, withEntry, withList, taken, hear}
 use Rattle.head_hear.specs.Steps.{linkRefusal, saidOn}
 
 -- ---- a frame that is not refused says something
@@ -118,6 +118,6 @@ module _ (h : Head) (k : ℕ) (s : List ℕ) {what : Said} (e : what ≡ saidOf 
         → l ≡ set (h .lists) k (record { entries = t .entries }) → record { refusal = 0; head = holding h heard (h .list) g l } ≡ hear h k s
     list-heard q a b d = rw (m, d, b, a) (as-said q)
 
-    pub confession-heard : {g : Links} → what ≡ Said.Confession → g ≡ withConfession (h .links) k
-        → record { refusal = 0; head = holding h heard (h .list) g (h .lists) } ≡ hear h k s
+    pub confession-heard : {c : ℕ} → what ≡ Said.Confession → c ≡ withMark (h .links .confessed) k → let g = h .links in
+        record { refusal = 0; head = holding h heard (h .list) (record { confessed = c; listed = g .listed; marks = g .marks }) (h .lists) } ≡ hear h k s
     confession-heard q a = rw (m, a) (as-said q)

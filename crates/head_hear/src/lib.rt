@@ -7,7 +7,7 @@ ghost use mathlib.Core.Path.{_≡_};
 ghost use Prim.Native.Nat.{_≤_};
 ghost use lib.ListN.{length, drop};
 ghost use Rattle.frame_spec.specs.Said.{saidOf};
-ghost use Rattle.head_spec.specs.Calls.{withEntry, withConfession, withList, hear, hearEach, answersTo};
+ghost use Rattle.head_spec.specs.Calls.{withEntry, withList, hear, hearEach, answersTo};
 ghost use Rattle.head_spec.specs.Batch.{entrySize, deliveriesOf, isBatch, batchRefusal, hearBatch, batchAnswers, batchCount};
 ghost use Rattle.head_hear.specs.Steps.{linkRefusal, saidOn};
 use frame_spec::Said;
@@ -77,15 +77,6 @@ fn with_entry(list: Table, k: usize, entry: Entry) -> Table
     }
 }
 
-// Link k has confessed.
-fn with_confession(links: Links, k: usize) -> Links
-    ensures { λ r. ⌜ r ≡ withConfession links k ⌝ }
-{
-    let mut next = links;
-    next.confessed = marks::with_mark(links.confessed, k);
-    next
-}
-
 // Link k gave a list.
 fn with_list(links: Links, k: usize, table: Table) -> Links
     ensures { λ r. ⌜ r ≡ withList links k table ⌝ }
@@ -122,7 +113,7 @@ pub fn hear(h: Head, link: u32, frame: &[u8]) -> Answer
                 next.lists[k] = Row { entries };
             }
         }
-        Said::Confession => next.links = with_confession(h.links, k),
+        Said::Confession => next.links.confessed = marks::with_mark(h.links.confessed, k),
     }
     Answer {
         refusal: 0,

@@ -44,9 +44,9 @@ returns-4 c =
 
 returns-5 : tie.Need-returns-5
 returns-5 c =
-    let t = c .before in
+    let t = c .before .before in
     let d = t .before .before in
-    confession-heard _ _ _ (d .said-on .ensures) (d .before .with-mark .ensures) (t .enum-told2 .given .1) (c .with-confession .ensures)
+    confession-heard _ _ _ (d .said-on .ensures) (d .before .with-mark .ensures) (t .enum-told2 .given .1) (c .before .with-mark2 .ensures)
 
 pub hear-spec : {M : Type 1} → statement M
 hear-spec =
