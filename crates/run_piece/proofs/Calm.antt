@@ -36,7 +36,7 @@ use Rattle.run_piece.proofs.Feeding.{stands-there}
 pub record Calm (p : Player) (s : List ℕ) : Type 0 where
   pub agreed : p .agreed ≡ true
   pub pending : p .pending ≡ true
-  pub unplanted : p .last-pair .some ≡ false
+  pub unplanted : p .pair .some ≡ false
   pub fresh : p .have ≡ 0
   pub sound : p .fault ≡ 0
   pub within : 8 ≤ length s

@@ -86,7 +86,7 @@ module _ {rest : List ℕ} {used : ℕ} (P : Plants rest used) where
 
 -- a player that waits is whole: with its own last pair it is the same
 pub waits-as : {p : Player} {count number marks : ℕ} {pair : Pair} → Waits p count number marks pair → withPairPlanted p pair ≡ p
-waits-as {p} W = ap (withPairPlanted p) (sym (W .last-pair)) ∙ sym (ap₂ (halted p) (W .fresh) (W .sound))
+waits-as {p} W = ap (withPairPlanted p) (sym (W .pair)) ∙ sym (ap₂ (halted p) (W .fresh) (W .sound))
 
 module _ {a : List ℕ} {p : Player} {before : List ℕ} {M : Memory} (L : StateAt a p before M) {count number marks : ℕ} {pair : Pair} (W : Waits p count number marks pair) where
   -- nothing is taken
@@ -108,7 +108,7 @@ module _ {a : List ℕ} {p : Player} {before : List ℕ} {M : Memory} (L : State
       let taken : (a′ : List ℕ) → PlayerOf p (readFile a′) → MemoryOf (readFile a′) M
       → Next (readFile a′) (judged plant (readFile a′) b) p M (record { player = q; text = t }) (withSlots M bytes lengths) =
       λ a′ T H.
-      let fault : recordFault plant (readFile a′) b ≡ 0 = plant-fault-as T b ∙ rw (W .n, W .listeners, W .struck, W .last-pair, from, to) sound in
+      let fault : recordFault plant (readFile a′) b ≡ 0 = plant-fault-as T b ∙ rw (W .n, W .listeners, W .struck, W .pair, from, to) sound in
       rw (judged-taken plant (readFile a′) b (sym fault) refl)
       (plant-next b H (plant-short P e) new T (ap (withPairPlanted p) l) refl) in
       rw (empty-text t refl) at

@@ -40,14 +40,14 @@ Passes p bytes r planted lengths planted′ lengths′ =
 
 -- a planted record may come next: the player has no fault and no bytes of a record, and a round is pending, with these marks and this last
 -- pair
-pub record Waits (p : Player) (count number marks : ℕ) (pair : Pair) : Type 0 where
+pub record Waits (p : Player) (count number marks : ℕ) (last : Pair) : Type 0 where
   pub sound : p .fault ≡ 0
   pub fresh : p .have ≡ 0
   pub pending : p .pending ≡ true
   pub n : p .n ≡ count
   pub listeners : p .listeners ≡ number
   pub struck : p .struck ≡ marks
-  pub last-pair : p .last-pair ≡ pair
+  pub pair : p .pair ≡ last
 
 -- the size of the planted record that a piece begins with; 0 if it begins with no whole one
 abbrev pub plantSize : List ℕ → ℕ
@@ -59,7 +59,7 @@ plantPassed n m struck last s = cond (eqb (plantFault n m struck last s) 0) (pla
 
 -- whether the ring has agreed, nothing is planted in the pending round, and no record is cut or refused
 abbrev pub isSettled : Player → Bool
-isSettled p = p .agreed && p .pending && not (p .last-pair .some) && eqb (p .have) 0 && eqb (p .fault) 0
+isSettled p = p .agreed && p .pending && not (p .pair .some) && eqb (p .have) 0 && eqb (p .fault) 0
 
 -- whether a piece begins with a whole round record that has no fault, in a ring that is settled
 abbrev pub isCalm : Player → List ℕ → Bool

@@ -255,7 +255,7 @@ fn is_settled(p: Player) -> bool
     if !p.pending {
         return false;
     }
-    if p.last_pair.some {
+    if p.pair.some {
         return false;
     }
     if p.have != 0 {

@@ -184,7 +184,7 @@ fn take_plant(
         → Next F (judged plant F (now (bytes .entry))) p (withSlots M (now (planted .entry)) (now (lengths .entry))) r (withSlots M (now (planted .exit)) (now (lengths .exit)))) ⌝ }
     ensures { λ r. ⌜ r .text .len ≤ 64 ⌝ }
 {
-    let fault = run_judge::plant_fault(bytes, p.n, p.listeners, p.struck, p.last_pair);
+    let fault = run_judge::plant_fault(bytes, p.n, p.listeners, p.struck, p.pair);
     if fault != 0 {
         return refuse(p, fault);
     }

@@ -85,7 +85,7 @@ module _ {F : File} {p : Player} (T : PlayerOf p F) where
         before = round-before s;
         struck = refl;
         amended = refl;
-        last-pair = refl;
+        pair = refl;
         fault = refl;
         agreed = agreed;
         since = round-since s;
@@ -114,7 +114,7 @@ module _ {F : File} {p : Player} (T : PlayerOf p F) where
         before = T .before;
         struck = omega (arith, T .struck);
         amended = refl;
-        last-pair = T .last-pair;
+        pair = T .pair;
         fault = refl;
         agreed = T .agreed;
         since = T .since;
@@ -138,8 +138,8 @@ module _ {F : File} {p : Player} (T : PlayerOf p F) where
   pub round-fault-as : (s : List ℕ) → recordFault round F s ≡ roundFault (p .family) (p .n) (p .f) (p .given) s
   round-fault-as s = rw (T .family, T .n, T .f, T .given)
 
-  pub plant-fault-as : (s : List ℕ) → recordFault plant F s ≡ plantFault (p .n) (p .listeners) (p .struck) (p .last-pair) s
-  plant-fault-as s = rw (T .n, T .listeners, T .struck, T .last-pair)
+  pub plant-fault-as : (s : List ℕ) → recordFault plant F s ≡ plantFault (p .n) (p .listeners) (p .struck) (p .pair) s
+  plant-fault-as s = rw (T .n, T .listeners, T .struck, T .pair)
 
   pub strikes-fault-as : (s : List ℕ) → recordFault strikes F s ≡ strikesFault (p .listeners) s
   strikes-fault-as s = rw (T .listeners)

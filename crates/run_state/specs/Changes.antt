@@ -26,7 +26,7 @@ freshPlayer begun K n f =
       before = 0;
       struck = 0;
       amended = false;
-      last-pair = lastPair [];
+      pair = lastPair [];
       have = 0;
       fault = 0;
       agreed = false;
@@ -48,7 +48,7 @@ changed p m struck amended last have fault =
       before = p .before;
       struck = struck;
       amended = amended;
-      last-pair = last;
+      pair = last;
       have = have;
       fault = fault;
       agreed = p .agreed;
@@ -57,7 +57,7 @@ changed p m struck amended last have fault =
 
 -- the same but for how many bytes of a record it has, and for its fault
 abbrev pub halted : Player → (have fault : ℕ) → Player
-halted p have fault = changed p (p .listeners) (p .struck) (p .amended) (p .last-pair) have fault
+halted p have fault = changed p (p .listeners) (p .struck) (p .amended) (p .pair) have fault
 
 -- a round more, up to the most in either family: it is pending, and before it comes the round that was pending, which is played, or what
 -- was before that if none was; agreed: whether the ring has agreed then
@@ -74,7 +74,7 @@ withRoundGiven p struck agreed =
       before = cond (p .pending) (p .struck) (p .before);
       struck = struck;
       amended = false;
-      last-pair = lastPair [];
+      pair = lastPair [];
       have = 0;
       fault = 0;
       agreed = agreed;
@@ -91,8 +91,8 @@ withPairPlanted p last = changed p (p .listeners) (p .struck) (p .amended) last 
 
 -- the number of listeners (document 02, A6)
 abbrev pub withListenersGiven : Player → ℕ → Player
-withListenersGiven p m = changed p m (p .struck) (p .amended) (p .last-pair) 0 0
+withListenersGiven p m = changed p m (p .struck) (p .amended) (p .pair) 0 0
 
 -- the struck listeners of the last round: bit j of the marks for listener 32 + j
 abbrev pub withStrikesGiven : Player → ℕ → Player
-withStrikesGiven p marks = changed p (p .listeners) (p .struck % 2 ^ 32 + 2 ^ 32 * marks) true (p .last-pair) 0 0
+withStrikesGiven p marks = changed p (p .listeners) (p .struck % 2 ^ 32 + 2 ^ 32 * marks) true (p .pair) 0 0

@@ -9,4 +9,4 @@ firstOf p = p .begun && eqb (p .given) 0 && eqb (p .listeners) 0
 
 -- nothing was accepted after the record of the pending round
 abbrev pub bareOf : Player → Bool
-bareOf p = p .pending && not (p .amended) && not (p .last-pair .some)
+bareOf p = p .pending && not (p .amended) && not (p .pair .some)

@@ -41,7 +41,7 @@ pub record PlayerOf (p : Player) (F : File) : Type 0 where
   pub before : ringBefore F .before ≡ p .before
   pub struck : F .rounds .last .struck ≡ p .struck
   pub amended : F .rounds .last .amended ≡ p .amended
-  pub last-pair : lastPair (F .rounds .last .plants) ≡ p .last-pair
+  pub pair : lastPair (F .rounds .last .plants) ≡ p .pair
   pub fault : F .fault ≡ p .fault
   pub agreed : isAgreed (agreedBefore F) ≡ p .agreed
   pub since : CountsOf (F .setup .family) (F .rounds .played) (p .since)

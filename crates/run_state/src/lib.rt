@@ -40,7 +40,7 @@ pub struct Player {
     pub pending: bool, // the last round is not yet played
     pub amended: bool, // its struck listeners were given
     pub fault: u8, // the number of the first fault, 0 for none
-    pub last_pair: Pair, // the last planted pair of the last round
+    pub pair: Pair, // the last planted pair of the last round
     pub agreed: bool, // all sound receivers held one position at a phase end that was played
     pub since: Counts, // of each head and listener, in the rounds played
 }
@@ -61,7 +61,7 @@ pub fn fresh(begun: bool, family: Family, n: u8, f: u8) -> Player
         before: 0,
         struck: 0,
         amended: false,
-        last_pair: no_pair(),
+        pair: no_pair(),
         have: 0,
         fault: 0,
         agreed: false,
@@ -204,7 +204,7 @@ pub fn given_round(p: Player, struck: u32, agreed: bool) -> Player
         before: struck_before(p),
         struck: struck as u64,
         amended: false,
-        last_pair: no_pair(),
+        pair: no_pair(),
         have: 0,
         fault: 0,
         agreed,
@@ -217,7 +217,7 @@ pub fn planted_pair(p: Player, last: Pair) -> Player
     ensures { λ r. ⌜ r ≡ withPairPlanted p last ⌝ }
 {
     let mut out = p;
-    out.last_pair = last;
+    out.pair = last;
     out.have = 0;
     out.fault = 0;
     out
@@ -246,7 +246,7 @@ pub fn is_bare(p: Player) -> bool
     if p.amended {
         return false;
     }
-    !p.last_pair.some
+    !p.pair.some
 }
 
 // The player after an accepted number of listeners.

@@ -56,7 +56,7 @@ fn passed(p: Player, last: Pair, used: usize) -> PassResult
 
 // Whether a planted record may come next.
 fn awaits_plants(p: Player) -> bool
-    ensures { λ r. ⌜ (r ≡ true → Waits p (p .n) (p .listeners) (p .struck) (p .last-pair)) ⌝ }
+    ensures { λ r. ⌜ (r ≡ true → Waits p (p .n) (p .listeners) (p .struck) (p .pair)) ⌝ }
 {
     if p.fault != 0 {
         return false;
@@ -80,7 +80,7 @@ fn pass_plants(
     if !awaits_plants(p) {
         return PassResult { player: p, used: 0 };
     }
-    let mut last = p.last_pair;
+    let mut last = p.pair;
     let mut used: usize = 0;
     let n = p.n;
     let m = p.listeners;

@@ -15,7 +15,7 @@ use Rattle.run_record.proofs.take_plant.Statement.{statement}
 use Rattle.run_record.proofs.take_plant.Tie as tie
 
 -- its fault, by the player's numbers
-fault : {F : File} {p : Player} {c : ℕ} → PlayerOf p F → (s : List ℕ) → c ≡ plantFault (p .n) (p .listeners) (p .struck) (p .last-pair) s → c ≡ recordFault plant F s
+fault : {F : File} {p : Player} {c : ℕ} → PlayerOf p F → (s : List ℕ) → c ≡ plantFault (p .n) (p .listeners) (p .struck) (p .pair) s → c ≡ recordFault plant F s
 fault T s e = e ∙ sym (plant-fault-as T s)
 
 returns : tie.Need-returns

@@ -12,7 +12,7 @@ returns-2 c e = absurd (true≢false (sym e))
 
 returns-3 : tie.Need-returns-3
 returns-3 c e =
-    record { sound = c .before .before .if1 .left; fresh = c .if2 .left; pending = e; n = refl; listeners = refl; struck = refl; last-pair = refl }
+    record { sound = c .before .before .if1 .left; fresh = c .if2 .left; pending = e; n = refl; listeners = refl; struck = refl; pair = refl }
 
 pub awaits-plants-spec : {M : Type 1} → statement M
 awaits-plants-spec = tie.close (tie.spec returns returns-2 returns-3)

@@ -37,7 +37,7 @@ loop-holds c =
 -- with another last pair it waits too
 waits : {p : Player} {n m struck : ℕ} {last : Pair} → Waits p n m struck last → (last′ : Pair) → Waits (withPairPlanted p last′) n m struck last′
 waits W last′ =
-    record { sound = refl; fresh = refl; pending = W .pending; n = W .n; listeners = W .listeners; struck = W .struck; last-pair = refl }
+    record { sound = refl; fresh = refl; pending = W .pending; n = W .n; listeners = W .listeners; struck = W .struck; pair = refl }
 
 module _ (v : tie.After-pass-plant Inv-loop μ-loop) where
   abbrev here : tie.At-loop Inv-loop μ-loop
