@@ -1,6 +1,7 @@
 // The rounds of a whole ring in which heads send positions, played on the heads' memory: a collection round, which leaves the list of each
 // head that is not struck, and a phase of one round, which leaves a position. What all unstruck heads say is heard once.
 ghost use mathlib.Core.Bool.{cond};
+ghost use mathlib.Core.List.{List};
 ghost use mathlib.Core.Path.{_≡_};
 ghost use Prim.Native.Nat.{ℕ, _<_};
 ghost use lib.ListN.{length, getD};
@@ -251,8 +252,19 @@ fn fill_positions(
     }
 }
 
+// Settles all receivers if no head is struck: they hear the same, so once.
+fn conclude_quiet(s: Stage, sent: Table, positions: &mut Positions)
+    ensures { λ _. ⌜ (s .struck ≡ 0 → (S : Shared s sent) (plant : ℕ → ℕ → List ℕ) (i : ℕ) → getD (now (positions .exit)) i (pos 0)
+        ≡ cond (settles s i)
+        (settledFrom s (tableAt (tableOf (heads s) (heardWith s (S .entry) plant i))))
+        (getD (now (positions .entry)) i (pos 0))) ⌝ }
+{
+    let position = position_of(s, sent);
+    round::fill_same(s, position, positions);
+}
+
 // A phase of one round: the new position of each receiver that is not struck, from the positions, which are in range, and what is planted.
-// The other positions stay as they were. If no head is struck, all hear the same and one settles for all.
+// The other positions stay as they were.
 pub fn conclude(s: Stage, positions: &mut Positions, planted: &[u8], lengths: &[u8])
     ensures { λ _. ⌜ (InRange s (now (positions .entry)) → (i : ℕ) → getD (now (positions .exit)) i (pos 0)
         ≡ cond (settles s i)
@@ -261,7 +273,7 @@ pub fn conclude(s: Stage, positions: &mut Positions, planted: &[u8], lengths: &[
 {
     let sent = entries_sent(s, positions);
     if s.struck == 0 {
-        round::fill_same(s, position_of(s, sent), positions);
+        conclude_quiet(s, sent, positions);
         return;
     }
     let order = settle_midpoint::order_of(sent, round::head_count(s));

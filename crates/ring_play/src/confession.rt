@@ -1,6 +1,7 @@
 // A confession round of a whole ring, played on the heads' memory: each receiver, head or listener, that is not struck settles by the same
 // functions that the head's calls are made of. What all unstruck heads say is read once.
 ghost use mathlib.Core.Bool.{cond};
+ghost use mathlib.Core.List.{List};
 ghost use mathlib.Core.Path.{_≡_};
 ghost use Prim.Native.Nat.{ℕ, _<_};
 ghost use lib.ListN.{length, getD};
@@ -10,7 +11,7 @@ ghost use Rattle.settle_trust.specs.Received.{givenBy};
 ghost use Rattle.ring_play.specs.Memory.{settles, Sayable, newPosition};
 ghost use Rattle.frame_slots.specs.Slots.{plantedIn};
 ghost use Rattle.ring_play.specs.Inner.Confession.{linksWith, rowsWith, Received, RowsKept, Unplanted, OwnLinks};
-ghost use Rattle.ring_play.specs.Inner.Planted.{givenOrPlanted, positionSettled};
+ghost use Rattle.ring_play.specs.Inner.Planted.{givenOrPlanted, positionSettled, AllSettled};
 use crate::Stage;
 use crate::round;
 use crate::shared;
@@ -156,6 +157,15 @@ fn fill_positions(
     }
 }
 
+// Settles all receivers if no head is struck: they hear the same, so once.
+fn settle_quiet(s: Stage, lists: &Lists, links: Links, positions: &mut Positions)
+    ensures { λ _. ⌜ (s .struck ≡ 0 → (plant : ℕ → ℕ → List ℕ)
+        → AllSettled s (givenBy links (now (lists .entry))) plant (now (positions .entry)) (now (positions .exit))) ⌝ }
+{
+    let position = settled(s, lists, links, first_listed(links.listed));
+    round::fill_same(s, position, positions);
+}
+
 // The same lists, to be changed.
 fn copied(lists: &Lists) -> Lists
     ensures { λ r. ⌜ r ≡ now (lists .entry) ⌝ }
@@ -164,8 +174,7 @@ fn copied(lists: &Lists) -> Lists
 }
 
 // A confession round: the new position of each receiver that is not struck, from the lists, which are such that a frame can say them, and
-// what is planted. The other positions stay as they were. If no head is struck, all hear the same and one settles for all. An honest frame
-// reads back as what it says, so none is written.
+// what is planted. The other positions stay as they were. An honest frame reads back as what it says, so none is written.
 pub fn confess(
     s: Stage,
     marks: &Words,
@@ -181,8 +190,7 @@ pub fn confess(
 {
     let links = links_of(s, marks);
     if s.struck == 0 {
-        let position = settled(s, lists, links, first_listed(links.listed));
-        round::fill_same(s, position, positions);
+        settle_quiet(s, lists, links, positions);
         return;
     }
     if shared::settle_all(s, lists, links, planted, lengths, positions) {

@@ -13,7 +13,6 @@ use Rattle.terms.specs.declared.Entry.{Entry}
 use Rattle.terms.specs.declared.Entry.the-variants.{Null}
 use Rattle.terms.specs.declared.Table.{Table}
 use Rattle.marks.specs.Marks.{bitOf}
-use Rattle.marks.proofs.Marks.{bit-none}
 use Rattle.entries.specs.Tables.{mark, valueOf, marksOf, valuesOf, tableOf}
 use Rattle.entries.proofs.Tables.{marks-same, numbers-same, table-same, put, put-same, put-other, numbers-put, marks-sum, marks-room}
 use Rattle.frame_spec.specs.Said.{collected, said}
@@ -153,12 +152,6 @@ pub position-settled : (s : Stage) (t : Table) {n r : ℕ} {x : Settled} → n �
     → x ≡ settling r n (oneRoundRule (s .f)) (tableAt t) → positionOf x ≡ settledFrom s (tableAt t)
 unfolding settledFrom
 position-settled s t p q e = ap positionOf (rw (p, q) at e)
-
--- if no head is struck, what is planted is heard by no one
-pub quiet-settled : (s : Stage) (t : Table) (S : Shared s t) (plant : ℕ → ℕ → List ℕ) (i : ℕ) → s .struck ≡ 0
-    → settledFrom s (tableAt t) ≡ settledFrom s (tableAt (tableOf (heads s) (heardWith s (S .entry) plant i)))
-unfolding heardWith
-quiet-settled s t S plant i z = ap (λ (u : Table). settledFrom s (tableAt u)) (S .is ∙ table-same (heads s) _ _ (λ k l. rw (ap (λ (m : ℕ). bitOf m k) z ∙ bit-none k) refl))
 
 pub concluded : (s : Stage) (positions : List ℤ) → s .phase < 65536 → InRange s positions → (plant : ℕ → ℕ → List ℕ) (i : ℕ)
     → settledFrom s (tableAt (tableOf (heads s) (heardWith s (sentBy s positions) plant i))) ≡ heardPosition s positions plant i

@@ -1,6 +1,6 @@
 -- What a receiver settles in a confession round: the unstruck heads give all alike, and the struck ones what is planted.
 use mathlib.Core.Path.{_≡_, refl, ap, sym, _∙_, fun-ext}
-use mathlib.Core.Bool.{Bool, true, false, not, cond, _&&_, and-false, true≢false}
+use mathlib.Core.Bool.{Bool, true, false, not, cond, _&&_, true≢false}
 use mathlib.Core.List.{List}
 use Prim.Native.Nat.{ℕ, _<_}
 use native.Mathlib.Omega.{arith}
@@ -10,7 +10,6 @@ use borrow.Author.Tests.{lt-ltb}
 use Rattle.terms.specs.Positions.{isPosition, rounding}
 use Rattle.terms.specs.declared.Entry.the-variants.{Position}
 use Rattle.marks.specs.Marks.{bitOf}
-use Rattle.marks.proofs.Marks.{bit-none}
 use Rattle.convergence.specs.Settling.{twoRoundRule}
 use Rattle.convergence.specs.Trust.{Given, nothing, saysOf, trusted}
 use Rattle.convergence.proofs.Support.{not-null}
@@ -40,14 +39,6 @@ pub settled-received : (s : Stage) (g : Links) (rows : List (List ℤ)) (G : ℕ
 settled-received s g rows G h = ap (positionSettled s) (fun-ext (h .gives))
 
 -- ---- what is planted
-
--- if no head is struck, it is heard by no one
-pub quiet-given : (s : Stage) (G : ℕ → Given) (plant : ℕ → ℕ → List ℕ) (i : ℕ) → s .struck ≡ 0 → G ≡ givenOrPlanted s G plant i
-unfolding givenOrPlanted
-quiet-given s G plant i z = fun-ext (λ k. quiet-at (ltb k (heads s)) _ (G k) (ap (λ (m : ℕ). bitOf m k) z ∙ bit-none k))
-  where
-    quiet-at : {A : Type 0} (a : Bool) {b : Bool} (x y : A) → b ≡ false → y ≡ cond (a && b) x y
-    quiet-at a x y e = rw (e, and-false a) refl
 
 -- g gives the same with other rows
 module _ (s : Stage) (g : Links) (rows rows′ : List (List ℤ)) (h : RowsKept g rows rows′) where

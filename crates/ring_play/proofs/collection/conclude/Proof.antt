@@ -5,7 +5,6 @@ use mathlib.Core.Bool.{cond}
 use Prim.Native.Nat.{ℕ}
 use lib.ListN.{getD}
 use lib.IntN.{ℤ, pos}
-use mir.Facts.{toZ-ofZ}
 use denote.Ref.{now}
 use borrow.Author.Needs.{needs}
 use Rattle.entries.specs.Tables.{tableAt, tableOf}
@@ -15,7 +14,7 @@ use Rattle.ring_play.specs.Memory.{heads, settles, InRange, heardPositio
 use Rattle.frame_slots.specs.Slots.{plantedIn}
 use Rattle.ring_play.specs.Inner.Collection.{heardWith, Shared, settledFrom}
 use Rattle.ring_play.proofs.round.Frames.{phase-small}
-use Rattle.ring_play.proofs.collection.Lists.{sent-shared, quiet-settled, concluded}
+use Rattle.ring_play.proofs.collection.Lists.{sent-shared, concluded}
 use Rattle.ring_play.proofs.collection.conclude.Statement.{statement}
 use Rattle.ring_play.proofs.collection.conclude.Tie as tie
 
@@ -39,14 +38,10 @@ module _ (e : tie.After-entries-sent) where
 -- no head is struck
 returns : tie.Need-returns
 returns c fit i =
-    let p = c .before .before in
-    let t = p .before in
+    let t = c .before .before in
     let e = t .before .before in
     let a = start e .args in
-    c .fill-same .ensures i
-    ∙ ap (λ (x : ℤ). cond (settles (a .s) i) x (getD (now (a .positions)) i (pos 0)))
-    (toZ-ofZ (record { sfits = p .position-of .ok }) ∙ p .position-of .ensures ∙ quiet-settled (a .s) _ (shared e) (plantedIn (now (a .planted)) (now (a .lengths))) i (t .if1 .taken))
-    ∙ is-new e fit i
+    c .conclude-quiet .ensures (t .if1 .taken) (shared e) (plantedIn (now (a .planted)) (now (a .lengths))) i ∙ is-new e fit i
 
 fill-positions-requires : tie.Need-fill-positions-requires
 fill-positions-requires c κs =
@@ -63,4 +58,4 @@ returns-2 c fit i =
     c .fill-positions .ensures (shared e) i ∙ is-new e fit i
 
 pub conclude-spec : {M : Type 1} → statement M
-conclude-spec = tie.close (tie.spec (λ c κs. search needs) (λ c κs. search needs) (λ c κs. search needs) returns (λ c κs. search needs) (λ c κs. search needs) fill-positions-requires returns-2)
+conclude-spec = tie.close (tie.spec (λ c κs. search needs) (λ c κs. search needs) returns (λ c κs. search needs) (λ c κs. search needs) fill-positions-requires returns-2)

@@ -4,7 +4,6 @@ use mathlib.Core.Path.{_≡_, _∙_, ap}
 use mathlib.Core.Bool.{cond}
 use mathlib.Core.List.{List}
 use Prim.Native.Nat.{ℕ}
-use mir.Facts.{toZ-ofZ}
 use denote.Ref.{now}
 use borrow.Author.Needs.{needs}
 use lib.ListN.{getD, length}
@@ -17,7 +16,7 @@ use Rattle.frame_slots.specs.Slots.{plantedIn}
 use Rattle.ring_play.proofs.round.Frames.{phase-small}
 use Rattle.ring_play.specs.Inner.Confession.{givenAlike}
 use Rattle.ring_play.proofs.confession.Honest.{own-given, own-untold}
-use Rattle.ring_play.proofs.confession.Settling.{quiet-given, alike-given, new-settled}
+use Rattle.ring_play.proofs.confession.Settling.{alike-given, new-settled}
 use Rattle.ring_play.proofs.confession.confess.Statement.{statement}
 use Rattle.ring_play.proofs.confession.confess.Tie as tie
 
@@ -47,15 +46,9 @@ module _ (c : tie.After-links-of) where
 -- no head is struck
 returns : tie.Need-returns
 returns c fit i =
-    let p = c .before .before in
-    let t = p .before .before in
+    let t = c .before .before in
     let l = t .before .before in
-    let a = start l .args in
-    let had = getD (now (a .positions)) i (pos 0) in
-    c .fill-same .ensures i
-    ∙ ap (λ (x : ℤ). cond (settles (a .s) i) x had)
-    (toZ-ofZ (record { sfits = p .settled .ok }) ∙ p .settled .ensures ∙ ap (positionSettled (a .s)) (quiet-given (a .s) (givenBy (links l) (now (a .lists))) (plant l) i (t .if1 .taken)))
-    ∙ new-is l fit i had
+    c .settle-quiet .ensures (t .if1 .taken) (plant l) i ∙ new-is l fit i (getD (now (start l .args .positions)) i (pos 0))
 
 returns-2 : tie.Need-returns-2
 returns-2 c fit i =
@@ -83,4 +76,4 @@ returns-3 c fit i =
     c .fill-positions .ensures i ∙ rw (k .copied .ensures, t .settle-all .ensures .stays (e .if2 .left)) (new-is l fit i (getD (now (a .positions)) i (pos 0)))
 
 pub confess-spec : {M : Type 1} → statement M
-confess-spec = tie.close (tie.spec (λ c κs. search needs) (λ c κs. search needs) (λ c κs. search needs) (λ c κs. search needs) returns (λ c κs. search needs) returns-2 (λ c κs. search needs) fill-positions-requires returns-3)
+confess-spec = tie.close (tie.spec (λ c κs. search needs) (λ c κs. search needs) returns (λ c κs. search needs) returns-2 (λ c κs. search needs) fill-positions-requires returns-3)
