@@ -126,7 +126,7 @@ module _ {F : File} {p : Player} (T : PlayerOf p F) where
   first-as = rw (T .begun, T .given, T .listeners)
 
   pub bare-as : isBare (F .rounds) ≡ bareOf p
-  bare-as = rw (T .pending, T .amended, ← T .last, no-plants (F .rounds .last .plants))
+  bare-as = rw (T .pending, T .amended, ← T .pair, no-plants (F .rounds .last .plants))
     where
       no-plants : (xs : List Plant) → eqb (length xs) 0 ≡ not (lastPair xs .some)
       no-plants [] = refl
