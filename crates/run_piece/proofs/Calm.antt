@@ -93,7 +93,7 @@ module _ {p q : Player} {s : List ℕ} {t : Text} {M : Memory} (C : Calm p s) (i
       let begun = cost a .begun pending in
       let W = played-turns b begun pending (P a begun pending T H) in
       let fault : recordFault round (readFile a) b ≡ 0 = round-fault-as T b ∙ fault-front (p .family) (p .n) (p .f) (p .given) s ∙ C .faultless in
-      let none = none-planted (readFile a .rounds .last .plants) (ap (λ (x : Pair). x .some) (T .last) ∙ C .unplanted) in
+      let none = none-planted (readFile a .rounds .last .plants) (ap (λ (x : Pair). x .some) (T .pair) ∙ C .unplanted) in
       rw (judged-taken round (readFile a) b (sym fault) refl)
       (round-next {r = r} b {M′ = M} {bytes = M .planted} {lengths = M .lengths} (W .shows) (still-agreed a M begun T (W .holds) (C .agreed)) room
       (λ k i l m j. H .slots pending k i l (rw (T .n) m) j ∙ none k i) T

@@ -8,6 +8,7 @@ use Rattle.run_spec.specs.Listing.{shown}
 use Rattle.run_state.specs.declared.Player.{Player}
 use Rattle.run_state.specs.Memory.{Memory}
 use Rattle.run_piece.specs.Advances.{StateAt}
+use Rattle.run_stream.specs.Pages.{pageSize}
 use Rattle.run_program.specs.declared.Stage.{Stage}
 use Rattle.run_program.specs.declared.Program.{Program}
 use Rattle.run_program.specs.Calls.{unwritten, unplayed}
@@ -28,7 +29,7 @@ pub record Between (a out : List ℕ) (p : Program) (piece page carry : List ℕ
   pub read : played ++ unplayed p piece ≡ a
   pub shows : out ++ unwritten p page ≡ shown (readFile played)
   pub here : p .end ≤ length piece
-  pub room : p .to ≤ 4096
+  pub room : p .to ≤ pageSize
 
 -- before a page is turned: of the piece, or the last
 pub data Turning (a out : List ℕ) (p : Program) (piece page carry : List ℕ) (M : Memory) : Type 0 where

@@ -1,9 +1,9 @@
 // What comes of it when the system did what it was asked for: the bytes that it read are played, page by page.
 ghost use mathlib.Core.Bool.{true};
-ghost use mathlib.Core.List.{List};
+ghost use mathlib.Core.List.{List, _++_};
 ghost use mathlib.Core.Path.{_≡_};
 ghost use Prim.Native.Nat.{ℕ, _+_, _≤_};
-ghost use lib.ListN.{length};
+ghost use lib.ListN.{length, take};
 ghost use Rattle.run_state.specs.Memory.{memoryBefore, memoryAfter};
 ghost use Rattle.run_program.specs.Calls.{part, unwritten, fits, stageAfter, readThen, writtenThen};
 ghost use Rattle.run_program.specs.Running.{Running};
@@ -100,6 +100,44 @@ fn play_on(
     placed(player, Stage::Going, at + filled.used, end, filled.len)
 }
 
+// After a read: the bytes that came are played, or the last page is filled. (A function of its own, so that the compiler leaves `play_on`
+// one: a file with liars is played in 2 percent less time.)
+fn go_on_read(
+    program: Program,
+    k: usize,
+    piece: &[u8],
+    page: &mut Page,
+    carry: &mut Carry,
+    positions: &mut Positions,
+    marks: &mut Words,
+    lists: &mut Lists,
+    planted: &mut PlantedBytes,
+    lengths: &mut PlantedLengths,
+) -> Program
+    requires { ⌜ fits (Did.Read k) program (length (now piece)) ≡ true ⌝ }
+    ensures { λ r. ⌜ r .stage ≡ stageAfter (Did.Read k) (program .stage) ⌝ }
+    ensures { λ r. ⌜ ((a out : List ℕ)
+        → Running a out program (now (piece .entry)) (now (page .entry)) (now (carry .entry)) (memoryBefore positions marks lists planted lengths)
+        → Running (a ++ take k (now (piece .entry))) out r (now (piece .entry)) (now (page .exit)) (now (carry .exit)) (memoryAfter positions marks lists planted lengths)) ⌝ }
+{
+    let player = program.player;
+    if k == 0 {
+        let len = last_page(player, page, positions, marks, lists, planted, lengths);
+        return placed(player, Stage::Last, 0, 0, len);
+    }
+    play_on(
+        placed(player, Stage::Going, 0, k, 0),
+        piece,
+        page,
+        carry,
+        positions,
+        marks,
+        lists,
+        planted,
+        lengths,
+    )
+}
+
 // The system did what it was asked for. First comes the title, and after the end of the input the last page.
 pub(crate) fn go_on(
     program: Program,
@@ -120,29 +158,23 @@ pub(crate) fn go_on(
         → Running (readThen did a (now (piece .entry))) (writtenThen did out (unwritten program (now (page .entry)))) r
         (now (piece .entry)) (now (page .exit)) (now (carry .exit)) (memoryAfter positions marks lists planted lengths)) ⌝ }
 {
-    let player = program.player;
     match did {
         Did::Nothing => {
             let len = run_stream::first_page(page);
-            placed(player, Stage::Going, 0, 0, len)
+            placed(program.player, Stage::Going, 0, 0, len)
         }
-        Did::Read(k) => {
-            if k == 0 {
-                let len = last_page(player, page, positions, marks, lists, planted, lengths);
-                return placed(player, Stage::Last, 0, 0, len);
-            }
-            play_on(
-                placed(player, Stage::Going, 0, k, 0),
-                piece,
-                page,
-                carry,
-                positions,
-                marks,
-                lists,
-                planted,
-                lengths,
-            )
-        }
+        Did::Read(k) => go_on_read(
+            program,
+            k,
+            piece,
+            page,
+            carry,
+            positions,
+            marks,
+            lists,
+            planted,
+            lengths,
+        ),
         Did::Wrote(k) => play_on(
             advanced(program, k),
             piece,
