@@ -67,7 +67,7 @@ fn run(
 
 fn main() {
     let mut piece = [0u8; PIECE];
-    let mut page = io::buffer();
+    let mut page = [0u8; run_stream::PAGE];
     let mut carry = [0u8; run_state::CARRY];
     let mut positions = [0i32; RECEIVERS];
     let mut marks = [0u32; HEADS];

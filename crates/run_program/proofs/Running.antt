@@ -16,7 +16,7 @@ use Rattle.run_state.specs.declared.Player.{Player}
 use Rattle.run_state.specs.Memory.{Memory}
 use Rattle.run_piece.specs.Advances.{StateAt, Advances}
 use Rattle.run_stream.specs.declared.FillResult.{FillResult}
-use Rattle.run_stream.specs.Pages.{Fills}
+use Rattle.run_stream.specs.Pages.{Fills, pageSize}
 use Rattle.run_stream.specs.Ends.{Ends}
 use Rattle.run_stream.proofs.Cutting.{shown-first}
 use Rattle.run_program.specs.declared.Stage.{Stage}
@@ -86,7 +86,7 @@ reading p e = go (p .stage) (ltb (p .from) (p .to)) refl e
 
 -- ---- the first page
 
-pub opens : {a out : List ℕ} {p : Player} {carry : List ℕ} {M : Memory} (to : ℕ) (piece page : List ℕ) → Opens a out p carry M → to ≤ 4096 → take to page ≡ title
+pub opens : {a out : List ℕ} {p : Player} {carry : List ℕ} {M : Memory} (to : ℕ) (piece page : List ℕ) → Opens a out p carry M → to ≤ pageSize → take to page ≡ title
     → Plays a out (placed p Stage.Going 0 0 to) piece page carry M
 opens to piece page O room t =
     record {
@@ -174,7 +174,7 @@ module _ {a out : List ℕ} {p : Program} {piece page carry : List ℕ} {M : Mem
       }
 
   -- at the end
-  pub input-ended : {page′ : List ℕ} {M′ : Memory} (to : ℕ) → to ≤ 4096 → ((b c : List ℕ) → StateAt b (p .player) c M → Ends b M (take to page′) M′)
+  pub input-ended : {page′ : List ℕ} {M′ : Memory} (to : ℕ) → to ≤ pageSize → ((b c : List ℕ) → StateAt b (p .player) c M → Ends b M (take to page′) M′)
       → Closes (a ++ []) out (placed (p .player) Stage.Last 0 0 to) page′
   input-ended {page′} to room E =
       let e = E (P .played) carry (P .state) in

@@ -6,7 +6,7 @@ use Rattle.run_stream.specs.declared.FillResult.{FillResult}
 
 -- the bytes of a page
 abbrev pub pageSize : ℕ
-pageSize = 4096
+pageSize = 16384
 
 -- of these bytes: all of them, or as many as leave the page no room for another line, which has 64 bytes at most
 pub record Fills (bytes : List ℕ) (r : FillResult) : Type 0 where

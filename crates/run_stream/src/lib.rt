@@ -27,8 +27,8 @@ use terms::Words;
 use terms::refusal;
 use texts::Text;
 
-// A page of the listing, of 64 lines at least.
-pub const PAGE: usize = 4096;
+// A page of the listing, of 256 lines at least.
+pub const PAGE: usize = 16384;
 
 pub type Page = [u8; PAGE];
 

@@ -5,6 +5,7 @@ use lib.ListN.{length, take}
 use denote.Ref.{now}
 use borrow.Author.Needs.{needs}
 use borrow.Author.Tests.{leb-true, leb-false}
+use Rattle.run_stream.specs.Pages.{pageSize}
 use Rattle.run_stream.proofs.Pieces.{Reached, at-first, moved, moved-within, one-more, more-then, text-as}
 use Rattle.run_stream.proofs.fill.Statement.{statement}
 use Rattle.run_stream.proofs.fill.Tie as tie
@@ -16,7 +17,7 @@ Inv-loop bytes page₀ carry₀ positions₀ marks₀ lists₀ planted₀ length
     player
     carry (record { positions = positions; marks = marks; lists = lists; planted = planted; lengths = lengths })
     used (take len page)
-    × (len ≤ 4096) × (0 < len → 0 < used)
+    × (len ≤ pageSize) × (0 < len → 0 < used)
 
 abbrev μ-loop : tie.MeasureT-loop
 μ-loop bytes page₀ carry₀ positions₀ marks₀ lists₀ planted₀ lengths₀ player₀ used₀ len₀ page carry positions marks lists planted lengths player used len =
@@ -47,7 +48,7 @@ put-requires c κs =
     (omega (arith, leb-true, c .put-arg .given .0 .1), room)
 
 -- the page after the line of that step has room for one more
-filled : (u : tie.After-put Inv-loop μ-loop) → u .put .result ≤ 4096
+filled : (u : tie.After-put Inv-loop μ-loop) → u .put .result ≤ pageSize
 filled u =
     let v = u .before .before .before .before .before in
     omega (arith, leb-true, u .put .ensures .0, v .feed .ensures .0 .2)

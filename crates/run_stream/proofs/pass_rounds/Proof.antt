@@ -7,6 +7,7 @@ use lib.ListN.{length, take}
 use denote.Ref.{now}
 use borrow.Author.Needs.{needs}
 use borrow.Author.Tests.{not-false, leb-true}
+use Rattle.run_stream.specs.Pages.{pageSize}
 use Rattle.run_state.specs.Changes.{withRoundGiven}
 use Rattle.run_piece.proofs.Calm.{Calm, calm-as, calm-there}
 use Rattle.run_stream.specs.Inner.{Follows}
@@ -16,7 +17,7 @@ use Rattle.run_stream.proofs.pass_rounds.Tie as tie
 
 abbrev Inv-loop : tie.InvT-loop
 Inv-loop bytes page₀ from positions player₀ used₀ len₀ page player used len =
-    (used ≤ length bytes) × (len ≤ 4096) × Follows player₀ bytes positions (take from page₀) player used (take len page)
+    (used ≤ length bytes) × (len ≤ pageSize) × Follows player₀ bytes positions (take from page₀) player used (take len page)
 
 abbrev μ-loop : tie.MeasureT-loop
 μ-loop bytes page₀ from positions player₀ used₀ len₀ page player used len = length bytes - used
