@@ -25,13 +25,15 @@ pub type Carry = [u8; CARRY];
 // Phases since the last strike (document 02, A10): of heads at places 0 to 31, of listeners at 32 to 47.
 pub type Counts = [u8; RECEIVERS];
 
-// What has been read of a run file, but for the heads' memory. The order of the fields leaves no gap between them: the compiler copies a
-// gap in parts that overlap, which made the player slower (D16c).
+// What has been read of a run file, but for the heads' memory. The order of the fields is for speed (D16c): it leaves no gap between them,
+// which the compiler would copy in parts that overlap.
 pub struct Player {
+    pub have: usize, // how many bytes of the record that is not yet whole
     pub before: u64, // who was struck in the round before the last: bits 0 to 31 heads, 32 to 47 listeners
     pub struck: u64, // who is struck in the last
-    pub have: usize, // how many bytes of the record that is not yet whole
     pub given: u32, // rounds given
+    pub pair: Pair, // the last planted pair of the last round
+    pub agreed: bool, // all sound receivers held one position at a phase end that was played
     pub begun: bool, // a start was accepted
     pub family: Family, // by its kind
     pub n: u8,
@@ -40,8 +42,6 @@ pub struct Player {
     pub pending: bool, // the last round is not yet played
     pub amended: bool, // its struck listeners were given
     pub fault: u8, // the number of the first fault, 0 for none
-    pub pair: Pair, // the last planted pair of the last round
-    pub agreed: bool, // all sound receivers held one position at a phase end that was played
     pub since: Counts, // of each head and listener, in the rounds played
 }
 
