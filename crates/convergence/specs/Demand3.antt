@@ -25,7 +25,7 @@ HeldBetween Null high (Position u) = ⊥
 HeldBetween (Position low) Null (Position u) = ⊥
 
 -- a kept range, from its lowest entry to its highest, lies between the lowest and the highest (document 02, A2)
-abbrev pub KeptBetween : Entry → Entry → ℤ → ℤ → Type 0
+abbrev pub KeptBetween : (low high : Entry) (a b : ℤ) → Type 0
 KeptBetween (Position low) (Position high) a b = (low ≤ℤ a) × (a ≤ℤ b) × (b ≤ℤ high)
 KeptBetween Null high a b = ⊥
 KeptBetween (Position low) Null a b = ⊥

@@ -38,26 +38,26 @@ pub record Faults : Type 0 where
 
 -- What a link gives, by whether its head is struck in this round, and whether it was in the round before: a struck head what it likes; one
 -- that is healed, struck in the round before only, that it is; a healthy one, struck in neither, what it has to say.
-abbrev pub gives : {A : Type 0} → Bool → Bool → A → A → A → A
+abbrev pub gives : {A : Type 0} (struck before : Bool) (likes healed says : A) → A
 gives true before likes healed says = likes
 gives false true likes healed says = healed
 gives false false likes healed says = says
 
 -- A round in which heads send positions, and in which these are struck: what link k gives receiver i. A healthy head sends its position, a
 -- healed one silence (Q80).
-abbrev pub heardFrom : (ℕ → Bool) → End → Faults → ℕ → ℕ → Entry
+abbrev pub heardFrom : (struck : ℕ → Bool) (e : End) (F : Faults) (i k : ℕ) → Entry
 heardFrom struck e F i k = gives (struck k) (e .struck k) (F .sent k i) Null (e .at k)
 
 -- Collection round: entry k of the list that receiver i fills.
-unfoldable pub listOf : End → Faults → ℕ → ℕ → Entry
+unfoldable pub listOf : (e : End) (F : Faults) (i k : ℕ) → Entry
 listOf e F i k = heardFrom (F .struckInCollection) e F i k
 
 -- Confession round: what link k gives receiver i. A healed head sends a confession, any other unstruck head its list.
-unfoldable pub givenTo : End → Faults → ℕ → ℕ → Given
+unfoldable pub givenTo : (e : End) (F : Faults) (i k : ℕ) → Given
 givenTo e F i k = gives (F .struckInConfession k) (F .struckInCollection k) (F .replied k i) confessed (gave (listOf e F k))
 
 -- the entries from which receiver i settles: in a phase of two rounds those that it trusts, in one of one round those that it hears
-unfoldable pub entriesAt : Family → ℕ → ℕ → End → Faults → ℕ → ℕ → Entry
+unfoldable pub entriesAt : (K : Family) (n f : ℕ) (e : End) (F : Faults) (i k : ℕ) → Entry
 entriesAt TwoRounds n f e F i = trusted n f (givenTo e F i)
 entriesAt OneRound n f e F i = heardFrom (F .struckInConfession) e F i
 
@@ -66,7 +66,7 @@ unfoldable pub after : (K : Family) (r n f : ℕ) (e : End) (F : Faults) → End
 after K r n f e F = record { struck = F .struckInConfession; at = λ i. settled r n (ruleOf K f) (entriesAt K n f e F i) }
 
 -- the end of phase p; end 0 is the start
-unfoldable pub endAfter : Family → ℕ → ℕ → (ℕ → ℤ) → (ℕ → Faults) → ℕ → End
+unfoldable pub endAfter : (K : Family) (n f : ℕ) (v : ℕ → ℤ) (F : ℕ → Faults) (phase : ℕ) → End
 endAfter K n f v F zero = startEnd n v
 endAfter K n f v F (suc p) = after K (rounding (suc p)) n f (endAfter K n f v F p) (F (suc p))
 

@@ -27,7 +27,7 @@ supports j u confessed = 1
 supports j u (gave l) = is u (l j)
 
 -- the support of u for head j among n links (P24)
-unfoldable pub support : ℕ → (ℕ → Given) → ℕ → ℤ → ℕ
+unfoldable pub support : (n : ℕ) (G : ℕ → Given) (j : ℕ) (u : ℤ) → ℕ
 support n G j u = sum n (λ k. supports j u (G k))
 
 -- a link that gave nothing has not confessed (P22)
@@ -85,7 +85,7 @@ choose false false many = Null
 
 -- Trusted entry j: u, if u alone has support n - f or more and link j has not confessed, and else null (`trusted-iff`, in
 -- proofs/Support.antt). With n - f confessions or more every position has the support, so none has it alone (P23, D9).
-unfoldable pub trusted : ℕ → ℕ → (ℕ → Given) → ℕ → Entry
+unfoldable pub trusted : (n f : ℕ) (G : ℕ → Given) (j : ℕ) → Entry
 trusted n f G j =
     choose (hasConfessed (G j)) (leb (n - f) (confessions n G))
     (seen (λ u. leb (n - f) (support n G j u)) n (λ k. saysOf j (G k)))

@@ -19,5 +19,5 @@ commonRefusal K p r k s =
     check (eqb (roundOf K) r) refusal.other-round (check (eqb (senderField s) k) refusal.sender-is-not-link (check (eqb (phaseField s) p) refusal.other-phase 0))
 
 -- what a frame of a kind says, if checks gave a number
-abbrev pub saidUnless : ℕ → Kind → ℕ → List ℕ → Said
+abbrev pub saidUnless : (number : ℕ) (K : Kind) (n : ℕ) (t : List ℕ) → Said
 saidUnless number K n t = saidOf (unlessRefused refused number (meaning K n t))

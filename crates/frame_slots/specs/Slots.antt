@@ -20,7 +20,7 @@ unfoldable pub slot : List ℕ → List ℕ → ℕ → List ℕ
 slot bytes lengths k = take (getD lengths k 0) (drop (slotSize * k) bytes)
 
 -- the bytes planted on the link from head k to receiver i: slot 48 k + i
-abbrev pub plantedIn : List ℕ → List ℕ → ℕ → ℕ → List ℕ
+abbrev pub plantedIn : (bytes lengths : List ℕ) (k i : ℕ) → List ℕ
 plantedIn bytes lengths k i = slot bytes lengths (slotsEach * k + i)
 
 -- whether bytes are planted on the link from k to i: the links of 32 heads to 48 receivers, and 140 bytes at most
@@ -28,10 +28,10 @@ abbrev pub isPlantable : ℕ → ℕ → List ℕ → Bool
 isPlantable k i b = ltb k 32 && ltb i slotsEach && leb (length b) slotSize
 
 -- the bytes of all slots, and their lengths, with b planted on that link; as they were if it cannot be
-unfoldable pub withPlanted : List ℕ → ℕ → ℕ → List ℕ → List ℕ
+unfoldable pub withPlanted : (bytes : List ℕ) (k i : ℕ) (b : List ℕ) → List ℕ
 withPlanted bytes k i b = cond (isPlantable k i b) (copied bytes (slotSize * (slotsEach * k + i)) b) bytes
 
-unfoldable pub withLength : List ℕ → ℕ → ℕ → List ℕ → List ℕ
+unfoldable pub withLength : (lengths : List ℕ) (k i : ℕ) (b : List ℕ) → List ℕ
 withLength lengths k i b = cond (isPlantable k i b) (set lengths (slotsEach * k + i) (length b)) lengths
 
 -- read back, with b planted from k to i: on that link b, and on every other such link, if its slot has at most 140 bytes, what was there

@@ -54,7 +54,7 @@ entryIn zero v = Entry.Null
 entryIn (suc b) v = Entry.Position v
 
 -- a kept range, if one is held
-abbrev pub rangeIn : ℕ → ℤ → ℤ → ℕ → ℤ → LastKept
+abbrev pub rangeIn : (some : ℕ) (low high : ℤ) (trim : ℕ) (position : ℤ) → LastKept
 rangeIn zero low high trim position = LastKept.Nothing
 rangeIn (suc b) low high trim position = LastKept.Range (record { low = low; high = high; trim = trim; position = position })
 
@@ -145,7 +145,7 @@ withRegisters b w = set (set w place.events (b .events)) place.mask (b .mask)
 
 -- ---- the offer (document 02, A8). If word 18 is 0 there is none, and words 19 to 22 are not looked at.
 
-abbrev pub offerIn : ℕ → ℤ → ℤ → ℕ → ℤ → Offer
+abbrev pub offerIn : (some : ℕ) (low high : ℤ) (trim : ℕ) (middle : ℤ) → Offer
 offerIn zero low high trim middle = Offer.Nothing
 offerIn (suc x) low high trim middle = Offer.Standing (record { low = low; high = high; trim = trim; position = middle })
 

@@ -107,7 +107,7 @@ hearRefusal h k s =
     (refusalTo (h .seat) k s)))
 
 -- link k heard: the list that is being filled, which links confessed or gave a list, and the lists
-abbrev pub hold : Head → ℕ → Table → Links → List Row → Head
+abbrev pub hold : (h : Head) (k : ℕ) (t : Table) (g : Links) (l : List Row) → Head
 hold h k t g l = record { seat = h .seat; heard = withMark (h .heard) k; list = t; links = g; lists = l }
 
 -- entry k of the list that is being filled

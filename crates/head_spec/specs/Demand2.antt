@@ -78,7 +78,7 @@ firstSaid x k (d ∷ D) = cond (eqb (d .link) k) (orElse (saidTo x k (d .bytes))
 
 -- the entries from which a phase end settles, by what each link said in its last round: those that are trusted, or in a ring of one round
 -- those that were said
-abbrev pub entriesFrom : Family → Seat → List Delivery → ℕ → Entry
+abbrev pub entriesFrom : (K : Family) (x : Seat) (D : List Delivery) (k : ℕ) → Entry
 entriesFrom TwoRounds x D = trusted (x .n) (x .f) (λ k. givenOf (firstSaid x k D))
 entriesFrom OneRound x D = λ k. heardEntry (firstSaid x k D)
 

@@ -86,7 +86,7 @@ abbrev pub readRefusal : ℕ → ℕ
 readRefusal at = check (ltb at 16) refusal.no-such-register 0
 
 -- the byte, or what was where it is to go
-abbrev pub byteRead : Seat → Registers → ℕ → ℕ → ℕ
+abbrev pub byteRead : (s : Seat) (b : Registers) (at old : ℕ) → ℕ
 byteRead s b at old = leaves (readRefusal at) (getD (window s b) at 0) old
 
 -- ---- writing a byte: 16 but for bytes 10 and 11

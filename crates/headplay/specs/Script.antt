@@ -36,7 +36,7 @@ opening c s h =
     (restartListener h (familyAt s) (at4 s 3) (at4 s 7) (at4 s 11) (at4 s 15) (at4 s 19))))
 
 -- frames heard in one call, with room for this many answers
-unfoldable pub batched : Head → List ℕ → ℕ → Offer → Outcome
+unfoldable pub batched : (h : Head) (b : List ℕ) (room : ℕ) (o : Offer) → Outcome
 batched h b room o = record {
   number = hearBatch h b room .refusal;
   head = hearBatch h b room .head;
@@ -51,7 +51,7 @@ abbrev pub closed : Head → Offer → Outcome
 closed h o = record { number = closedNumber (close h .closed); head = close h .head; offer = offered (close h .closed) o }
 
 -- c is the record's call; byte 3 is the room that it gives
-unfoldable pub turnOf : ℕ → List ℕ → Head → Offer → Outcome
+unfoldable pub turnOf : (c : ℕ) (s : List ℕ) (h : Head) (o : Offer) → Outcome
 turnOf c s h o =
     cond (ltb c 4) (answered (opening c s h) o)
     (cond (eqb c 4) (answered (hear h (at4 s 3) (drop 7 s)) o)

@@ -24,13 +24,13 @@ Comes k s [] = ⊥
 Comes k s (d ∷ D) = ((d .link ≡ k) × (d .bytes ≡ s)) ⊎ Comes k s D
 
 -- and nothing else that comes there is acceptable
-abbrev pub Alone : Seat → ℕ → List ℕ → List Delivery → Type 0
+abbrev pub Alone : (x : Seat) (k : ℕ) (s : List ℕ) (D : List Delivery) → Type 0
 Alone x k s [] = Unit {0}
 Alone x k s (d ∷ D) = (d .link ≡ k → isAccepted (saidTo x k (d .bytes)) ≡ true → d .bytes ≡ s) × Alone x k s D
 
 -- a cable that brings each unmarked head's frame to every unmarked device, at any time in the round and any number of times; what else it
 -- brings on that link is refused
-abbrev pub Brings : Family → ℕ → ℕ → Ring → DeviceRound → ℕ → Type 0
+abbrev pub Brings : (K : Family) (n f : ℕ) (R : Ring) (w : DeviceRound) (m : ℕ) → Type 0
 Brings K n f R w m =
     (i k : ℕ) → isReceiver n m i ≡ true → bitOf (w .marks) i ≡ false → k < n → bitOf (w .marks) k ≡ false
     → let s = frameFor (openedBy K n f R k) in let D = broughtBy (w .calls i) in Comes k s D × Alone (openedBy K n f R i .seat) k s D
@@ -53,7 +53,7 @@ abbrev pub eachOnce : (ℕ → List ℕ) → ℕ → List HearCall
 eachOnce g zero = []
 eachOnce g (suc k) = hearsOne k (g k) ∷ eachOnce g k
 
-abbrev pub plainly : Family → ℕ → ℕ → Ring → ℕ → (ℕ → Head) → DeviceRound
+abbrev pub plainly : (K : Family) (n f : ℕ) (R : Ring) (marks : ℕ) (left : ℕ → Head) → DeviceRound
 plainly K n f R marks left = record { marks = marks; left = left; calls = λ i. eachOnce (λ k. frameFor (openedBy K n f R k)) n }
 
 -- after any rounds within the limits: such a cable carries, and there is one whoever is marked

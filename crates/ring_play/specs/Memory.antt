@@ -50,11 +50,11 @@ abbrev pub receiverEnd : Stage → ℕ
 receiverEnd s = cond (eqb (listeners s) 0) (heads s) (firstListener + listeners s)
 
 -- What link k carries to receiver i in round r: what is planted there, or the frame that says m, what head k has to say.
-abbrev pub carries : Stage → (ℕ → ℕ → List ℕ) → ℕ → ℕ → Meaning → List ℕ
+abbrev pub carries : (s : Stage) (plant : ℕ → ℕ → List ℕ) (i k : ℕ) (m : Meaning) → List ℕ
 carries s plant i k m = cond (bitOf (s .struck) k) (plant k i) (frameOf (heads s) k (s .phase) m)
 
 -- the same is planted from each struck head to receivers i and m
-abbrev pub SamePlanted : Stage → (ℕ → ℕ → List ℕ) → ℕ → ℕ → Type 0
+abbrev pub SamePlanted : (s : Stage) (plant : ℕ → ℕ → List ℕ) (i m : ℕ) → Type 0
 SamePlanted s plant i m = (k : ℕ) → k < heads s → bitOf (s .struck) k ≡ true → plant k i ≡ plant k m
 
 -- ---- collection
@@ -68,7 +68,7 @@ abbrev pub InRange : Stage → List ℤ → Type 0
 InRange s positions = Each (heads s) (λ k. Proper (heads s) (sends s positions k))
 
 -- entry k of the list that head i fills
-unfoldable pub listEntry : Stage → List ℤ → (ℕ → ℕ → List ℕ) → ℕ → ℕ → Entry
+unfoldable pub listEntry : (s : Stage) (positions : List ℤ) (plant : ℕ → ℕ → List ℕ) (i k : ℕ) → Entry
 listEntry s positions plant i k = heardEntry (said (heads s) (s .phase) 0 k (carries s plant i k (sends s positions k)))
 
 -- ---- confession
@@ -78,7 +78,7 @@ abbrev pub rowIn : List ℕ → List (List ℤ) → ℕ → Table
 rowIn marks lists k = record { marks = getD marks k 0; entries = getD lists k [] }
 
 -- a healed head sends a confession, any other its list
-abbrev pub replies : Stage → List ℕ → List (List ℤ) → ℕ → Meaning
+abbrev pub replies : (s : Stage) (marks : List ℕ) (lists : List (List ℤ)) (k : ℕ) → Meaning
 replies s marks lists k = cond (bitOf (s .before) k) confessed (listed (rowIn marks lists k))
 
 -- what each head sends is what a frame can say: the entries of a list are positions if they are marked, and else 0 (D12)
@@ -86,7 +86,7 @@ abbrev pub Sayable : Stage → List ℕ → List (List ℤ) → Type 0
 Sayable s marks lists = Each (heads s) (λ k. Proper (heads s) (replies s marks lists k))
 
 -- what link k gives receiver i
-unfoldable pub givenEntry : Stage → List ℕ → List (List ℤ) → (ℕ → ℕ → List ℕ) → ℕ → ℕ → Given
+unfoldable pub givenEntry : (s : Stage) (marks : List ℕ) (lists : List (List ℤ)) (plant : ℕ → ℕ → List ℕ) (i k : ℕ) → Given
 givenEntry s marks lists plant i k =
     givenOf (said (heads s) (s .phase) 1 k (carries s plant i k (replies s marks lists k)))
 
@@ -96,13 +96,13 @@ positionOf (Refused c) = pos 0
 positionOf (New k) = k .position
 
 -- the new position of receiver i
-unfoldable pub newPosition : Stage → List ℕ → List (List ℤ) → (ℕ → ℕ → List ℕ) → ℕ → ℤ
+unfoldable pub newPosition : (s : Stage) (marks : List ℕ) (lists : List (List ℤ)) (plant : ℕ → ℕ → List ℕ) (i : ℕ) → ℤ
 newPosition s marks lists plant i =
     positionOf (settling (rounding (s .phase)) (heads s) (twoRoundRule (s .f)) (trusted (heads s) (s .f) (givenEntry s marks lists plant i)))
 
 -- ---- a phase of one round (document 02, A9)
 
 -- the new position of receiver i: from what it hears, by the rule of such a phase
-unfoldable pub heardPosition : Stage → List ℤ → (ℕ → ℕ → List ℕ) → ℕ → ℤ
+unfoldable pub heardPosition : (s : Stage) (positions : List ℤ) (plant : ℕ → ℕ → List ℕ) (i : ℕ) → ℤ
 heardPosition s positions plant i =
     positionOf (settling (rounding (s .phase)) (heads s) (oneRoundRule (s .f)) (listEntry s positions plant i))

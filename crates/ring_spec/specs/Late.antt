@@ -49,7 +49,7 @@ module _ (K : Family) (n f : ℕ) (R : Ring) (w : LateRound) where
   closedLate i =
       cond (isTrulyStruck i) lost (cond (isCounted i) (w .left i) (roundEnded (hearAll (openedLate i) (carriedLate i) n)))
 
-unfoldable pub afterLate : Family → ℕ → ℕ → Ring → LateRound → Ring
+unfoldable pub afterLate : (K : Family) (n f : ℕ) (R : Ring) (w : LateRound) → Ring
 afterLate K n f R w =
     record {
       phase = phaseThen (endsWith K (R .round)) (R .phase);

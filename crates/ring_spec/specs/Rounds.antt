@@ -92,7 +92,7 @@ abbrev pub roundThen : Bool → ℕ
 roundThen false = 1
 roundThen true = 0
 
-unfoldable pub afterRound : Family → ℕ → ℕ → Ring → Round → Ring
+unfoldable pub afterRound : (K : Family) (n f : ℕ) (R : Ring) (w : Round) → Ring
 afterRound K n f R w =
     record {
       phase = phaseThen (endsWith K (R .round)) (R .phase);
@@ -113,7 +113,7 @@ pub record PhaseEnd : Type 0 where
 
 -- the end of a phase, by the marks of the round before its last and of its last. A phase of one round shows its own marks first, and then
 -- zeros (document 02, A9; P58, Q82)
-abbrev pub phaseEnd : Family → ℕ → ℕ → (ℕ → Head) → PhaseEnd
+abbrev pub phaseEnd : (K : Family) (before struck : ℕ) (heads : ℕ → Head) → PhaseEnd
 phaseEnd TwoRounds before struck heads = record { collect = before; confess = struck; struck = struck; heads = heads }
 phaseEnd OneRound before struck heads = record { collect = struck; confess = 0; struck = struck; heads = heads }
 

@@ -35,7 +35,7 @@ struckHere [] R = allListeners
 struckHere (e ∷ es) R = R .before
 
 -- that phase end; collect and confess: the mark words that it shows
-abbrev pub endHere : ℕ → ℕ → List PhaseEnd → Ring → PhaseEnd
+abbrev pub endHere : (collect confess : ℕ) (es : List PhaseEnd) (R : Ring) → PhaseEnd
 endHere collect confess es R = record { collect = collect; confess = confess; struck = struckHere es R; heads = R .heads }
 
 -- the phase ends es of n heads and m listeners become es′: no end more was played, and nothing is shown; or one, to which the ring R has

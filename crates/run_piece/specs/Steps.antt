@@ -28,7 +28,7 @@ pub record Used (bytes : List ℕ) (r : FeedResult) : Type 0 where
   pub room : r .text .len ≤ 64
 
 -- as much of the bytes as is used is read: from the memory before to that after
-abbrev pub Reads : Player → List ℕ → FeedResult → List ℕ → Memory → List ℕ → Memory → Type 0
+abbrev pub Reads : (p : Player) (bytes : List ℕ) (r : FeedResult) (carry : List ℕ) (M : Memory) (carry′ : List ℕ) (M′ : Memory) → Type 0
 Reads p bytes r carry M carry′ M′ =
     (a : List ℕ) → StateAt a p carry M → AdvancesOnce a (take (r .used) bytes) p M (r .player) (bytesOf (r .text)) carry′ M′
 

@@ -23,7 +23,7 @@ abbrev pub unplayed : Program → List ℕ → List ℕ
 unplayed p piece = part (p .at) (p .end) piece
 
 -- what to do next; more: some of the page is still to be written
-abbrev pub askAt : Stage → Bool → ℕ → ℕ → Ask
+abbrev pub askAt : (stage : Stage) (more : Bool) (from to : ℕ) → Ask
 askAt Stage.Title more from to = Ask.Stop
 askAt Stage.Going true from to = Ask.Write from to
 askAt Stage.Going false from to = Ask.Read

@@ -13,7 +13,7 @@ use Rattle.run_state.specs.declared.Player.{Player}
 use Rattle.run_state.specs.Counts.{countsPlayed}
 
 -- before the first round
-abbrev pub freshPlayer : Bool → Family → ℕ → ℕ → Player
+abbrev pub freshPlayer : (begun : Bool) (K : Family) (n f : ℕ) → Player
 freshPlayer begun K n f =
     record {
       begun = begun;

@@ -18,7 +18,7 @@ abbrev pub Lent : Type 0 → Type 0
 Lent X = Both (RefT X) (RefT X)
 
 -- what is lent, as the function begins
-abbrev pub memoryBefore : Lent (List ℤ) → Lent (List ℕ) → Lent (List (List ℤ)) → Lent (List ℕ) → Lent (List ℕ) → Memory
+abbrev pub memoryBefore : (positions : Lent (List ℤ)) (marks : Lent (List ℕ)) (lists : Lent (List (List ℤ))) (planted lengths : Lent (List ℕ)) → Memory
 memoryBefore positions marks lists planted lengths =
     record {
       positions = now (positions .entry);
@@ -29,7 +29,7 @@ memoryBefore positions marks lists planted lengths =
     }
 
 -- and as it ends
-abbrev pub memoryAfter : Lent (List ℤ) → Lent (List ℕ) → Lent (List (List ℤ)) → Lent (List ℕ) → Lent (List ℕ) → Memory
+abbrev pub memoryAfter : (positions : Lent (List ℤ)) (marks : Lent (List ℕ)) (lists : Lent (List (List ℤ))) (planted lengths : Lent (List ℕ)) → Memory
 memoryAfter positions marks lists planted lengths =
     record {
       positions = now (positions .exit);

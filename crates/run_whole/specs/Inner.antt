@@ -44,7 +44,7 @@ EndKept true n m struck positions count r rows words rows′ words′ =
 EndKept false n m struck positions count r rows words rows′ words′ = (r ≡ count) × (rows′ ≡ rows) × (words′ ≡ words)
 
 -- rows and words hold the phase ends es, which have the latest first
-unfoldable pub Rows : ℕ → ℕ → List PhaseEnd → List ℤ → List ℕ → Type 0
+unfoldable pub Rows : (n m : ℕ) (es : List PhaseEnd) (rows : List ℤ) (words : List ℕ) → Type 0
 Rows n m [] rows words = Unit {0}
 Rows n m (x ∷ es) rows words = HoldsEnd n m x (row (length es) rows) (getD words (length es) 0) × Rows n m es rows words
 

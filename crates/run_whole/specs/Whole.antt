@@ -36,7 +36,7 @@ pub record HoldsEnd (n m : ℕ) (x : PhaseEnd) (row : List ℤ) (word : ℕ) : T
   pub others : Each receivers (λ i. isSound n m (x .struck) i ≡ false → getD row i (pos 0) ≡ pos 0)
 
 -- the phase end of n heads and m listeners that row e and word e are
-abbrev pub endAt : ℕ → ℕ → Buffers → ℕ → End
+abbrev pub endAt : (n m : ℕ) (B : Buffers) (e : ℕ) → End
 endAt n m B e = endIn n m (getD (B .words) e 0) (row e (B .rows))
 
 -- the file s is played: how it ends; its listing, with the bytes behind it as they were; its phase ends, with what is behind them as it
@@ -63,7 +63,7 @@ pub record Whole (s : List ℕ) (r : PlayResult) (B B′ : Buffers) : Type 0 whe
       Each receivers (λ i. isReceiver (S .n) (S .listeners) i ≡ true → bitOf (R .before) i ≡ false → R .heads i .seat .since ≡ getD (r .since) i 0)
 
 -- by whether the buffers have room: if not, 24, and they are as they were
-abbrev pub Plays : Bool → List ℕ → PlayResult → Buffers → Buffers → Type 0
+abbrev pub Plays : (room : Bool) (s : List ℕ) (r : PlayResult) (B B′ : Buffers) → Type 0
 Plays true s r B B′ = Whole s r B B′
 Plays false s r B B′ = (r ≡ record { number = refusal.buffer-too-short; len = 0; ends = 0; since = replicate receivers 0 }) × (B′ ≡ B)
 

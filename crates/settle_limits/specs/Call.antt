@@ -31,7 +31,7 @@ abbrev pub limitOf : ℕ → List ℕ → ℕ → ℤ
 limitOf k s j = signedAt s (8 * j + k)
 
 -- as an entry of a table: null if it is not marked
-unfoldable pub limitAt : ℕ → ℕ → List ℕ → ℕ → Entry
+unfoldable pub limitAt : (k m : ℕ) (s : List ℕ) (j : ℕ) → Entry
 limitAt k m s j = cond (bitOf m j) (Position (limitOf k s j)) Null
 
 abbrev pub lowests : ℕ → List ℕ → ℕ → Entry

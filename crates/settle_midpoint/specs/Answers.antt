@@ -27,11 +27,11 @@ settledEntry (Settled.Refused c) = Null
 settledEntry (Settled.New k) = Position (k .position)
 
 -- from n entries, by the rule R: r says how an odd sum is rounded (P27)
-unfoldable pub settling : ℕ → ℕ → Rule → (ℕ → Entry) → Settled
+unfoldable pub settling : (r n : ℕ) (R : Rule) (E : ℕ → Entry) → Settled
 settling r n R E =
     cond (enough n R E) (Settled.New (kept r (R .trim (nulls n E)) (ordered n E))) (Settled.Refused refusal.too-few-trusted)
 
 -- from the positions l among n entries: the others are null
-unfoldable pub settlingFrom : ℕ → ℕ → Rule → List ℤ → Settled
+unfoldable pub settlingFrom : (r n : ℕ) (R : Rule) (l : List ℤ) → Settled
 settlingFrom r n R l =
     cond (leb (n - length l) (R .most)) (Settled.New (kept r (R .trim (n - length l)) l)) (Settled.Refused refusal.too-few-trusted)

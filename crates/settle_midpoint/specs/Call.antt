@@ -17,7 +17,7 @@ use Rattle.settle_midpoint.specs.declared.Settled.{Settled}
 use Rattle.settle_midpoint.specs.Answers.{settling}
 
 -- the entries that a mark word and bytes give
-abbrev pub entriesGiven : ℕ → ℕ → List ℕ → ℕ → Entry
+abbrev pub entriesGiven : (n m : ℕ) (s : List ℕ) → ℕ → Entry
 entriesGiven n m s = entryAt m (numbers s n)
 
 -- all but 25, which settling gives (P40b, Q62)

@@ -30,7 +30,7 @@ alikeTo n marks reference = sum n (λ k. bit (eqb (getD marks k 0) (getD marks r
 abbrev pub apartFrom : ℕ → List ℕ → ℕ → ℕ
 apartFrom n marks reference = sum n (λ k. bit (isApart (getD marks k 0) (getD marks reference 0)))
 
-abbrev pub agreeing : ℕ → List ℕ → List (List ℤ) → ℕ → ℕ → ℕ
+abbrev pub agreeing : (n : ℕ) (marks : List ℕ) (lists : List (List ℤ)) (reference j : ℕ) → ℕ
 agreeing n marks lists reference j = sum n (λ k. bit (agrees marks lists reference j k))
 
 -- what comparing n lists with one of them, the reference, answers (D16)

@@ -24,7 +24,7 @@ use Rattle.settle_reach.specs.declared.Reached.{Reached}
 use Rattle.settle_reach.specs.Reach.{opened, Brings, Found}
 
 -- whether the first n numbers of the bytes s fit in a list with the mark word m; the open entry j may be any, whatever its mark (Q97)
-unfoldable pub othersFit : ℕ → ℕ → List ℕ → ℕ → Bool
+unfoldable pub othersFit : (j m : ℕ) (s : List ℕ) (n : ℕ) → Bool
 othersFit j m s zero = true
 othersFit j m s (suc k) = othersFit j m s k && (eqb k j || fits (bitOf m k) (signedAt s (4 * k)))
 

@@ -32,7 +32,7 @@ marksTo g zero = replicate 32 0
 marksTo g (suc k) = set (marksTo g k) k (marksOfLink g k)
 
 -- entry j of the list of link k
-abbrev pub columnOf : List ℕ → List (List ℤ) → ℕ → ℕ → Entry
+abbrev pub columnOf : (marks : List ℕ) (lists : List (List ℤ)) (j k : ℕ) → Entry
 columnOf marks lists j k = entryAt (getD marks k 0) (getD lists k []) j
 
 -- the cell of an entry: 0 for null, else one more than the word of the position
@@ -59,7 +59,7 @@ abbrev pub equalTo : ℕ → List ℕ → ℕ → ℕ
 equalTo n cells x = sum n (λ k. bit (eqb (getD cells k 0) x))
 
 -- a cell that is not null, not the one found, and is in `need` lists or more
-abbrev pub isAnother : ℕ → ℕ → List ℕ → ℕ → ℕ → Bool
+abbrev pub isAnother : (n need : ℕ) (cells : List ℕ) (found x : ℕ) → Bool
 isAnother n need cells found x = not (eqb x 0) && (not (eqb x found) && leb need (equalTo n cells x))
 
 -- x is the only number but 0 that is `need` times or more among the first n cells
@@ -74,7 +74,7 @@ pub data AgreedCell (n need : ℕ) (cells : List ℕ) : ℕ → Type 0 where
   no-such : ((x : ℕ) → OnlyCell n need cells x → ⊥) → AgreedCell n need cells 0
 
 -- whether u is `need` times or more among the first n entries
-abbrev pub standsIn : ℕ → ℕ → (ℕ → Entry) → ℤ → Bool
+abbrev pub standsIn : (n need : ℕ) (E : ℕ → Entry) (u : ℤ) → Bool
 standsIn n need E u = leb need (sum n (λ k. is u (E k)))
 
 -- the positions that are so often among the first n entries
@@ -82,5 +82,5 @@ abbrev pub agreed : ℕ → ℕ → (ℕ → Entry) → Seen
 agreed n need E = seen (standsIn n need E) n E
 
 -- the trusted entry of a head from what n links say of it, by whether its link confessed, and by how many lists have to agree
-abbrev pub decided : Bool → ℕ → ℕ → (ℕ → Entry) → Entry
+abbrev pub decided : (confessed : Bool) (n need : ℕ) (E : ℕ → Entry) → Entry
 decided confessed n need E = choose confessed (eqb need 0) (agreed n need E)

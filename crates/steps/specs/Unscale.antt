@@ -10,11 +10,11 @@ use Rattle.steps.specs.declared.Scaled.{Scaled}
 use Rattle.steps.specs.declared.Unscaled.{Unscaled}
 
 -- v is a step in range, and its reading is x
-abbrev pub ReadsAs : ℕ → ℕ → ℤ → ℤ → Type 0
+abbrev pub ReadsAs : (a d : ℕ) (x v : ℤ) → Type 0
 ReadsAs a d x v = (isPosition v ≡ true) × (nanometres v a d ≡ x)
 
 -- no other number of steps than v reads x
-abbrev pub OnlyOne : ℤ → ℕ → ℕ → ℤ → Type 0
+abbrev pub OnlyOne : (x : ℤ) (a d : ℕ) (v : ℤ) → Type 0
 OnlyOne x a d v = (w : ℤ) → nanometres w a d ≡ x → w ≡ v
 
 -- what is answered for the reading x: 12 if a and d make no scale; else the step in range whose reading it is, or none if no step in range

@@ -13,7 +13,7 @@ unlessRefused refused zero x = x
 unlessRefused refused (suc number) x = refused (suc number)
 
 -- what a call leaves of memory that it may change: as it was if its number is a refusal's
-abbrev pub leaves : {A : Type 0} → ℕ → A → A → A
+abbrev pub leaves : {A : Type 0} (number : ℕ) (new old : A) → A
 leaves zero new old = new
 leaves (suc number) new old = old
 

@@ -15,6 +15,6 @@ SettlesBefore s i None = Unit {0}
 SettlesBefore s i (As m) = (m < i) × (settles s m ≡ true)
 
 -- and the same is planted to it
-abbrev pub AsBefore : Stage → (ℕ → ℕ → List ℕ) → ℕ → Before → Type 0
+abbrev pub AsBefore : (s : Stage) (plant : ℕ → ℕ → List ℕ) (i : ℕ) (before : Before) → Type 0
 AsBefore s plant i None = Unit {0}
 AsBefore s plant i (As m) = (m < i) × (settles s m ≡ true) × SamePlanted s plant i m

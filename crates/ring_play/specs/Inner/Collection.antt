@@ -37,7 +37,7 @@ unfoldable pub sentBy : Stage → List ℤ → ℕ → Entry
 sentBy s positions k = cond (bitOf (s .struck) k) Entry.Null (ownEntry s positions k)
 
 -- what head i hears of head k, with E for the unstruck heads
-unfoldable pub heardWith : Stage → (ℕ → Entry) → (ℕ → ℕ → List ℕ) → ℕ → ℕ → Entry
+unfoldable pub heardWith : (s : Stage) (E : ℕ → Entry) (plant : ℕ → ℕ → List ℕ) (i k : ℕ) → Entry
 heardWith s E plant i k = cond (bitOf (s .struck) k) (heardOf s (plant k i) k) (E k)
 
 -- a table of entries, of which those of the struck heads are null

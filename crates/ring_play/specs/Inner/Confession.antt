@@ -18,7 +18,7 @@ use Rattle.ring_play.specs.Memory.{heads, hears, replies}
 use Rattle.ring_play.specs.Inner.Planted.{isStruck}
 
 -- what is heard of head k, if it is not struck
-unfoldable pub replied : Stage → List ℕ → List (List ℤ) → ℕ → Meaning
+unfoldable pub replied : (s : Stage) (marks : List ℕ) (lists : List (List ℤ)) (k : ℕ) → Meaning
 replied s marks lists k = said (heads s) (s .phase) 1 k (frameOf (heads s) k (s .phase) (replies s marks lists k))
 
 -- what the links gave, when link k has said m
@@ -46,7 +46,7 @@ pub record RowsKept (g : Links) (rows rows′ : List (List ℤ)) : Type 0 where
   pub gives : givenBy g rows′ ≡ givenBy g rows
 
 -- what the unstruck heads give to all receivers
-unfoldable pub givenAlike : Stage → List ℕ → List (List ℤ) → ℕ → Given
+unfoldable pub givenAlike : (s : Stage) (marks : List ℕ) (lists : List (List ℤ)) (k : ℕ) → Given
 givenAlike s marks lists k = cond (hears s k) (givenOf (replied s marks lists k)) nothing
 
 -- the struck heads gave nothing

@@ -14,7 +14,7 @@ use Rattle.ring_play.specs.declared.ends.Counts.{Counts}
 use Rattle.ring_play.specs.Inner.Collection.{heardOf}
 
 -- what receiver i hears of head k, if it is struck
-unfoldable pub plantedEntry : Stage → (ℕ → ℕ → List ℕ) → ℕ → ℕ → Entry
+unfoldable pub plantedEntry : (s : Stage) (plant : ℕ → ℕ → List ℕ) (i k : ℕ) → Entry
 plantedEntry s plant i k = cond (bitOf (s .struck) k) (heardOf s (plant k i) k) Null
 
 -- 1 for a position that passes a test
@@ -23,7 +23,7 @@ tested q Null = 0
 tested q (Position u) = bit (q u)
 
 -- an entry more
-abbrev pub withEntry : ℤ → ℤ → Entry → Counts → Counts
+abbrev pub withEntry : (lowest highest : ℤ) (e : Entry) (c : Counts) → Counts
 withEntry lowest highest e c =
     record {
       all = c .all + tested (λ u. true) e;

@@ -23,7 +23,7 @@ abbrev pub isStruck : Stage → ℕ → Bool
 isStruck s k = ltb k (heads s) && bitOf (s .struck) k
 
 -- what link k gives receiver i: what is planted, or what it gives all
-unfoldable pub givenOrPlanted : Stage → (ℕ → Given) → (ℕ → ℕ → List ℕ) → ℕ → ℕ → Given
+unfoldable pub givenOrPlanted : (s : Stage) (G : ℕ → Given) (plant : ℕ → ℕ → List ℕ) (i k : ℕ) → Given
 givenOrPlanted s G plant i k = cond (isStruck s k) (givenOf (said (heads s) (s .phase) 1 k (plant k i))) (G k)
 
 -- the position that a receiver settles, from what its links give
@@ -36,7 +36,7 @@ pub record Alike (s : Stage) (G : ℕ → Given) : Type 0 where
   pub ranged : Each (heads s) (λ k. Each (heads s) (λ j. (u : ℤ) → saysOf j (G k) ≡ Position u → isPosition u ≡ true))
 
 -- each unstruck receiver has settled, and the other positions are as they were
-abbrev pub AllSettled : Stage → (ℕ → Given) → (ℕ → ℕ → List ℕ) → List ℤ → List ℤ → Type 0
+abbrev pub AllSettled : (s : Stage) (G : ℕ → Given) (plant : ℕ → ℕ → List ℕ) (before after : List ℤ) → Type 0
 AllSettled s G plant before after =
     (i : ℕ) → getD after i (pos 0) ≡ cond (settles s i) (positionSettled s (givenOrPlanted s G plant i)) (getD before i (pos 0))
 

@@ -23,7 +23,7 @@ use Rattle.ring_play.specs.Memory.{heads, positionOf}
 use Rattle.ring_play.specs.Inner.Planted.{isStruck}
 
 -- what is planted on the link from k to i gives
-abbrev pub plantedGiven : Stage → (ℕ → ℕ → List ℕ) → ℕ → ℕ → Given
+abbrev pub plantedGiven : (s : Stage) (plant : ℕ → ℕ → List ℕ) (i k : ℕ) → Given
 plantedGiven s plant i k = givenOf (said (heads s) (s .phase) 1 k (plant k i))
 
 -- link k gave g: how many lists have the codes, and which links confessed
@@ -56,7 +56,7 @@ abbrev pub neededHere : Stage → ℕ → ℕ → ℕ
 neededHere s need confesses = need - countBelow confesses (heads s)
 
 -- the entries that it takes, from the shared codes and from how many lists it counted for each
-abbrev pub takenHere : Stage → ℕ → List ℤ → List ℕ → ℕ → ℕ → Entry
+abbrev pub takenHere : (s : Stage) (need : ℕ) (codes : List ℤ) (same : List ℕ) (confesses j : ℕ) → Entry
 takenHere s need codes same confesses j = entryOf (codeTaken codes same (neededHere s need confesses) confesses j)
 
 -- what was settled last, if anything, was settled from these codes
