@@ -3,14 +3,13 @@ ghost use mathlib.Core.Bool.{true, false};
 ghost use mathlib.Core.List.{List};
 ghost use mathlib.Core.Path.{_≡_};
 ghost use Prim.Native.Nat.{ℕ, _≤_};
-ghost use Rattle.terms.specs.declared.Entry.{Entry};
-ghost use Rattle.ring_spec.specs.Agreed.{isAgreed};
-ghost use Rattle.ring_spec.specs.Rounds.{receivers};
+ghost use lib.IntN.{ℤ};
+ghost use Rattle.ring_spec.specs.Rounds.{receivers, endsPhase};
 ghost use Rattle.run_spec.specs.RunFile.{readFile};
 ghost use Rattle.run_listing.specs.Held.{endIn};
 ghost use Rattle.run_listing.specs.Heights.{Found};
 ghost use Rattle.run_state.specs.Memory.{Memory, memoryBefore, memoryAfter, withPositions};
-ghost use Rattle.run_state.specs.State.{agreedBefore, Level, PlayerOf, MemoryOf};
+ghost use Rattle.run_state.specs.State.{agreedBefore, PlayerOf, MemoryOf};
 ghost use Rattle.run_round.specs.Played.{Played};
 ghost use Rattle.run_round.specs.Agrees.{HoldsAll, Agrees};
 ghost use Rattle.run_round.specs.Inner.{stageOf, lineOf, Kept};
@@ -43,38 +42,34 @@ fn stage_of(p: Player) -> Stage
     }
 }
 
-// The lowest and the highest position at the end of the pending round's phase. In a ring that has agreed all places hold one.
-fn ends_at(p: Player, positions: &Positions) -> Ends
-    ensures { λ r. ⌜ ((A : Entry) → isAgreed A ≡ p .agreed → Level A (now (positions .entry))
-        → Found receivers (endIn (p .n) (p .listeners) (p .struck) (now (positions .entry))) (r .low) (r .high)) ⌝ }
+// The line of the phase that the pending round ends, by the lowest and the highest position at its end.
+fn line_with(p: Player, ends: Ends) -> Text
+    ensures { λ r. ⌜ ((positions : List ℤ) → endsPhase (p .family) (p .given) ≡ true
+        → Found receivers (endIn (p .n) (p .listeners) (p .struck) positions) (ends .low) (ends .high) → bytesOf r ≡ lineOf p positions) ⌝ }
+    ensures { λ r. ⌜ r .len ≤ 64 ⌝ }
 {
-    if p.agreed {
-        let held = run_listing::first_sound(p.n, p.listeners, p.struck, positions);
-        return Ends {
-            low: held,
-            high: held,
-        };
+    let family = p.family;
+    let phase = run_state::phase_of(family, p.given);
+    let struck = p.struck;
+    match family {
+        Family::TwoRounds => run_listing::end_line(phase, ends, p.before, struck),
+        Family::OneRound => run_listing::end_line(phase, ends, struck, 0),
     }
-    run_listing::ends_of(p.n, p.listeners, p.struck, positions)
 }
 
 // The line of the pending round's phase, once it is played, if it ends its phase.
 fn line_of(p: Player, positions: &Positions) -> Text
-    ensures { λ r. ⌜ ((A : Entry) → isAgreed A ≡ p .agreed → Level A (now (positions .entry))
-        → bytesOf r ≡ lineOf p (now (positions .entry))) ⌝ }
+    ensures { λ r. ⌜ bytesOf r ≡ lineOf p (now (positions .entry)) ⌝ }
     ensures { λ r. ⌜ r .len ≤ 64 ⌝ }
 {
     let family = p.family;
     if !run_state::ends_phase(family, p.given) {
         return texts::empty();
     }
-    let phase = run_state::phase_of(family, p.given);
-    let ends = ends_at(p, positions);
-    let struck = p.struck;
-    match family {
-        Family::TwoRounds => run_listing::end_line(phase, ends, p.before, struck),
-        Family::OneRound => run_listing::end_line(phase, ends, struck, 0),
-    }
+    line_with(
+        p,
+        run_listing::ends_of(p.n, p.listeners, p.struck, positions),
+    )
 }
 
 // Plays the pending round of a ring that has not agreed.
@@ -105,7 +100,8 @@ fn play_ring(
 }
 
 // The pending round of a ring that has agreed: every receiver holds the position on which it did, whatever is planted, so that nothing is
-// left to settle. Answers the line of the phase that the round ends, if it ends one.
+// left to settle. Answers the line of the phase that the round ends, if it ends one: all places hold one position, so that the first that
+// is sound says it of all.
 pub fn play_agreed(p: Player, positions: &Positions) -> Text
     ensures { λ r. ⌜ ((a : List ℕ) (M : Memory) → readFile a .setup .begun ≡ true → readFile a .rounds .pending ≡ true
         → PlayerOf p (readFile a) → p .agreed ≡ true
@@ -113,7 +109,16 @@ pub fn play_agreed(p: Player, positions: &Positions) -> Text
         → Played (readFile a) r (withPositions M (now (positions .entry)))) ⌝ }
     ensures { λ r. ⌜ r .len ≤ 64 ⌝ }
 {
-    line_of(p, positions)
+    let family = p.family;
+    if !run_state::ends_phase(family, p.given) {
+        return texts::empty();
+    }
+    let held = run_listing::first_sound(p.n, p.listeners, p.struck, positions);
+    let ends = Ends {
+        low: held,
+        high: held,
+    };
+    line_with(p, ends)
 }
 
 // Plays the pending round, and answers the line of the phase that it ends, if it ends one.

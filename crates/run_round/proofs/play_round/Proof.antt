@@ -14,8 +14,7 @@ returns c =
     let t = k .before .before .before .before in
     let (text, room) = c .line-of .ensures in (
       λ a begun pending T H.
-          let Q = k .play-ring .ensures a begun pending T H (not-true _ (t .if1 .taken)) in
-          kept-played (taken a begun) begun pending T H refl Q (text _ (T .agreed) (Q .level)) room,
+          kept-played (taken a begun) begun pending T H refl (k .play-ring .ensures a begun pending T H (not-true _ (t .if1 .taken))) text room,
       room,
     )
 
