@@ -14,7 +14,7 @@ ghost use Rattle.ring_play.specs.Memory.{heads, hears, settles, InRange,
 ghost use Rattle.convergence.specs.Settling.{ordered};
 ghost use Rattle.settle_midpoint.specs.Orders.{orderOf};
 ghost use Rattle.frame_slots.specs.Slots.{plantedIn};
-ghost use Rattle.ring_play.specs.Inner.Collection.{isPositionFrame, ownEntry, sentBy, heardOf, heardWith, Shared, SharedMarks, SharedNumbers, settledFrom};
+ghost use Rattle.ring_play.specs.Inner.Collection.{isPositionFrame, ownEntry, sentBy, heardOf, heardWith, Shared, settledFrom};
 use crate::Stage;
 use crate::ends;
 use crate::round;
@@ -120,8 +120,8 @@ pub(crate) fn entry_planted(s: Stage, planted: &[u8], lengths: &[u8], k: usize, 
     entry_in(frame, s.phase, k as u8)
 }
 
-// The list of receiver i: what all hear, with what is planted to it. Answers its marks, from those that all hear; its numbers are put into
-// `entries`, over what was planted to another.
+// The list of receiver i: what all hear, with what is planted to it. Answers its marks, from those that all hear, and puts its numbers among
+// theirs.
 fn list_for(
     s: Stage,
     sent: u32,
@@ -130,8 +130,8 @@ fn list_for(
     i: usize,
     entries: &mut [i32],
 ) -> u32
-    requires { ⌜ (i < 48) × (length (now entries) ≡ 32) × SharedMarks s sent ⌝ }
-    ensures { λ r. ⌜ (length (now (entries .exit)) ≡ 32) × ((S : SharedMarks s sent) → SharedNumbers s (S .entry) (now (entries .entry))
+    requires { ⌜ (i < 48) × (length (now entries) ≡ 32) × Shared s (record { marks = sent; entries = now entries }) ⌝ }
+    ensures { λ r. ⌜ (length (now (entries .exit)) ≡ 32) × ((S : Shared s (record { marks = sent; entries = now (entries .entry) }))
         → _≡_ {A = Table} (record { marks = r; entries = now (entries .exit) })
         (tableOf (heads s) (heardWith s (S .entry) (plantedIn (now (planted .entry)) (now (lengths .entry))) i))) ⌝ }
 {
@@ -163,12 +163,12 @@ fn fill_lists(
         (rowIn (now (marks .entry)) (now (lists .entry)) i)) ⌝ }
 {
     let n = round::head_count(s) as usize;
-    let mut entries = sent.entries;
+    let entries = sent.entries;
     let mut i: usize = 0;
     while i < n {
         if !marks::marked(s.struck, i) {
-            marks[i] = list_for(s, sent.marks, planted, lengths, i, &mut entries);
             lists[i] = entries;
+            marks[i] = list_for(s, sent.marks, planted, lengths, i, &mut lists[i]);
         }
         i += 1;
     }

@@ -28,7 +28,7 @@ use Rattle.settle_midpoint.proofs.Middle.{settling-same}
 use Rattle.entries.specs.Tables.{tableAt}
 use Rattle.entries.proofs.TableAt.{table-at}
 use Rattle.ring_play.specs.Memory.{heads, sends, InRange, listEntry, rowIn, positionOf, heardPosition}
-use Rattle.ring_play.specs.Inner.Collection.{ownEntry, sentBy, heardOf, heardWith, Shared, SharedMarks, SharedNumbers, settledFrom}
+use Rattle.ring_play.specs.Inner.Collection.{ownEntry, sentBy, heardOf, heardWith, Shared, settledFrom}
 use Rattle.ring_play.specs.Inner.Struck.{NextStruck}
 use Rattle.ring_play.proofs.round.Struck.{WalkedTo, walked}
 use Rattle.ring_play.proofs.round.Filling.{filledTo, Filled, filled-none, filled-passed, filled-stored, filled-yet}
@@ -76,61 +76,50 @@ module _ (s : Stage) (plant : ℕ → ℕ → List ℕ) (i : ℕ) where
   put-heard E k {e} b is =
       filled-stored (bitOf (s .struck)) (λ j. heardOf s (plant j i) j) E k (λ j. refl) b (put-same (heardTo E k) k e ∙ is) (λ j d. put-other (heardTo E k) k e j d)
 
-  module _ (m₀ : ℕ) (l₀ : List ℤ) (m : ℕ) (l : List ℤ) where
+  module _ (t₀ : Table) (m : ℕ) (l : List ℤ) where
     abbrev pub ListTo : ℕ → Type 0
-    ListTo k = (S : SharedMarks s m₀) → (m ≡ marksOf (heads s) (heardTo (S .entry) k)) × ((N : SharedNumbers s (S .entry) l₀) → l ≡ valuesOf (heads s) (heardTo (N .entry) k))
+    ListTo k = (S : Shared s t₀) → (m ≡ marksOf (heads s) (heardTo (S .entry) k)) × (l ≡ valuesOf (heads s) (heardTo (S .entry) k))
 
     pub list-walked : {k r : ℕ} → NextStruck s k r → ListTo k → WalkedTo s ListTo r
     list-walked h p =
         walked s ListTo h
         (λ j b q S. (
           q S .0 ∙ marks-same (heads s) _ _ (λ x z. passed-heard (S .entry) j b x),
-          λ N. q S .1 N ∙ numbers-same (heads s) _ _ (λ x z. passed-heard (N .entry) j b x),
+          q S .1 ∙ numbers-same (heads s) _ _ (λ x z. passed-heard (S .entry) j b x),
         ))
         p
 
-    pub list-last : {k : ℕ} → k ≡ heads s → ListTo k → (S : SharedMarks s m₀) → SharedNumbers s (S .entry) l₀
+    pub list-last : {k : ℕ} → k ≡ heads s → ListTo k → (S : Shared s t₀)
         → _≡_ {A = Table} (record { marks = m; entries = l }) (tableOf (heads s) (heardWith s (S .entry) plant i))
     unfolding heardWith
-    list-last e h S N =
+    list-last e h S =
         let p = rw e at h in
-        ap₂ (λ (a : ℕ) (b : List ℤ). record { marks = a; entries = b })
-        (p S .0 ∙ marks-same (heads s) _ _ (λ j z. rw (lt-ltb j (heads s) z)))
-        (p S .1 N ∙ numbers-same (heads s) _ _ (λ j z. rw (lt-ltb j (heads s) z) (go j (bitOf (s .struck) j) (N .sent j))))
-      where
-        go : (j : ℕ) (b : Bool) → (b ≡ false → N .entry j ≡ S .entry j) → cond b (heardOf s (plant j i) j) (N .entry j) ≡ cond b (heardOf s (plant j i) j) (S .entry j)
-        go j true q = refl
-        go j false q = q refl
+        ap₂ (λ (a : ℕ) (b : List ℤ). record { marks = a; entries = b }) (p S .0) (p S .1) ∙ table-same (heads s) _ _ (λ j z. rw (lt-ltb j (heads s) z))
 
-  module _ {m₀ : ℕ} {l₀ : List ℤ} where
-    pub list-none : ListTo m₀ l₀ m₀ l₀ 0
-    list-none S = (S .is ∙ marks-same (heads s) _ _ (λ j z. none-heard (S .entry) j), λ N. N .is ∙ numbers-same (heads s) _ _ (λ j z. none-heard (N .entry) j))
+  module _ {t₀ : Table} where
+    pub list-none : ListTo t₀ (t₀ .marks) (t₀ .entries) 0
+    list-none S =
+        let e = S .is ∙ table-same (heads s) _ _ (λ j z. none-heard (S .entry) j) in
+        (ap (λ (t : Table). t .marks) e, ap (λ (t : Table). t .entries) e)
 
     -- the entry e of head k, with its mark r and its number v
-    module _ (k : ℕ) {m : ℕ} {l : List ℤ} (h : ListTo m₀ l₀ m l k) {e : Entry} {r : ℕ} (below : k < heads s) (b : bitOf (s .struck) k ≡ true)
+    module _ (k : ℕ) {m : ℕ} {l : List ℤ} (h : ListTo t₀ m l k) {e : Entry} {r : ℕ} (below : k < heads s) (b : bitOf (s .struck) k ≡ true)
         (is : e ≡ heardOf s (plant k i) k) (q : r ≡ mark e) where
-      yet : (S : SharedMarks s m₀) → heardTo (S .entry) k k ≡ Null
+      yet : (S : Shared s t₀) → heardTo (S .entry) k k ≡ Null
       yet S = filled-yet (bitOf (s .struck)) (λ j. heardOf s (plant j i) j) (S .entry) k (λ j. refl) ∙ S .none k b
 
-      pub list-room : SharedMarks s m₀ → m + r * 2 ^ k % 4294967296 < 4294967296
+      pub list-room : Shared s t₀ → m + r * 2 ^ k % 4294967296 < 4294967296
       list-room S = marks-room (heardTo (S .entry) k) k (heads s) e (yet S) below (omega arith) (h S .0) q
 
-      pub list-next : {v : ℤ} → v ≡ valueOf e → ListTo m₀ l₀ (m + r * 2 ^ k % 4294967296) (set l k v) (k + 1)
+      pub list-next : {v : ℤ} → v ≡ valueOf e → ListTo t₀ (m + r * 2 ^ k % 4294967296) (set l k v) (k + 1)
       list-next w S = (
         marks-sum (heardTo (S .entry) k) k (heads s) e (yet S) below (omega arith) (h S .0) q ∙ marks-same (heads s) _ _ (λ j x. put-heard (S .entry) k b is j),
-        λ N. rw (h S .1 N, w) (sym (numbers-put (heardTo (N .entry) k) k e (heads s) below)) ∙ numbers-same (heads s) _ _ (λ j x. put-heard (N .entry) k b is j),
+        rw (h S .1, w) (sym (numbers-put (heardTo (S .entry) k) k e (heads s) below)) ∙ numbers-same (heads s) _ _ (λ j x. put-heard (S .entry) k b is j),
       )
 
--- what all hear, as marks and as numbers; and the numbers of a list that was made of it
-abbrev pub shared-marks : {s : Stage} {t : Table} → Shared s t → SharedMarks s (t .marks)
-shared-marks S = record { entry = S .entry; is = ap (λ (x : Table). x .marks) (S .is); none = S .none }
-
-pub sent-numbers : {s : Stage} {t : Table} (S : Shared s t) → SharedNumbers s (S .entry) (t .entries)
-sent-numbers S = record { entry = S .entry; is = ap (λ (x : Table). x .entries) (S .is); sent = λ k b. refl }
-
-pub heard-numbers : (s : Stage) (E : ℕ → Entry) (plant : ℕ → ℕ → List ℕ) (i : ℕ) {t : Table} → t ≡ tableOf (heads s) (heardWith s E plant i) → SharedNumbers s E (t .entries)
-unfolding heardWith
-heard-numbers s E plant i e = record { entry = heardWith s E plant i; is = ap (λ (x : Table). x .entries) e; sent = λ k b. rw b }
+-- the table of what all hear, by other words
+abbrev pub shared-as : {s : Stage} {t t′ : Table} → t ≡ t′ → Shared s t′ → Shared s t
+shared-as e S = record { entry = S .entry; is = e ∙ S .is; none = S .none }
 
 -- ---- the memory
 

@@ -46,18 +46,6 @@ pub record Shared (s : Stage) (t : Table) : Type 0 where
   pub is : t ≡ tableOf (heads s) entry
   pub none : (k : ℕ) → bitOf (s .struck) k ≡ true → entry k ≡ Entry.Null
 
--- the marks of such a table
-pub record SharedMarks (s : Stage) (m : ℕ) : Type 0 where
-  pub entry : ℕ → Entry
-  pub is : m ≡ marksOf (heads s) entry
-  pub none : (k : ℕ) → bitOf (s .struck) k ≡ true → entry k ≡ Entry.Null
-
--- numbers of entries, of which those of the unstruck heads are E's
-pub record SharedNumbers (s : Stage) (E : ℕ → Entry) (l : List ℤ) : Type 0 where
-  pub entry : ℕ → Entry
-  pub is : l ≡ valuesOf (heads s) entry
-  pub sent : (k : ℕ) → bitOf (s .struck) k ≡ false → entry k ≡ E k
-
 -- the position that a receiver settles from these entries, in a phase of one round
 unfoldable pub settledFrom : Stage → (ℕ → Entry) → ℤ
 settledFrom s E = positionOf (settling (rounding (s .phase)) (heads s) (oneRoundRule (s .f)) E)

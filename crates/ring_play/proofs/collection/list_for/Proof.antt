@@ -17,7 +17,7 @@ use Rattle.ring_play.proofs.collection.list_for.Tie as tie
 
 abbrev Inv-loop : tie.InvT-loop
 Inv-loop s sent planted lengths i entries₀ n marks₀ k₀ entries marks k =
-    (length entries ≡ 32) × WalkedTo s (ListTo s (plantedIn planted lengths) i marks₀ entries₀ marks entries) k
+    (length entries ≡ 32) × WalkedTo s (ListTo s (plantedIn planted lengths) i (record { marks = marks₀; entries = entries₀ }) marks entries) k
 
 abbrev μ-loop : tie.MeasureT-loop
 μ-loop s sent planted lengths i entries₀ n marks₀ k₀ entries marks k = n - k
@@ -27,7 +27,7 @@ loop-holds c =
     let p = c .before .before .before .before in
     let a = p .args in
     let plant = plantedIn (now (a .planted)) (now (a .lengths)) in
-    (p .pre .1, list-walked (a .s) plant (a .i) _ _ _ _ (c .next-struck .ensures) (list-none (a .s) plant (a .i)))
+    (p .pre .1, list-walked (a .s) plant (a .i) _ _ _ (c .next-struck .ensures) (list-none (a .s) plant (a .i)))
 
 module _ (l : tie.At-loop Inv-loop μ-loop) where
   abbrev start : tie.Start Inv-loop μ-loop
@@ -58,7 +58,7 @@ loop-again c =
     let l = e .before .before in
     let a = start l .args in (
       simp length-set (l .loop .inv .0),
-      list-walked (a .s) (plant l) (a .i) _ _ _ _ (c .next-struck2 .ensures)
+      list-walked (a .s) (plant l) (a .i) _ _ _ (c .next-struck2 .ensures)
           (list-next (a .s) (plant l) (a .i) (l .loop .k) (l .loop .inv .1 .2) (omega (arith, count l)) (l .loop .inv .1 .1 (omega (arith, count l)))
           (e .entry-planted .ensures) (m .mark-of .ensures) (toZ-ofZ (record { sfits = v .value-of .ok }) ∙ v .value-of .ensures)),
     )
@@ -67,7 +67,7 @@ returns : tie.Need-returns Inv-loop μ-loop
 returns c =
     let l = c .before in
     let a = start l .args in
-    (l .loop .inv .0, list-last (a .s) (plant l) (a .i) _ _ _ _ (omega (arith, count l)) (l .loop .inv .1 .2))
+    (l .loop .inv .0, list-last (a .s) (plant l) (a .i) _ _ _ (omega (arith, count l)) (l .loop .inv .1 .2))
 
 pub list-for-spec : {M : Type 1} → statement M
 list-for-spec =

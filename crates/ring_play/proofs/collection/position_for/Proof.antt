@@ -12,7 +12,6 @@ use Rattle.settle_midpoint.specs.declared.Order.{Order}
 use Rattle.frame_slots.specs.Slots.{plantedIn}
 use Rattle.ring_play.specs.Memory.{heads}
 use Rattle.ring_play.specs.Inner.Collection.{settledFrom}
-use Rattle.ring_play.proofs.collection.Lists.{shared-marks, sent-numbers}
 use Rattle.ring_play.proofs.ends.Counting.{counts-small}
 use Rattle.ring_play.proofs.ends.Settling.{order-small, settles-inside}
 use Rattle.ring_play.proofs.collection.position_for.Statement.{statement}
@@ -49,14 +48,14 @@ aggregate c = let e : length (c .before .before .before .before .before .before 
 list-for-requires : tie.Need-list-for-requires
 list-for-requires c κs =
     let p = c .before .before .before .before .before .before .before .pre in
-    (p .0, search needs, shared-marks (p .1))
+    (p .0, search needs, p .1)
 
 returns-2 : tie.Need-returns-2
 returns-2 c S =
     let a = c .before .before .before .before .before .before .before .before .before .before .args in
     toZ-ofZ (record { sfits = c .position-of .ok })
     ∙ c .position-of .ensures
-    ∙ ap (λ (t : Table). settledFrom (a .s) (tableAt t)) (c .before .before .list-for .ensures .1 (shared-marks S) (sent-numbers S))
+    ∙ ap (λ (t : Table). settledFrom (a .s) (tableAt t)) (c .before .before .list-for .ensures .1 S)
 
 pub position-for-spec : {M : Type 1} → statement M
 position-for-spec =
