@@ -19,7 +19,6 @@ ghost use Rattle.settle_position.specs.Deciding.{Prepared};
 ghost use Rattle.head_c.specs.Blocks.{IsBlock};
 ghost use Rattle.head_c.specs.Steps.{rowWords, rowsIn};
 use crate::place;
-use settle_midpoint::Order;
 use settle_midpoint::Settled;
 use settle_position::Comparison;
 use settle_position::Deciding;
@@ -167,5 +166,5 @@ pub(crate) fn settle_lists(h: &[u32], links: Links, n: u8, f: u8, up: bool) -> S
         len = settle_midpoint::place(settle_trust::entry_of(x), &mut positions, len);
         j += 1;
     }
-    settle_midpoint::middle_of(Order { len, positions }, Family::TwoRounds, n, f, up)
+    settle_midpoint::middle_in(&positions, len, Family::TwoRounds, n, f, up)
 }

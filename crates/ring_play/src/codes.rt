@@ -16,7 +16,6 @@ ghost use Rattle.ring_play.specs.Inner.Told.{settledAt};
 ghost use Rattle.ring_play.specs.Inner.Votes.{Voted, Leads, givesList};
 use crate::Stage;
 use crate::round;
-use settle_midpoint::Order;
 use settle_trust::Links;
 use terms::Entry;
 use terms::Family;
@@ -339,6 +338,5 @@ pub(crate) fn settle_codes(s: Stage, codes: &Numbers) -> i32
         j += 1;
     }
     let up = terms::rounds_up(s.phase);
-    let order = Order { len, positions };
-    round::position_in(settle_midpoint::middle_of(order, Family::TwoRounds, n, s.f, up))
+    round::position_in(settle_midpoint::middle_in(&positions, len, Family::TwoRounds, n, s.f, up))
 }

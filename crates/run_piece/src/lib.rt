@@ -30,12 +30,6 @@ pub struct FeedResult {
     pub text: Text,
 }
 
-fn least(a: usize, b: usize) -> usize
-    ensures { λ r. ⌜ r ≡ min a b ⌝ }
-{
-    if a < b { a } else { b }
-}
-
 // How many bytes are missing: to the end of the header, or to the end of the record.
 fn missing(have: usize, carry: &[u8]) -> usize
     ensures { λ r. ⌜ Missing have (now (carry .entry)) r ⌝ }
@@ -138,7 +132,7 @@ fn take_part(
         return quiet(p, rest.len());
     }
     let want = missing(have, carry);
-    let used = least(least(want, CARRY - have), rest.len());
+    let used = terms::least(terms::least(want, CARRY - have), rest.len());
     gather(carry, have, front(rest, used));
     let now = have + used;
     if used < want {

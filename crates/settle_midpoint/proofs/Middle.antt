@@ -42,18 +42,18 @@ order-settles r n R E e = rw e (settling-after r n R E (record { counts = refl; 
 
 -- ---- as the code works it out
 
--- a: the array; c: how many of its positions count; z: the nulls; r: how an odd sum is rounded
-module _ (a : List ℤ) (L n r : ℕ) (R : Rule) {c z : ℕ} (full : length a ≡ 32) (counted : c ≡ min L 32) (nulls-are : z ≡ n - c) where
+-- a: the slice; c: how many of its positions count; z: the nulls; r: how an odd sum is rounded
+module _ (a : List ℤ) (L n r : ℕ) (R : Rule) {c z : ℕ} (counted : c ≡ min L (length a)) (nulls-are : z ≡ n - c) where
   abbrev l : List ℤ
   l = take L a
 
   front-length : length l ≡ c
-  front-length = length-take L a ∙ rw full (sym counted)
+  front-length = length-take L a ∙ sym counted
 
   front-is : take c a ≡ l
-  front-is = go (decLe 32 L)
+  front-is = go (decLe (length a) L)
     where
-      go : Dec (32 ≤ L) → take c a ≡ l
+      go : Dec (length a ≤ L) → take c a ≡ l
       go (yes h) = take-all c a (omega arith) ∙ sym (take-all L a (omega arith))
       go (no h) = let e : c ≡ L = omega arith in rw e
 

@@ -12,6 +12,13 @@ pub mod refusal;
 // A ring has 32 heads at most.
 pub const HEADS: usize = 32;
 
+// The lesser of two numbers.
+pub fn least(a: usize, b: usize) -> usize
+    ensures { λ r. ⌜ r ≡ min a b ⌝ }
+{
+    if a < b { a } else { b }
+}
+
 // How many of n heads, links or entries are looked at: those from 32 on give nothing.
 pub fn at_most_32(n: usize) -> usize
     ensures { λ r. ⌜ r ≡ min n 32 ⌝ }

@@ -12,7 +12,7 @@ use Rattle.settle_trust.specs.Received.{givenBy}
 use Rattle.settle_trust.proofs.Received.{words}
 use Rattle.settle_trust.proofs.Trusted.{decided-marked, trusted-past}
 use Rattle.settle_midpoint.specs.Orders.{OrderAfter}
-use Rattle.settle_midpoint.proofs.Ordering.{order-none, order-next, order-all}
+use Rattle.settle_midpoint.proofs.Ordering.{order-long, order-none, order-next, order-all}
 use Rattle.settle_midpoint.proofs.Middle.{settling-after}
 use Rattle.settle_position.specs.Deciding.{Prepared}
 use Rattle.settle_position.proofs.Reference.{prepared}
@@ -54,23 +54,42 @@ loop-again c =
           (order-next E _ (omega (arith, few)) (sym (e .entry-of .ensures ∙ x .cell-in .ensures .1 E P .entry)) (l .loop .inv .2 E P)),
     )
 
+-- the entries that are trusted, and the order that holds them
+module _ (l : tie.At-loop Inv-loop μ-loop) where
+  abbrev start : tie.Start Inv-loop μ-loop
+  start = l .before .before .before .before .before .before .before .before .before
+
+  abbrev entries : ℕ → Entry
+  entries = trusted (start .args .n) (start .args .f) (givenBy (start .args .links) (rowsIn (now (start .args .h))))
+
+  past : (j : ℕ) → 32 ≤ j → entries j ≡ Entry.Null
+  past = trusted-past (start .args .links) (rowsIn (now (start .args .h))) (words (start .args .links) (start .good .1 .0)) (start .args .n) (start .args .f)
+
+  held : OrderAfter (l .loop .j) entries (l .loop .len) (l .loop .positions)
+  held =
+      let needed = l .before in
+      let compared = needed .before .before in
+      let marks = compared .before .before in
+      let k = marks .before .before in
+      let a = start .args in
+      let g = words (a .links) (start .good .1 .0) in
+      let L = rowsIn (now (a .h)) in
+      l .loop .inv .2 entries
+      (prepared entries L _ _ (compared .compare-in .result) _ (compared .compare-in .ensures) refl refl refl
+      (λ j. decided-marked (a .links) L g (a .n) (a .f) j (k .at-most-32 .ensures) (needed .lists-needed .ensures) (marks .all-marks .ensures)) past
+      (omega (arith, k .at-most-32 .ensures)))
+
+aggregate : tie.Need-slice-aggregate-middle-in Inv-loop μ-loop
+aggregate c =
+    let l = c .before .before in
+    let few : l .loop .j ≤ 32 = omega (arith, l .before .before .before .before .before .before .before .at-most-32 .ensures) in
+    sym (order-long (entries l) few (held l))
+
 returns : tie.Need-returns Inv-loop μ-loop
 returns c =
-    let l = c .before .before in
-    let needed = l .before in
-    let compared = needed .before .before in
-    let marks = compared .before .before in
-    let k = marks .before .before in
-    let s = k .before .before in
-    let a = s .args in
-    let g = words (a .links) (s .good .1 .0) in
-    let L = rowsIn (now (a .h)) in
-    let E = trusted (a .n) (a .f) (givenBy (a .links) L) in
-    let past = trusted-past (a .links) L g (a .n) (a .f) in
-    let P = prepared E L _ _ (compared .compare-in .result) _ (compared .compare-in .ensures) refl refl refl
-    (λ j. decided-marked (a .links) L g (a .n) (a .f) j (k .at-most-32 .ensures) (needed .lists-needed .ensures) (marks .all-marks .ensures)) past
-    (omega (arith, k .at-most-32 .ensures)) in
-    c .middle-of .ensures ∙ settling-after _ _ _ _ (order-all E past (a .n) (omega (arith, k .at-most-32 .ensures)) (l .loop .inv .2 E P))
+    let l = c .before .before .before in
+    let k = l .before .before .before .before .before .before .before in
+    c .middle-in .ensures ∙ settling-after _ _ _ _ (order-all (entries l) (past l) (start l .args .n) (omega (arith, k .at-most-32 .ensures)) (held l))
 
 pub settle-lists-spec : {M : Type 1} → statement M
 settle-lists-spec =
@@ -94,5 +113,6 @@ settle-lists-spec =
     (λ c. search needs)
     (λ c. search needs)
     loop-again
+    aggregate
     (λ c κs. search needs)
     returns)

@@ -6,7 +6,7 @@ use native.Mathlib.Omega.{arith}
 use mir.Facts.{toZ-ofZ}
 use borrow.Author.Needs.{needs}
 use Rattle.settle_midpoint.specs.Orders.{OrderAfter}
-use Rattle.settle_midpoint.proofs.Ordering.{order-none, order-next}
+use Rattle.settle_midpoint.proofs.Ordering.{order-none, order-next, order-long}
 use Rattle.settle_midpoint.proofs.Middle.{settling-after}
 use Rattle.ring_play.specs.Inner.Codes.{entryOf, entryIn}
 use Rattle.ring_play.proofs.shared.Settling.{at-entries}
@@ -33,15 +33,21 @@ loop-again c =
           (order-next _ (h .loop .j) (omega arith) (sym (e .entry-of .ensures ∙ ap entryOf (toZ-ofZ (record { sfits = k .entry-of-arg .given })))) (h .loop .inv .1)),
     )
 
+aggregate : tie.Need-slice-aggregate-middle-in Inv-loop μ-loop
+aggregate c =
+    let l = c .before .before .before in
+    let few : l .loop .j ≤ 32 = omega (arith, l .before .head-count .ensures) in
+    sym (order-long _ few (l .loop .inv .1))
+
 returns : tie.Need-returns Inv-loop μ-loop
 returns c =
     let m = c .before in
-    let u = m .before in
+    let u = m .before .before in
     let l = u .before in
     let n = l .before .before in
     let e : l .before .loop .j ≡ n .head-count .result = omega arith in
     toZ-ofZ (record { sfits = c .position-in .ok }) ∙ c .position-in .ensures
-    ∙ at-entries (n .before .args .s) _ (n .head-count .ensures) (u .rounds-up .ensures) (m .middle-of .ensures ∙ settling-after _ _ _ _ (rw e at (l .before .loop .inv .1)))
+    ∙ at-entries (n .before .args .s) _ (n .head-count .ensures) (u .rounds-up .ensures) (m .middle-in .ensures ∙ settling-after _ _ _ _ (rw e at (l .before .loop .inv .1)))
 
 pub settle-codes-spec : {M : Type 1} → statement M
 settle-codes-spec =
@@ -60,6 +66,7 @@ settle-codes-spec =
     (λ c. search needs)
     loop-again
     (λ c κs. search needs)
+    aggregate
     (λ c κs. search needs)
     (λ c κs. search needs)
     returns)
