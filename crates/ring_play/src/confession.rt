@@ -15,7 +15,6 @@ ghost use Rattle.ring_play.specs.Inner.Planted.{givenOrPlanted, position
 use crate::Stage;
 use crate::round;
 use crate::shared;
-use frame_spec::Said;
 use settle_trust::Links;
 use terms::Lists;
 use terms::Positions;
@@ -52,20 +51,16 @@ fn hear(links: Links, rows: &mut Lists, k: usize, frame: &[u8], n: u8, phase: u1
     ensures links { λ r. ⌜ r ≡ linksWith links k (said n phase 1 k (now (frame .entry))) ⌝ }
     ensures rows { λ r. ⌜ now (rows .exit) ≡ rowsWith (now (rows .entry)) k (said n phase 1 k (now (frame .entry))) ⌝ }
 {
+    let said = frame_codec::read(frame, n, phase, 1, k as u8);
+    let heard = shared::with_said(links.confessed, k, said);
     let mut out = links;
-    match frame_codec::read(frame, n, phase, 1, k as u8) {
-        Said::Refused(_) => {}
-        Said::Collection(_) => {}
-        Said::List => {
-            let table = frame_codec::table_in(frame, n);
-            let entries = table.entries;
-            rows[k] = entries;
-            out.marks[k] = table.marks;
-            out.listed = marks::with_mark(out.listed, k);
-        }
-        Said::Confession => {
-            out.confessed = marks::with_mark(out.confessed, k);
-        }
+    out.confessed = heard.confessed;
+    if heard.list {
+        let table = frame_codec::table_in(frame, n);
+        let entries = table.entries;
+        rows[k] = entries;
+        out.marks[k] = table.marks;
+        out.listed = marks::with_mark(out.listed, k);
     }
     out
 }

@@ -11,6 +11,7 @@ ghost use Rattle.frame_slots.specs.Slots.{plantedIn};
 ghost use Rattle.settle_trust.specs.Received.{givenBy};
 ghost use Rattle.head_spec.specs.Record.{givenOf};
 ghost use Rattle.ring_play.specs.Memory.{heads};
+ghost use Rattle.ring_play.specs.Inner.Confession.{withSaid};
 ghost use Rattle.ring_play.specs.Inner.Planted.{Alike, AllSettled, SettlesAll};
 ghost use Rattle.ring_play.specs.Inner.Told.{Counted, Told, SharedBy, settledBy, settledAt, takenHere, LastOf};
 use crate::Stage;
@@ -32,6 +33,29 @@ enum Last {
     At(i32),
 }
 
+// What is heard of a link, but for its table: which links have confessed by then, and whether it gave a list.
+pub(crate) struct Heard {
+    pub confessed: u32,
+    pub list: bool,
+}
+
+// Takes apart what link k said in a confession round: a confession is marked. The table of a list stays in its frame (D16d).
+pub(crate) fn with_said(confessed: u32, k: usize, said: Said) -> Heard
+    ensures { λ r. ⌜ r ≡ withSaid confessed k said ⌝ }
+{
+    let mut heard = Heard {
+        confessed,
+        list: false,
+    };
+    match said {
+        Said::Refused(_) => {}
+        Said::Collection(_) => {}
+        Said::List => heard.list = true,
+        Said::Confession => heard.confessed = marks::with_mark(confessed, k),
+    }
+    heard
+}
+
 // Hears a confession frame on link k: a list counts for each entry at which it has the code, a confession is marked.
 fn count_frame(
     frame: &[u8],
@@ -45,17 +69,14 @@ fn count_frame(
     requires { ⌜ (n ≤ 32) × (k < 32) ⌝ }
     ensures { λ r. ⌜ Counted n (now (codes .entry)) k (givenOf (said n phase 1 k (now (frame .entry)))) (now (same .entry)) confessed (now (same .exit)) r ⌝ }
 {
-    match frame_codec::read(frame, n, phase, 1, k as u8) {
-        Said::Refused(_) => confessed,
-        Said::Collection(_) => confessed,
-        Said::List => {
-            let table = frame_codec::table_in(frame, n);
-            let entries = table.entries;
-            codes::tally(table.marks, &entries, codes, same, n as usize);
-            confessed
-        }
-        Said::Confession => marks::with_mark(confessed, k),
+    let said = frame_codec::read(frame, n, phase, 1, k as u8);
+    let heard = with_said(confessed, k, said);
+    if heard.list {
+        let table = frame_codec::table_in(frame, n);
+        let entries = table.entries;
+        codes::tally(table.marks, &entries, codes, same, n as usize);
     }
+    heard.confessed
 }
 
 // Hears what is planted from the struck heads to receiver i. Answers which of them confessed.
