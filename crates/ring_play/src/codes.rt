@@ -257,24 +257,34 @@ pub(crate) fn share(
 
 // ---- A receiver.
 
-// The code c, if s lists have it and no more are needed; else no code.
-fn picked(c: i32, need: u32, s: u32) -> i32
-    ensures { λ r. ⌜ r ≡ cond (leb need s) c noCode ⌝ }
+// The code c, if s lists have it and no more are needed, and the entry is not dropped; else no code.
+fn picked(c: i32, need: u32, s: u32, dropped: bool) -> i32
+    ensures { λ r. ⌜ r ≡ cond dropped noCode (cond (leb need s) c noCode) ⌝ }
 {
+    if dropped {
+        return NONE;
+    }
     if need <= s { c } else { NONE }
 }
 
-// Takes the code of each entry that enough lists have, and no code for any other. Answers whether all are as they were.
-fn pick(codes: &Numbers, same: &Words, need: u32, n: usize, taken: &mut [i32]) -> bool
+// Takes the codes of a receiver's trusted entries: of those that enough lists have, but for the entries of links that confessed. Answers
+// whether all are as they were.
+fn pick(
+    codes: &Numbers,
+    same: &Words,
+    need: u32,
+    confessed: u32,
+    n: usize,
+    taken: &mut [i32],
+) -> bool
     requires { ⌜ (n ≤ 32) × (length (now taken) ≡ 32) ⌝ }
-    ensures { λ r. ⌜ (length (now (taken .exit)) ≡ 32)
-        × Each n (λ j. getD (now (taken .exit)) j (pos 0) ≡ cond (leb need (getD (now (same .entry)) j 0)) (getD (now (codes .entry)) j (pos 0)) noCode)
-        × (r ≡ true → Each n (λ j. getD (now (taken .exit)) j (pos 0) ≡ getD (now (taken .entry)) j (pos 0))) ⌝ }
+    ensures codes { λ r. ⌜ Each n (λ j. getD (now (taken .exit)) j (pos 0) ≡ codeTaken (now (codes .entry)) (now (same .entry)) need confessed j) ⌝ }
+    ensures alike { λ r. ⌜ (r ≡ true → Each n (λ j. getD (now (taken .exit)) j (pos 0) ≡ getD (now (taken .entry)) j (pos 0))) ⌝ }
 {
     let mut alike = true;
     let mut j: usize = 0;
     while j < n {
-        let v = picked(codes[j], need, same[j]);
+        let v = picked(codes[j], need, same[j], marks::marked(confessed, j));
         if taken[j] != v {
             alike = false;
         }
@@ -284,15 +294,7 @@ fn pick(codes: &Numbers, same: &Words, need: u32, n: usize, taken: &mut [i32]) -
     alike
 }
 
-// The same codes, to be changed.
-fn copied(codes: &Numbers) -> Numbers
-    ensures { λ r. ⌜ r ≡ now (codes .entry) ⌝ }
-{
-    *codes
-}
-
-// Takes the codes of a receiver's trusted entries: of those that enough lists have, but for the entries of links that confessed. Answers
-// whether all are as they were.
+// The same into an array.
 pub(crate) fn trust_codes(
     codes: &Numbers,
     same: &Words,
@@ -305,12 +307,7 @@ pub(crate) fn trust_codes(
     ensures codes { λ r. ⌜ Each n (λ j. getD (now (taken .exit)) j (pos 0) ≡ codeTaken (now (codes .entry)) (now (same .entry)) need confessed j) ⌝ }
     ensures alike { λ r. ⌜ (r ≡ true → Each n (λ j. getD (now (taken .exit)) j (pos 0) ≡ getD (now (taken .entry)) j (pos 0))) ⌝ }
 {
-    if confessed == 0 {
-        return pick(codes, same, need, n, taken);
-    }
-    let mut own = copied(codes);
-    drop_confessed(&mut own, confessed, n);
-    pick(&own, same, need, n, taken)
+    pick(codes, same, need, confessed, n, taken)
 }
 
 // The entry of a code.
