@@ -1,7 +1,9 @@
 // Frames, read and written: what a frame says to a head, and the frame that says it, put into a lent buffer.
+ghost use mathlib.Core.Bool.{true};
 ghost use mathlib.Core.Path.{_≡_};
 ghost use Rattle.frame_check.specs.Check.{kindOf, position, list};
 ghost use Rattle.frame_spec.specs.Said.{roundOf, restField, entriesIn, said, saidOf, tableIn, meant};
+ghost use Rattle.frame_codec.specs.Parts.{partsOf};
 ghost use Rattle.frame_codec.specs.Steps.{fromMarks, commonRefusal, saidUnless};
 ghost use mathlib.Core.List.{[]};
 ghost use Prim.Native.Nat.{_≤_};
@@ -107,6 +109,47 @@ pub fn read(frame: &[u8], n: u8, phase: u16, round: u8, link: u8) -> Said
         return Said::Refused(common);
     }
     read_rest(rest, kind, n)
+}
+
+// What hearing takes of a frame, but for the table of a list: whether it is accepted, else the number of the check that refuses it; the
+// entry that it says, null if it says none; whether it gives a list, and whether it is a confession.
+pub struct Parts {
+    pub accepted: bool,
+    pub refusal: u8,
+    pub entry: Entry,
+    pub list: bool,
+    pub confession: bool,
+}
+
+// The parts of what an accepted frame said.
+fn accepted(entry: Entry, list: bool, confession: bool) -> Parts
+    ensures { λ r. ⌜ r ≡ record { accepted = true; refusal = 0; entry = entry; list = list; confession = confession } ⌝ }
+{
+    Parts {
+        accepted: true,
+        refusal: 0,
+        entry,
+        list,
+        confession,
+    }
+}
+
+// Takes apart what a frame said, for all that hear. The table of a list stays in the frame (D16d).
+pub fn parts_of(said: Said) -> Parts
+    ensures { λ r. ⌜ r ≡ partsOf said ⌝ }
+{
+    match said {
+        Said::Refused(refusal) => Parts {
+            accepted: false,
+            refusal,
+            entry: Entry::Null,
+            list: false,
+            confession: false,
+        },
+        Said::Collection(entry) => accepted(entry, false, false),
+        Said::List => accepted(Entry::Null, true, false),
+        Said::Confession => accepted(Entry::Null, false, true),
+    }
 }
 
 // The table of a list frame.

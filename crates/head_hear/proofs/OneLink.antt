@@ -18,6 +18,9 @@ use Rattle.frame_spec.specs.declared.Said.{Said}
 use Rattle.frame_spec.specs.Said.{Meaning, refused, collected, listed, confessed, refusalOf, tableIn, meaning, said, saidOf, meant, restField}
 use Rattle.frame_spec.specs.Proper.{AcceptedMeaning}
 use Rattle.frame_spec.proofs.OneMeaning.{meant-said}
+use Rattle.frame_codec.specs.declared.Parts.{Parts}
+use Rattle.frame_codec.specs.Parts.{partsOf}
+use Rattle.frame_codec.proofs.Taking.{refusedOr, parts-mean}
 use Rattle.settle_trust.specs.declared.Links.{Links}
 use Rattle.head_spec.specs.declared.Row.{Row}
 use Rattle.head_spec.specs.declared.Head.{Head}
@@ -98,26 +101,28 @@ module _ (h : Head) (k : ℕ) (s : List ℕ) where
 abbrev holding : Head → ℕ → Table → Links → List Row → Head
 holding h heard t g l = record { seat = h .seat; heard = heard; list = t; links = g; lists = l }
 
--- it is what hearing makes of it, by what was said
-module _ (h : Head) (k : ℕ) (s : List ℕ) {what : Said} (e : what ≡ saidOf (linkSays h k s)) where
-  pub link-said : {w : Said} → what ≡ w → meant w (tableIn (h .seat .n) (restField s)) ≡ linkSays h k s
-  link-said q = ap (λ (w : Said). meant w (tableIn (h .seat .n) (restField s))) (sym q ∙ e) ∙ meant-link h k s
+-- it is what hearing makes of it, by the parts of what was said
+module _ (h : Head) (k : ℕ) (s : List ℕ) {what : Said} {p : Parts} (e : what ≡ saidOf (linkSays h k s)) (q : p ≡ partsOf what) where
+  pub link-parts : refusedOr p (tableIn (h .seat .n) (restField s)) ≡ linkSays h k s
+  link-parts =
+      let t = tableIn (h .seat .n) (restField s) in
+      sym (parts-mean t what q .0) ∙ ap (λ (w : Said). meant w t) e ∙ meant-link h k s
 
-  as-said : {w : Said} → what ≡ w → answered h k (meant w (tableIn (h .seat .n) (restField s))) ≡ hear h k s
-  as-said q = ap (answered h k) (link-said q) ∙ link-answered h k s
+  as-said : answered h k (refusedOr p (tableIn (h .seat .n) (restField s))) ≡ hear h k s
+  as-said = ap (answered h k) link-parts ∙ link-answered h k s
 
-  pub refused-heard : {c : ℕ} → what ≡ Said.Refused c → record { refusal = c; head = h } ≡ hear h k s
-  refused-heard q = as-said q
+  pub refused-heard : p .accepted ≡ false → record { refusal = p .refusal; head = h } ≡ hear h k s
+  refused-heard r = rw r at as-said
 
-  module _ {heard : ℕ} (m : heard ≡ withMark (h .heard) k) where
-    pub entry-heard : {x : Entry} {t : Table} → what ≡ Said.Collection x → t ≡ withEntry (h .list) k x
-        → record { refusal = 0; head = holding h heard t (h .links) (h .lists) } ≡ hear h k s
-    entry-heard q a = rw (m, a) (as-said q)
-
-    pub list-heard : {t : Table} {g : Links} {l : List Row} → what ≡ Said.List → t ≡ tableIn (h .seat .n) (restField s) → g ≡ withList (h .links) k t
+  module _ {heard : ℕ} (m : heard ≡ withMark (h .heard) k) (y : p .accepted ≡ true) where
+    pub list-heard : p .list ≡ true → {t : Table} {g : Links} {l : List Row} → t ≡ tableIn (h .seat .n) (restField s) → g ≡ withList (h .links) k t
         → l ≡ set (h .lists) k (record { entries = t .entries }) → record { refusal = 0; head = holding h heard (h .list) g l } ≡ hear h k s
-    list-heard q a b d = rw (m, d, b, a) (as-said q)
+    list-heard i a b d = rw (m, d, b, a) (rw (y, i) at as-said)
 
-    pub confession-heard : {c : ℕ} → what ≡ Said.Confession → c ≡ withMark (h .links .confessed) k → let g = h .links in
+    pub confession-heard : p .list ≡ false → p .confession ≡ true → {c : ℕ} → c ≡ withMark (h .links .confessed) k → let g = h .links in
         record { refusal = 0; head = holding h heard (h .list) (record { confessed = c; listed = g .listed; marks = g .marks }) (h .lists) } ≡ hear h k s
-    confession-heard q a = rw (m, a) (as-said q)
+    confession-heard i j a = rw (m, a) (rw (y, i, j) at as-said)
+
+    pub entry-heard : p .list ≡ false → p .confession ≡ false → {t : Table} → t ≡ withEntry (h .list) k (p .entry)
+        → record { refusal = 0; head = holding h heard t (h .links) (h .lists) } ≡ hear h k s
+    entry-heard i j a = rw (m, a) (rw (y, i, j) at as-said)

@@ -95,25 +95,28 @@ pub fn hear(h: Head, link: u32, frame: &[u8]) -> Answer
 {
     let s = h.seat;
     let k = link as usize;
+    let said = said_on(s.ended, s.n, s.phase, s.round, h.heard, link, frame);
+    let p = frame_codec::parts_of(said);
     let mut next = h;
     next.heard = marks::with_mark(h.heard, k);
-    match said_on(s.ended, s.n, s.phase, s.round, h.heard, link, frame) {
-        Said::Refused(refused) => {
-            return Answer {
-                refusal: refused,
-                head: h, // as it was
-            };
+    if !p.accepted {
+        return Answer {
+            refusal: p.refusal,
+            head: h, // as it was
+        };
+    }
+    if p.list {
+        let table = frame_codec::table_in(frame, s.n);
+        next.links = with_list(h.links, k, table);
+        if k < terms::HEADS {
+            let entries = table.entries;
+            next.lists[k] = Row { entries };
         }
-        Said::Collection(entry) => next.list = with_entry(h.list, k, entry),
-        Said::List => {
-            let table = frame_codec::table_in(frame, s.n);
-            next.links = with_list(h.links, k, table);
-            if k < terms::HEADS {
-                let entries = table.entries;
-                next.lists[k] = Row { entries };
-            }
-        }
-        Said::Confession => next.links.confessed = marks::with_mark(h.links.confessed, k),
+    } else if p.confession {
+        next.links.confessed = marks::with_mark(h.links.confessed, k);
+    } else {
+        let entry = p.entry;
+        next.list = with_entry(h.list, k, entry);
     }
     Answer {
         refusal: 0,

@@ -1,4 +1,4 @@
--- Each arm of the match makes of the record what hearing makes of it. From link 32 on there is no place for a list, and none is stored.
+-- By each of its parts, what was said makes of the record what hearing makes of it. From link 32 on there is no place for a list, and none is stored.
 use mathlib.Core.Path.{_≡_, refl, sym, _∙_}
 use mathlib.Core.List.{List}
 use native.Mathlib.Omega.{arith}
@@ -7,6 +7,7 @@ use lib.Seq.{set-out}
 use mir.Val.{Val}
 use denote.Laws.{Is}
 use borrow.Author.Needs.{needs}
+use borrow.Author.Tests.{not-true, not-false}
 use Rattle.head_spec.specs.declared.Head.{Head}
 use Rattle.head_spec.proofs.Head.{the-row}
 use Rattle.head_hear.proofs.OneLink.{refused-heard, entry-heard, list-heard, confession-heard}
@@ -18,35 +19,49 @@ lists-long : {vs : List Val} (h : Head) → Is the-row h vs → length (h .lists
 lists-long h is = sym (length-map (h .lists) _) ∙ is .1 .1 .1 .1 .1 .1 .0 .1 .0 .1
 
 returns : tie.Need-returns
-returns c = refused-heard _ _ _ (c .before .before .before .said-on .ensures) (c .before .refused .given .1)
+returns c =
+    let p = c .before .before .before in
+    refused-heard _ _ _ (p .before .said-on .ensures) (p .parts-of .ensures) (not-true _ (c .if1 .taken))
 
 returns-2 : tie.Need-returns-2
 returns-2 c =
-    let t = c .before .before in
-    let d = t .before .before in
-    entry-heard _ _ _ (d .said-on .ensures) (d .before .with-mark .ensures) (t .entry .given .1) (c .with-entry .ensures)
+    let l = c .before .before in
+    let t = l .before in
+    let x = t .before .before in
+    let m = x .before .before in
+    let p = m .before in
+    list-heard _ _ _ (p .before .said-on .ensures) (p .parts-of .ensures) (m .with-mark .ensures) (not-false _ (x .if1 .left))
+    (t .before .if2 .taken) (t .table-in .ensures) (l .with-list .ensures) refl
 
 returns-3 : tie.Need-returns-3
 returns-3 c =
-    let l = c .before .before in
+    let l = c .before in
     let t = l .before in
-    let d = t .before .before .before in
-    list-heard _ _ _ (d .said-on .ensures) (d .before .with-mark .ensures) (t .before .enum-told .given .1) (t .table-in .ensures) (l .with-list .ensures) refl
+    let x = t .before .before in
+    let m = x .before .before in
+    let p = m .before in
+    let f = p .before .before .before .before in
+    list-heard _ _ _ (p .before .said-on .ensures) (p .parts-of .ensures) (m .with-mark .ensures) (not-false _ (x .if1 .left))
+    (t .before .if2 .taken) (t .table-in .ensures) (l .with-list .ensures)
+    (sym (set-out (f .args .h .lists) (f .args .link) _ (omega (arith, lists-long (f .args .h) (f .good .0), c .if3 .left))))
 
 returns-4 : tie.Need-returns-4
 returns-4 c =
-    let l = c .before in
-    let t = l .before in
-    let d = t .before .before .before in
-    let f = d .before .before .before .before in
-    list-heard _ _ _ (d .said-on .ensures) (d .before .with-mark .ensures) (t .before .enum-told .given .1) (t .table-in .ensures) (l .with-list .ensures)
-    (sym (set-out (f .args .h .lists) (f .args .link) _ (omega (arith, lists-long (f .args .h) (f .good .0), c .if1 .left))))
+    let t = c .before .before in
+    let x = t .before .before in
+    let m = x .before .before in
+    let p = m .before in
+    confession-heard _ _ _ (p .before .said-on .ensures) (p .parts-of .ensures) (m .with-mark .ensures) (not-false _ (x .if1 .left))
+    (t .before .if2 .left) (t .if4 .taken) (c .before .with-mark2 .ensures)
 
 returns-5 : tie.Need-returns-5
 returns-5 c =
-    let t = c .before .before in
-    let d = t .before .before in
-    confession-heard _ _ _ (d .said-on .ensures) (d .before .with-mark .ensures) (t .enum-told2 .given .1) (c .before .with-mark2 .ensures)
+    let t = c .before in
+    let x = t .before .before in
+    let m = x .before .before in
+    let p = m .before in
+    entry-heard _ _ _ (p .before .said-on .ensures) (p .parts-of .ensures) (m .with-mark .ensures) (not-false _ (x .if1 .left))
+    (t .before .if2 .left) (t .if4 .left) (c .with-entry .ensures)
 
 pub hear-spec : {M : Type 1} → statement M
 hear-spec =
@@ -54,16 +69,13 @@ hear-spec =
     (tie.spec
     (λ c κs. search needs)
     (λ c κs. search needs)
-    (λ c. search needs)
+    (λ c κs. search needs)
     returns
-    (λ c. search needs)
-    (λ c κs. search needs)
-    (λ c. search needs)
     (λ c κs. search needs)
     (λ c κs. search needs)
     (λ c. search needs)
     (λ c. search needs)
-    (λ c. search needs)
+    (λ c κs. search needs)
     (λ c κs. search needs)
     returns-2
     returns-3
