@@ -19,14 +19,12 @@ use Rattle.marks.proofs.Marks.{with-past}
 use Rattle.entries.specs.Entries.{zeros, numbers}
 use Rattle.entries.proofs.Entries.{numbers-length}
 use Rattle.frame_check.specs.Check.{Kind, position, silence, list, confession, unknown, kindField}
-use Rattle.frame_spec.specs.declared.Said.{Said}
-use Rattle.frame_spec.specs.Said.{Meaning, refused, collected, listed, confessed, restField, entriesIn, refusalOf, tableIn, meaning}
-use Rattle.frame_spec.specs.Said.{said, saidOf, meant}
+use Rattle.frame_spec.specs.Said.{Meaning, refused, collected, listed, confessed, restField, entriesIn, refusalOf, tableIn, meaning, said}
 use Rattle.head_spec.specs.declared.Head.{Head}
 use Rattle.head_spec.specs.declared.Answer.{Answer}
 use Rattle.head_spec.specs.Calls.{answer, saidTo, hearRefusal, taken, hear}
 use Rattle.head_hear.specs.Steps.{linkRefusal}
-use Rattle.head_hear.proofs.OneLink.{linkSays, answered, link-answered, link-said}
+use Rattle.head_hear.proofs.OneLink.{linkSays, answered, link-answered}
 use Rattle.head_c.specs.Blocks.{IsBlock, numbersAt, listAt, headOf, changed, heardIn, Hears}
 use Rattle.head_c.proofs.Changes.{set-apart, null-is, position-is, list-is, confession-is}
 use Rattle.head_c.proofs.Copying.{upTo-long}
@@ -162,11 +160,9 @@ module _ (w : List ℕ) (block : IsBlock w) (k : ℕ) (s : List ℕ) where
       go zero confessed = refl
       go (suc c) m = heard-refused w k (suc c)
 
-  -- by what was said, with the table of a list beside it
-  pub hears-said : {what x : Said} {w′ : List ℕ} → what ≡ saidOf (linkSays h k s) → what ≡ x → let m = meant x (tableIn (h .seat .n) (restField s)) in
-      w′ ≡ heardIn w k m → Hears w k s (answered h k m .refusal) w′
-  hears-said {what} {x} {w′} e q new =
-      let m = link-said h k s e q in
-      let number = ap (λ (y : Meaning). answered h k y .refusal) m ∙ ap (λ (a : Answer). a .refusal) (link-answered h k s) in
-      let left = new ∙ ap (heardIn w k) m ∙ link-block in
+  -- by what the link says
+  pub hears-said : {m : Meaning} {w′ : List ℕ} → m ≡ linkSays h k s → w′ ≡ heardIn w k m → Hears w k s (answered h k m .refusal) w′
+  hears-said {m} {w′} e new =
+      let number = ap (λ (y : Meaning). answered h k y .refusal) e ∙ ap (λ (a : Answer). a .refusal) (link-answered h k s) in
+      let left = new ∙ ap (heardIn w k) e ∙ link-block in
       record { refusal = number; block = rw number left; head = rw left (head-heard w block k s) }

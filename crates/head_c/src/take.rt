@@ -10,7 +10,6 @@ ghost use Rattle.head_spec.specs.Batch.{isBatch, deliveriesOf};
 ghost use Rattle.head_c.specs.Blocks.{IsBlock, headOf, marked, heardOn, heardIn, Hears, heardEach};
 use crate::block::put_numbers;
 use crate::place;
-use frame_spec::Said;
 use terms::Entry;
 use terms::Table;
 
@@ -86,11 +85,18 @@ pub(crate) fn hear(h: &mut [u32], link: u32, frame: &[u8]) -> u8
     let round = (h[place::ROUND] % 256) as u8;
     let heard = h[place::HEARD];
     let k = link as usize;
-    match head_hear::said_on(ended, n, phase, round, heard, link, frame) {
-        Said::Refused(number) => return number,
-        Said::Collection(entry) => take_entry(h, k, entry),
-        Said::List => take_list(h, k, frame_codec::table_in(frame, n)),
-        Said::Confession => take_confession(h, k),
+    let said = head_hear::said_on(ended, n, phase, round, heard, link, frame);
+    let p = frame_codec::parts_of(said);
+    if !p.accepted {
+        return p.refusal;
+    }
+    if p.list {
+        take_list(h, k, frame_codec::table_in(frame, n));
+    } else if p.confession {
+        take_confession(h, k);
+    } else {
+        let entry = p.entry;
+        take_entry(h, k, entry);
     }
     0
 }

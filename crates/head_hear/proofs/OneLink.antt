@@ -103,26 +103,27 @@ holding h heard t g l = record { seat = h .seat; heard = heard; list = t; links 
 
 -- it is what hearing makes of it, by the parts of what was said
 module _ (h : Head) (k : ℕ) (s : List ℕ) {what : Said} {p : Parts} (e : what ≡ saidOf (linkSays h k s)) (q : p ≡ partsOf what) where
-  pub link-parts : refusedOr p (tableIn (h .seat .n) (restField s)) ≡ linkSays h k s
-  link-parts =
+  -- y: whether it is accepted, i: a list, j: a confession
+  pub link-parts : {a l c : Bool} → p .accepted ≡ a → p .list ≡ l → p .confession ≡ c → refusedOr p (tableIn (h .seat .n) (restField s)) a l c ≡ linkSays h k s
+  link-parts y i j =
       let t = tableIn (h .seat .n) (restField s) in
-      sym (parts-mean t what q .0) ∙ ap (λ (w : Said). meant w t) e ∙ meant-link h k s
+      sym (parts-mean p t what q y i j .0) ∙ ap (λ (w : Said). meant w t) e ∙ meant-link h k s
 
-  as-said : answered h k (refusedOr p (tableIn (h .seat .n) (restField s))) ≡ hear h k s
-  as-said = ap (answered h k) link-parts ∙ link-answered h k s
+  as-said : {a l c : Bool} → p .accepted ≡ a → p .list ≡ l → p .confession ≡ c → answered h k (refusedOr p (tableIn (h .seat .n) (restField s)) a l c) ≡ hear h k s
+  as-said y i j = ap (answered h k) (link-parts y i j) ∙ link-answered h k s
 
   pub refused-heard : p .accepted ≡ false → record { refusal = p .refusal; head = h } ≡ hear h k s
-  refused-heard r = rw r at as-said
+  refused-heard y = as-said y refl refl
 
   module _ {heard : ℕ} (m : heard ≡ withMark (h .heard) k) (y : p .accepted ≡ true) where
     pub list-heard : p .list ≡ true → {t : Table} {g : Links} {l : List Row} → t ≡ tableIn (h .seat .n) (restField s) → g ≡ withList (h .links) k t
         → l ≡ set (h .lists) k (record { entries = t .entries }) → record { refusal = 0; head = holding h heard (h .list) g l } ≡ hear h k s
-    list-heard i a b d = rw (m, d, b, a) (rw (y, i) at as-said)
+    list-heard i a b d = rw (m, d, b, a) (as-said y i refl)
 
     pub confession-heard : p .list ≡ false → p .confession ≡ true → {c : ℕ} → c ≡ withMark (h .links .confessed) k → let g = h .links in
         record { refusal = 0; head = holding h heard (h .list) (record { confessed = c; listed = g .listed; marks = g .marks }) (h .lists) } ≡ hear h k s
-    confession-heard i j a = rw (m, a) (rw (y, i, j) at as-said)
+    confession-heard i j a = rw (m, a) (as-said y i j)
 
     pub entry-heard : p .list ≡ false → p .confession ≡ false → {t : Table} → t ≡ withEntry (h .list) k (p .entry)
         → record { refusal = 0; head = holding h heard t (h .links) (h .lists) } ≡ hear h k s
-    entry-heard i j a = rw (m, a) (rw (y, i, j) at as-said)
+    entry-heard i j a = rw (m, a) (as-said y i j)
