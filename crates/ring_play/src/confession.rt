@@ -45,22 +45,23 @@ fn links_of(s: Stage, marks: &Words) -> Links
     }
 }
 
-// Hears a confession frame on link k: a list goes to its row.
+// Hears a confession frame on link k: a list goes to its row, a confession is marked.
 fn hear(links: Links, rows: &mut Lists, k: usize, frame: &[u8], n: u8, phase: u16) -> Links
     requires { ⌜ k < 32 ⌝ }
     ensures links { λ r. ⌜ r ≡ linksWith links k (said n phase 1 k (now (frame .entry))) ⌝ }
     ensures rows { λ r. ⌜ now (rows .exit) ≡ rowsWith (now (rows .entry)) k (said n phase 1 k (now (frame .entry))) ⌝ }
 {
     let said = frame_codec::read(frame, n, phase, 1, k as u8);
-    let heard = shared::with_said(links.confessed, k, said);
+    let p = frame_codec::parts_of(said);
     let mut out = links;
-    out.confessed = heard.confessed;
-    if heard.list {
+    if p.list {
         let table = frame_codec::table_in(frame, n);
         let entries = table.entries;
         rows[k] = entries;
         out.marks[k] = table.marks;
         out.listed = marks::with_mark(out.listed, k);
+    } else if p.confession {
+        out.confessed = marks::with_mark(out.confessed, k);
     }
     out
 }

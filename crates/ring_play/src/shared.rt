@@ -11,7 +11,6 @@ ghost use Rattle.frame_slots.specs.Slots.{plantedIn};
 ghost use Rattle.settle_trust.specs.Received.{givenBy};
 ghost use Rattle.head_spec.specs.Record.{givenOf};
 ghost use Rattle.ring_play.specs.Memory.{heads};
-ghost use Rattle.ring_play.specs.Inner.Confession.{withSaid};
 ghost use Rattle.ring_play.specs.Inner.Planted.{Alike, AllSettled, SettlesAll};
 ghost use Rattle.ring_play.specs.Inner.Told.{Counted, Told, SharedBy, settledBy, settledAt, takenHere, LastOf};
 use crate::Stage;
@@ -19,7 +18,6 @@ use crate::codes;
 use crate::round;
 use crate::round::Before;
 use crate::round::Two;
-use frame_spec::Said;
 use settle_trust::Links;
 use terms::HEADS;
 use terms::Lists;
@@ -31,29 +29,6 @@ use terms::Words;
 enum Last {
     None,
     At(i32),
-}
-
-// What is heard of a link, but for its table: which links have confessed by then, and whether it gave a list.
-pub(crate) struct Heard {
-    pub confessed: u32,
-    pub list: bool,
-}
-
-// Takes apart what link k said in a confession round: a confession is marked. The table of a list stays in its frame (D16d).
-pub(crate) fn with_said(confessed: u32, k: usize, said: Said) -> Heard
-    ensures { λ r. ⌜ r ≡ withSaid confessed k said ⌝ }
-{
-    let mut heard = Heard {
-        confessed,
-        list: false,
-    };
-    match said {
-        Said::Refused(_) => {}
-        Said::Collection(_) => {}
-        Said::List => heard.list = true,
-        Said::Confession => heard.confessed = marks::with_mark(confessed, k),
-    }
-    heard
 }
 
 // Hears a confession frame on link k: a list counts for each entry at which it has the code, a confession is marked.
@@ -70,13 +45,15 @@ fn count_frame(
     ensures { λ r. ⌜ Counted n (now (codes .entry)) k (givenOf (said n phase 1 k (now (frame .entry)))) (now (same .entry)) confessed (now (same .exit)) r ⌝ }
 {
     let said = frame_codec::read(frame, n, phase, 1, k as u8);
-    let heard = with_said(confessed, k, said);
-    if heard.list {
+    let p = frame_codec::parts_of(said);
+    if p.list {
         let table = frame_codec::table_in(frame, n);
         let entries = table.entries;
         codes::tally(table.marks, &entries, codes, same, n as usize);
+    } else if p.confession {
+        return marks::with_mark(confessed, k);
     }
-    heard.confessed
+    confessed
 }
 
 // Hears what is planted from the struck heads to receiver i. Answers which of them confessed.

@@ -11,34 +11,28 @@ use lib.ListN.{length, set, length-set}
 use lib.Seq.{getD-set-same, getD-set-other}
 use lib.IntN.{ℤ}
 use Rattle.terms.specs.declared.Entry.{Entry}
-use Rattle.terms.specs.declared.Table.{Table}
-use Rattle.marks.specs.Marks.{bitOf, withMark}
+use Rattle.marks.specs.Marks.{bitOf}
 use Rattle.marks.proofs.Marks.{with-same, with-other}
 use Rattle.convergence.specs.Trust as trust
 use Rattle.convergence.specs.Trust.{Given, nothing, gave, hasConfessed}
-use Rattle.frame_spec.specs.declared.Said.{Said}
-use Rattle.frame_spec.specs.Said.{Meaning, refused, collected, listed, confessed, meant}
+use Rattle.frame_spec.specs.Said.{Meaning, refused, collected, listed, confessed}
 use Rattle.settle_trust.specs.declared.Links.{Links}
 use Rattle.settle_trust.specs.Received.{givenBy}
 use Rattle.settle_trust.proofs.Received.{confessed-given}
 use Rattle.head_spec.specs.Record.{givenOf}
 use Rattle.ring_play.specs.declared.Stage.{Stage}
-use Rattle.ring_play.specs.declared.shared.Heard.{Heard}
-use Rattle.ring_play.specs.Inner.Confession.{linksWith, rowsWith, withSaid, Received}
+use Rattle.ring_play.specs.Inner.Confession.{linksWith, rowsWith, Received}
 use Rattle.ring_play.specs.Inner.Struck.{NextStruck}
 use Rattle.ring_play.proofs.round.Struck.{WalkedTo, walked}
 use Rattle.ring_play.proofs.round.Filling.{filledTo, filled-none, filled-passed, filled-stored, filled-yet}
 
 -- ---- one link
 
--- m: what the link said; x: what was read, t: the table beside it; h: what was heard, b: whether that is a list
-pub heard-stored : (g : Links) (rows : List (List ℤ)) (k : ℕ) (x : Said) (t : Table) {m : Meaning} {h : Heard} {b : Bool} → m ≡ meant x t → h ≡ withSaid (g .confessed) k x → h .list ≡ b
-    → (record { confessed = h .confessed; listed = cond b (withMark (g .listed) k) (g .listed); marks = cond b (set (g .marks) k (t .marks)) (g .marks) } ≡ linksWith g k m)
-    × (cond b (set rows k (t .entries)) rows ≡ rowsWith rows k m)
-heard-stored g rows k (Said.Refused e) t w p q = rw (w, ← q, p) (refl, refl)
-heard-stored g rows k (Said.Collection e) t w p q = rw (w, ← q, p) (refl, refl)
-heard-stored g rows k Said.List t w p q = rw (w, ← q, p) (refl, refl)
-heard-stored g rows k Said.Confession t w p q = rw (w, ← q, p) (refl, refl)
+-- a frame that is neither a list nor a confession changes nothing
+pub nothing-stored : (g : Links) (rows : List (List ℤ)) (k : ℕ) (e : Entry) (c : ℕ) (b : Bool) → let m = cond b (collected e) (refused c) in
+    (g ≡ linksWith g k m) × (rows ≡ rowsWith rows k m)
+nothing-stored g rows k e c true = (refl, refl)
+nothing-stored g rows k e c false = (refl, refl)
 
 both-long : (g : Links) (rows : List (List ℤ)) (k : ℕ) (m : Meaning) → (length (linksWith g k m .marks) ≡ length (g .marks)) × (length (rowsWith rows k m) ≡ length rows)
 both-long g rows k (refused c) = (refl, refl)

@@ -1,5 +1,6 @@
--- Frames as the player reads them: what was read, with the table beside it, is all that the frame says.
-use mathlib.Core.Path.{_≡_, ap, sym, _∙_}
+-- Frames as the player reads them: the parts of what was read, with the table beside them, are all that the frame says.
+use mathlib.Core.Path.{_≡_, refl, ap, sym, _∙_}
+use mathlib.Core.Bool.{Bool}
 use mathlib.Core.List.{List}
 use Prim.Native.Nat.{ℕ, _<_}
 use mir.Val.{Val}
@@ -7,14 +8,20 @@ use denote.Laws.{Is}
 use Rattle.frame_spec.specs.declared.Said.{Said}
 use Rattle.frame_spec.specs.Said.{tableIn, said, saidOf, meant, restField}
 use Rattle.frame_spec.proofs.OneMeaning.{meant-said}
+use Rattle.frame_codec.specs.declared.Parts.{Parts}
+use Rattle.frame_codec.specs.Parts.{partsOf}
+use Rattle.frame_codec.proofs.Taking.{listedOr, parts-mean}
 use Rattle.ring_play.specs.declared.Stage.{Stage}
 use Rattle.ring_play.proofs.Stage.{the-row}
 
 -- ---- read
 
--- x: what was read
-pub said-read : (n p r k : ℕ) (s : List ℕ) {x : Said} → x ≡ saidOf (said n p r k s) → said n p r k s ≡ meant x (tableIn n (restField s))
-said-read n p r k s e = sym (meant-said n p r k s) ∙ ap (λ (x : Said). meant x (tableIn n (restField s))) (sym e)
+-- x: what was read; P: its parts; l: whether it is a list, c: a confession
+pub said-read : (n p r k : ℕ) (s : List ℕ) {x : Said} {P : Parts} {l c : Bool} → x ≡ saidOf (said n p r k s) → P ≡ partsOf x → P .list ≡ l → P .confession ≡ c
+    → said n p r k s ≡ listedOr P (tableIn n (restField s)) l c
+said-read n p r k s {x} {P} e q i j =
+    let t = tableIn n (restField s) in
+    sym (meant-said n p r k s) ∙ ap (λ (y : Said). meant y t) (sym e) ∙ parts-mean P t x q refl i j .1
 
 -- ---- the phase of a frame
 

@@ -9,44 +9,42 @@ use native.Mathlib.Omega.{arith}
 use lib.ListN.{getD}
 use lib.IntN.{ℤ, pos}
 use Rattle.terms.specs.Positions.{eqZ}
+use Rattle.terms.specs.declared.Entry.{Entry}
 use Rattle.terms.specs.declared.Table.{Table}
 use Rattle.entries.specs.Tables.{tableAt}
 use Rattle.marks.specs.Marks.{bitOf, withMark}
 use Rattle.marks.proofs.Marks.{bit-none, with-same, with-other}
 use Rattle.marks.proofs.Counts.{sum-next}
 use Rattle.terms.specs.Counting.{Each, sum, bit}
-use Rattle.convergence.specs.Trust.{gave, hasConfessed}
+use Rattle.convergence.specs.Trust.{confessed, gave, hasConfessed}
 use Rattle.terms.proofs.Sums.{sums-le, sum-one, bit-le}
-use Rattle.frame_spec.specs.declared.Said.{Said}
-use Rattle.frame_spec.specs.Said.{Meaning, said, meant}
+use Rattle.frame_spec.specs.Said.{refused, collected, said}
 use Rattle.ring_play.specs.Inner.Codes.{codeAt, holds, Tallied}
 use Rattle.ring_play.proofs.codes.Codes.{code-entry, holds-le}
 use Rattle.head_spec.specs.Record.{givenOf}
 use Rattle.ring_play.specs.declared.Stage.{Stage}
 use Rattle.ring_play.specs.Memory.{heads}
-use Rattle.ring_play.specs.declared.shared.Heard.{Heard}
-use Rattle.ring_play.specs.Inner.Confession.{withSaid}
 use Rattle.ring_play.specs.Inner.Struck.{NextStruck}
 use Rattle.ring_play.proofs.round.Struck.{WalkedTo, walked}
 use Rattle.ring_play.proofs.round.Filling.{Filled, filled-none, filled-passed, filled-stored, filled-yet}
 use Rattle.ring_play.specs.Inner.Told.{plantedGiven, Counted}
 
 module _ (n : ℕ) (codes : List ℤ) (k : ℕ) (same : List ℕ) (marked : ℕ) where
-  counted-list : (t : Table) {same′ : List ℕ} → Tallied n (t .marks) (t .entries) codes same same′ → Counted n codes k (gave (tableAt t)) same marked same′ marked
+  -- a frame that is neither a list nor a confession
+  pub counted-nothing : (e : Entry) (c : ℕ) (b : Bool) → Counted n codes k (givenOf (cond b (collected e) (refused c))) same marked same marked
+  counted-nothing e c true = record { counts = λ j l m. omega arith; confesses = refl }
+  counted-nothing e c false = record { counts = λ j l m. omega arith; confesses = refl }
+
+  pub counted-confession : Counted n codes k confessed same marked same (withMark marked k)
+  counted-confession = record { counts = λ j l m. omega arith; confesses = refl }
+
+  pub counted-list : (t : Table) {same′ : List ℕ} → Tallied n (t .marks) (t .entries) codes same same′ → Counted n codes k (gave (tableAt t)) same marked same′ marked
   counted-list t {same′} T = record { counts = go; confesses = refl }
     where
       go : (j : ℕ) → j < n → getD same j 0 < 4294967295 → getD same′ j 0 ≡ getD same j 0 + holds j (getD codes j (pos 0)) (gave (tableAt t))
       go j l m =
           let c = getD codes j (pos 0) in
           omega (arith, T .counts j l, ap (λ (v : ℤ). bit (eqZ v c)) (code-entry (t .marks) (t .entries) j), bit-le (eqZ (codeAt (t .marks) (t .entries) j) c))
-
-  -- m: what the link said; x: what was read, t: the table beside it; h: what was heard, b: whether that is a list
-  pub counted-said : (x : Said) (t : Table) {m : Meaning} {h : Heard} {b : Bool} {same′ : List ℕ} → m ≡ meant x t → h ≡ withSaid marked k x → h .list ≡ b
-      → cond b (Tallied n (t .marks) (t .entries) codes same same′) (same′ ≡ same) → Counted n codes k (givenOf m) same marked same′ (h .confessed)
-  counted-said (Said.Refused e) t w p q T = rw (w, p, rw (← q, p) at T) (record { counts = λ j l m. omega arith; confesses = refl })
-  counted-said (Said.Collection e) t w p q T = rw (w, p, rw (← q, p) at T) (record { counts = λ j l m. omega arith; confesses = refl })
-  counted-said Said.List t w p q T = rw (w, p) (counted-list t (rw (← q, p) at T))
-  counted-said Said.Confession t w p q T = rw (w, p, rw (← q, p) at T) (record { counts = λ j l m. omega arith; confesses = refl })
 
 -- ---- what is planted to receiver i, link by link
 

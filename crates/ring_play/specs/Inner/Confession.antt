@@ -5,17 +5,15 @@ use mathlib.Core.List.{List}
 use Prim.Native.Nat.{ℕ}
 use lib.ListN.{length, set}
 use lib.IntN.{ℤ}
-use Rattle.marks.specs.Marks.{bitOf, withMark}
+use Rattle.marks.specs.Marks.{bitOf}
 use Rattle.convergence.specs.Trust.{Given, nothing}
 use Rattle.frame_spec.specs.Said.{Meaning, refused, collected, listed, confessed, said}
-use Rattle.frame_spec.specs.declared.Said.{Said}
 use Rattle.frame_spec.specs.Written.{frameOf}
 use Rattle.settle_trust.specs.declared.Links.{Links}
 use Rattle.settle_trust.specs.Received.{givenBy}
 use Rattle.head_spec.specs.Record.{givenOf}
 use Rattle.head_spec.specs.Calls.{withConfession, withList}
 use Rattle.ring_play.specs.declared.Stage.{Stage}
-use Rattle.ring_play.specs.declared.shared.Heard.{Heard}
 use Rattle.ring_play.specs.Memory.{heads, hears, replies}
 use Rattle.ring_play.specs.Inner.Planted.{isStruck}
 
@@ -35,13 +33,6 @@ rowsWith rows k (refused c) = rows
 rowsWith rows k (collected e) = rows
 rowsWith rows k (listed t) = set rows k (t .entries)
 rowsWith rows k confessed = rows
-
--- which links have confessed, when link k has said x, and whether it gave a list
-abbrev pub withSaid : (confessed k : ℕ) (x : Said) → Heard
-withSaid c k (Said.Refused e) = record { confessed = c; list = false }
-withSaid c k (Said.Collection e) = record { confessed = c; list = false }
-withSaid c k Said.List = record { confessed = c; list = true }
-withSaid c k Said.Confession = record { confessed = withMark c k; list = false }
 
 -- the links and the rows hold G
 pub record Received (g : Links) (rows : List (List ℤ)) (G : ℕ → Given) : Type 0 where
