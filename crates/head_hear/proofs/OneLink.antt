@@ -6,12 +6,10 @@ use mathlib.Core.Bool.{Bool, true, false, not, true≢false}
 use mathlib.Core.List.{List}
 use Prim.Native.Nat.{ℕ, zero, suc}
 use lib.Dec.{eqb, leb, ltb}
-use lib.ListN.{length, set}
+use lib.ListN.{length}
 use Rattle.terms.specs.Refusals as refusal
 use Rattle.terms.specs.Refusals.{check, unlessRefused}
-use Rattle.terms.specs.declared.Entry.{Entry}
-use Rattle.terms.specs.declared.Table.{Table}
-use Rattle.marks.specs.Marks.{bitOf, withMark}
+use Rattle.marks.specs.Marks.{bitOf}
 use Rattle.frame_check.specs.Check.{Kind, position, silence, list, confession, unknown, isKnown, kindField, lengthField, checkFrame}
 use Rattle.terms.proofs.Checks.{passed}
 use Rattle.frame_spec.specs.declared.Said.{Said}
@@ -21,11 +19,9 @@ use Rattle.frame_spec.proofs.OneMeaning.{meant-said}
 use Rattle.frame_codec.specs.declared.Parts.{Parts}
 use Rattle.frame_codec.specs.Parts.{partsOf}
 use Rattle.frame_codec.proofs.Taking.{refusedOr, parts-mean}
-use Rattle.settle_trust.specs.declared.Links.{Links}
-use Rattle.head_spec.specs.declared.Row.{Row}
 use Rattle.head_spec.specs.declared.Head.{Head}
 use Rattle.head_spec.specs.declared.Answer.{Answer}
-use Rattle.head_spec.specs.Calls.{answer, saidTo, refusalTo, hearRefusal, withEntry, withList, taken, hear}
+use Rattle.head_spec.specs.Calls.{answer, saidTo, refusalTo, hearRefusal, taken, hear}
 use Rattle.head_hear.specs.Steps.{linkRefusal, saidOn}
 
 -- ---- a frame that is not refused says something
@@ -95,35 +91,15 @@ module _ (h : Head) (k : ℕ) (s : List ℕ) where
       go zero = meant-said (h .seat .n) (h .seat .phase) (h .seat .round) k s
       go (suc c) = refl
 
--- ---- what the code makes of the record
+-- ---- by the parts of what was said
 
--- with the links heard, the list that is being filled, and what the links gave
-abbrev holding : Head → ℕ → Table → Links → List Row → Head
-holding h heard t g l = record { seat = h .seat; heard = heard; list = t; links = g; lists = l }
-
--- it is what hearing makes of it, by the parts of what was said
-module _ (h : Head) (k : ℕ) (s : List ℕ) {what : Said} {p : Parts} (e : what ≡ saidOf (linkSays h k s)) (q : p ≡ partsOf what) where
-  -- y: whether it is accepted, i: a list, j: a confession
-  pub link-parts : {a l c : Bool} → p .accepted ≡ a → p .list ≡ l → p .confession ≡ c → refusedOr p (tableIn (h .seat .n) (restField s)) a l c ≡ linkSays h k s
-  link-parts y i j =
+-- a: whether it is accepted, l: a list, c: a confession
+module _ (h : Head) (k : ℕ) (s : List ℕ) {what : Said} {p : Parts} (e : what ≡ saidOf (linkSays h k s)) (q : p ≡ partsOf what)
+    {a l c : Bool} (y : p .accepted ≡ a) (i : p .list ≡ l) (j : p .confession ≡ c) where
+  pub link-parts : refusedOr p (tableIn (h .seat .n) (restField s)) a l c ≡ linkSays h k s
+  link-parts =
       let t = tableIn (h .seat .n) (restField s) in
       sym (parts-mean p t what q y i j .0) ∙ ap (λ (w : Said). meant w t) e ∙ meant-link h k s
 
-  as-said : {a l c : Bool} → p .accepted ≡ a → p .list ≡ l → p .confession ≡ c → answered h k (refusedOr p (tableIn (h .seat .n) (restField s)) a l c) ≡ hear h k s
-  as-said y i j = ap (answered h k) (link-parts y i j) ∙ link-answered h k s
-
-  pub refused-heard : p .accepted ≡ false → record { refusal = p .refusal; head = h } ≡ hear h k s
-  refused-heard y = as-said y refl refl
-
-  module _ {heard : ℕ} (m : heard ≡ withMark (h .heard) k) (y : p .accepted ≡ true) where
-    pub list-heard : p .list ≡ true → {t : Table} {g : Links} {l : List Row} → t ≡ tableIn (h .seat .n) (restField s) → g ≡ withList (h .links) k t
-        → l ≡ set (h .lists) k (record { entries = t .entries }) → record { refusal = 0; head = holding h heard (h .list) g l } ≡ hear h k s
-    list-heard i a b d = rw (m, d, b, a) (as-said y i refl)
-
-    pub confession-heard : p .list ≡ false → p .confession ≡ true → {c : ℕ} → c ≡ withMark (h .links .confessed) k → let g = h .links in
-        record { refusal = 0; head = holding h heard (h .list) (record { confessed = c; listed = g .listed; marks = g .marks }) (h .lists) } ≡ hear h k s
-    confession-heard i j a = rw (m, a) (as-said y i j)
-
-    pub entry-heard : p .list ≡ false → p .confession ≡ false → {t : Table} → t ≡ withEntry (h .list) k (p .entry)
-        → record { refusal = 0; head = holding h heard t (h .links) (h .lists) } ≡ hear h k s
-    entry-heard i j a = rw (m, a) (as-said y i j)
+  pub parts-answered : answered h k (refusedOr p (tableIn (h .seat .n) (restField s)) a l c) ≡ hear h k s
+  parts-answered = ap (answered h k) link-parts ∙ link-answered h k s

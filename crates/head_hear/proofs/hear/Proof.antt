@@ -6,11 +6,14 @@ use lib.ListN.{length, length-map}
 use lib.Seq.{set-out}
 use mir.Val.{Val}
 use denote.Laws.{Is}
+use denote.Ref.{now}
 use borrow.Author.Needs.{needs}
 use borrow.Author.Tests.{not-true, not-false}
+use Rattle.frame_spec.specs.Said.{tableIn, restField}
+use Rattle.head_spec.specs.declared.Row.{Row}
 use Rattle.head_spec.specs.declared.Head.{Head}
 use Rattle.head_spec.proofs.Head.{the-row}
-use Rattle.head_hear.proofs.OneLink.{refused-heard, entry-heard, list-heard, confession-heard}
+use Rattle.head_hear.proofs.OneLink.{parts-answered}
 use Rattle.head_hear.proofs.hear.Statement.{statement}
 use Rattle.head_hear.proofs.hear.Tie as tie
 
@@ -21,47 +24,45 @@ lists-long h is = sym (length-map (h .lists) _) ∙ is .1 .1 .1 .1 .1 .1 .0 .1 .
 returns : tie.Need-returns
 returns c =
     let p = c .before .before .before in
-    refused-heard _ _ _ (p .before .said-on .ensures) (p .parts-of .ensures) (not-true _ (c .if1 .taken))
+    parts-answered _ _ _ (p .before .said-on .ensures) (p .parts-of .ensures) (not-true _ (c .if1 .taken)) refl refl
 
 returns-2 : tie.Need-returns-2
 returns-2 c =
     let l = c .before .before in
     let t = l .before in
     let x = t .before .before in
-    let m = x .before .before in
-    let p = m .before in
-    list-heard _ _ _ (p .before .said-on .ensures) (p .parts-of .ensures) (m .with-mark .ensures) (not-false _ (x .if1 .left))
-    (t .before .if2 .taken) (t .table-in .ensures) (l .with-list .ensures) refl
+    let p = x .before .before .before in
+    rw (x .before .before .with-mark .ensures, l .with-list .ensures, t .table-in .ensures)
+    (parts-answered _ _ _ (p .before .said-on .ensures) (p .parts-of .ensures) (not-false _ (x .if1 .left)) (t .before .if2 .taken) refl)
 
 returns-3 : tie.Need-returns-3
 returns-3 c =
     let l = c .before in
     let t = l .before in
     let x = t .before .before in
-    let m = x .before .before in
-    let p = m .before in
+    let p = x .before .before .before in
     let f = p .before .before .before .before in
-    list-heard _ _ _ (p .before .said-on .ensures) (p .parts-of .ensures) (m .with-mark .ensures) (not-false _ (x .if1 .left))
-    (t .before .if2 .taken) (t .table-in .ensures) (l .with-list .ensures)
-    (sym (set-out (f .args .h .lists) (f .args .link) _ (omega (arith, lists-long (f .args .h) (f .good .0), c .if3 .left))))
+    let a = f .args in
+    let row : Row = record { entries = tableIn (a .h .seat .n) (restField (now (a .frame))) .entries } in
+    let no-place = set-out (a .h .lists) (a .link) row (omega (arith, lists-long (a .h) (f .good .0), c .if3 .left)) in
+    rw (x .before .before .with-mark .ensures, l .with-list .ensures, t .table-in .ensures)
+    (rw no-place at (parts-answered (a .h) (a .link) (now (a .frame)) (p .before .said-on .ensures) (p .parts-of .ensures) (not-false _ (x .if1 .left)) (t .before .if2 .taken) refl))
 
 returns-4 : tie.Need-returns-4
 returns-4 c =
     let t = c .before .before in
     let x = t .before .before in
-    let m = x .before .before in
-    let p = m .before in
-    confession-heard _ _ _ (p .before .said-on .ensures) (p .parts-of .ensures) (m .with-mark .ensures) (not-false _ (x .if1 .left))
-    (t .before .if2 .left) (t .if4 .taken) (c .before .with-mark2 .ensures)
+    let p = x .before .before .before in
+    rw (x .before .before .with-mark .ensures, c .before .with-mark2 .ensures)
+    (parts-answered _ _ _ (p .before .said-on .ensures) (p .parts-of .ensures) (not-false _ (x .if1 .left)) (t .before .if2 .left) (t .if4 .taken))
 
 returns-5 : tie.Need-returns-5
 returns-5 c =
     let t = c .before in
     let x = t .before .before in
-    let m = x .before .before in
-    let p = m .before in
-    entry-heard _ _ _ (p .before .said-on .ensures) (p .parts-of .ensures) (m .with-mark .ensures) (not-false _ (x .if1 .left))
-    (t .before .if2 .left) (t .if4 .left) (c .with-entry .ensures)
+    let p = x .before .before .before in
+    rw (x .before .before .with-mark .ensures, c .with-entry .ensures)
+    (parts-answered _ _ _ (p .before .said-on .ensures) (p .parts-of .ensures) (not-false _ (x .if1 .left)) (t .before .if2 .left) (t .if4 .left))
 
 pub hear-spec : {M : Type 1} → statement M
 hear-spec =
