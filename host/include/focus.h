@@ -227,7 +227,7 @@ typedef struct focus_range {
  * new position that any choice within the limits brings in that phase: both occur, and so does every step between them.
  * Returns 0 and writes *range, or 1, 2, 5, 8 (length is not 8n), 10, 19, 25. 25 is answered just if every choice within
  * the limits is refused 25.
- * Promised: `RangeLent` (crates/camera/specs/Out.antt), for an answer of `Answers` (crates/settle_limits/specs/Call.antt),
+ * Promised: `RangeLent` (crates/camera/specs/Out.antt), for an answer of `LimitsAnswer` (crates/settle_limits/specs/Call.antt),
  * of which there is one at most. */
 FOCUS_MUST_USE uint8_t focus_limits(uint32_t n, uint32_t f, uint32_t phase, uint32_t marks, const uint8_t *limits, size_t length,
                                     focus_range *range);
@@ -240,7 +240,7 @@ FOCUS_MUST_USE uint8_t focus_limits(uint32_t n, uint32_t f, uint32_t phase, uint
  * to 1,000,000, for the open entry with which the ring settles on the wanted one in that phase, or FOCUS_NO_STEP if
  * there is none. When nulls are counted the open entry is not null.
  * Returns 0 and writes *position, or 1, 2, 5, 3 (number is n or more), 8, 10, 11, 25.
- * Promised: `PositionLent` (crates/camera/specs/Out.antt), for an answer of `Answers` (crates/settle_reach/specs/Call.antt),
+ * Promised: `PositionLent` (crates/camera/specs/Out.antt), for an answer of `ReachAnswer` (crates/settle_reach/specs/Call.antt),
  * of which there is one at most; with *position for the open entry the midpoint call gives the wanted position. */
 FOCUS_MUST_USE uint8_t focus_reach(uint32_t n, uint32_t f, uint32_t phase, uint32_t number, uint32_t marks, const uint8_t *entries,
                                    size_t length, int32_t wanted, int32_t *position);
@@ -258,7 +258,7 @@ FOCUS_MUST_USE uint8_t focus_scale(int32_t steps, uint32_t numerator, uint32_t d
 /* From nanometres back to steps: the step in range, from -1,000,000 to 1,000,000, whose reading by the step scale it
  * is. Any reading is taken. No two steps read alike, since the numerator is at least the denominator.
  * Returns 0 and puts the step in *steps, or FOCUS_NO_STEP if no step in range reads so; or 12.
- * Promised: `StepLent` (crates/camera/specs/Out.antt), for an answer of `Answers` (crates/steps/specs/Unscale.antt),
+ * Promised: `StepLent` (crates/camera/specs/Out.antt), for an answer of `UnscaleAnswer` (crates/steps/specs/Unscale.antt),
  * of which there is one at most; what focus_scale puts in *nanometres comes back as the steps it was given. */
 FOCUS_MUST_USE uint8_t focus_unscale(int64_t nanometres, uint32_t numerator, uint32_t denominator, int32_t *steps);
 
@@ -442,7 +442,7 @@ typedef struct focus_reading {
 /* No refusal: the kind of the head's reading. It is unknown before the first phase end since the start or restart, a
  * point where the two kept entries are equal, and otherwise a range. An offer does not show until it is adopted. Floats
  * that the kind does not have stay as they were.
- * Promised: `kindOf` and `floatsOr` (crates/head_c/specs/Pages.antt) of `headReading` (crates/reading/specs/Readings.antt). A
+ * Promised: `readingKind` and `floatsOr` (crates/head_c/specs/Pages.antt) of `headReading` (crates/reading/specs/Readings.antt). A
  * host that changed the rounding mode must set it back to nearest before it calls: downward, -v and v would give -0. */
 FOCUS_MUST_USE uint8_t focus_head_reading(const focus_head *head, focus_reading *reading);
 

@@ -11,21 +11,21 @@ use Rattle.settle_midpoint.specs.Call.{entriesGiven}
 use Rattle.terms.specs.declared.Family.{Family}
 use Rattle.settle_reach.specs.declared.Reached.{Reached}
 use Rattle.convergence.specs.Settling.{ruleOf}
-use Rattle.settle_reach.specs.Reach.{Brings, Lowest, Found}
+use Rattle.settle_reach.specs.Reach.{EntryBrings, Lowest, Found}
 use Rattle.settle_reach.specs.Reach.Found.{set, none}
-use Rattle.settle_reach.specs.Call.{Answers}
-use Rattle.settle_reach.specs.Call.Answers.{refused, found}
+use Rattle.settle_reach.specs.Call.{ReachAnswer}
+use Rattle.settle_reach.specs.Call.ReachAnswer.{refused, found}
 use Rattle.camera.specs.Out.{noStep, reachedNumber, reachedOr, PositionLent}
 
 module _ (K : Family) (n f p j m : ℕ) (s : List ℕ) (x old : ℤ) where
   abbrev P : ℤ → Type 0
-  P = Brings (rounding p) n (ruleOf K f) (entriesGiven n m s) j x
+  P = EntryBrings (rounding p) n (ruleOf K f) (entriesGiven n m s) j x
 
   none-found : (a : Reached) → Found P a → noStep ≡ reachedOr a old → (w : ℤ) → P w → ⊥
   none-found _ (set u l) e w q = subst (Within 1_000_000) (sym e) (position-within u (l .holds .0)) .0 .le
   none-found _ (none never) e w q = never w q
 
-  none-told : (a : Reached) → Answers K n f p j m s x a → 0 ≡ reachedNumber a → noStep ≡ reachedOr a old → (w : ℤ) → P w → ⊥
+  none-told : (a : Reached) → ReachAnswer K n f p j m s x a → 0 ≡ reachedNumber a → noStep ≡ reachedOr a old → (w : ℤ) → P w → ⊥
   none-told _ (refused c g) e l w q = absurd (omega (arith, e))
   none-told _ (found g a h) e l w q = none-found a h l w q
 
@@ -33,7 +33,7 @@ module _ (K : Family) (n f p j m : ℕ) (s : List ℕ) (x old : ℤ) where
   set-found new _ (set u l) e other = subst (Lowest P) (sym e) l
   set-found new _ (none never) e other = absurd (other e)
 
-  set-told : (new : ℤ) (a : Reached) → Answers K n f p j m s x a → 0 ≡ reachedNumber a → new ≡ reachedOr a old → (new ≡ noStep → ⊥) → Lowest P new
+  set-told : (new : ℤ) (a : Reached) → ReachAnswer K n f p j m s x a → 0 ≡ reachedNumber a → new ≡ reachedOr a old → (new ≡ noStep → ⊥) → Lowest P new
   set-told new _ (refused c g) e l other = absurd (omega (arith, e))
   set-told new _ (found g a h) e l other = set-found new a h l other
 

@@ -16,7 +16,7 @@ use Rattle.steps.specs.declared.Scaled.{Scaled}
 use Rattle.steps.specs.declared.Scaled.the-variants as scale
 use Rattle.steps.specs.declared.Unscaled.{Unscaled}
 use Rattle.steps.specs.declared.Unscaled.the-variants as unscale
-use Rattle.steps.specs.Unscale.{Answers}
+use Rattle.steps.specs.Unscale.{UnscaleAnswer}
 
 -- of the midpoint: the new position, or what was there (P40)
 abbrev pub settledOr : Settled → ℤ → ℤ
@@ -38,9 +38,9 @@ rangedOr (limits.Refused c) old = old
 rangedOr (limits.Range low high) old = low ∷ high ∷ []
 
 -- the number r and the lent pair are those of an answer for limits
-pub record RangeLent (n f p m : ℕ) (s : List ℕ) (r : ℕ) (old new : List ℤ) : Type 0 where
+pub record RangeLent (n f p marks : ℕ) (s : List ℕ) (r : ℕ) (old new : List ℤ) : Type 0 where
   pub answer : Ranged
-  pub means : limits-call.Answers n f p m s answer
+  pub means : limits-call.LimitsAnswer n f p marks s answer
   pub number : r ≡ rangedNumber answer
   pub lent : new ≡ rangedOr answer old
 
@@ -69,9 +69,9 @@ reachedOr reach.None old = noStep
 reachedOr (reach.Set u) old = u
 
 -- the number r and the lent position are those of an answer for the wanted position x, with entry j open
-pub record PositionLent (K : Family) (n f p j m : ℕ) (s : List ℕ) (x : ℤ) (r : ℕ) (old new : ℤ) : Type 0 where
+pub record PositionLent (K : Family) (n f p j marks : ℕ) (s : List ℕ) (x : ℤ) (r : ℕ) (old new : ℤ) : Type 0 where
   pub answer : Reached
-  pub means : reach-call.Answers K n f p j m s x answer
+  pub means : reach-call.ReachAnswer K n f p j marks s x answer
   pub number : r ≡ reachedNumber answer
   pub lent : new ≡ reachedOr answer old
 
@@ -89,6 +89,6 @@ stepOr (unscale.Step v) old = v
 -- the number r and the lent step are those of an answer for the reading x by the scale a / d
 pub record StepLent (x : ℤ) (a d r : ℕ) (old new : ℤ) : Type 0 where
   pub answer : Unscaled
-  pub means : Answers x a d answer
+  pub means : UnscaleAnswer x a d answer
   pub number : r ≡ stepNumber answer
   pub lent : new ≡ stepOr answer old

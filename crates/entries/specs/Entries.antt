@@ -9,19 +9,19 @@ use Rattle.terms.specs.declared.Entry.{Entry}
 use Rattle.fields.specs.Bytes.{signedAt}
 use Rattle.marks.specs.Marks.{bitOf}
 
--- entry j of a list with the mark word m and the numbers E: null if it is not marked
+-- entry j of a list with these marks and the numbers E: null if it is not marked
 unfoldable pub entryAt : ℕ → List ℤ → ℕ → Entry
-entryAt m E j = cond (bitOf m j) (Entry.Position (getD E j (pos 0))) Entry.Null
+entryAt marks E j = cond (bitOf marks j) (Entry.Position (getD E j (pos 0))) Entry.Null
 
 -- whether a number fits in a list: a position if it is marked, and else 0 (P15)
 abbrev pub fits : Bool → ℤ → Bool
 fits true v = isPosition v
 fits false v = eqZ v (pos 0)
 
--- whether the first n numbers of the bytes s fit in a list with the mark word m
+-- whether the first n numbers of the bytes s fit in a list with these marks
 unfoldable pub entriesFit : ℕ → List ℕ → ℕ → Bool
-entriesFit m s zero = true
-entriesFit m s (suc j) = entriesFit m s j && fits (bitOf m j) (signedAt s (4 * j))
+entriesFit marks s zero = true
+entriesFit marks s (suc j) = entriesFit marks s j && fits (bitOf marks j) (signedAt s (4 * j))
 
 unfoldable pub zeros : List ℤ
 zeros = replicate 32 (pos 0)

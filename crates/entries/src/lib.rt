@@ -44,14 +44,14 @@ fn word_fits(mark: bool, x: u32) -> bool
 }
 
 // Whether the first n entries fit in a list, one by one.
-fn each_fits(m: u32, s: &[u8], n: u8) -> bool
-    ensures { λ r. ⌜ r ≡ entriesFit m (now (s .entry)) n ⌝ }
+fn each_fits(marks: u32, s: &[u8], n: u8) -> bool
+    ensures { λ r. ⌜ r ≡ entriesFit marks (now (s .entry)) n ⌝ }
 {
     let count = n as usize;
     let whole = 4 * count <= s.len();
     let mut j: usize = 0;
     while j < count {
-        if !word_fits(marks::marked(m, j), word_in(whole, s, 4 * j)) {
+        if !word_fits(marks::marked(marks, j), word_in(whole, s, 4 * j)) {
             return false;
         }
         j += 1;
@@ -62,7 +62,7 @@ fn each_fits(m: u32, s: &[u8], n: u8) -> bool
 // The same of a list without nulls. All words are looked at, without a branch, so that many are tested at once.
 fn all_fit(s: &[u8], n: u8) -> bool
     requires { ⌜ 4 * n ≤ length (now s) ⌝ }
-    ensures { λ r. ⌜ ((m : ℕ) → allMarked m n ≡ true → r ≡ entriesFit m (now (s .entry)) n) ⌝ }
+    ensures { λ r. ⌜ ((marks : ℕ) → allMarked marks n ≡ true → r ≡ entriesFit marks (now (s .entry)) n) ⌝ }
 {
     let count = n as usize;
     let mut fit = true;
@@ -77,14 +77,14 @@ fn all_fit(s: &[u8], n: u8) -> bool
 }
 
 // Whether the first n entries fit in a list.
-pub fn entries_fit(m: u32, s: &[u8], n: u8) -> bool
-    ensures { λ r. ⌜ r ≡ entriesFit m (now (s .entry)) n ⌝ }
+pub fn entries_fit(marks: u32, s: &[u8], n: u8) -> bool
+    ensures { λ r. ⌜ r ≡ entriesFit marks (now (s .entry)) n ⌝ }
 {
     let count = n as usize;
-    if 4 * count <= s.len() && marks::all_marked(m, count) {
+    if 4 * count <= s.len() && marks::all_marked(marks, count) {
         return all_fit(s, n);
     }
-    each_fits(m, s, n)
+    each_fits(marks, s, n)
 }
 
 // The first n entries of a list as an array, 0 from n on.

@@ -25,7 +25,7 @@ use Rattle.head_spec.specs.declared.Head.{Head}
 use Rattle.head_spec.specs.Record.{noLinks, noLists, opened}
 use Rattle.head_lent.specs.Answers.{heldNumber, heldOr, rangeNumber}
 use Rattle.head_spec.specs.Seats.{familyIn}
-use Rattle.head_c.specs.Blocks.{IsBlock, flag, familyNumber, entryIn, rangeIn, upTo, numbersAt, listAt, seatOf, headOf, wordsOf, keptOf, withHead}
+use Rattle.head_c.specs.Blocks.{IsBlock, flag, familyNumber, heldEntry, rangeIn, upTo, numbersAt, listAt, seatOf, headOf, wordsOf, keptOf, withHead}
 use Rattle.head_c.proofs.Copying.{upTo-list}
 use Rattle.head_c.proofs.Putting.{words-long, word-at, first, second, first-long, second-long}
 
@@ -84,7 +84,7 @@ family-back : (K : Family) → familyIn (familyNumber K) ≡ K
 family-back TwoRounds = refl
 family-back OneRound = refl
 
-entry-back : (e : Entry) → FitEntry e → entryIn (heldNumber e) (signedOf (wordOf (heldOr e (pos 0)))) ≡ e
+entry-back : (e : Entry) → FitEntry e → heldEntry (heldNumber e) (signedOf (wordOf (heldOr e (pos 0)))) ≡ e
 entry-back Entry.Null f = refl
 entry-back (Entry.Position v) f = ap Entry.Position (signed-back v f)
 

@@ -25,7 +25,7 @@ use Rattle.head_spec.specs.declared.Answer.{Answer}
 use Rattle.head_spec.specs.Calls.{answer, saidTo, hearRefusal, taken, hear}
 use Rattle.head_hear.specs.Steps.{linkRefusal}
 use Rattle.head_hear.proofs.OneLink.{linkSays, answered, link-answered}
-use Rattle.head_c.specs.Blocks.{IsBlock, numbersAt, listAt, headOf, changed, heardIn, Hears}
+use Rattle.head_c.specs.Blocks.{IsBlock, numbersAt, listAt, headOf, blockWith, heardIn, Hears}
 use Rattle.head_c.proofs.Changes.{set-apart, null-is, position-is, list-is, confession-is}
 use Rattle.head_c.proofs.Copying.{upTo-long}
 use Rattle.head_c.proofs.Blocks.{Fits32, signed-fits, FitNumbers, FitEntry}
@@ -79,7 +79,7 @@ heard-is w block k m F = by-cases (decLt k 32)
     lapsing : (m : Meaning) {h : Head} → h ≡ taken (headOf w₀) k m → h ≡ taken (headOf w) k m
     lapsing m e = e ∙ ap (λ (x : Head). taken x k m) (set-apart w 18 0 (omega arith) (omega arith))
 
-    go : k < 32 → (m : Meaning) → FitMeaning m → headOf (changed w k m) ≡ taken (headOf w) k m
+    go : k < 32 → (m : Meaning) → FitMeaning m → headOf (blockWith w k m) ≡ taken (headOf w) k m
     go l (refused c) F = refl
     go l (collected Entry.Null) F = lapsing (collected Entry.Null) (null-is w₀ block₀ k l)
     go l (collected (Entry.Position v)) F = lapsing (collected (Entry.Position v)) (position-is w₀ block₀ k l v F)
@@ -125,7 +125,7 @@ module _ (w : List ℕ) (block : IsBlock w) (k : ℕ) (s : List ℕ) where
 
 -- ---- what the code makes of a block
 
-pub heard-below : (w : List ℕ) (k : ℕ) (m : Meaning) → k < 32 → heardIn w k m ≡ changed w k m
+pub heard-below : (w : List ℕ) (k : ℕ) (m : Meaning) → k < 32 → heardIn w k m ≡ blockWith w k m
 unfolding heardIn
 heard-below w k m l = rw (lt-ltb k 32 l)
 

@@ -21,7 +21,7 @@ use Rattle.head_spec.specs.Offers.{lapsed, lapsedBy}
 use Rattle.head_spec.proofs.Taking.{hear-keeps}
 use Rattle.head_hear.specs.Steps.{linkRefusal}
 use Rattle.head_hear.proofs.OneLink.{answered, link-answered}
-use Rattle.head_c.specs.Blocks.{IsBlock, headOf, offerOf, changed, heardIn, heardEach}
+use Rattle.head_c.specs.Blocks.{IsBlock, headOf, offerOf, blockWith, heardIn, heardEach}
 use Rattle.head_c.proofs.Offers.{no-offer}
 use Rattle.head_c.proofs.Hearing.{head-heard, heard-below, heard-refused, link-block}
 use Rattle.head_c.proofs.Registers.{either-way, changed-registers, heard-block}
@@ -37,7 +37,7 @@ module _ (w : List ℕ) (block : IsBlock w) (k : ℕ) (s : List ℕ) where
   lapses : k < 32 → (m : Meaning) → AcceptedMeaning m → offerOf (heardIn w k m) ≡ Offer.Nothing
   lapses l m a =
       rw (heard-below w k m l)
-      (no-offer (changed w k m) (changed-registers w block 18 (omega arith) (omega arith) k l m a ∙ getD-set-same w 18 0 0 (omega arith)))
+      (no-offer (blockWith w k m) (changed-registers w block 18 (omega arith) (omega arith) k l m a ∙ getD-set-same w 18 0 0 (omega arith)))
 
   pub offer-heard : headOf w .seat .n ≤ 32 → offerOf heard ≡ lapsed (hear (headOf w) k s .refusal) (offerOf w)
   unfolding said

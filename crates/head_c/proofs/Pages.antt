@@ -15,7 +15,7 @@ use Rattle.hostpage.specs.Page.{pageAnswer, pageIn}
 use Rattle.hostpage.proofs.Pages.{many-heads}
 use Rattle.reading.proofs.Heads.{reading-holds}
 use Rattle.head_c.specs.Blocks.{seatOf, headOf, offerOf}
-use Rattle.head_c.specs.Pages.{kindOf, floatsOr, blockAt, readingAt, readingsOf, MadeReads}
+use Rattle.head_c.specs.Pages.{readingKind, floatsOr, blockAt, readingAt, readingsOf, MadeReads}
 use Rattle.head_c.proofs.Made.{made-offers}
 
 -- ---- a head's reading
@@ -25,11 +25,11 @@ unfolding headOf
 reads w e q = q ∙ ap (λ (x : Seat). readingOf (x .kept)) e
 
 -- r was read and found to be x
-pub shown : {r x y : Reading} {n : ℕ} {v : List Float} (old : List Float) → r ≡ y → r ≡ x → n ≡ kindOf x → v ≡ floatsOr x old
-    → (n ≡ kindOf y) × (v ≡ floatsOr y old)
+pub shown : {r x y : Reading} {n : ℕ} {v : List Float} (old : List Float) → r ≡ y → r ≡ x → n ≡ readingKind x → v ≡ floatsOr x old
+    → (n ≡ readingKind y) × (v ≡ floatsOr y old)
 shown old p q a b =
     let same = sym q ∙ p in
-    (a ∙ ap kindOf same, b ∙ ap (λ (z : Reading). floatsOr z old) same)
+    (a ∙ ap readingKind same, b ∙ ap (λ (z : Reading). floatsOr z old) same)
 
 pub made-reads : MadeReads
 made-reads w m = let (x, O) = made-offers w m in (x, (O, reading-holds (headOf w) (offerOf w) x O))

@@ -15,7 +15,7 @@ use Rattle.frame_spec.specs.Proper.{AcceptedMeaning}
 use Rattle.head_spec.specs.declared.Head.{Head}
 use Rattle.head_spec.specs.declared.Answer.{Answer}
 use Rattle.head_spec.specs.Calls.{saidTo, hear, Delivery}
-use Rattle.head_c.specs.Blocks.{IsBlock, headOf, wordsOf, seatWords, withHead, withAnswer, marked, heardOn, changed, heardIn, heardEach}
+use Rattle.head_c.specs.Blocks.{IsBlock, headOf, wordsOf, seatWords, withHead, withAnswer, marked, heardOn, blockWith, heardIn, heardEach}
 use Rattle.head_c.proofs.Copying.{copied-before}
 use Rattle.head_c.proofs.Putting.{words-long, first, second, third, first-long, second-long}
 use Rattle.head_c.proofs.Hearing.{heard-below, heard-past}
@@ -53,7 +53,7 @@ module _ (w : List ℕ) (block : IsBlock w) (i : ℕ) (from : 16 ≤ i) (to : i 
   twice-registers : (at k : ℕ) → 24 ≤ at → getD (marked at k (heardOn k w)) i 0 ≡ getD w₀ i 0
   twice-registers at k far = getD-set-other (heardOn k w) at i _ 0 (omega arith) ∙ getD-set-other w₀ 24 i _ 0 (omega arith)
 
-  pub changed-registers : (k : ℕ) → k < 32 → (m : Meaning) → AcceptedMeaning m → getD (changed w k m) i 0 ≡ getD w₀ i 0
+  pub changed-registers : (k : ℕ) → k < 32 → (m : Meaning) → AcceptedMeaning m → getD (blockWith w k m) i 0 ≡ getD w₀ i 0
   changed-registers k b (refused c) a = absurd a
   changed-registers k b (collected Entry.Null) a = getD-set-other w₀ 24 i _ 0 (omega arith)
   changed-registers k b (collected (Entry.Position v)) a =
@@ -68,7 +68,7 @@ module _ (w : List ℕ) (block : IsBlock w) (i : ℕ) (from : 16 ≤ i) (to : i 
       ∙ twice-registers 59 k (omega arith)
 
   module _ (other : i ≢ 18) where
-    stays-registers : (k : ℕ) → k < 32 → (m : Meaning) → getD (changed w k m) i 0 ≡ getD w i 0
+    stays-registers : (k : ℕ) → k < 32 → (m : Meaning) → getD (blockWith w k m) i 0 ≡ getD w i 0
     stays-registers k b (refused c) = refl
     stays-registers k b (collected x) = changed-registers k b (collected x) tt ∙ getD-set-other w 18 i 0 0 other
     stays-registers k b (listed t) = changed-registers k b (listed t) tt ∙ getD-set-other w 18 i 0 0 other
@@ -86,7 +86,7 @@ heard-block w block k m = by-cases (decLt k 32)
     (λ l. rw (heard-below w k m l) (go l m))
     (λ d. rw (heard-past w k m (omega arith)) block)
   where
-    go : k < 32 → (x : Meaning) → IsBlock (changed w k x)
+    go : k < 32 → (x : Meaning) → IsBlock (blockWith w k x)
     go l (refused c) = block
     go l (collected Entry.Null) = simp length-set block
     go l (collected (Entry.Position v)) = simp length-set block

@@ -49,9 +49,9 @@ abbrev pub flag : ℕ → Bool
 flag b = not (eqb b 0)
 
 -- a position, if one is held
-abbrev pub entryIn : ℕ → ℤ → Entry
-entryIn zero v = Entry.Null
-entryIn (suc b) v = Entry.Position v
+abbrev pub heldEntry : ℕ → ℤ → Entry
+heldEntry zero v = Entry.Null
+heldEntry (suc b) v = Entry.Position v
 
 -- a kept range, if one is held
 abbrev pub rangeIn : (some : ℕ) (low high : ℤ) (trim : ℕ) (position : ℤ) → LastKept
@@ -78,7 +78,7 @@ seatOf w =
       round = getD w place.round 0 % 256;
       healed = flag (getD w place.healed 0);
       ended = flag (getD w place.ended 0);
-      position = entryIn (getD w place.held 0) (signedOf (getD w place.position 0));
+      position = heldEntry (getD w place.held 0) (signedOf (getD w place.position 0));
       kept =
           rangeIn (getD w place.ranged 0) (signedOf (getD w place.low 0)) (signedOf (getD w place.high 0)) (getD w place.trim 0 % 256)
           (signedOf (getD w place.middle 0));
@@ -183,17 +183,17 @@ abbrev pub heardOn : ℕ → List ℕ → List ℕ
 heardOn k w = marked place.heard k (withOffer Offer.Nothing w)
 
 -- what a frame on link k changes, by what it says
-abbrev pub changed : List ℕ → ℕ → Meaning → List ℕ
-changed w k (refused c) = w
-changed w k (collected Entry.Null) = heardOn k w
-changed w k (collected (Entry.Position v)) = set (marked place.marks k (heardOn k w)) (place.entries + k) (wordOf v)
-changed w k (listed t) =
+abbrev pub blockWith : List ℕ → ℕ → Meaning → List ℕ
+blockWith w k (refused c) = w
+blockWith w k (collected Entry.Null) = heardOn k w
+blockWith w k (collected (Entry.Position v)) = set (marked place.marks k (heardOn k w)) (place.entries + k) (wordOf v)
+blockWith w k (listed t) =
     paste (set (marked place.listed k (heardOn k w)) (place.list-marks + k) (t .marks)) (place.lists + 32 * k) (wordsOf (t .entries)) 32
-changed w k confessed = marked place.confessed k (heardOn k w)
+blockWith w k confessed = marked place.confessed k (heardOn k w)
 
 -- what hearing link k changes: a block has words for links 0 to 31, and no ring has more
 unfoldable pub heardIn : List ℕ → ℕ → Meaning → List ℕ
-heardIn w k m = cond (ltb k 32) (changed w k m) w
+heardIn w k m = cond (ltb k 32) (blockWith w k m) w
 
 -- What hearing bytes s on link k answers and leaves in a block: only those words are changed, and none if it is refused; and so the record
 -- that the block is hears the bytes.

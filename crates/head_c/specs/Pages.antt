@@ -14,10 +14,10 @@ use Rattle.head_c.specs.Blocks.{upTo, headOf, offerOf}
 use Rattle.head_c.specs.Made.{Made}
 
 -- 0 unknown, 1 a point, 2 a range
-abbrev pub kindOf : Reading → ℕ
-kindOf Reading.Unknown = 0
-kindOf (Reading.Point x) = 1
-kindOf (Reading.Range k) = 2
+abbrev pub readingKind : Reading → ℕ
+readingKind Reading.Unknown = 0
+readingKind (Reading.Point x) = 1
+readingKind (Reading.Range k) = 2
 
 -- three floats after it: a point changes the first, a range all, and nothing is changed if it is unknown
 abbrev pub floatsOr : Reading → List Float → List Float

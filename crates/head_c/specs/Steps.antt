@@ -16,8 +16,8 @@ abbrev pub bare : Head → Head
 bare h = opened (h .seat) (h .list)
 
 -- the block w becomes w′ and r is answered, where closing by value answers c
-abbrev pub ClosesIn : (c : Closing) (w : List ℕ) (r : Closed) (w′ : List ℕ) → Type 0
-ClosesIn c w r w′ = (r ≡ c .closed) × (w′ ≡ withClosing (c .closed) (c .head) w)
+abbrev pub BlockCloses : (c : Closing) (w : List ℕ) (r : Closed) (w′ : List ℕ) → Type 0
+BlockCloses c w r w′ = (r ≡ c .closed) × (w′ ≡ withClosing (c .closed) (c .head) w)
 
 -- the words of the list of link k
 abbrev pub rowWords : List ℕ → ℕ → List ℕ

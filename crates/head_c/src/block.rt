@@ -12,7 +12,7 @@ ghost use Rattle.head_spec.specs.Seats.{familyIn};
 ghost use Rattle.head_lent.specs.Answers.{heldNumber, heldOr, rangeNumber};
 ghost use Rattle.head_spec.specs.declared.Offer.{Offer};
 ghost use Rattle.head_c.specs.Places as place;
-ghost use Rattle.head_c.specs.Blocks.{IsBlock, upTo, entryIn, rangeIn, numbersAt, seatOf, headOf};
+ghost use Rattle.head_c.specs.Blocks.{IsBlock, upTo, heldEntry, rangeIn, numbersAt, seatOf, headOf};
 ghost use Rattle.head_c.specs.Blocks.{wordsOf, keptOf, familyNumber, seatWords, withHead, registersOf, withRegisters, offerOf, withOffer, withoutOffer};
 ghost use Rattle.head_c.specs.Steps.{bare};
 use crate::place;
@@ -42,7 +42,7 @@ fn family_in(word: u32) -> Family
 
 // A position, if one is held.
 fn entry_in(held: u32, position: u32) -> Entry
-    ensures { λ r. ⌜ r ≡ entryIn held (signedOf position) ⌝ }
+    ensures { λ r. ⌜ r ≡ heldEntry held (signedOf position) ⌝ }
 {
     if held == 0 {
         return Entry::Null;

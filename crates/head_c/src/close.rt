@@ -4,7 +4,7 @@ ghost use mathlib.Core.Bool.{true};
 ghost use Rattle.head_spec.specs.Calls.{closedCollection, settlingOf, closeIn, close};
 ghost use Rattle.head_lent.specs.Answers.{closedNumber};
 ghost use Rattle.head_c.specs.Blocks.{IsBlock, headOf, withHead};
-ghost use Rattle.head_c.specs.Steps.{ClosesIn};
+ghost use Rattle.head_c.specs.Steps.{BlockCloses};
 use crate::block::clear_links;
 use crate::block::links_in;
 use crate::block::list_in;
@@ -52,7 +52,7 @@ fn close_collection(h: &mut [u32])
 // Closes the last round of a phase: what it settles is offered.
 fn close_last(h: &mut [u32]) -> Closed
     requires { ⌜ IsBlock (now h) ⌝ }
-    ensures { λ r. ⌜ ClosesIn (closeIn true (headOf (now (h .entry)))) (now (h .entry)) r (now (h .exit)) ⌝ }
+    ensures { λ r. ⌜ BlockCloses (closeIn true (headOf (now (h .entry)))) (now (h .entry)) r (now (h .exit)) ⌝ }
 {
     match settled_in(h) {
         Settled::Refused(number) => Closed::Refused(number),
@@ -66,7 +66,7 @@ fn close_last(h: &mut [u32]) -> Closed
 // Closes the round.
 pub(crate) fn close_in(h: &mut [u32]) -> Closed
     requires { ⌜ IsBlock (now h) ⌝ }
-    ensures { λ r. ⌜ ClosesIn (close (headOf (now (h .entry)))) (now (h .entry)) r (now (h .exit)) ⌝ }
+    ensures { λ r. ⌜ BlockCloses (close (headOf (now (h .entry)))) (now (h .entry)) r (now (h .exit)) ⌝ }
 {
     if h[place::ENDED] != 0 {
         return Closed::Refused(refusal::RUN_HAS_ENDED);

@@ -4,7 +4,7 @@ ghost use Rattle.reading.specs.Readings.{headReading};
 ghost use Rattle.hostpage.specs.Page.{pageAnswer, pageIn};
 ghost use Rattle.head_lent.specs.Answers.{writtenNumber, writtenOr};
 ghost use Rattle.head_c.specs.Blocks.{headOf};
-ghost use Rattle.head_c.specs.Pages.{kindOf, floatsOr, readingAt, readingsOf};
+ghost use Rattle.head_c.specs.Pages.{readingKind, floatsOr, readingAt, readingsOf};
 use crate::Block;
 use crate::WORDS;
 use crate::block::seat_in;
@@ -17,7 +17,7 @@ use terms::refusal;
 // The head's reading: 0 unknown; 1 a point, and its float; 2 a range, and its lowest, its highest and their midpoint.
 #[no_mangle]
 pub extern "C" fn focus_head_reading(h: &Block, floats: &mut [f32; 3]) -> u8
-    ensures { λ r. ⌜ (r ≡ kindOf (headReading (headOf (now (h .entry)))))
+    ensures { λ r. ⌜ (r ≡ readingKind (headReading (headOf (now (h .entry)))))
         × (now (floats .exit) ≡ floatsOr (headReading (headOf (now (h .entry)))) (now (floats .entry))) ⌝ }
 {
     let seat = seat_in(h);

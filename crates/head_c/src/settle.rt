@@ -72,12 +72,12 @@ fn compare_in(h: &[u32], marks: &Words, n: usize, reference: usize) -> Compariso
     Comparison { alike, apart, same }
 }
 
-// The cell of entry j of the list of link k, with the mark word m.
-fn cell_at(h: &[u32], k: usize, m: u32, j: usize) -> u64
+// The cell of entry j of the list of link k, with these marks.
+fn cell_at(h: &[u32], k: usize, marks: u32, j: usize) -> u64
     requires { ⌜ IsBlock (now h) × (k < 32) × (j < 32) ⌝ }
-    ensures { λ r. ⌜ CellOf r (entryAt m (getD (rowsIn (now (h .entry))) k []) j) ⌝ }
+    ensures { λ r. ⌜ CellOf r (entryAt marks (getD (rowsIn (now (h .entry))) k []) j) ⌝ }
 {
-    if marks::marked(m, j) {
+    if marks::marked(marks, j) {
         return 1 + h[place::LISTS + terms::HEADS * k + j] as u64;
     }
     0

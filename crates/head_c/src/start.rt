@@ -51,12 +51,12 @@ pub(crate) fn start_in(
     ensures { λ r. ⌜ (r ≡ start (headOf (now (h .entry))) family n f number position .refusal)
         × (now (h .exit) ≡ blockAfter (now (h .entry)) (starts family n f number position)) ⌝ }
 {
-    let last = head_calls::check(
+    let later = head_calls::check(
         terms::is_position(position),
         refusal::POSITION_OUT_OF_RANGE,
         0,
     );
-    let refused = head_calls::member_refusal(family, false, n, f, number, last);
+    let refused = head_calls::member_refusal(family, false, n, f, number, later);
     let seat = first_seat(family, n, f, number, Entry::Position(position));
     let b = head_window::after_start(refused, registers_in(h)); // a start clears both
     put_fresh(h, refused, seat, b);
@@ -75,12 +75,12 @@ pub(crate) fn restart_in(
     ensures { λ r. ⌜ (r ≡ restart (headOf (now (h .entry))) family n f number phase round .refusal)
         × (now (h .exit) ≡ blockAfter (now (h .entry)) (restarts family n f number phase round)) ⌝ }
 {
-    let last = head_calls::check(
+    let later = head_calls::check(
         head_calls::is_time(family, phase, round),
         refusal::PHASE_OUT_OF_RANGE,
         0,
     );
-    let refused = head_calls::member_refusal(family, false, n, f, number, last);
+    let refused = head_calls::member_refusal(family, false, n, f, number, later);
     let seat = restart_seat(family, n, f, number, phase, round);
     let b = head_window::after_restart(refused, registers_in(h));
     put_fresh(h, refused, seat, b);
@@ -110,12 +110,12 @@ pub(crate) fn restart_listener_in(
     ensures { λ r. ⌜ (r ≡ restartListener (headOf (now (h .entry))) family n f number phase round .refusal)
         × (now (h .exit) ≡ blockAfter (now (h .entry)) (restartsListener family n f number phase round)) ⌝ }
 {
-    let last = head_calls::check(
+    let later = head_calls::check(
         head_calls::is_time(family, phase, round),
         refusal::PHASE_OUT_OF_RANGE,
         0,
     );
-    let refused = head_calls::member_refusal(family, true, n, f, number, last);
+    let refused = head_calls::member_refusal(family, true, n, f, number, later);
     let seat = restart_seat(family, n, f, number, phase, round);
     let b = head_window::after_restart(refused, registers_in(h)); // a restart sets its event
     put_fresh(h, refused, seat, b);

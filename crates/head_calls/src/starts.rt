@@ -95,7 +95,7 @@ fn start_as(
 pub fn start(h: Head, family: Family, n: u32, f: u32, number: u32, position: i32) -> Answer
     ensures { λ r. ⌜ r ≡ start h family n f number position ⌝ }
 {
-    let last = check(
+    let later = check(
         terms::is_position(position),
         refusal::POSITION_OUT_OF_RANGE,
         0,
@@ -108,7 +108,7 @@ pub fn start(h: Head, family: Family, n: u32, f: u32, number: u32, position: i32
         f,
         number,
         Entry::Position(position),
-        last,
+        later,
     )
 }
 
@@ -132,12 +132,12 @@ fn restart_as(
 ) -> Answer
     ensures { λ r. ⌜ r ≡ restartAs family listens h n f number phase round ⌝ }
 {
-    let last = check(
+    let later = check(
         is_time(family, phase, round),
         refusal::PHASE_OUT_OF_RANGE,
         0,
     );
-    let refused = member_refusal(family, listens, n, f, number, last);
+    let refused = member_refusal(family, listens, n, f, number, later);
     if refused != 0 {
         return Answer {
             refusal: refused,

@@ -22,7 +22,7 @@ use Rattle.head_spec.specs.Record.{entriesBy}
 use Rattle.head_spec.specs.Calls.{started, restarted, startedListener, closedCollection, closedPhase, closing, endSettled, endBy, isLastRound, endRound}
 use Rattle.head_spec.specs.Demand2.{Reachable}
 use Rattle.head_spec.specs.Demand2 as reachable
-use Rattle.head_spec.specs.Ranges.{passing, Passed, HoldsPassed, InRange, PassedInRange, ListenerHoldsNone}
+use Rattle.head_spec.specs.Ranges.{passing, Passed, HoldsPassed, KeptInRange, PassedInRange, ListenerHoldsNone}
 use Rattle.head_spec.specs.Ranges as passed
 use Rattle.head_spec.proofs.Proper.{ProperHead, started-head}
 use Rattle.head_spec.proofs.Taking.{hear-keeps}
@@ -58,10 +58,10 @@ reached (passed.ends P) = reachable.ends (reached P)
 
 abbrev Sound : LastKept → Type 0
 Sound LastKept.Nothing = Unit {0}
-Sound (LastKept.Range k) = InRange k
+Sound (LastKept.Range k) = KeptInRange k
 
 module _ (h : Head) (P : ProperHead h) where
-  settled-sound : enoughTrusted h ≡ true → InRange (settledBy h)
+  settled-sound : enoughTrusted h ≡ true → KeptInRange (settledBy h)
   unfolding enough midpoint
   settled-sound e =
       let K = h .seat .family in

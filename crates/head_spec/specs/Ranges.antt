@@ -36,12 +36,12 @@ abbrev pub HoldsPassed : Type 0
 HoldsPassed = (h : Head) (x : LastKept) → Passed h x → h .seat .kept ≡ x
 
 -- what a range is worth: the position lies in it
-pub record InRange (k : Kept) : Type 0 where
+pub record KeptInRange (k : Kept) : Type 0 where
   pub above : k .low ≤ℤ k .position
   pub below : k .position ≤ℤ k .high
 
 abbrev pub PassedInRange : Type 0
-PassedInRange = (h : Head) (k : Kept) → Passed h (LastKept.Range k) → InRange k
+PassedInRange = (h : Head) (k : Kept) → Passed h (LastKept.Range k) → KeptInRange k
 
 -- a listener "holds none before its first phase end" (document 02, A6): no position, while nothing was passed on
 abbrev pub ListenerHoldsNone : Type 0

@@ -101,13 +101,13 @@ fn three(a: bool, b: bool, c: bool) -> u8
 }
 
 // The three low bits of a word.
-fn low_bits(m: u32) -> u8
-    ensures { λ r. ⌜ r ≡ three (bitOf m) ⌝ }
+fn low_bits(word: u32) -> u8
+    ensures { λ r. ⌜ r ≡ three (bitOf word) ⌝ }
 {
     three(
-        marks::marked(m, 0),
-        marks::marked(m, 1),
-        marks::marked(m, 2),
+        marks::marked(word, 0),
+        marks::marked(word, 1),
+        marks::marked(word, 2),
     )
 }
 

@@ -44,8 +44,8 @@ batched h b room o = record {
 }
 
 -- what the head has to say, written into a buffer with this room
-abbrev pub written : Head → ℕ → Offer → Outcome
-written h room o = record { number = writtenNumber (writeAnswer h (replicate room 0)); head = h; offer = o }
+abbrev pub writeOutcome : Head → ℕ → Offer → Outcome
+writeOutcome h room o = record { number = writtenNumber (writeAnswer h (replicate room 0)); head = h; offer = o }
 
 abbrev pub closed : Head → Offer → Outcome
 closed h o = record { number = closedNumber (close h .closed); head = close h .head; offer = offered (close h .closed) o }
@@ -56,7 +56,7 @@ turnOf c s h o =
     cond (ltb c 4) (answered (opening c s h) o)
     (cond (eqb c 4) (answered (hear h (at4 s 3) (drop 7 s)) o)
     (cond (eqb c 5) (batched h (drop 4 s) (getD s 3 0) o)
-    (cond (eqb c 6) (written h (getD s 3 0) o)
+    (cond (eqb c 6) (writeOutcome h (getD s 3 0) o)
     (cond (eqb c 7) (closed h o)
     (cond (eqb c 8) (answered (adopt h o) o)
     (record { number = 0; head = h; offer = o }))))))

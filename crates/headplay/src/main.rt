@@ -21,7 +21,7 @@ ghost use Rattle.head_spec.specs.Batch.{hearBatch, batchAnswers, batchCount};
 ghost use Rattle.head_spec.specs.Calls.{started, start, restart, startListener, restartListener, hear, close, adopt, writeAnswer, writeBuffer};
 ghost use Rattle.head_spec.specs.Offers.{lapsedBy};
 ghost use Rattle.head_lent.specs.Answers.{closedNumber, writtenNumber, writtenOr};
-ghost use Rattle.headplay.specs.Script.{answered, familyAt, opening, batched, written, closed, turn, recordSize, played};
+ghost use Rattle.headplay.specs.Script.{answered, familyAt, opening, batched, writeOutcome, closed, turn, recordSize, played};
 use head_spec::Answer;
 use head_spec::Closed;
 use head_spec::Closing;
@@ -257,7 +257,7 @@ fn batched(h: Head, batch: &[u8], answers: &mut [u8], offer: Offer) -> Outcome
 }
 
 fn written(h: Head, buffer: &mut [u8], offer: Offer) -> Outcome
-    ensures { λ r. ⌜ r ≡ written h (length (now (buffer .entry))) offer ⌝ }
+    ensures { λ r. ⌜ r ≡ writeOutcome h (length (now (buffer .entry))) offer ⌝ }
 {
     let mut len: usize = 0;
     let number = write(h, buffer, &mut len);

@@ -14,7 +14,7 @@ use Rattle.reading.specs.Exact.{exact}
 use Rattle.reading.specs.Readings.{rangeOf, readingBetween}
 use Rattle.reading.proofs.Exactness.{position-size, sum-size}
 use Rattle.reading.proofs.Patterns.{bits-of-exact}
-use Rattle.hostpage.specs.Page.{ended, unknown, point, range, floatText, rangeText, readingText, lineOf}
+use Rattle.hostpage.specs.Page.{lineEnded, unknown, point, range, floatText, rangeText, readingText, readingLine}
 use Rattle.hostpage.specs.FromNumbers.{digitsOf, textBetween, LineFromNumbers}
 
 digits-are : (k : ℕ) (z : ℤ) → k ≤ 1 → natAbs z ≤ 2_000_000 → floatText (exact k z) ≡ digitsOf k z
@@ -43,12 +43,12 @@ between low high = go (isPosition low && isPosition high) (and-both (isPosition 
   where
     go : (b : Bool) → (b ≡ true → (isPosition low ≡ true) × (isPosition high ≡ true)) → (e : Bool)
         → readingText (cond b (cond e (Reading.Point (exact 0 low)) (Reading.Range (rangeOf low high))) Reading.Unknown)
-        ≡ cond b (cond e (spaced point (ended (digitsOf 0 low))) (spaced range (spaced (digitsOf 0 low) (spaced (digitsOf 0 high) (ended (digitsOf 1 (low +ℤ high))))))) (ended unknown)
+        ≡ cond b (cond e (spaced point (lineEnded (digitsOf 0 low))) (spaced range (spaced (digitsOf 0 low) (spaced (digitsOf 0 high) (lineEnded (digitsOf 1 (low +ℤ high))))))) (lineEnded unknown)
     go false p e = refl
-    go true p true = let (l, h) = p refl in ap (λ (s : List ℕ). spaced point (ended s)) (low-is low high l h)
+    go true p true = let (l, h) = p refl in ap (λ (s : List ℕ). spaced point (lineEnded s)) (low-is low high l h)
     go true p false = let (l, h) = p refl in rw (low-is low high l h, high-is low high l h, midpoint-is low high l h)
 
 pub line-from-numbers : LineFromNumbers
-unfolding lineOf
+unfolding readingLine
 line-from-numbers head LastKept.Nothing = refl
 line-from-numbers head (LastKept.Range k) = ap (spaced (decimal head)) (between (k .low) (k .high))

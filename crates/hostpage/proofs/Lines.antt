@@ -10,7 +10,7 @@ use lib.Ieee.Compare.{differs-from-itself, nan-differs}
 use Rattle.texts.specs.Numbers.{decimal, hex, spaced}
 use Rattle.reading.specs.declared.KeptRange.{KeptRange}
 use Rattle.reading.specs.declared.Reading.{Reading}
-use Rattle.hostpage.specs.Page.{ended, unknown, point, range, floatText, rangeText, lineOf}
+use Rattle.hostpage.specs.Page.{lineEnded, unknown, point, range, floatText, rangeText, readingLine}
 
 -- ---- the bits of a float: a float that equals itself is no NaN
 
@@ -31,18 +31,18 @@ float-bits x e = ap (hex 8) e
 -- ---- a line
 
 pub range-is : (k : KeptRange)
-    → spaced range [] ++ (spaced (floatText (k .lowest)) [] ++ (spaced (floatText (k .highest)) [] ++ ended (floatText (k .midpoint)))) ≡ rangeText k
+    → spaced range [] ++ (spaced (floatText (k .lowest)) [] ++ (spaced (floatText (k .highest)) [] ++ lineEnded (floatText (k .midpoint)))) ≡ rangeText k
 unfolding rangeText
 range-is k = simp append-snoc
 
-pub unknown-is : (head : ℕ) → spaced (decimal head) [] ++ ended unknown ≡ lineOf head Reading.Unknown
-unfolding lineOf
+pub unknown-is : (head : ℕ) → spaced (decimal head) [] ++ lineEnded unknown ≡ readingLine head Reading.Unknown
+unfolding readingLine
 unknown-is head = simp append-snoc
 
-pub point-is : (head : ℕ) (x : Float) → spaced (decimal head) [] ++ (spaced point [] ++ ended (floatText x)) ≡ lineOf head (Reading.Point x)
-unfolding lineOf
+pub point-is : (head : ℕ) (x : Float) → spaced (decimal head) [] ++ (spaced point [] ++ lineEnded (floatText x)) ≡ readingLine head (Reading.Point x)
+unfolding readingLine
 point-is head x = simp append-snoc
 
-pub range-line : (head : ℕ) (k : KeptRange) → spaced (decimal head) [] ++ rangeText k ≡ lineOf head (Reading.Range k)
-unfolding lineOf
+pub range-line : (head : ℕ) (k : KeptRange) → spaced (decimal head) [] ++ rangeText k ≡ readingLine head (Reading.Range k)
+unfolding readingLine
 range-line head k = simp append-snoc

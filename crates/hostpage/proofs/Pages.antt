@@ -15,18 +15,18 @@ use Rattle.terms.specs.Sizes.{isCount}
 use Rattle.fields.specs.Bytes.{copied}
 use Rattle.frame_spec.specs.declared.Written.{Written}
 use Rattle.frame_spec.specs.Written.{written, buffered}
-use Rattle.hostpage.specs.Page.{lineOf, pageOf, pageAnswer, pageIn}
+use Rattle.hostpage.specs.Page.{readingLine, pageOf, pageAnswer, pageIn}
 
 pub page-none : (rs : List Reading) → length (pageOf 0 rs) ≡ 0
 unfolding pageOf
 page-none rs = refl
 
-pub page-next : (k : ℕ) (rs : List Reading) → pageOf (k + 1) rs ≡ pageOf k rs ++ lineOf k (getD rs k Reading.Unknown)
+pub page-next : (k : ℕ) (rs : List Reading) → pageOf (k + 1) rs ≡ pageOf k rs ++ readingLine k (getD rs k Reading.Unknown)
 unfolding pageOf
 page-next k rs = ap (λ (n : ℕ). pageOf n rs) (add-one k)
 
-pub next-length : (k : ℕ) (rs : List Reading) → length (pageOf (k + 1) rs) ≡ length (pageOf k rs) + length (lineOf k (getD rs k Reading.Unknown))
-next-length k rs = ap length (page-next k rs) ∙ length-append (pageOf k rs) (lineOf k (getD rs k Reading.Unknown))
+pub next-length : (k : ℕ) (rs : List Reading) → length (pageOf (k + 1) rs) ≡ length (pageOf k rs) + length (readingLine k (getD rs k Reading.Unknown))
+next-length k rs = ap length (page-next k rs) ∙ length-append (pageOf k rs) (readingLine k (getD rs k Reading.Unknown))
 
 pub page-grows : (k n : ℕ) (rs : List Reading) → k ≤ n → length (pageOf k rs) ≤ length (pageOf n rs)
 page-grows k zero rs h = let e : k ≡ 0 = omega arith in le-of-eq (ap (λ (x : ℕ). length (pageOf x rs)) e)
@@ -36,7 +36,7 @@ page-grows k (suc n) rs h = go (eq-or-lt-of-le h) (λ l. page-grows k n rs l)
     go (inl e) below = le-of-eq (ap (λ (x : ℕ). length (pageOf x rs)) e)
     go (inr l) below =
         let r : length (pageOf k rs) ≤ length (pageOf n rs) = below (le-of-suc-le-suc l) in
-        let s : length (pageOf (suc n) rs) ≡ length (pageOf n rs) + length (lineOf n (getD rs n Reading.Unknown)) = ap (λ (x : ℕ). length (pageOf x rs)) (sym (add-one n)) ∙ next-length n rs in
+        let s : length (pageOf (suc n) rs) ≡ length (pageOf n rs) + length (readingLine n (getD rs n Reading.Unknown)) = ap (λ (x : ℕ). length (pageOf x rs)) (sym (add-one n)) ∙ next-length n rs in
         omega arith
 
 -- ---- a page at the front of a buffer
@@ -58,9 +58,9 @@ grown p s d h =
     ∙ ap (λ (n : ℕ). p ++ s ++ drop n d) (sym (length-append p s)))
 
 module _ (k : ℕ) (rs : List Reading) (d : List ℕ) {b s : List ℕ} {at : ℕ} where
-  pub front-next : at ≡ length (pageOf k rs) → b ≡ front (pageOf k rs) d → s ≡ lineOf k (getD rs k Reading.Unknown) → at + length s ≤ length b
+  pub front-next : at ≡ length (pageOf k rs) → b ≡ front (pageOf k rs) d → s ≡ readingLine k (getD rs k Reading.Unknown) → at + length s ≤ length b
       → copied b at s ≡ front (pageOf (k + 1) rs) d
-  front-next p q e h = rw (p, q, e, page-next k rs) (grown (pageOf k rs) (lineOf k (getD rs k Reading.Unknown)) d (rw (p, q, e) at h))
+  front-next p q e h = rw (p, q, e, page-next k rs) (grown (pageOf k rs) (readingLine k (getD rs k Reading.Unknown)) d (rw (p, q, e) at h))
 
 -- ---- the answers
 

@@ -10,7 +10,7 @@ use Rattle.texts.specs.Numbers.{decimal, hex, spaced}
 use Rattle.head_spec.specs.declared.LastKept.{LastKept}
 use Rattle.reading.specs.Readings.{readingOf}
 use Rattle.reading.specs.Bits.{bitsOf}
-use Rattle.hostpage.specs.Page.{ended, unknown, point, range, lineOf}
+use Rattle.hostpage.specs.Page.{lineEnded, unknown, point, range, readingLine}
 
 -- z / 2 ^ k
 abbrev pub digitsOf : ℕ → ℤ → List ℕ
@@ -20,13 +20,13 @@ unfoldable pub textBetween : ℤ → ℤ → List ℕ
 textBetween low high =
     cond (isPosition low && isPosition high)
     (cond (eqZ low high)
-    (spaced point (ended (digitsOf 0 low)))
-    (spaced range (spaced (digitsOf 0 low) (spaced (digitsOf 0 high) (ended (digitsOf 1 (low +ℤ high)))))))
-    (ended unknown)
+    (spaced point (lineEnded (digitsOf 0 low)))
+    (spaced range (spaced (digitsOf 0 low) (spaced (digitsOf 0 high) (lineEnded (digitsOf 1 (low +ℤ high)))))))
+    (lineEnded unknown)
 
-abbrev pub textOf : LastKept → List ℕ
-textOf LastKept.Nothing = ended unknown
-textOf (LastKept.Range k) = textBetween (k .low) (k .high)
+abbrev pub keptText : LastKept → List ℕ
+keptText LastKept.Nothing = lineEnded unknown
+keptText (LastKept.Range k) = textBetween (k .low) (k .high)
 
 abbrev pub LineFromNumbers : Type 0
-LineFromNumbers = (head : ℕ) (last : LastKept) → lineOf head (readingOf last) ≡ spaced (decimal head) (textOf last)
+LineFromNumbers = (head : ℕ) (kept : LastKept) → readingLine head (readingOf kept) ≡ spaced (decimal head) (keptText kept)

@@ -16,8 +16,8 @@ use Rattle.reading.specs.declared.Reading.{Reading}
 -- ---- lines
 
 -- with the line's end
-abbrev pub ended : List ℕ → List ℕ
-ended s = s ++ (10 ∷ [])
+abbrev pub lineEnded : List ℕ → List ℕ
+lineEnded s = s ++ (10 ∷ [])
 
 -- "unknown", "point", "range"
 abbrev pub unknown : List ℕ
@@ -34,23 +34,23 @@ unfoldable pub floatText : Float → List ℕ
 floatText x = hex 8 (toBits binary32 x)
 
 unfoldable pub rangeText : KeptRange → List ℕ
-rangeText k = spaced range (spaced (floatText (k .lowest)) (spaced (floatText (k .highest)) (ended (floatText (k .midpoint)))))
+rangeText k = spaced range (spaced (floatText (k .lowest)) (spaced (floatText (k .highest)) (lineEnded (floatText (k .midpoint)))))
 
 abbrev pub readingText : Reading → List ℕ
-readingText Reading.Unknown = ended unknown
-readingText (Reading.Point x) = spaced point (ended (floatText x))
+readingText Reading.Unknown = lineEnded unknown
+readingText (Reading.Point x) = spaced point (lineEnded (floatText x))
 readingText (Reading.Range k) = rangeText k
 
 -- the line of a head: its number, and its reading (Q105)
-unfoldable pub lineOf : ℕ → Reading → List ℕ
-lineOf head r = spaced (decimal head) (readingText r)
+unfoldable pub readingLine : ℕ → Reading → List ℕ
+readingLine head r = spaced (decimal head) (readingText r)
 
 -- ---- the page
 
 -- the lines of heads 0 to n - 1 (Q103)
 unfoldable pub pageOf : ℕ → List Reading → List ℕ
 pageOf zero rs = []
-pageOf (suc k) rs = pageOf k rs ++ lineOf k (getD rs k Reading.Unknown)
+pageOf (suc k) rs = pageOf k rs ++ readingLine k (getD rs k Reading.Unknown)
 
 -- 1, then 24, else the page's length (Q103)
 unfoldable pub pageAnswer : ℕ → List Reading → List ℕ → Written

@@ -7,7 +7,7 @@ ghost use lib.Ieee.{binary32, toBits};
 ghost use Rattle.texts.specs.Texts.{bytesOf, Longer};
 ghost use Rattle.fields.specs.Bytes.{copied};
 ghost use Rattle.frame_spec.specs.Written.{buffered};
-ghost use Rattle.hostpage.specs.Page.{floatText, rangeText, lineOf, pageOf, pageAnswer, pageIn};
+ghost use Rattle.hostpage.specs.Page.{floatText, rangeText, readingLine, pageOf, pageAnswer, pageIn};
 use frame_spec::Written;
 use reading::KeptRange;
 use reading::Reading;
@@ -46,7 +46,7 @@ fn put_range(t: Text, kept: KeptRange) -> Text
 
 // The line of a head.
 pub fn line_of(head: u8, reading: Reading) -> Text
-    ensures { λ r. ⌜ bytesOf r ≡ lineOf head reading ⌝ }
+    ensures { λ r. ⌜ bytesOf r ≡ readingLine head reading ⌝ }
     ensures { λ r. ⌜ r .len ≤ 64 ⌝ }
 {
     let t = texts::put_number(texts::empty(), head as u32, b' ');

@@ -4,22 +4,22 @@ use Prim.Native.Nat.{ℕ, _+_, _/_, _%_, _^_}
 use lib.Dec.{eqb, ltb}
 use Rattle.terms.specs.Counting.{sum, bit}
 
--- whether bit j of m is set
+-- whether bit j of the marks is set
 unfoldable pub bitOf : ℕ → ℕ → Bool
-bitOf m j = eqb (m / 2 ^ j % 2) 1
+bitOf marks j = eqb (marks / 2 ^ j % 2) 1
 
 -- no mark at n or above
 unfoldable pub marksBelow : ℕ → ℕ → Bool
-marksBelow m n = ltb m (2 ^ n)
+marksBelow marks n = ltb marks (2 ^ n)
 
 -- the first n bits are set, and no other
 unfoldable pub allMarked : ℕ → ℕ → Bool
-allMarked m n = eqb (m + 1) (2 ^ n)
+allMarked marks n = eqb (marks + 1) (2 ^ n)
 
--- m with bit k set, if a mark word has such a bit
+-- the marks with bit k set, if a mark word has such a bit
 unfoldable pub withMark : ℕ → ℕ → ℕ
-withMark m k = cond (ltb k 32 && not (bitOf m k)) (m + 2 ^ k) m
+withMark marks k = cond (ltb k 32 && not (bitOf marks k)) (marks + 2 ^ k) marks
 
 -- how many of the first n bits are set
 abbrev pub countBelow : ℕ → ℕ → ℕ
-countBelow m n = sum n (λ k. bit (bitOf m k))
+countBelow marks n = sum n (λ k. bit (bitOf marks k))

@@ -14,7 +14,7 @@ ghost use Rattle.convergence.specs.Demand3.{Halves};
 // The last two answers.
 pub struct Said {
     pub before: u64,
-    pub last: u64,
+    pub latest: u64,
 }
 
 // Whether halving is promised: 3n at least 11f + 3.
@@ -64,7 +64,7 @@ fn answered(answer: u64) {
 // How far the last two lie apart.
 fn spread(said: Said) -> u64 {
     let a = position_of(said.before);
-    let b = position_of(said.last);
+    let b = position_of(said.latest);
     let x = fields::unsigned(a);
     let y = fields::unsigned(b);
     if a < b {
@@ -236,18 +236,18 @@ pub(crate) fn say(line: Line, said: Said, b: u8) -> Said {
         b'x' | b'l' | b'c' => {}
         b'0'..=b'9' => numbered(x, r, line.mode != 0, b - b'0'),
         b'<' => answered(said.before),
-        b'>' => answered(said.last),
-        b'=' => compare(said.last, line.wrong),
+        b'>' => answered(said.latest),
+        b'=' => compare(said.latest, line.wrong),
         b'r' => {
             return Said {
-                before: said.last,
-                last: spread(said),
+                before: said.latest,
+                latest: spread(said),
             };
         }
         _ => {
             return Said {
-                before: said.last,
-                last: of_brackets(x, r, line.count, b),
+                before: said.latest,
+                latest: of_brackets(x, r, line.count, b),
             };
         }
     }

@@ -7,7 +7,10 @@ mod show;
 
 fn print(table: &[u8]) {
     let mut line = lines::fresh();
-    let mut said = asks::Said { before: 0, last: 0 };
+    let mut said = asks::Said {
+        before: 0,
+        latest: 0,
+    };
     let mut asked = false;
     let mut at: usize = 0;
     while at < table.len() {

@@ -20,7 +20,7 @@ use Rattle.head_lent.specs.Answers.{closedNumber}
 use Rattle.head_c.specs.Blocks.{IsBlock, headOf, offerOf}
 use Rattle.head_c.specs.Events.{restarts, restartsListener, closes, adopts, numberAfter, blockAfter}
 use Rattle.ring_spec.specs.Rounds.{Ring, mostRounds, isReceiver}
-use Rattle.ring_devices.specs.Devices.{HearCall, heardBy, broughtBy, isAccepted, DeviceRound, again, openedBy, devicesAfter, DevicesWithin, ClosesIn}
+use Rattle.ring_devices.specs.Devices.{HearCall, heardBy, broughtBy, isAccepted, DeviceRound, again, openedBy, devicesAfter, DevicesWithin, ClosesUnrefused}
 use Rattle.ring_devices.specs.Cables.{eachOnce}
 use Rattle.ring_devices.proofs.Planting.{head-receives}
 use Rattle.ring_devices.proofs.Devices.{devices-unrefused, frames-taken}
@@ -80,14 +80,14 @@ module _ (K : Family) (n m f : ℕ) (v : ℕ → ℤ) (memory : ℕ → List ℕ
       heard-as = left .1 ∙ ap (λ (h : Head). heardBy h (hearings C)) (opened-head K n m f B R S i t)
 
       -- when all is heard: closing is not refused, and neither is adopting after it
-      module _ (ends : ClosesIn (endsWith K (R .round)) (close (heardBy (openedBy K n f R i) (hearings C)) .closed)) where
-        ends-in : ClosesIn last (close (headOf b) .closed)
-        ends-in = subst (λ (r : ℕ). ClosesIn (endsWith K r) (close (headOf b) .closed)) (sym (S .round)) (rw heard-as ends)
+      module _ (ends : ClosesUnrefused (endsWith K (R .round)) (close (heardBy (openedBy K n f R i) (hearings C)) .closed)) where
+        ends-in : ClosesUnrefused last (close (headOf b) .closed)
+        ends-in = subst (λ (r : ℕ). ClosesUnrefused (endsWith K r) (close (headOf b) .closed)) (sym (S .round)) (rw heard-as ends)
 
         close-number : numberAfter b closes ≡ 0
         close-number = go last (close (headOf b) .closed) ends-in
           where
-            go : (r : Bool) (c : Closed) → ClosesIn r c → closedNumber c ≡ 0
+            go : (r : Bool) (c : Closed) → ClosesUnrefused r c → closedNumber c ≡ 0
             go false c e = rw e
             go true c e = rw (e .1)
 
@@ -172,7 +172,7 @@ module _ (K : Family) (n m f : ℕ) (v : ℕ → ℤ) (memory : ℕ → List ℕ
     plain-ends : (i : ℕ) → isReceiver n m i ≡ true → bitOf marks i ≡ false → EndsBy last (openedBlock K n f B i) (full .calls i)
     plain-ends i t q = go last refl
       where
-        N : ClosesIn (endsWith K (R .round)) (close (heardBy (openedBy K n f R i) (hearings (bare .calls i))) .closed)
+        N : ClosesUnrefused (endsWith K (R .round)) (close (heardBy (openedBy K n f R i) (hearings (bare .calls i))) .closed)
         N =
             devices-unrefused K n m f v records (asDevice bare) us
             (next-within bare few (plain-brings false bare (λ j. refl))) .closes i t q

@@ -51,7 +51,7 @@ module _ (K : Family) (n f : ℕ) (R : BlockRing) where
   abbrev pub thenOffered : Bool → List HearCall → List BlockCall
   thenOffered false [] = []
   thenOffered true [] = offered ∷ []
-  thenOffered last (c ∷ C) = heard c ∷ thenOffered last C
+  thenOffered final (c ∷ C) = heard c ∷ thenOffered final C
 
   -- the plainest round: each frame once, link by link
   abbrev pub plainlyTo : ℕ → (ℕ → List ℕ) → BlockRound

@@ -28,7 +28,7 @@ use Rattle.head_spec.proofs.Stops.{takes, starts-anew, listener-starts-anew}
 use Rattle.head_spec.proofs.Hearing.{Fresh}
 use Rattle.ring_spec.specs.Rounds.{Round, Ring, afterRound, firstHeads, ringAfter, mostRounds, endsPhase, endsSince}
 use Rattle.ring_spec.specs.Rounds.{PhaseEnd, phaseEnd, receivers, isReceiver, isOut, asEnd, allListeners, withEnd, firstEnd, endsAfter}
-use Rattle.ring_spec.specs.Converges.{FewStruckIn, noEnd, Within, AnyTwo, HoldsBetween, countAfter, OneFocus}
+use Rattle.ring_spec.specs.Converges.{FewStruckIn, noEnd, RingWithin, AnyTwo, HoldsBetween, countAfter, OneFocus}
 use Rattle.ring_spec.proofs.Receivers.{Hears, listener-large}
 use Rattle.ring_spec.proofs.Counts.{Counted, counted}
 use Rattle.ring_spec.proofs.Demand3.{Playable, playable, within-sized, ring-converges, ring-keeps-between, ring-quiet}
@@ -211,7 +211,7 @@ module _ (K : Family) (n m f : ℕ) (v : ℕ → ℤ) (memory : ℕ → Head) (w
   abbrev plain : List Round
   plain = asRounds K n f v memory ws
 
-  Y : Within K n m f v plain
+  Y : RingWithin K n m f v plain
   Y =
       let y = as-many K n f v memory ws in
       record {

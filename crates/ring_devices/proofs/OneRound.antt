@@ -31,7 +31,7 @@ use Rattle.ring_spec.specs.Rounds.{Round, planted, Ring, roundEnded, openedAt, 
 use Rattle.ring_spec.proofs.Receivers.{Hears, listener-large}
 use Rattle.ring_spec.proofs.OneRound.{Ready, RingReady, heardAt, opened-ready, said-spoken, heard-at}
 use Rattle.ring_spec.proofs.Demand3.{Playable}
-use Rattle.ring_devices.specs.Devices.{heardBy, broughtBy, isAccepted, firstFrame, DeviceRound, again, openedBy, closedBy, Carries, afterDevices, ClosesIn}
+use Rattle.ring_devices.specs.Devices.{heardBy, broughtBy, isAccepted, firstFrame, DeviceRound, again, openedBy, closedBy, Carries, afterDevices, ClosesUnrefused}
 use Rattle.ring_devices.proofs.Heard.{heard-by, collection-alike, settles-alike, confession-alike}
 use Rattle.ring_devices.proofs.Planting.{plantsOf, plants-reach, head-receives, receives}
 
@@ -177,9 +177,9 @@ module _ (K : Family) (n m f : ℕ) (most : n ≤ 32) (few-m : m ≤ 16) (R R′
       unfolding closedBy closedAt asRound
       closed-same = rw q (ap roundEnded heard-as ∙ ends-same-round)
 
-      pub closes-in : ClosesIn (endsWith K (R .round)) (close (heardBy (openedBy K n f R i) (w .calls i)) .closed)
+      pub closes-in : ClosesUnrefused (endsWith K (R .round)) (close (heardBy (openedBy K n f R i) (w .calls i)) .closed)
       closes-in =
-          subst (λ (r : ℕ). ClosesIn (endsWith K r) (close (heardBy (openedBy K n f R i) (w .calls i)) .closed)) (sym (S .round))
+          subst (λ (r : ℕ). ClosesUnrefused (endsWith K r) (close (heardBy (openedBy K n f R i) (w .calls i)) .closed)) (sym (S .round))
           (rw heard-as (go (endsWith K (R′ .round)) refl))
         where
           x : hearEach h′ D .seat ≡ h′ .seat
@@ -188,7 +188,7 @@ module _ (K : Family) (n m f : ℕ) (most : n ≤ 32) (few-m : m ≤ 16) (R R′
           runs : hearEach h′ D .seat .ended ≡ false
           runs = ap (λ (y : Seat). y .ended) x ∙ H′ .fresh .runs
 
-          go : (b : Bool) → endsWith K (R′ .round) ≡ b → ClosesIn b (close (hearEach h′ D) .closed)
+          go : (b : Bool) → endsWith K (R′ .round) ≡ b → ClosesUnrefused b (close (hearEach h′ D) .closed)
           go false c = ap (λ (y : Closing). y .closed) (closes-collection (hearEach h′ D) runs (ap isLastRound x ∙ last-in i t q c))
           go true c =
               let z = settles-alike h′ (H′ .fresh) D (carried K n f R′ w′ i) first (calm c) in

@@ -122,7 +122,7 @@ module _ (K : Family) (n f : ℕ) (v : ℕ → ℤ) (memory : ℕ → Head) wher
   RoundsWithin m [] = Unit {0}
   RoundsWithin m (w ∷ ws) = AtMost f n (bitOf (w .marks)) × Carries K n f (devicesAfter ws) w m × RoundsWithin m ws
 
--- n heads and m listeners of the family K within their limits, as in `Within`
+-- n heads and m listeners of the family K within their limits, as in `RingWithin`
 pub record DevicesWithin (K : Family) (n m f : ℕ) (v : ℕ → ℤ) (memory : ℕ → Head) (ws : List DeviceRound) : Type 0 where
   pub most : n ≤ 32
   pub listeners : m ≤ 16
@@ -141,9 +141,9 @@ DevicesConverge =
 -- ---- and no call that a round asks for is refused
 
 -- what closing answers; last: the round is the last of its phase. The list stands, or a position is offered
-abbrev pub ClosesIn : Bool → Closed → Type 0
-ClosesIn false c = c ≡ Closed.Listed
-ClosesIn true c = (k : Kept) × (c ≡ Closed.Settled k)
+abbrev pub ClosesUnrefused : Bool → Closed → Type 0
+ClosesUnrefused false c = c ≡ Closed.Listed
+ClosesUnrefused true c = (k : Kept) × (c ≡ Closed.Settled k)
 
 pub record NoneRefused (K : Family) (n m f : ℕ) (R : Ring) (w : DeviceRound) : Type 0 where
   -- a restart, of any device that is there
@@ -153,7 +153,7 @@ pub record NoneRefused (K : Family) (n m f : ℕ) (R : Ring) (w : DeviceRound) :
       → isAccepted (saidTo (openedBy K n f R i .seat) k (frameFor (openedBy K n f R k))) ≡ true
   -- and each of these closes
   pub closes : (i : ℕ) → isReceiver n m i ≡ true → bitOf (w .marks) i ≡ false
-      → ClosesIn (endsWith K (R .round)) (close (heardBy (openedBy K n f R i) (w .calls i)) .closed)
+      → ClosesUnrefused (endsWith K (R .round)) (close (heardBy (openedBy K n f R i) (w .calls i)) .closed)
 
 abbrev pub DevicesUnrefused : Type 0
 DevicesUnrefused =

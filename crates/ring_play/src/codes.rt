@@ -13,7 +13,7 @@ ghost use Rattle.settle_trust.specs.Received.{givenBy};
 ghost use Rattle.ring_play.specs.Inner.Codes.{noCode, entryOf, codeAt, codeTaken, holds, Tallied};
 ghost use Rattle.ring_play.specs.Inner.Shares.{Shares};
 ghost use Rattle.ring_play.specs.Inner.Told.{settledAt};
-ghost use Rattle.ring_play.specs.Inner.Votes.{Voted, Leads, givesList};
+ghost use Rattle.ring_play.specs.Inner.Votes.{Voted, CodeLeads, givesList};
 use crate::Stage;
 use crate::round;
 use settle_trust::Links;
@@ -30,21 +30,21 @@ const NONE: i32 = 1000001;
 // ---- Lists as codes.
 
 // The code of an entry with the number v, by its mark.
-fn code(m: u32, j: usize, v: i32) -> i32
-    ensures { λ r. ⌜ r ≡ cond (bitOf m j) v noCode ⌝ }
+fn code(marks: u32, j: usize, v: i32) -> i32
+    ensures { λ r. ⌜ r ≡ cond (bitOf marks j) v noCode ⌝ }
 {
-    if marks::marked(m, j) { v } else { NONE }
+    if marks::marked(marks, j) { v } else { NONE }
 }
 
 // The codes of the first n entries of a list.
-fn codes_of(m: u32, list: &Numbers, n: usize) -> Numbers
+fn codes_of(marks: u32, list: &Numbers, n: usize) -> Numbers
     requires { ⌜ n ≤ 32 ⌝ }
-    ensures { λ r. ⌜ Each n (λ j. getD r j (pos 0) ≡ codeAt m (now (list .entry)) j) ⌝ }
+    ensures { λ r. ⌜ Each n (λ j. getD r j (pos 0) ≡ codeAt marks (now (list .entry)) j) ⌝ }
 {
     let mut codes = [0i32; HEADS];
     let mut j: usize = 0;
     while j < n {
-        let v = code(m, j, list[j]);
+        let v = code(marks, j, list[j]);
         codes[j] = v;
         j += 1;
     }
@@ -52,22 +52,22 @@ fn codes_of(m: u32, list: &Numbers, n: usize) -> Numbers
 }
 
 // One more for each of the first n entries of a list that has the code.
-fn count_codes(m: u32, list: &Numbers, codes: &Numbers, same: &mut [u32], n: usize)
+fn count_codes(marks: u32, list: &Numbers, codes: &Numbers, same: &mut [u32], n: usize)
     requires { ⌜ (n ≤ 32) × (length (now same) ≡ 32) ⌝ }
-    ensures { λ _. ⌜ Tallied n m (now (list .entry)) (now (codes .entry)) (now (same .entry)) (now (same .exit)) ⌝ }
+    ensures { λ _. ⌜ Tallied n marks (now (list .entry)) (now (codes .entry)) (now (same .entry)) (now (same .exit)) ⌝ }
 {
     let mut j: usize = 0;
     while j < n {
-        let x = code(m, j, list[j]);
+        let x = code(marks, j, list[j]);
         same[j] = std::num::wrapping_add_u32(same[j], (x == codes[j]) as u32);
         j += 1;
     }
 }
 
 // The same of a list without nulls, whose codes are its numbers.
-fn count_numbers(m: u32, list: &Numbers, codes: &Numbers, same: &mut [u32], n: usize)
-    requires { ⌜ (n ≤ 32) × (length (now same) ≡ 32) × Each n (λ j. bitOf m j ≡ true) ⌝ }
-    ensures { λ _. ⌜ Tallied n m (now (list .entry)) (now (codes .entry)) (now (same .entry)) (now (same .exit)) ⌝ }
+fn count_numbers(marks: u32, list: &Numbers, codes: &Numbers, same: &mut [u32], n: usize)
+    requires { ⌜ (n ≤ 32) × (length (now same) ≡ 32) × Each n (λ j. bitOf marks j ≡ true) ⌝ }
+    ensures { λ _. ⌜ Tallied n marks (now (list .entry)) (now (codes .entry)) (now (same .entry)) (now (same .exit)) ⌝ }
 {
     let mut j: usize = 0;
     while j < n {
@@ -77,14 +77,14 @@ fn count_numbers(m: u32, list: &Numbers, codes: &Numbers, same: &mut [u32], n: u
 }
 
 // The same of any list.
-pub(crate) fn tally(m: u32, list: &Numbers, codes: &Numbers, same: &mut [u32], n: usize)
+pub(crate) fn tally(marks: u32, list: &Numbers, codes: &Numbers, same: &mut [u32], n: usize)
     requires { ⌜ (n ≤ 32) × (length (now same) ≡ 32) ⌝ }
-    ensures { λ _. ⌜ Tallied n m (now (list .entry)) (now (codes .entry)) (now (same .entry)) (now (same .exit)) ⌝ }
+    ensures { λ _. ⌜ Tallied n marks (now (list .entry)) (now (codes .entry)) (now (same .entry)) (now (same .exit)) ⌝ }
 {
-    if marks::all_marked(m, n) {
-        count_numbers(m, list, codes, same, n);
+    if marks::all_marked(marks, n) {
+        count_numbers(marks, list, codes, same, n);
     } else {
-        count_codes(m, list, codes, same, n);
+        count_codes(marks, list, codes, same, n);
     }
 }
 
@@ -131,16 +131,16 @@ fn vote(row: &Numbers, codes: &mut [i32], leads: &mut [u32], n: usize)
 }
 
 // A list votes.
-fn vote_for(m: u32, list: &Numbers, codes: &mut [i32], leads: &mut [u32], n: usize)
+fn vote_for(marks: u32, list: &Numbers, codes: &mut [i32], leads: &mut [u32], n: usize)
     requires { ⌜ (n ≤ 32) × (length (now codes) ≡ 32) × (length (now leads) ≡ 32) × Each n (λ j. getD (now leads) j 0 < 4294967295) ⌝ }
     ensures { λ _. ⌜ (length (now (codes .exit)) ≡ 32) × (length (now (leads .exit)) ≡ 32)
-        × Each n (λ j. Voted (codeAt m (now (list .entry)) j) (getD (now (codes .entry)) j (pos 0)) (getD (now (leads .entry)) j 0)
+        × Each n (λ j. Voted (codeAt marks (now (list .entry)) j) (getD (now (codes .entry)) j (pos 0)) (getD (now (leads .entry)) j 0)
         (getD (now (codes .exit)) j (pos 0)) (getD (now (leads .exit)) j 0)) ⌝ }
 {
-    if marks::all_marked(m, n) {
+    if marks::all_marked(marks, n) {
         vote(list, codes, leads, n);
     } else {
-        let row = codes_of(m, list, n);
+        let row = codes_of(marks, list, n);
         vote(&row, codes, leads, n);
     }
 }
@@ -161,7 +161,7 @@ fn gives_list(confessed: u32, listed: u32, k: usize) -> bool
 fn vote_all(lists: &Lists, links: Links, n: usize, codes: &mut [i32], leads: &mut [u32]) -> usize
     requires { ⌜ (n ≤ 32) × (length (now codes) ≡ 32) × (length (now leads) ≡ 32) × Each n (λ j. getD (now leads) j 0 ≡ 0) ⌝ }
     ensures { λ r. ⌜ (length (now (codes .exit)) ≡ 32) × (length (now (leads .exit)) ≡ 32) × (r ≤ n)
-        × Each n (λ j. Leads (λ w. sum n (λ k. holds j w (givenBy links (now (lists .entry)) k))) r
+        × Each n (λ j. CodeLeads (λ w. sum n (λ k. holds j w (givenBy links (now (lists .entry)) k))) r
         (getD (now (codes .exit)) j (pos 0)) (getD (now (leads .exit)) j 0)) ⌝ }
 {
     let mut count: usize = 0;

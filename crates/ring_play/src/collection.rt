@@ -14,7 +14,7 @@ ghost use Rattle.ring_play.specs.Memory.{heads, hears, settles, InRange,
 ghost use Rattle.convergence.specs.Settling.{ordered};
 ghost use Rattle.settle_midpoint.specs.Orders.{orderOf};
 ghost use Rattle.frame_slots.specs.Slots.{plantedIn};
-ghost use Rattle.ring_play.specs.Inner.Collection.{isPositionFrame, ownEntry, sentBy, heardOf, heardWith, Shared, settledFrom};
+ghost use Rattle.ring_play.specs.Inner.Collection.{isPositionFrame, ownEntry, sentBy, heardOf, heardWith, Shared, positionFrom};
 use crate::Stage;
 use crate::ends;
 use crate::round;
@@ -197,7 +197,7 @@ pub fn collect(
 
 // The position that a receiver settles from its list; 0 if it is refused.
 fn position_of(s: Stage, list: Table) -> i32
-    ensures { λ r. ⌜ r ≡ settledFrom s (tableAt list) ⌝ }
+    ensures { λ r. ⌜ r ≡ positionFrom s (tableAt list) ⌝ }
 {
     let n = round::head_count(s);
     let up = terms::rounds_up(s.phase);
@@ -215,7 +215,7 @@ fn position_for(
 ) -> i32
     requires { ⌜ (i < 48) × Shared s sent × (order ≡ orderOf (ordered (heads s) (tableAt sent))) ⌝ }
     ensures { λ r. ⌜ ((S : Shared s sent)
-        → r ≡ settledFrom s (tableAt (tableOf (heads s) (heardWith s (S .entry) (plantedIn (now (planted .entry)) (now (lengths .entry))) i)))) ⌝ }
+        → r ≡ positionFrom s (tableAt (tableOf (heads s) (heardWith s (S .entry) (plantedIn (now (planted .entry)) (now (lengths .entry))) i)))) ⌝ }
 {
     let c = ends::count_ends(s, order, planted, lengths, i);
     if ends::decides(s, order.len, c) {
@@ -238,7 +238,7 @@ fn fill_positions(
     requires { ⌜ (length (now positions) ≡ 48) × Shared s sent × (order ≡ orderOf (ordered (heads s) (tableAt sent))) ⌝ }
     ensures { λ _. ⌜ ((S : Shared s sent) (i : ℕ) → getD (now (positions .exit)) i (pos 0)
         ≡ cond (settles s i)
-        (settledFrom s (tableAt (tableOf (heads s) (heardWith s (S .entry) (plantedIn (now (planted .entry)) (now (lengths .entry))) i))))
+        (positionFrom s (tableAt (tableOf (heads s) (heardWith s (S .entry) (plantedIn (now (planted .entry)) (now (lengths .entry))) i))))
         (getD (now (positions .entry)) i (pos 0))) ⌝ }
 {
     let end = round::receiver_end(s);
@@ -256,7 +256,7 @@ fn fill_positions(
 fn conclude_quiet(s: Stage, sent: Table, positions: &mut Positions)
     ensures { λ _. ⌜ (s .struck ≡ 0 → (S : Shared s sent) (plant : ℕ → ℕ → List ℕ) (i : ℕ) → getD (now (positions .exit)) i (pos 0)
         ≡ cond (settles s i)
-        (settledFrom s (tableAt (tableOf (heads s) (heardWith s (S .entry) plant i))))
+        (positionFrom s (tableAt (tableOf (heads s) (heardWith s (S .entry) plant i))))
         (getD (now (positions .entry)) i (pos 0))) ⌝ }
 {
     let position = position_of(s, sent);

@@ -93,10 +93,10 @@ fn hear_planted(
 }
 
 // The lowest link that gave a list; 0 if none did.
-fn first_listed(m: u32) -> usize
+fn first_listed(marks: u32) -> usize
     ensures { λ r. ⌜ r < 32 ⌝ }
 {
-    let k = u32::trailing_zeros(m);
+    let k = u32::trailing_zeros(marks);
     if k < 32 { k as usize } else { 0 }
 }
 

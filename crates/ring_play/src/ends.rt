@@ -8,7 +8,7 @@ ghost use lib.IntN.{pos, _+ℤ_};
 ghost use Rattle.terms.specs.Positions.{half, rounding};
 ghost use Rattle.frame_slots.specs.Slots.{plantedIn};
 ghost use Rattle.ring_play.specs.Memory.{heads};
-ghost use Rattle.ring_play.specs.Inner.Ends.{plantedEntry, withEntry, EndsCounted, Decides};
+ghost use Rattle.ring_play.specs.Inner.Ends.{plantedEntry, countsWith, EndsCounted, EndsDecide};
 use crate::Stage;
 use crate::collection;
 use crate::round;
@@ -25,7 +25,7 @@ pub(crate) struct Counts {
 // An entry more.
 fn with_entry(c: Counts, e: Entry, lowest: i32, highest: i32) -> Counts
     requires { ⌜ (c .all < 32) × (c .low < 32) × (c .high < 32) ⌝ }
-    ensures { λ r. ⌜ r ≡ withEntry lowest highest e c ⌝ }
+    ensures { λ r. ⌜ r ≡ countsWith lowest highest e c ⌝ }
 {
     match e {
         Entry::Null => c,
@@ -74,7 +74,7 @@ pub(crate) fn count_ends(s: Stage, order: Order, planted: &[u8], lengths: &[u8],
 // Whether the counts decide what is kept, if all hear `len` positions. To answer no is free, and shows in the time alone.
 pub(crate) fn decides(s: Stage, len: usize, c: Counts) -> bool
     requires { ⌜ (len ≤ 32) × (c .all ≤ 32) × (c .low ≤ 32) × (c .high ≤ 32) ⌝ }
-    ensures { λ r. ⌜ (r ≡ true → Decides (heads s) (s .f) len c) ⌝ }
+    ensures { λ r. ⌜ (r ≡ true → EndsDecide (heads s) (s .f) len c) ⌝ }
 {
     let n = round::head_count(s) as usize;
     let f = s.f as usize;
@@ -95,7 +95,7 @@ pub(crate) fn decides(s: Stage, len: usize, c: Counts) -> bool
 
 // The new position by the counts, if they decide.
 pub(crate) fn position_inside(s: Stage, order: Order, c: Counts) -> i32
-    requires { ⌜ (order .len ≤ 32) × Decides (heads s) (s .f) (order .len) c ⌝ }
+    requires { ⌜ (order .len ≤ 32) × EndsDecide (heads s) (s .f) (order .len) c ⌝ }
     ensures { λ r. ⌜ r ≡ half (rounding (s .phase))
         (getD (order .positions) (s .f - c .low) (pos 0) +ℤ getD (order .positions) (order .len - 1 - (s .f - c .high)) (pos 0)) ⌝ }
 {

@@ -101,19 +101,19 @@ pub(crate) fn is_same_planted(s: Stage, planted: &[u8], lengths: &[u8], i: usize
     true
 }
 
-// The receiver `last`, which settles before i, if the same is planted to both: what is made of what the one hears, is made of what the
+// The receiver `before`, which settles before i, if the same is planted to both: what is made of what the one hears, is made of what the
 // other hears. To answer none is free, and shows in the time alone.
 pub(crate) fn same_before(
     s: Stage,
     planted: &[u8],
     lengths: &[u8],
     i: usize,
-    last: Before,
+    before: Before,
 ) -> Before
-    requires { ⌜ (i < 48) × SettlesBefore s i last ⌝ }
+    requires { ⌜ (i < 48) × SettlesBefore s i before ⌝ }
     ensures { λ r. ⌜ AsBefore s (plantedIn (now (planted .entry)) (now (lengths .entry))) i r ⌝ }
 {
-    if let Before::As(m) = last {
+    if let Before::As(m) = before {
         if is_same_planted(s, planted, lengths, i, m) {
             return Before::As(m);
         }
@@ -123,22 +123,22 @@ pub(crate) fn same_before(
 
 // The last two receivers that settled, told apart by what is planted to them if that can be: liars tell two groups two things.
 pub(crate) struct Two {
-    pub last: Before,
-    pub other: Before,
+    pub newer: Before,
+    pub older: Before,
 }
 
 // The one of the two to which the same is planted as to receiver i. To answer none is free, and shows in the time alone.
 pub(crate) fn same_of_two(s: Stage, planted: &[u8], lengths: &[u8], i: usize, two: Two) -> Before
-    requires { ⌜ (i < 48) × SettlesBefore s i (two .last) × SettlesBefore s i (two .other) ⌝ }
+    requires { ⌜ (i < 48) × SettlesBefore s i (two .newer) × SettlesBefore s i (two .older) ⌝ }
     ensures { λ r. ⌜ AsBefore s (plantedIn (now (planted .entry)) (now (lengths .entry))) i r ⌝ }
 {
-    let last = two.last;
-    let one = same_before(s, planted, lengths, i, last);
+    let newer = two.newer;
+    let one = same_before(s, planted, lengths, i, newer);
     if let Before::As(_) = one {
         return one;
     }
-    let other = two.other;
-    same_before(s, planted, lengths, i, other)
+    let older = two.older;
+    same_before(s, planted, lengths, i, older)
 }
 
 // Whether that is receiver m. Nothing hangs on the answer but the time.
@@ -151,25 +151,25 @@ fn is_at(b: Before, m: usize) -> bool
     }
 }
 
-// Receiver i is the last one now. `found` is the one of the two that was told as it is: the other one stays. Which one stays is free, and
+// Receiver i is the newer one now. `found` is the one of the two that was told as it is: the other one stays. Which one stays is free, and
 // shows in the time alone.
 pub(crate) fn remember(two: Two, found: Before, i: usize) -> Two
-    ensures { λ r. ⌜ (r .last ≡ As i)
-        × ((s : Stage) (k : ℕ) → SettlesBefore s k (two .last) → SettlesBefore s k (two .other) → SettlesBefore s k (r .other)) ⌝ }
+    ensures { λ r. ⌜ (r .newer ≡ As i)
+        × ((s : Stage) (k : ℕ) → SettlesBefore s k (two .newer) → SettlesBefore s k (two .older) → SettlesBefore s k (r .older)) ⌝ }
 {
-    let last = two.last;
-    let other = two.other;
+    let newer = two.newer;
+    let older = two.older;
     if let Before::As(m) = found {
-        if is_at(last, m) {
+        if is_at(newer, m) {
             return Two {
-                last: Before::As(i),
-                other,
+                newer: Before::As(i),
+                older,
             };
         }
     }
     Two {
-        last: Before::As(i),
-        other: last,
+        newer: Before::As(i),
+        older: newer,
     }
 }
 

@@ -12,7 +12,7 @@ ghost use Rattle.settle_trust.specs.Received.{givenBy};
 ghost use Rattle.head_spec.specs.Record.{givenOf};
 ghost use Rattle.ring_play.specs.Memory.{heads};
 ghost use Rattle.ring_play.specs.Inner.Planted.{Alike, AllSettled, SettlesAll};
-ghost use Rattle.ring_play.specs.Inner.Told.{Counted, Told, SharedBy, settledBy, settledAt, takenHere, LastOf};
+ghost use Rattle.ring_play.specs.Inner.Told.{Counted, Told, SharedBy, settledBy, settledAt, takenHere, EarlierOf};
 use crate::Stage;
 use crate::codes;
 use crate::round;
@@ -25,8 +25,8 @@ use terms::Numbers;
 use terms::Positions;
 use terms::Words;
 
-// What was settled last; none before the first.
-enum Last {
+// What was settled earlier; none before the first.
+enum Earlier {
     None,
     At(i32),
 }
@@ -89,8 +89,8 @@ fn need_after(need: u32, confessed: u32, n: usize) -> u32
     if all <= c { 0 } else { (all - c) as u32 }
 }
 
-// The position that a receiver settles, by what it counted, how many lists are needed of what all hear, and who confessed to it. `last` is
-// what was settled last, from the codes `settled`: a receiver with the same trusted entries settles the same.
+// The position that a receiver settles, by what it counted, how many lists are needed of what all hear, and who confessed to it. `earlier` is
+// what was settled before, from the codes `settled`: a receiver with the same trusted entries settles the same.
 fn position_counted(
     s: Stage,
     codes: &Numbers,
@@ -98,16 +98,16 @@ fn position_counted(
     need: u32,
     confessed: u32,
     settled: &mut Numbers,
-    last: Last,
+    earlier: Earlier,
 ) -> i32
-    requires { ⌜ LastOf s last (now settled) ⌝ }
+    requires { ⌜ EarlierOf s earlier (now settled) ⌝ }
     ensures position { λ r. ⌜ r ≡ settledBy s (takenHere s need (now (codes .entry)) (now (same .entry)) confessed) ⌝ }
-    ensures last { λ r. ⌜ r ≡ settledAt s (now (settled .exit)) ⌝ }
+    ensures earlier { λ r. ⌜ r ≡ settledAt s (now (settled .exit)) ⌝ }
 {
     let n = round::head_count(s) as usize;
     let left = need_after(need, confessed, n);
     if codes::trust_codes(codes, same, left, confessed, n, settled) {
-        if let Last::At(position) = last {
+        if let Earlier::At(position) = earlier {
             return position;
         }
     }
@@ -130,10 +130,10 @@ fn fill_positions(
 {
     let end = round::receiver_end(s);
     let mut settled = [0i32; HEADS];
-    let mut last = Last::None;
+    let mut earlier = Earlier::None;
     let mut two = Two {
-        last: Before::None,
-        other: Before::None,
+        newer: Before::None,
+        older: Before::None,
     };
     let mut i: usize = 0;
     while i < end {
@@ -153,9 +153,9 @@ fn fill_positions(
                         need,
                         confessed,
                         &mut settled,
-                        last,
+                        earlier,
                     );
-                    last = Last::At(position);
+                    earlier = Earlier::At(position);
                     positions[i] = position;
                     two = round::remember(two, Before::None, i);
                 }

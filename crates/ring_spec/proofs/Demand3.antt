@@ -34,7 +34,7 @@ use Rattle.head_spec.specs.Calls.{started, startedListener}
 use Rattle.head_spec.proofs.Proper.{Sized, first-round, start-accepted, start-listener-accepted}
 use Rattle.head_spec.proofs.Hearing.{fresh-started, fresh-started-listener}
 use Rattle.ring_spec.specs.Rounds.{Round, Ring, mostRounds, roundThen, afterRound, PhaseEnd, phaseEnd, receivers, isOut, asEnd, allListeners, withEnd, firstHeads, ringAfter, endsAfter}
-use Rattle.ring_spec.specs.Converges.{FewStruckIn, noEnd, Within, RingConverges, HoldsBetween, RingKeepsBetween, RingQuiet}
+use Rattle.ring_spec.specs.Converges.{FewStruckIn, noEnd, RingWithin, RingConverges, HoldsBetween, RingKeepsBetween, RingQuiet}
 use Rattle.ring_spec.proofs.Receivers.{Hears, listener-large, head-out, few-out, hears, head-first, first-out}
 use Rattle.ring_spec.proofs.OneRound.{Ready, RingReady, heardAt}
 use Rattle.ring_spec.proofs.Closings.{after-confession, collection-next, confession-next}
@@ -336,7 +336,7 @@ module _ (n f : ℕ) (v : ℕ → ℤ) (range : Each n (λ i. isPosition (v i) �
 
 -- ---- the theorems
 
-pub within-sized : {K : Family} {n m f : ℕ} {v : ℕ → ℤ} {ws : List Round} → Within K n m f v ws → Sized K n f
+pub within-sized : {K : Family} {n m f : ℕ} {v : ℕ → ℤ} {ws : List Round} → RingWithin K n m f v ws → Sized K n f
 within-sized {K} {n} {m} {f} X = record { some = omega (arith, size-large K n f (X .size)); most = X .most; limit = X .size }
 
 -- where end i stands, with the latest first, in a run with so many rounds
@@ -347,7 +347,7 @@ back-rounds OneRound n f v ws i h = omega (arith, counted OneRound n f v ws)
 
 -- On sound heads and listeners the phase ends of the records are those of the messages, for the faults that the rounds amount to: end i of a list that has the
 -- latest first.
-pub refines : (K : Family) (n m f : ℕ) (v : ℕ → ℤ) (ws : List Round) → Within K n m f v ws → let es = endsAfter K n f v ws in
+pub refines : (K : Family) (n m f : ℕ) (v : ℕ → ℤ) (ws : List Round) → RingWithin K n m f v ws → let es = endsAfter K n f v ws in
     (i : ℕ) → i < length es → SameEnd receivers (asEnd n m (getD es i noEnd)) (endAfter K n f v (faultsOf K n m ws) (length es - 1 - i))
 refines K n m f v ws X i h =
     let p = length (endsAfter K n f v ws) - 1 - i in

@@ -20,7 +20,7 @@ use Rattle.head_spec.specs.Calls.{hearAll, frameFor}
 use Rattle.head_spec.specs.declared.Head.{Head}
 use Rattle.ring_spec.specs.Rounds.{Plant, Round, planted, Ring, openedAt, carried, closedAt, afterRound, ringAfter}
 use Rattle.ring_spec.specs.Rounds.{PhaseEnd, phaseEnd, receivers, asEnd, withEnd, endsAfter}
-use Rattle.ring_spec.specs.Converges.{FewStruckIn, noEnd, Within}
+use Rattle.ring_spec.specs.Converges.{FewStruckIn, noEnd, RingWithin}
 use Rattle.ring_spec.specs.Late.{LateRound, lateRounds, openedLate, carriedLate, closedLate, afterLate, ringAfterLate, endsAfterLate, LateConverges}
 use Rattle.ring_spec.proofs.Receivers.{hears}
 use Rattle.ring_spec.proofs.HeadsAlone.{links-same}
@@ -204,7 +204,7 @@ module _ (K : Family) (n f : ℕ) (v : ℕ → ℤ) where
         (same-with n m (endsWith K (ringAfterLate K n f v ws .round)) _ _ _ _ (end-same m w ws _ _) (ends-same m ws))
 
 -- what the plain ring gives
-late-within : {K : Family} {n m f : ℕ} {v : ℕ → ℤ} (ws : List LateRound) → Within K n m f v (lateRounds ws) → Within K n m f v (asRounds K n f v ws)
+late-within : {K : Family} {n m f : ℕ} {v : ℕ → ℤ} (ws : List LateRound) → RingWithin K n m f v (lateRounds ws) → RingWithin K n m f v (asRounds K n f v ws)
 late-within {K} {n} {m} {f} {v} ws X =
     let y = as-many K n f v ws in
     let z = many-rounds ws in

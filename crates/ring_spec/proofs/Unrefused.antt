@@ -20,13 +20,13 @@ use Rattle.head_spec.specs.declared.Closing.{Closing}
 use Rattle.head_spec.specs.Calls.{restartRefusal, restartListenerRefusal, spoken, endRound}
 use Rattle.head_spec.proofs.Proper.{Sized, restart-accepted, restart-listener-accepted}
 use Rattle.ring_spec.specs.Rounds.{Round, Ring, openedAt, carried, receivers, asEnd, ringAfter, endsAfter, mostRounds}
-use Rattle.ring_spec.specs.Converges.{noEnd, Within}
+use Rattle.ring_spec.specs.Converges.{noEnd, RingWithin}
 use Rattle.ring_spec.proofs.Receivers.{Hears}
 use Rattle.ring_spec.proofs.OneRound.{heardAt, said-spoken}
 use Rattle.ring_spec.proofs.Closings.{collection-closes, confession-closes}
 use Rattle.ring_spec.proofs.Demand3.{Playable, playable, within-sized, ring-converges}
 
-module _ (K : Family) (n m f : ℕ) (v : ℕ → ℤ) (ws : List Round) (X : Within K n m f v ws) where
+module _ (K : Family) (n m f : ℕ) (v : ℕ → ℤ) (ws : List Round) (X : RingWithin K n m f v ws) where
   abbrev R : Ring
   R = ringAfter K n f v ws
 

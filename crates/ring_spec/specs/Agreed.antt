@@ -13,7 +13,7 @@ use Rattle.terms.specs.declared.Family.{Family}
 use Rattle.terms.specs.Counting.{Each}
 use Rattle.convergence.specs.Phases.{End, lowest, highest}
 use Rattle.ring_spec.specs.Rounds.{Round, PhaseEnd, receivers, asEnd, endsAfter}
-use Rattle.ring_spec.specs.Converges.{noEnd, Within}
+use Rattle.ring_spec.specs.Converges.{noEnd, RingWithin}
 
 -- the position that the lowest and the highest both are; null if they differ
 abbrev pub common : Entry → Entry → Entry
@@ -44,6 +44,6 @@ isAgreed (Position u) = true
 
 abbrev pub RingStaysAgreed : Type 0
 RingStaysAgreed =
-    (K : Family) (n m f : ℕ) (v : ℕ → ℤ) (ws : List Round) → Within K n m f v ws
+    (K : Family) (n m f : ℕ) (v : ℕ → ℤ) (ws : List Round) → RingWithin K n m f v ws
     → let es = endsAfter K n f v ws in let e = asEnd n m (getD es 0 noEnd) in
     (u : ℤ) → agreedOn n m es ≡ Position u → Each receivers (λ i. e .struck i ≡ false → e .at i ≡ Position u)

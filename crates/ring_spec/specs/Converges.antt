@@ -32,7 +32,7 @@ AnyTwo K n m f es =
 
 -- n heads and m listeners of the family K within their limits: an accepted size, first positions in range, no more than f heads struck in a
 -- round, and no round after the last of phase 65,535
-pub record Within (K : Family) (n m f : ℕ) (v : ℕ → ℤ) (ws : List Round) : Type 0 where
+pub record RingWithin (K : Family) (n m f : ℕ) (v : ℕ → ℤ) (ws : List Round) : Type 0 where
   pub most : n ≤ 32
   pub listeners : m ≤ 16
   pub size : AcceptedSize K n f
@@ -41,7 +41,7 @@ pub record Within (K : Family) (n m f : ℕ) (v : ℕ → ℤ) (ws : List Round)
   pub rounds : length ws ≤ mostRounds K
 
 abbrev pub RingConverges : Type 0
-RingConverges = (K : Family) (n m f : ℕ) (v : ℕ → ℤ) (ws : List Round) → Within K n m f v ws → AnyTwo K n m f (endsAfter K n f v ws)
+RingConverges = (K : Family) (n m f : ℕ) (v : ℕ → ℤ) (ws : List Round) → RingWithin K n m f v ws → AnyTwo K n m f (endsAfter K n f v ws)
 
 -- ---- the kept range (document 02, A2)
 
@@ -53,7 +53,7 @@ HoldsBetween low high (LastKept.Range k) = KeptBetween low high (k .low) (k .hig
 -- at each phase end, for each head and listener that is sound there: between the sound positions that the phase started from
 abbrev pub RingKeepsBetween : Type 0
 RingKeepsBetween =
-    (K : Family) (n m f : ℕ) (v : ℕ → ℤ) (ws : List Round) → Within K n m f v ws
+    (K : Family) (n m f : ℕ) (v : ℕ → ℤ) (ws : List Round) → RingWithin K n m f v ws
     → let es = endsAfter K n f v ws in
     (i : ℕ) → i + 1 < length es → let e = asEnd n m (getD es (i + 1) noEnd) in let e′ = getD es i noEnd in
     Each receivers (λ j. asEnd n m e′ .struck j ≡ false → HoldsBetween (lowest receivers e) (highest receivers e) (e′ .heads j .seat .kept))
@@ -67,7 +67,7 @@ countAfter K ws i = min mostCounted (endsSince K i ws)
 -- the record of each head and listener that is not struck in the last round holds it (Q90)
 abbrev pub RingCounts : Type 0
 RingCounts =
-    (K : Family) (n m f : ℕ) (v : ℕ → ℤ) (ws : List Round) → Within K n m f v ws
+    (K : Family) (n m f : ℕ) (v : ℕ → ℤ) (ws : List Round) → RingWithin K n m f v ws
     → let R = ringAfter K n f v ws in
     Each receivers (λ i. isReceiver n m i ≡ true → bitOf (R .before) i ≡ false → R .heads i .seat .since ≡ countAfter K ws i)
 
@@ -80,5 +80,5 @@ OneFocus n e = Each n (λ k. e .struck k ≡ false) → (i j : ℕ) → i < rece
 -- at each phase end but the start, which ends no phase
 abbrev pub RingQuiet : Type 0
 RingQuiet =
-    (K : Family) (n m f : ℕ) (v : ℕ → ℤ) (ws : List Round) → Within K n m f v ws
+    (K : Family) (n m f : ℕ) (v : ℕ → ℤ) (ws : List Round) → RingWithin K n m f v ws
     → let es = endsAfter K n f v ws in (i : ℕ) → i + 1 < length es → OneFocus n (asEnd n m (getD es i noEnd))

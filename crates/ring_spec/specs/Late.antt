@@ -12,7 +12,7 @@ use Rattle.marks.specs.Marks.{bitOf}
 use Rattle.head_spec.specs.Calls.{restarted, hearAll, frameFor}
 use Rattle.head_spec.specs.declared.Head.{Head}
 use Rattle.ring_spec.specs.Rounds.{Round, planted, lost, Ring, roundEnded, phaseThen, roundThen, PhaseEnd, phaseEnd, withEnd, firstHeads, firstEnd}
-use Rattle.ring_spec.specs.Converges.{Within, AnyTwo}
+use Rattle.ring_spec.specs.Converges.{RingWithin, AnyTwo}
 
 -- A round whose mark word has the struck receivers and the late ones; late: which of those that it marks are only late; left: the records
 -- that these are left with, whatever they are: the record as it was when the round was heard, with an offer or without, or any other (Q70).
@@ -71,4 +71,4 @@ module _ (K : Family) (n f : ℕ) (v : ℕ → ℤ) where
 -- demand 3, with those that did not adopt counted as struck
 abbrev pub LateConverges : Type 0
 LateConverges =
-    (K : Family) (n m f : ℕ) (v : ℕ → ℤ) (ws : List LateRound) → Within K n m f v (lateRounds ws) → AnyTwo K n m f (endsAfterLate K n f v ws)
+    (K : Family) (n m f : ℕ) (v : ℕ → ℤ) (ws : List LateRound) → RingWithin K n m f v (lateRounds ws) → AnyTwo K n m f (endsAfterLate K n f v ws)

@@ -23,7 +23,7 @@ use Rattle.ring_spec.proofs.Receivers.{first-out, first-out-as}
 use Rattle.run_spec.specs.Listing.{textOf, line}
 use Rattle.run_listing.specs.Texts.{fields, endLine}
 use Rattle.run_listing.specs.Held.{endIn}
-use Rattle.run_listing.specs.Heights.{Found}
+use Rattle.run_listing.specs.Heights.{LowestHighest}
 use Rattle.run_listing.proofs.Lowest.{no-listener, found-same, found-held, found-held-as}
 
 -- the last eight digits of a mark word for heads and listeners are the heads'
@@ -42,7 +42,7 @@ unfolding fields
 fields-are p collect confess low high w a b = rw (w, a, b, hex-heads collect, hex-heads confess) (simp append-snoc)
 
 -- of the lowest and the highest that are found, they are the line
-pub found-line : (n m p collect confess struck : ℕ) (ps : List ℤ) {low high : Entry} → Found receivers (endIn n m struck ps) low high
+pub found-line : (n m p collect confess struck : ℕ) (ps : List ℤ) {low high : Entry} → LowestHighest receivers (endIn n m struck ps) low high
     → fields p low high (apart low high) collect confess ≡ endLine n m p ps collect confess struck
 unfolding endLine spread
 found-line n m p collect confess struck ps f = rw (← f .is-low, ← f .is-high)

@@ -25,7 +25,7 @@ use Rattle.convergence.specs.Phases.{End, join, soundAt, lowest, highest}
 use Rattle.terms.proofs.Sums.{each-last, each-less}
 use Rattle.ring_spec.specs.Rounds.{receivers, isReceiver, isOut}
 use Rattle.run_listing.specs.Held.{endIn}
-use Rattle.run_listing.specs.Heights.{outward, Found, firstSound}
+use Rattle.run_listing.specs.Heights.{outward, LowestHighest, firstSound}
 use Rattle.run_listing.specs.Inner.{Reaches}
 
 outward-is : (high : Bool) (v w : ℤ) → outward high v w ≡ cond (Bool·beq (leZ v w) high) w v
@@ -57,31 +57,31 @@ no-listener n i = ap (λ (b : Bool). ltb i n || b) (go (decLt i 32)) ∙ or-fals
 
 -- ---- one receiver more
 
-pub found-none : (e : End) → Found 0 e Null Null
+pub found-none : (e : End) → LowestHighest 0 e Null Null
 unfolding lowest highest
 found-none e = record { is-low = refl; is-high = refl }
 
-found-out : {e : End} {low high : Entry} (j : ℕ) → e .struck j ≡ true → Found j e low high → Found (suc j) e low high
+found-out : {e : End} {low high : Entry} (j : ℕ) → e .struck j ≡ true → LowestHighest j e low high → LowestHighest (suc j) e low high
 unfolding lowest highest
 found-out j o f = record { is-low = rw o (f .is-low); is-high = rw o (f .is-high) }
 
 -- from k on none is sound
-pub found-past : {e : End} {low high : Entry} (k N : ℕ) → k ≤ N → Each N (λ i. k ≤ i → e .struck i ≡ true) → Found k e low high → Found N e low high
+pub found-past : {e : End} {low high : Entry} (k N : ℕ) → k ≤ N → Each N (λ i. k ≤ i → e .struck i ≡ true) → LowestHighest k e low high → LowestHighest N e low high
 found-past {e} {low} {high} k N l h f =
-    le-ind (λ j. j ≤ N → Found j e low high) (λ i. f) (λ j i more less. found-out j (h j less i) (more (omega arith))) N l (omega arith)
+    le-ind (λ j. j ≤ N → LowestHighest j e low high) (λ i. f) (λ j i more less. found-out j (h j less i) (more (omega arith))) N l (omega arith)
 
-module _ (n m struck : ℕ) (ps : List ℤ) {j : ℕ} {low high : Entry} (f : Found j (endIn n m struck ps) low high) where
-  pub found-struck : isOut n m struck j ≡ true → Found (j + 1) (endIn n m struck ps) low high
+module _ (n m struck : ℕ) (ps : List ℤ) {j : ℕ} {low high : Entry} (f : LowestHighest j (endIn n m struck ps) low high) where
+  pub found-struck : isOut n m struck j ≡ true → LowestHighest (j + 1) (endIn n m struck ps) low high
   unfolding endIn
   found-struck o = rw (add-one j) (found-out j o f)
 
   pub found-sound : {v : ℤ} {x y : Entry} → isOut n m struck j ≡ false → v ≡ getD ps j (pos 0)
-      → x ≡ join (outward false) (Position v) low → y ≡ join (outward true) (Position v) high → Found (j + 1) (endIn n m struck ps) x y
+      → x ≡ join (outward false) (Position v) low → y ≡ join (outward true) (Position v) high → LowestHighest (j + 1) (endIn n m struck ps) x y
   unfolding lowest highest endIn
   found-sound o e p q = rw (add-one j) record { is-low = p ∙ rw (o, e, f .is-low); is-high = q ∙ rw (o, e, f .is-high) }
 
   -- from k on there is no receiver
-  pub found-all : Reaches n m j → Found receivers (endIn n m struck ps) low high
+  pub found-all : Reaches n m j → LowestHighest receivers (endIn n m struck ps) low high
   unfolding endIn
   found-all R = found-past j receivers (R .most) (λ i l h. rw (R .none i l h)) f
 
@@ -119,27 +119,27 @@ outward-same : (high : Bool) (u : ℤ) → outward high u u ≡ u
 outward-same high u = outward-is high u u ∙ either-same (Bool·beq (leZ u u) high) u
 
 module _ (n m struck : ℕ) (ps : List ℤ) {u : ℤ} (h : Each receivers (λ i. getD ps i (pos 0) ≡ u)) where
-  one-more-level : (k : ℕ) → k < receivers → Found k (endIn n m struck ps) (Position u) (Position u) → Found (suc k) (endIn n m struck ps) (Position u) (Position u)
+  one-more-level : (k : ℕ) → k < receivers → LowestHighest k (endIn n m struck ps) (Position u) (Position u) → LowestHighest (suc k) (endIn n m struck ps) (Position u) (Position u)
   one-more-level k l f = go (isOut n m struck k) refl
     where
-      go : (b : Bool) → isOut n m struck k ≡ b → Found (suc k) (endIn n m struck ps) (Position u) (Position u)
+      go : (b : Bool) → isOut n m struck k ≡ b → LowestHighest (suc k) (endIn n m struck ps) (Position u) (Position u)
       go true o = rw (add-one k) at (found-struck n m struck ps f o)
       go false o =
           rw (add-one k) at
           (found-sound n m struck ps f {v = u} {x = Position u} {y = Position u} o (sym (h k l)) (ap Position (sym (outward-same false u))) (ap Position (sym (outward-same true u))))
 
   abbrev One : ℕ → Entry → Type 0
-  One k x = Found k (endIn n m struck ps) x x × (firstSound k (endIn n m struck ps) ≡ x)
+  One k x = LowestHighest k (endIn n m struck ps) x x × (firstSound k (endIn n m struck ps) ≡ x)
 
   -- the first that is sound, if one is, says it of all
-  pub found-first : {x : Entry} → x ≡ firstSound receivers (endIn n m struck ps) → Found receivers (endIn n m struck ps) x x
+  pub found-first : {x : Entry} → x ≡ firstSound receivers (endIn n m struck ps) → LowestHighest receivers (endIn n m struck ps) x x
   found-first {x} e = rw e (⊎-elim (λ w. rw (w .1) (w .0)) (λ w. rw (w .1) (w .0)) (go receivers (omega arith)))
     where
       go : (k : ℕ) → k ≤ receivers → One k Null ⊎ One k (Position u)
       go zero l = inl (found-none _, first-none _)
       go (suc k) l = ⊎-elim (λ w. none (w .0) (w .1) (isOut n m struck k) refl) (λ w. inr (one-more-level k (omega arith) (w .0), first-stays _ k (w .1))) (go k (omega arith))
         where
-          none : Found k (endIn n m struck ps) Null Null → firstSound k (endIn n m struck ps) ≡ Null → (b : Bool) → isOut n m struck k ≡ b
+          none : LowestHighest k (endIn n m struck ps) Null Null → firstSound k (endIn n m struck ps) ≡ Null → (b : Bool) → isOut n m struck k ≡ b
               → One (suc k) Null ⊎ One (suc k) (Position u)
           none f z true o = inl (rw (add-one k) at (found-struck n m struck ps f o), rw (add-one k) at (first-struck n m struck ps k z o))
           none f z false o =
@@ -150,7 +150,7 @@ module _ (n m struck : ℕ) (ps : List ℤ) {u : ℤ} (h : Each receivers (λ i.
 
 -- ---- of two phase ends that say the same of each receiver
 
-pub found-same : (e e′ : End) (n : ℕ) → Each n (λ j. soundAt e j ≡ soundAt e′ j) → Found n e′ (lowest n e) (highest n e)
+pub found-same : (e e′ : End) (n : ℕ) → Each n (λ j. soundAt e j ≡ soundAt e′ j) → LowestHighest n e′ (lowest n e) (highest n e)
 unfolding lowest highest
 found-same e e′ zero h = record { is-low = refl; is-high = refl }
 found-same e e′ (suc n) h =
@@ -170,10 +170,10 @@ module _ (n m struck : ℕ) (at : ℕ → Entry) (positions : List ℤ)
 
   -- an array that holds the positions of those that are not struck, with marks that leave the same out
   pub found-held-as : (marks k : ℕ) → Each receivers (λ i. isOut n m struck i ≡ isOut n k marks i)
-      → Found receivers (endIn n k marks positions) (lowest receivers whole) (highest receivers whole)
+      → LowestHighest receivers (endIn n k marks positions) (lowest receivers whole) (highest receivers whole)
   unfolding endIn
   found-held-as marks k same =
       found-same whole (endIn n k marks positions) receivers (λ i l. sound-same (isReceiver n m i) (bitOf struck i) (same i l) (h i l))
 
-  pub found-held : Found receivers (endIn n m struck positions) (lowest receivers whole) (highest receivers whole)
+  pub found-held : LowestHighest receivers (endIn n m struck positions) (lowest receivers whole) (highest receivers whole)
   found-held = found-held-as struck m (λ i l. refl)

@@ -15,10 +15,10 @@ use Rattle.terms.proofs.Whole.{eqZ→eq, eqZ-refl}
 use Rattle.convergence.specs.Phases.{End}
 use Rattle.ring_spec.specs.Rounds.{receivers}
 use Rattle.ring_spec.specs.Agreed.{common, heldByAll, isAgreed}
-use Rattle.run_listing.specs.Heights.{Found}
+use Rattle.run_listing.specs.Heights.{LowestHighest}
 use Rattle.run_listing.specs.Level.{levelled}
 
-module _ {e : End} {low high : Entry} (f : Found receivers e low high) where
+module _ {e : End} {low high : Entry} (f : LowestHighest receivers e low high) where
   held-as : {x : Entry} → common low high ≡ x → heldByAll e ≡ x
   held-as c = ap₂ common (sym (f .is-low)) (sym (f .is-high)) ∙ c
 

@@ -19,7 +19,7 @@ outward true = greater
 outward false = lesser
 
 -- the lowest and the highest position of the first n receivers
-pub record Found (n : ℕ) (e : End) (low high : Entry) : Type 0 where
+pub record LowestHighest (n : ℕ) (e : End) (low high : Entry) : Type 0 where
   pub is-low : low ≡ lowest n e
   pub is-high : high ≡ highest n e
 

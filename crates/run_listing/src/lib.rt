@@ -8,7 +8,7 @@ ghost use lib.IntN.{pos};
 ghost use Rattle.convergence.specs.Phases.{join, apart};
 ghost use Rattle.ring_spec.specs.Rounds.{receivers, isOut};
 ghost use Rattle.run_listing.specs.Held.{endIn};
-ghost use Rattle.run_listing.specs.Heights.{heightOf, outward, Found, firstSound};
+ghost use Rattle.run_listing.specs.Heights.{heightOf, outward, LowestHighest, firstSound};
 ghost use Rattle.run_listing.specs.Inner.{Reaches};
 ghost use mathlib.Core.List.{_∷_, [], _++_};
 ghost use Rattle.run_spec.specs.Listing.{textOf, title, verdict};
@@ -85,7 +85,7 @@ fn is_sound(n: u8, m: u8, struck: u64, j: usize) -> bool
 
 // The lowest and the highest position of the heads and listeners that the mark word leaves.
 pub fn ends_of(n: u8, m: u8, struck: u64, positions: &Positions) -> Ends
-    ensures { λ r. ⌜ Found receivers (endIn n m struck (now (positions .entry))) (r .low) (r .high) ⌝ }
+    ensures { λ r. ⌜ LowestHighest receivers (endIn n m struck (now (positions .entry))) (r .low) (r .high) ⌝ }
 {
     let count = reach(n, m);
     let mut low = Entry::Null;

@@ -54,15 +54,15 @@ size-short s few = go (eqb (at2 s 2) 0x12) (decLe (lengthIn s) (length s))
     go true (no l) = rw (lt-leb (lengthIn s) (length s) (omega arith))
     go false l = refl
 
-pub passed-none : (n m struck : ℕ) (last : Pair) (s : List ℕ) → 0 ≡ plantSize s → 0 ≡ plantPassed n m struck last s
-passed-none n m struck last s none = go (eqb (plantFault n m struck last s) 0)
+pub passed-none : (n m struck : ℕ) (pair : Pair) (s : List ℕ) → 0 ≡ plantSize s → 0 ≡ plantPassed n m struck pair s
+passed-none n m struck pair s none = go (eqb (plantFault n m struck pair s) 0)
   where
     go : (b : Bool) → 0 ≡ cond b (plantSize s) 0
     go true = none
     go false = refl
 
-pub passed-within : (n m struck : ℕ) (last : Pair) (s : List ℕ) {used : ℕ} → used ≡ plantPassed n m struck last s → used ≤ length s
-passed-within n m struck last s e = rw e (go (eqb (plantFault n m struck last s) 0) (decLe 1 (plantSize s)))
+pub passed-within : (n m struck : ℕ) (pair : Pair) (s : List ℕ) {used : ℕ} → used ≡ plantPassed n m struck pair s → used ≤ length s
+passed-within n m struck pair s e = rw e (go (eqb (plantFault n m struck pair s) 0) (decLe 1 (plantSize s)))
   where
     go : (b : Bool) → Dec (1 ≤ plantSize s) → cond b (plantSize s) 0 ≤ length s
     go true (yes some) = size-plants s refl (λ z. omega arith) .within
@@ -95,12 +95,12 @@ module _ {a : List ℕ} {p : Player} {before : List ℕ} {M : Memory} (L : State
 
   -- a planted record b without a fault is taken
   pub plant-there : {used : ℕ} {b : List ℕ} (rest : List ℕ) → Plants rest used → b ≡ take used rest → plantFault count number marks pair rest ≡ 0
-      → {last : Pair} → last ≡ pairIn b → {bytes lengths : List ℕ}
+      → {pair′ : Pair} → pair′ ≡ pairIn b → {bytes lengths : List ℕ}
       → PlantedThen (senderIn b) (receiverIn b) (drop 6 b) (M .planted) (M .lengths) bytes lengths
-      → AdvancesOnce a (take used rest) p M (withPairPlanted p last) [] before (withSlots M bytes lengths)
-  plant-there {used} {b} rest P e sound {last} l {bytes} {lengths} new =
+      → AdvancesOnce a (take used rest) p M (withPairPlanted p pair′) [] before (withSlots M bytes lengths)
+  plant-there {used} {b} rest P e sound {pair′} l {bytes} {lengths} new =
       let t : Text = record { len = 0; bytes = [] } in
-      let q : Player = withPairPlanted p last in
+      let q : Player = withPairPlanted p pair′ in
       let long = plant-long used (P .fits) .0 in
       let same : Heads b rest = rw (← e) at (heads-take used rest (omega arith)) in
       let from : senderIn b ≡ senderIn rest = rw e (getD-take used rest 4 0 (omega arith)) in

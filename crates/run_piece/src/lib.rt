@@ -184,30 +184,24 @@ pub fn pass_plant(
     n: u8,
     m: u8,
     struck: u64,
-    last: Pair,
+    pair: Pair,
     rest: &[u8],
     planted: &mut PlantedBytes,
     lengths: &mut PlantedLengths,
 ) -> PlantResult
-    ensures { λ r. ⌜ r .used ≡ plantPassed n m struck last (now (rest .entry)) ⌝ }
-    ensures { λ r. ⌜ ((p : Player) → Waits p n m struck last → Passes p (now (rest .entry)) (record { player = withPairPlanted p (r .pair); used = r .used })
+    ensures { λ r. ⌜ r .used ≡ plantPassed n m struck pair (now (rest .entry)) ⌝ }
+    ensures { λ r. ⌜ ((p : Player) → Waits p n m struck pair → Passes p (now (rest .entry)) (record { player = withPairPlanted p (r .pair); used = r .used })
         (now (planted .entry)) (now (lengths .entry)) (now (planted .exit)) (now (lengths .exit))) ⌝ }
 {
     let used = plant_size(rest);
     if used == 0 {
-        return PlantResult {
-            used: 0,
-            pair: last,
-        };
+        return PlantResult { used: 0, pair };
     }
-    if run_judge::plant_fault(rest, n, m, struck, last) != 0 {
-        return PlantResult {
-            used: 0,
-            pair: last,
-        };
+    if run_judge::plant_fault(rest, n, m, struck, pair) != 0 {
+        return PlantResult { used: 0, pair };
     }
-    let pair = run_record::plant_in(front(rest, used), planted, lengths);
-    PlantResult { used, pair }
+    let next = run_record::plant_in(front(rest, used), planted, lengths);
+    PlantResult { used, pair: next }
 }
 
 // One step: a whole record, or bytes of one that is cut. After a fault nothing is read. How many bytes it takes is free: one at least, if

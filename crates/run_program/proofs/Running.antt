@@ -21,10 +21,10 @@ use Rattle.run_stream.specs.Ends.{Ends}
 use Rattle.run_stream.proofs.Cutting.{shown-first}
 use Rattle.run_program.specs.declared.Stage.{Stage}
 use Rattle.run_program.specs.declared.Program.{Program}
-use Rattle.run_program.specs.Calls.{part, unwritten, unplayed, askAt, askOf, isTitle, asksRead, leftOf, fits, stageAfter}
+use Rattle.run_program.specs.Calls.{part, unwritten, unplayed, askAt, askOf, isTitle, asksRead, leftOf, didFits, stageAfter}
 use Rattle.run_program.specs.declared.Did.{Did}
-use Rattle.run_program.specs.Running.{Opens, Plays, Closes, RunningAt, Running}
-use Rattle.run_program.specs.Inner.{placed, advanced, Between, Turning, within-input, after-input}
+use Rattle.run_program.specs.Running.{BeforeReading, WhileReading, AfterReading, RunningAt, Running}
+use Rattle.run_program.specs.Inner.{programAt, advanced, Between, Turning, within-input, after-input}
 
 -- ---- parts of a list
 
@@ -64,11 +64,11 @@ none-unwritten out page p done e = sym (append-nil out) ∙ ap (λ (l : List ℕ
 -- ---- while the input is read
 
 pub playing : {a out : List ℕ} {p : Program} {piece page carry : List ℕ} {M : Memory} → p .stage ≡ Stage.Going
-    → RunningAt (p .stage) a out p piece page carry M → Plays a out p piece page carry M
+    → RunningAt (p .stage) a out p piece page carry M → WhileReading a out p piece page carry M
 playing {a} {out} {p} {piece} {page} {carry} {M} e R = subst (λ (s : Stage). RunningAt s a out p piece page carry M) e R
 
 -- a program that goes on
-going : {a out : List ℕ} {p : Program} {piece page carry : List ℕ} {M : Memory} → p .stage ≡ Stage.Going → Plays a out p piece page carry M
+going : {a out : List ℕ} {p : Program} {piece page carry : List ℕ} {M : Memory} → p .stage ≡ Stage.Going → WhileReading a out p piece page carry M
     → RunningAt (p .stage) a out p piece page carry M
 going {a} {out} {p} {piece} {page} {carry} {M} e P = subst (λ (s : Stage). RunningAt s a out p piece page carry M) (sym e) P
 
@@ -86,8 +86,8 @@ reading p e = go (p .stage) (ltb (p .from) (p .to)) refl e
 
 -- ---- the first page
 
-pub opens : {a out : List ℕ} {p : Player} {carry : List ℕ} {M : Memory} (to : ℕ) (piece page : List ℕ) → Opens a out p carry M → to ≤ pageSize → take to page ≡ title
-    → Plays a out (placed p Stage.Going 0 0 to) piece page carry M
+pub opens : {a out : List ℕ} {p : Player} {carry : List ℕ} {M : Memory} (to : ℕ) (piece page : List ℕ) → BeforeReading a out p carry M → to ≤ pageSize → take to page ≡ title
+    → WhileReading a out (programAt p Stage.Going 0 0 to) piece page carry M
 opens to piece page O room t =
     record {
       played = [];
@@ -103,7 +103,7 @@ opens to piece page O room t =
 
 module _ {a out : List ℕ} {p : Program} {piece page carry : List ℕ} {M : Memory} where
   -- as long as bytes are left to be written, none has to be played
-  plays : Between a out p piece page carry M → (p .to ≤ p .from → p .end ≤ p .at) → Plays a out p piece page carry M
+  plays : Between a out p piece page carry M → (p .to ≤ p .from → p .end ≤ p .at) → WhileReading a out p piece page carry M
   plays B waits = record { played = B .played; state = B .state; read = B .read; shows = B .shows; waits = waits; here = B .here; room = B .room }
 
   module _ (T : Turning a out p piece page carry M) where
@@ -130,7 +130,7 @@ module _ {a out : List ℕ} {p : Program} {piece page carry : List ℕ} {M : Mem
       -- some of it is
       pub page-filled : {u page′ carry′ : List ℕ} {M′ : Memory} (r : FillResult) → p .at < p .end → u ≡ unplayed p piece → Fills u r
           → ((b : List ℕ) → StateAt b (p .player) carry M → Advances b (take (r .used) u) (p .player) M (r .player) (take (r .len) page′) carry′ M′)
-          → Plays a out (placed (r .player) Stage.Going (p .at + r .used) (p .end) (r .len)) piece page′ carry′ M′
+          → WhileReading a out (programAt (r .player) Stage.Going (p .at + r .used) (p .end) (r .len)) piece page′ carry′ M′
       page-filled {page′ = page′} r some is F adv =
           let B = between in
           let long : length (unplayed p piece) ≡ p .end - p .at = part-long (p .at) (p .end) piece (B .here) in
@@ -151,7 +151,7 @@ module _ {a out : List ℕ} {p : Program} {piece page carry : List ℕ} {M : Mem
 
 -- ---- after a read
 
-module _ {a out : List ℕ} {p : Program} {piece page carry : List ℕ} {M : Memory} (P : Plays a out p piece page carry M) (done : p .to ≤ p .from) where
+module _ {a out : List ℕ} {p : Program} {piece page carry : List ℕ} {M : Memory} (P : WhileReading a out p piece page carry M) (done : p .to ≤ p .from) where
   all-played : P .played ≡ a
   all-played =
       sym (append-nil (P .played))
@@ -162,7 +162,7 @@ module _ {a out : List ℕ} {p : Program} {piece page carry : List ℕ} {M : Mem
   all-written = none-unwritten out page p done (P .shows)
 
   -- of some bytes
-  pub bytes-came : (k : ℕ) → k ≤ length piece → Between (a ++ take k piece) out (placed (p .player) Stage.Going 0 k 0) piece page carry M
+  pub bytes-came : (k : ℕ) → k ≤ length piece → Between (a ++ take k piece) out (programAt (p .player) Stage.Going 0 k 0) piece page carry M
   bytes-came k h =
       record {
         played = P .played;
@@ -175,7 +175,7 @@ module _ {a out : List ℕ} {p : Program} {piece page carry : List ℕ} {M : Mem
 
   -- at the end
   pub input-ended : {page′ : List ℕ} {M′ : Memory} (to : ℕ) → to ≤ pageSize → ((b c : List ℕ) → StateAt b (p .player) c M → Ends b M (take to page′) M′)
-      → Closes (a ++ []) out (placed (p .player) Stage.Last 0 0 to) page′
+      → AfterReading (a ++ []) out (programAt (p .player) Stage.Last 0 0 to) page′
   input-ended {page′} to room E =
       let e = E (P .played) carry (P .state) in
       record {
@@ -225,20 +225,20 @@ bytes-stage (suc k) s h = refl
 
 -- the title, before the first step
 pub opening : {a out carry : List ℕ} {M : Memory} (p : Program) (piece page : List ℕ) → isTitle (p .stage) ≡ true
-    → RunningAt (p .stage) a out p piece page carry M → Opens a out (p .player) carry M
+    → RunningAt (p .stage) a out p piece page carry M → BeforeReading a out (p .player) carry M
 opening {a} {out} {carry} {M} p piece page e R = go (p .stage) e R
   where
-    go : (s : Stage) → isTitle s ≡ true → RunningAt s a out p piece page carry M → Opens a out (p .player) carry M
+    go : (s : Stage) → isTitle s ≡ true → RunningAt s a out p piece page carry M → BeforeReading a out (p .player) carry M
     go Stage.Title t r = r
     go Stage.Going t r = absurd (true≢false (sym t))
     go Stage.Last t r = absurd (true≢false (sym t))
     go Stage.Failed t r = absurd r
 
-pub read-fits : (p : Program) (k size : ℕ) → fits (Did.Read k) p size ≡ true → (p .stage ≡ Stage.Going) × (p .to ≤ p .from) × (k ≤ size)
+pub read-fits : (p : Program) (k size : ℕ) → didFits (Did.Read k) p size ≡ true → (p .stage ≡ Stage.Going) × (p .to ≤ p .from) × (k ≤ size)
 read-fits p k size e =
     let (asks, small) = and-both (asksRead (askOf p)) _ e in
     let (going, done) = reading p asks in
     (going, done, leb-true k size small)
 
-pub write-fits : (p : Program) (k size : ℕ) → fits (Did.Wrote k) p size ≡ true → (0 < k) × (k ≤ leftOf (askOf p))
+pub write-fits : (p : Program) (k size : ℕ) → didFits (Did.Wrote k) p size ≡ true → (0 < k) × (k ≤ leftOf (askOf p))
 write-fits p k size e = let (some, within) = and-both (leb 1 k) _ e in (leb-true 1 k some, leb-true k (leftOf (askOf p)) within)

@@ -13,13 +13,13 @@ use Rattle.run_program.specs.declared.Ask.{Ask}
 use Rattle.run_program.specs.declared.Stage.{Stage}
 use Rattle.run_program.specs.declared.Program.{Program}
 use Rattle.run_program.specs.Calls.{askAt}
-use Rattle.run_program.specs.Running.{Plays, RunningAt, Running}
+use Rattle.run_program.specs.Running.{WhileReading, RunningAt, Running}
 use Rattle.run_program.specs.Runs.{Left, Ran, begins, turns, WritesListing}
 use Rattle.run_program.proofs.Running.{part-none}
 
 -- the piece may change when all of it is played
 read-anew : {a out : List ℕ} {p : Program} {piece page carry : List ℕ} {M : Memory} (piece′ : List ℕ) → p .to ≤ p .from → length piece′ ≡ length piece
-    → Plays a out p piece page carry M → Plays a out p piece′ page carry M
+    → WhileReading a out p piece page carry M → WhileReading a out p piece′ page carry M
 read-anew {p} {piece} piece′ done long P =
     let none = part-none (p .at) (p .end) in
     record {

@@ -55,11 +55,11 @@ leftOf Ask.Stop = 0
 
 -- Whether the system did what it was asked for; size: the bytes of the piece. Of the bytes to be written it may write some, but one at
 -- least: a call that writes none counts as a failure.
-abbrev pub fits : Did → Program → ℕ → Bool
-fits Did.Nothing p size = isTitle (p .stage)
-fits (Did.Read k) p size = asksRead (askOf p) && leb k size
-fits (Did.Wrote k) p size = leb 1 k && leb k (leftOf (askOf p))
-fits Did.Failed p size = false
+abbrev pub didFits : Did → Program → ℕ → Bool
+didFits Did.Nothing p size = isTitle (p .stage)
+didFits (Did.Read k) p size = asksRead (askOf p) && leb k size
+didFits (Did.Wrote k) p size = leb 1 k && leb k (leftOf (askOf p))
+didFits Did.Failed p size = false
 
 -- the stage after it
 abbrev pub stageAfter : Did → Stage → Stage

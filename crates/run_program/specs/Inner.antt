@@ -12,11 +12,11 @@ use Rattle.run_stream.specs.Pages.{pageSize}
 use Rattle.run_program.specs.declared.Stage.{Stage}
 use Rattle.run_program.specs.declared.Program.{Program}
 use Rattle.run_program.specs.Calls.{unwritten, unplayed}
-use Rattle.run_program.specs.Running.{Closes}
+use Rattle.run_program.specs.Running.{AfterReading}
 
 -- with nothing of its page written
-abbrev pub placed : (player : Player) (stage : Stage) (at end to : ℕ) → Program
-placed player stage at end to = record { player = player; stage = stage; at = at; end = end; from = 0; to = to }
+abbrev pub programAt : (player : Player) (stage : Stage) (at end to : ℕ) → Program
+programAt player stage at end to = record { player = player; stage = stage; at = at; end = end; from = 0; to = to }
 
 -- with k bytes more written
 abbrev pub advanced : Program → ℕ → Program
@@ -34,4 +34,4 @@ pub record Between (a out : List ℕ) (p : Program) (piece page carry : List ℕ
 -- before a page is turned: of the piece, or the last
 pub data Turning (a out : List ℕ) (p : Program) (piece page carry : List ℕ) (M : Memory) : Type 0 where
   within-input : p .stage ≡ Stage.Going → Between a out p piece page carry M → Turning a out p piece page carry M
-  after-input : p .stage ≡ Stage.Last → Closes a out p page → Turning a out p piece page carry M
+  after-input : p .stage ≡ Stage.Last → AfterReading a out p page → Turning a out p piece page carry M

@@ -13,11 +13,11 @@ use Rattle.run_program.specs.declared.Did.{Did}
 use Rattle.run_program.specs.declared.Stage.{Stage}
 use Rattle.run_program.specs.declared.Program.{Program}
 use Rattle.run_program.specs.declared.Stepped.{Stepped}
-use Rattle.run_program.specs.Calls.{unwritten, unplayed, askOf, fits, stageAfter, readThen, writtenThen}
+use Rattle.run_program.specs.Calls.{unwritten, unplayed, askOf, didFits, stageAfter, readThen, writtenThen}
 use Rattle.run_stream.specs.Pages.{pageSize}
 
 -- before the first step nothing was read or written
-pub record Opens (a out : List ℕ) (p : Player) (carry : List ℕ) (M : Memory) : Type 0 where
+pub record BeforeReading (a out : List ℕ) (p : Player) (carry : List ℕ) (M : Memory) : Type 0 where
   pub read : a ≡ []
   pub written : out ≡ []
   pub state : StateAt [] p carry M
@@ -25,7 +25,7 @@ pub record Opens (a out : List ℕ) (p : Player) (carry : List ℕ) (M : Memory)
 -- While the input is read: the bytes a are those that were played and those of the piece that are not yet played; what was written, and
 -- what of the page is still to be written, is all that is shown of the bytes played. If nothing is to be written, all bytes are played. How
 -- much of the piece a page takes is free.
-pub record Plays (a out : List ℕ) (p : Program) (piece page carry : List ℕ) (M : Memory) : Type 0 where
+pub record WhileReading (a out : List ℕ) (p : Program) (piece page carry : List ℕ) (M : Memory) : Type 0 where
   pub played : List ℕ
   pub state : StateAt played (p .player) carry M
   pub read : played ++ unplayed p piece ≡ a
@@ -35,14 +35,14 @@ pub record Plays (a out : List ℕ) (p : Program) (piece page carry : List ℕ) 
   pub room : p .to ≤ pageSize
 
 -- After the end of the input: what was written, and what of the page is still to be written, is the listing.
-pub record Closes (a out : List ℕ) (p : Program) (page : List ℕ) : Type 0 where
+pub record AfterReading (a out : List ℕ) (p : Program) (page : List ℕ) : Type 0 where
   pub shows : out ++ unwritten p page ≡ listing a
   pub room : p .to ≤ pageSize
 
 abbrev pub RunningAt : (stage : Stage) (a out : List ℕ) (p : Program) (piece page carry : List ℕ) (M : Memory) → Type 0
-RunningAt Stage.Title a out p piece page carry M = Opens a out (p .player) carry M
-RunningAt Stage.Going a out p piece page carry M = Plays a out p piece page carry M
-RunningAt Stage.Last a out p piece page carry M = Closes a out p page
+RunningAt Stage.Title a out p piece page carry M = BeforeReading a out (p .player) carry M
+RunningAt Stage.Going a out p piece page carry M = WhileReading a out p piece page carry M
+RunningAt Stage.Last a out p piece page carry M = AfterReading a out p page
 RunningAt Stage.Failed a out p piece page carry M = ⊥
 
 -- the program runs, when exactly the bytes a were read and exactly the bytes out were written (D15)
@@ -57,7 +57,7 @@ failed p = record { player = p .player; stage = Stage.Failed; at = p .at; end = 
 -- program goes on running, with the bytes then read and written; if not, it stops, and nothing else changes.
 pub record Steps (p : Program) (did : Did) (piece page carry : List ℕ) (M : Memory) (r : Stepped) (page′ carry′ : List ℕ) (M′ : Memory) : Type 0 where
   pub asks : r .ask ≡ askOf (r .program)
-  pub stage : r .program .stage ≡ cond (fits did p (length piece)) (stageAfter did (p .stage)) Stage.Failed
-  pub runs : fits did p (length piece) ≡ true → (a out : List ℕ) → Running a out p piece page carry M
+  pub stage : r .program .stage ≡ cond (didFits did p (length piece)) (stageAfter did (p .stage)) Stage.Failed
+  pub runs : didFits did p (length piece) ≡ true → (a out : List ℕ) → Running a out p piece page carry M
       → Running (readThen did a piece) (writtenThen did out (unwritten p page)) (r .program) piece page′ carry′ M′
-  pub fails : fits did p (length piece) ≡ false → (r .program ≡ failed p) × (page′ ≡ page) × (carry′ ≡ carry) × (M′ ≡ M)
+  pub fails : didFits did p (length piece) ≡ false → (r .program ≡ failed p) × (page′ ≡ page) × (carry′ ≡ carry) × (M′ ≡ M)

@@ -12,7 +12,7 @@ use Rattle.run_program.specs.declared.Ask.{Ask}
 use Rattle.run_program.specs.declared.Stage.{Stage}
 use Rattle.run_program.specs.declared.Program.{Program}
 use Rattle.run_program.specs.declared.Stepped.{Stepped}
-use Rattle.run_program.specs.Calls.{unwritten, askOf, fits, readThen, writtenThen}
+use Rattle.run_program.specs.Calls.{unwritten, askOf, didFits, readThen, writtenThen}
 use Rattle.run_program.specs.Running.{Running, Steps}
 
 -- what a system call leaves of the piece: a read may change its bytes, a write does not
@@ -25,7 +25,7 @@ Left Ask.Stop piece piece′ = piece′ ≡ piece
 pub data Ran : List ℕ → List ℕ → Program → List ℕ → List ℕ → List ℕ → Memory → Type 0 where
   begins : {p : Program} {piece page carry : List ℕ} {M : Memory} → Running [] [] p piece page carry M → Ran [] [] p piece page carry M
   turns : {a out : List ℕ} {p : Program} {piece page carry : List ℕ} {M : Memory} {did : Did} {piece′ page′ carry′ : List ℕ} {M′ : Memory} {r : Stepped}
-      → Ran a out p piece page carry M → Left (askOf p) piece piece′ → fits did p (length piece′) ≡ true → Steps p did piece′ page carry M r page′ carry′ M′
+      → Ran a out p piece page carry M → Left (askOf p) piece piece′ → didFits did p (length piece′) ≡ true → Steps p did piece′ page carry M r page′ carry′ M′
       → Ran (readThen did a piece′) (writtenThen did out (unwritten p page)) (r .program) piece′ page′ carry′ M′
 
 -- a run that has come to its end wrote the listing of what it read (D15)

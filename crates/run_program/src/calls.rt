@@ -1,7 +1,7 @@
 // What the program asks of the system, and whether the system did what it was asked for.
 ghost use mathlib.Core.Path.{_≡_};
 ghost use Prim.Native.Nat.{_-_};
-ghost use Rattle.run_program.specs.Calls.{askOf, isTitle, asksRead, leftOf, fits};
+ghost use Rattle.run_program.specs.Calls.{askOf, isTitle, asksRead, leftOf, didFits};
 use crate::Ask;
 use crate::Did;
 use crate::Program;
@@ -76,7 +76,7 @@ fn left_of(program: Program) -> usize
 }
 
 pub(crate) fn fits(program: Program, did: Did, size: usize) -> bool
-    ensures { λ r. ⌜ r ≡ fits did program size ⌝ }
+    ensures { λ r. ⌜ r ≡ didFits did program size ⌝ }
 {
     match did {
         Did::Nothing => is_title(program),

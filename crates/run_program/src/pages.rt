@@ -5,9 +5,9 @@ ghost use mathlib.Core.Path.{_≡_};
 ghost use Prim.Native.Nat.{ℕ, _+_, _≤_};
 ghost use lib.ListN.{length, take};
 ghost use Rattle.run_state.specs.Memory.{memoryBefore, memoryAfter};
-ghost use Rattle.run_program.specs.Calls.{part, unwritten, fits, stageAfter, readThen, writtenThen};
+ghost use Rattle.run_program.specs.Calls.{part, unwritten, didFits, stageAfter, readThen, writtenThen};
 ghost use Rattle.run_program.specs.Running.{Running};
-ghost use Rattle.run_program.specs.Inner.{placed, advanced, Turning};
+ghost use Rattle.run_program.specs.Inner.{programAt, advanced, Turning};
 use crate::Did;
 use crate::Program;
 use crate::Stage;
@@ -36,7 +36,7 @@ pub(crate) fn part(bytes: &[u8], from: usize, to: usize) -> &[u8]
 
 // A program with nothing of its page written.
 pub(crate) fn placed(player: Player, stage: Stage, at: usize, end: usize, to: usize) -> Program
-    ensures { λ r. ⌜ r ≡ placed player stage at end to ⌝ }
+    ensures { λ r. ⌜ r ≡ programAt player stage at end to ⌝ }
 {
     Program {
         player,
@@ -114,7 +114,7 @@ fn go_on_read(
     planted: &mut PlantedBytes,
     lengths: &mut PlantedLengths,
 ) -> Program
-    requires { ⌜ fits (Did.Read k) program (length (now piece)) ≡ true ⌝ }
+    requires { ⌜ didFits (Did.Read k) program (length (now piece)) ≡ true ⌝ }
     ensures { λ r. ⌜ r .stage ≡ stageAfter (Did.Read k) (program .stage) ⌝ }
     ensures { λ r. ⌜ ((a out : List ℕ)
         → Running a out program (now (piece .entry)) (now (page .entry)) (now (carry .entry)) (memoryBefore positions marks lists planted lengths)
@@ -151,7 +151,7 @@ pub(crate) fn go_on(
     planted: &mut PlantedBytes,
     lengths: &mut PlantedLengths,
 ) -> Program
-    requires { ⌜ fits did program (length (now piece)) ≡ true ⌝ }
+    requires { ⌜ didFits did program (length (now piece)) ≡ true ⌝ }
     ensures { λ r. ⌜ r .stage ≡ stageAfter did (program .stage) ⌝ }
     ensures { λ r. ⌜ ((a out : List ℕ)
         → Running a out program (now (piece .entry)) (now (page .entry)) (now (carry .entry)) (memoryBefore positions marks lists planted lengths)

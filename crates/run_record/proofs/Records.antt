@@ -35,7 +35,7 @@ use Rattle.run_state.specs.State.{PlayerOf, MemoryOf}
 use Rattle.run_round.specs.Played.{Played}
 use Rattle.run_round.specs.Agrees.{Agrees}
 use Rattle.run_record.specs.Next.{recordTaken, Next}
-use Rattle.run_record.specs.Inner.{dueTo, Turned}
+use Rattle.run_record.specs.Inner.{dueTo, PendingPlayed}
 use Rattle.run_round.proofs.Keeping.{no-position, start-positions, start-keeps, start-keeps-any}
 use Rattle.texts.proofs.Writing.{empty-text}
 use Rattle.run_state.proofs.Told.{start-tells, stop-tells, round-tells, plant-tells, listeners-tells, strikes-tells, allowed-as}
@@ -100,7 +100,7 @@ module _ {F : File} {p : Player} (T : PlayerOf p F) (s : List ℕ) where
 -- ---- a round record
 
 module _ {F : File} {t : Text} {M : Memory} (s : List ℕ) where
-  pub played-turns : F .setup .begun ≡ true → F .rounds .pending ≡ true → Played F t M → Turned F s t M
+  pub played-turns : F .setup .begun ≡ true → F .rounds .pending ≡ true → Played F t M → PendingPlayed F s t M
   unfolding shown ringAfter
   played-turns begun pending P =
       record {
@@ -108,7 +108,7 @@ module _ {F : File} {t : Text} {M : Memory} (s : List ℕ) where
         shows = rw (pending, begun, P .shows) (sym (append-assoc title _ _));
       }
 
-  pub none-turns : F .rounds .pending ≡ false → F .setup .begun ≡ true → MemoryOf F M → t .len ≡ 0 → Turned F s t M
+  pub none-turns : F .rounds .pending ≡ false → F .setup .begun ≡ true → MemoryOf F M → t .len ≡ 0 → PendingPlayed F s t M
   unfolding shown
   none-turns pending begun H none = record { holds = record { keeps = rw pending (H .keeps begun); level = H .level begun }; shows = rw (pending, empty-text t none) (sym (append-nil _)) }
 

@@ -20,6 +20,6 @@ abbrev pub dueTo : Player → List ℕ → Bool
 dueTo p s = eqb (length s) (lengthIn s) && allowedTo p s
 
 -- as a round record s of the file F is taken, the pending round, if there is one, is played
-pub record Turned (F : File) (s : List ℕ) (text : Text) (M : Memory) : Type 0 where
+pub record PendingPlayed (F : File) (s : List ℕ) (text : Text) (M : Memory) : Type 0 where
   pub holds : HoldsAll F (agreedBefore F) M
   pub shows : shown (withRecord round F s) ≡ shown F ++ bytesOf text

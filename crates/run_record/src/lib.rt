@@ -11,7 +11,7 @@ ghost use Rattle.run_state.specs.Memory.{Memory, memoryBefore, memoryAfter, wit
 ghost use Rattle.run_state.specs.Changes.{pairIn};
 ghost use Rattle.run_state.specs.State.{PlayerOf, MemoryOf};
 ghost use Rattle.run_record.specs.Next.{allowedTo, recordTaken, Next};
-ghost use Rattle.run_record.specs.Inner.{dueTo, Turned};
+ghost use Rattle.run_record.specs.Inner.{dueTo, PendingPlayed};
 use frame_slots::PlantedBytes;
 use frame_slots::PlantedLengths;
 use run_spec::Pair;
@@ -115,7 +115,7 @@ fn play_waiting(
 ) -> Text
     ensures { λ r. ⌜ ((a s : List ℕ) → readFile a .setup .begun ≡ true → PlayerOf p (readFile a)
         → MemoryOf (readFile a) (memoryBefore positions marks lists planted lengths)
-        → Turned (readFile a) s r (memoryAfter positions marks lists planted lengths)) ⌝ }
+        → PendingPlayed (readFile a) s r (memoryAfter positions marks lists planted lengths)) ⌝ }
     ensures { λ r. ⌜ r .len ≤ 64 ⌝ }
 {
     if !p.pending {

@@ -7,7 +7,7 @@ ghost use lib.IntN.{ℤ};
 ghost use Rattle.ring_spec.specs.Rounds.{receivers, endsPhase};
 ghost use Rattle.run_spec.specs.RunFile.{readFile};
 ghost use Rattle.run_listing.specs.Held.{endIn};
-ghost use Rattle.run_listing.specs.Heights.{Found};
+ghost use Rattle.run_listing.specs.Heights.{LowestHighest};
 ghost use Rattle.run_state.specs.Memory.{Memory, memoryBefore, memoryAfter, withPositions};
 ghost use Rattle.run_state.specs.State.{agreedBefore, PlayerOf, MemoryOf};
 ghost use Rattle.run_round.specs.Played.{Played};
@@ -45,7 +45,7 @@ fn stage_of(p: Player) -> Stage
 // The line of the phase that the pending round ends, by the lowest and the highest position at its end.
 fn line_with(p: Player, ends: Ends) -> Text
     ensures { λ r. ⌜ ((positions : List ℤ) → endsPhase (p .family) (p .given) ≡ true
-        → Found receivers (endIn (p .n) (p .listeners) (p .struck) positions) (ends .low) (ends .high) → bytesOf r ≡ lineOf p positions) ⌝ }
+        → LowestHighest receivers (endIn (p .n) (p .listeners) (p .struck) positions) (ends .low) (ends .high) → bytesOf r ≡ lineOf p positions) ⌝ }
     ensures { λ r. ⌜ r .len ≤ 64 ⌝ }
 {
     let family = p.family;

@@ -8,7 +8,7 @@ use native.Mathlib.Nat.{le-refl}
 use lib.Dec.{eqb}
 use Rattle.terms.specs.declared.Family.{Family}
 use Rattle.ring_spec.specs.Rounds.{Round}
-use Rattle.ring_spec.specs.Converges.{AnyTwo, Within}
+use Rattle.ring_spec.specs.Converges.{AnyTwo, RingWithin}
 use Rattle.ring_spec.proofs.Demand3.{ring-converges}
 use Rattle.run_spec.specs.RunFile.{File, readFile, ending, roundsPlayed, endsPlayed, endsFrom, allRounds}
 use Rattle.run_spec.specs.EveryFile.{EveryFile}
@@ -31,7 +31,7 @@ module _ (F : File) (I : Reached F) where
   abbrev f : ℕ
   f = F .setup .f
 
-  pub played-within : (b : Bool) → Within K n m f (F .setup .first) (playedWith b F)
+  pub played-within : (b : Bool) → RingWithin K n m f (F .setup .first) (playedWith b F)
   played-within true =
       record {
         most = I .size .most;

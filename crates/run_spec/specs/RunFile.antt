@@ -138,8 +138,8 @@ startFault K s =
 abbrev pub struckIn : List ℕ → ℕ
 struckIn s = at4 s 4
 
-unfoldable pub fewMarks : (n f m : ℕ) → Bool
-fewMarks n f m = marksBelow m n && leb (sum n (λ j. bit (bitOf m j))) f
+unfoldable pub fewMarks : (n f marks : ℕ) → Bool
+fewMarks n f marks = marksBelow marks n && leb (sum n (λ j. bit (bitOf marks j))) f
 
 -- of n heads with the struck limit f; rounds: how many were given before (P45, Q49, Q84)
 abbrev pub roundFault : (K : Family) (n f rounds : ℕ) (s : List ℕ) → ℕ
@@ -179,15 +179,15 @@ lastPair (x ∷ xs) = record { some = true; from = x .from; to = x .to }
 
 -- whether the pair k, i may come after the last one (P46)
 abbrev pub rises : Pair → ℕ → ℕ → Bool
-rises last k i = not (last .some) || (ltb (last .from) k || eqb (last .from) k && ltb (last .to) i)
+rises pair k i = not (pair .some) || (ltb (pair .from) k || eqb (pair .from) k && ltb (pair .to) i)
 
 -- whether bytes may be planted from k to i, by who there is, who is struck, and the pair before (P46, P50, Q50, Q52)
-unfoldable pub pairFits : (n m struck : ℕ) (last : Pair) (k i : ℕ) → Bool
-pairFits n m struck last k i = ltb k n && isReceiver n m i && bitOf struck k && not (bitOf struck i) && rises last k i
+unfoldable pub pairFits : (n m struck : ℕ) (pair : Pair) (k i : ℕ) → Bool
+pairFits n m struck pair k i = ltb k n && isReceiver n m i && bitOf struck k && not (bitOf struck i) && rises pair k i
 
--- of n heads and m listeners, in a round with the mark word struck, after the pair last
-abbrev pub plantFault : (n m struck : ℕ) (last : Pair) (s : List ℕ) → ℕ
-plantFault n m struck last s = check (pairFits n m struck last (senderIn s) (receiverIn s)) refusal.bad-run-record 0
+-- of n heads and m listeners, in a round with the mark word struck, after the last planted pair
+abbrev pub plantFault : (n m struck : ℕ) (pair : Pair) (s : List ℕ) → ℕ
+plantFault n m struck pair s = check (pairFits n m struck pair (senderIn s) (receiverIn s)) refusal.bad-run-record 0
 
 -- ---- a whole record: the number of its fault, 0 for none; 13, then 1, 2 or 18, 4, 14, 26
 

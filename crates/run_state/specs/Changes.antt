@@ -35,8 +35,8 @@ freshPlayer begun K n f =
 
 -- What a record leaves of the player: all but for the number of listeners, who is struck in the last round and whether its struck listeners
 -- were given, the last planted pair, how many bytes of a record there are, and the fault.
-abbrev pub changed : Player → (listeners struck : ℕ) (amended : Bool) (last : Pair) (have fault : ℕ) → Player
-changed p m struck amended last have fault =
+abbrev pub playerWith : Player → (listeners struck : ℕ) (amended : Bool) (pair : Pair) (have fault : ℕ) → Player
+playerWith p m struck amended pair have fault =
     record {
       begun = p .begun;
       family = p .family;
@@ -48,7 +48,7 @@ changed p m struck amended last have fault =
       before = p .before;
       struck = struck;
       amended = amended;
-      pair = last;
+      pair = pair;
       have = have;
       fault = fault;
       agreed = p .agreed;
@@ -57,7 +57,7 @@ changed p m struck amended last have fault =
 
 -- the same but for how many bytes of a record it has, and for its fault
 abbrev pub halted : Player → (have fault : ℕ) → Player
-halted p have fault = changed p (p .listeners) (p .struck) (p .amended) (p .pair) have fault
+halted p have fault = playerWith p (p .listeners) (p .struck) (p .amended) (p .pair) have fault
 
 -- a round more, up to the most in either family: it is pending, and before it comes the round that was pending, which is played, or what
 -- was before that if none was; agreed: whether the ring has agreed then
@@ -87,12 +87,12 @@ pairIn s = lastPair (plantIn s ∷ [])
 
 -- pairs more in the last round: the last of them
 abbrev pub withPairPlanted : Player → Pair → Player
-withPairPlanted p last = changed p (p .listeners) (p .struck) (p .amended) last 0 0
+withPairPlanted p pair = playerWith p (p .listeners) (p .struck) (p .amended) pair 0 0
 
 -- the number of listeners (document 02, A6)
 abbrev pub withListenersGiven : Player → ℕ → Player
-withListenersGiven p m = changed p m (p .struck) (p .amended) (p .pair) 0 0
+withListenersGiven p m = playerWith p m (p .struck) (p .amended) (p .pair) 0 0
 
 -- the struck listeners of the last round: bit j of the marks for listener 32 + j
 abbrev pub withStrikesGiven : Player → ℕ → Player
-withStrikesGiven p marks = changed p (p .listeners) (p .struck % 2 ^ 32 + 2 ^ 32 * marks) true (p .pair) 0 0
+withStrikesGiven p marks = playerWith p (p .listeners) (p .struck % 2 ^ 32 + 2 ^ 32 * marks) true (p .pair) 0 0

@@ -213,11 +213,11 @@ pub fn given_round(p: Player, struck: u32, agreed: bool) -> Player
 }
 
 // The player after accepted planted records, the last with this pair.
-pub fn planted_pair(p: Player, last: Pair) -> Player
-    ensures { λ r. ⌜ r ≡ withPairPlanted p last ⌝ }
+pub fn planted_pair(p: Player, pair: Pair) -> Player
+    ensures { λ r. ⌜ r ≡ withPairPlanted p pair ⌝ }
 {
     let mut out = p;
-    out.pair = last;
+    out.pair = pair;
     out.have = 0;
     out.fault = 0;
     out

@@ -18,4 +18,4 @@ fed-shows (begins L) = shown-first
 fed-shows (thenFed {text} d f) = f .shows ∙ ap (λ (l : List ℕ). l ++ text) (fed-shows d)
 
 pub any-cutting : AnyCutting
-any-cutting a texts last p carry M M′ d e = sym (e .shows ∙ ap (λ (l : List ℕ). l ++ last) (fed-shows d))
+any-cutting a texts rest p carry M M′ d e = sym (e .shows ∙ ap (λ (l : List ℕ). l ++ rest) (fed-shows d))

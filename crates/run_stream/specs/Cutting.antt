@@ -18,4 +18,4 @@ pub data Cut : List ℕ → List ℕ → Player → List ℕ → Memory → Type
 -- any cutting of any file
 abbrev pub AnyCutting : Type 0
 AnyCutting =
-    (a texts last : List ℕ) (p : Player) (carry : List ℕ) (M M′ : Memory) → Cut a texts p carry M → Ends a M last M′ → texts ++ last ≡ listing a
+    (a texts rest : List ℕ) (p : Player) (carry : List ℕ) (M M′ : Memory) → Cut a texts p carry M → Ends a M rest M′ → texts ++ rest ≡ listing a

@@ -45,11 +45,11 @@ pub struct FinishResult {
 }
 
 // Planted records passed: the last one's pair, and the bytes of all.
-fn passed(p: Player, last: Pair, used: usize) -> PassResult
-    ensures { λ r. ⌜ r ≡ record { player = withPairPlanted p last; used = used } ⌝ }
+fn passed(p: Player, pair: Pair, used: usize) -> PassResult
+    ensures { λ r. ⌜ r ≡ record { player = withPairPlanted p pair; used = used } ⌝ }
 {
     PassResult {
-        player: run_state::planted_pair(p, last),
+        player: run_state::planted_pair(p, pair),
         used,
     }
 }
@@ -80,20 +80,20 @@ fn pass_plants(
     if !awaits_plants(p) {
         return PassResult { player: p, used: 0 };
     }
-    let mut last = p.pair;
+    let mut pair = p.pair;
     let mut used: usize = 0;
     let n = p.n;
     let m = p.listeners;
     let struck = p.struck;
     while used < bytes.len() {
-        let one = run_piece::pass_plant(n, m, struck, last, &bytes[used..], planted, lengths);
-        last = one.pair;
+        let one = run_piece::pass_plant(n, m, struck, pair, &bytes[used..], planted, lengths);
+        pair = one.pair;
         if one.used == 0 {
-            return passed(p, last, used);
+            return passed(p, pair, used);
         }
         used += one.used;
     }
-    passed(p, last, used)
+    passed(p, pair, used)
 }
 
 // One step: planted records, or else what `run_piece::advance` takes.

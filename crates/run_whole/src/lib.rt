@@ -233,10 +233,10 @@ fn close(
         → Going file at carry (memoryBefore positions marks lists planted lengths) B (lent out rows words) → Whole file r B (left out rows words)) ⌝ }
 {
     let player = at.player;
-    let last = run_stream::finish(player, positions, marks, lists, planted, lengths);
-    let line = last.line;
-    let verdict = last.verdict;
-    let since = last.since;
+    let finished = run_stream::finish(player, positions, marks, lists, planted, lengths);
+    let line = finished.line;
+    let verdict = finished.verdict;
+    let since = finished.since;
     let len = put(out, at.len, line);
     let count = keep(
         line.len != 0,
@@ -249,7 +249,7 @@ fn close(
         player.struck,
     );
     PlayResult {
-        number: last.number,
+        number: finished.number,
         len: put(out, len, verdict),
         ends: count,
         since,

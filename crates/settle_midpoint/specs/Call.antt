@@ -17,18 +17,18 @@ use Rattle.settle_midpoint.specs.declared.Settled.{Settled}
 use Rattle.settle_midpoint.specs.Answers.{settling}
 
 -- the entries that a mark word and bytes give
-abbrev pub entriesGiven : (n m : ℕ) (s : List ℕ) → ℕ → Entry
-entriesGiven n m s = entryAt m (numbers s n)
+abbrev pub entriesGiven : (n marks : ℕ) (s : List ℕ) → ℕ → Entry
+entriesGiven n marks s = entryAt marks (numbers s n)
 
 -- all but 25, which settling gives (P40b, Q62)
 unfoldable pub listRefusal : (K : Family) (n f phase marks : ℕ) (entries : List ℕ) → ℕ
-listRefusal K n f p m s =
+listRefusal K n f p marks s =
     checkSize K n f
     (check (isPhase p) refusal.phase-out-of-range
     (check (eqb (length s) (4 * n)) refusal.wrong-length-for-kind
-    (check (marksBelow m n) refusal.bad-count-or-marks
-    (check (entriesFit m s n) refusal.entry-out-of-range 0))))
+    (check (marksBelow marks n) refusal.bad-count-or-marks
+    (check (entriesFit marks s n) refusal.entry-out-of-range 0))))
 
 -- rounded as in phase p (Q87)
 unfoldable pub midpointCall : (K : Family) (n f phase marks : ℕ) (entries : List ℕ) → Settled
-midpointCall K n f p m s = unlessRefused Settled.Refused (listRefusal K n f p m s) (settling (rounding p) n (ruleOf K f) (entriesGiven n m s))
+midpointCall K n f p marks s = unlessRefused Settled.Refused (listRefusal K n f p marks s) (settling (rounding p) n (ruleOf K f) (entriesGiven n marks s))

@@ -15,9 +15,9 @@ use Rattle.settle_position.specs.declared.Comparison.{Comparison}
 abbrev pub sameNumber : List ℤ → List ℤ → ℕ → Bool
 sameNumber a b j = eqZ (getD a j (pos 0)) (getD b j (pos 0))
 
--- the mark word m has marks, and others than w
+-- the mark word has marks, and others than w
 abbrev pub isApart : ℕ → ℕ → Bool
-isApart m w = not (eqb m w) && not (eqb m 0)
+isApart marks w = not (eqb marks w) && not (eqb marks 0)
 
 -- list k has the marks of the reference, and its number at entry j
 abbrev pub agrees : (marks : List ℕ) (lists : List (List ℤ)) (reference j k : ℕ) → Bool

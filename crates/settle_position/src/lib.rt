@@ -54,14 +54,14 @@ fn add_same(a: &Numbers, b: &Numbers, same: &mut Words)
     }
 }
 
-// Whether a list with the mark word m has marks, and others than `word`.
-pub fn is_apart(m: u32, word: u32) -> bool
-    ensures { λ r. ⌜ r ≡ isApart m word ⌝ }
+// Whether a mark word has marks, and others than `word`.
+pub fn is_apart(marks: u32, word: u32) -> bool
+    ensures { λ r. ⌜ r ≡ isApart marks word ⌝ }
 {
-    if m == word {
+    if marks == word {
         return false;
     }
-    m != 0
+    marks != 0
 }
 
 // How the lists of the first n links compare with that of the reference.

@@ -6,8 +6,8 @@ use Rattle.terms.proofs.Whole.{arithZ}
 use Rattle.settle_reach.specs.declared.Reached.{Reached}
 use Rattle.settle_reach.specs.Reach.{Found}
 use Rattle.settle_reach.specs.Reach.Found.{set, none}
-use Rattle.settle_reach.specs.Call.{OneAnswer}
-use Rattle.settle_reach.specs.Call.Answers.{refused, found}
+use Rattle.settle_reach.specs.Call.{OneReachAnswer}
+use Rattle.settle_reach.specs.Call.ReachAnswer.{refused, found}
 
 one-found : {P : ℤ → Type 0} {a b : Reached} → Found P a → Found P b → a ≡ b
 one-found (set u l) (set w k) =
@@ -18,7 +18,7 @@ one-found (set u l) (none never) = absurd (never u (l .holds))
 one-found (none never) (set u l) = absurd (never u (l .holds))
 one-found (none never) (none never′) = refl
 
-pub one-answer : OneAnswer
+pub one-answer : OneReachAnswer
 one-answer K n f p j m s x _ _ (refused c e) (refused d g) = ap Reached.Refused (sym e ∙ g)
 one-answer K n f p j m s x _ _ (refused c e) (found g a w) = absurd (omega (arith, e, g))
 one-answer K n f p j m s x _ _ (found e a w) (refused c g) = absurd (omega (arith, e, g))

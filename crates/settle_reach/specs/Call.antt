@@ -21,44 +21,47 @@ use Rattle.settle_midpoint.specs.Call.{entriesGiven, listRefusal, midpointCall}
 use Rattle.settle_midpoint.specs.Answers.{settledEntry}
 use Rattle.terms.specs.declared.Family.{Family}
 use Rattle.settle_reach.specs.declared.Reached.{Reached}
-use Rattle.settle_reach.specs.Reach.{opened, Brings, Found}
+use Rattle.settle_reach.specs.Reach.{entryOpened, EntryBrings, Found}
 
--- whether the first n numbers of the bytes s fit in a list with the mark word m; the open entry j may be any, whatever its mark (Q97)
-unfoldable pub othersFit : (j m : ℕ) (s : List ℕ) (n : ℕ) → Bool
-othersFit j m s zero = true
-othersFit j m s (suc k) = othersFit j m s k && (eqb k j || fits (bitOf m k) (signedAt s (4 * k)))
+-- whether the first n numbers of the bytes s fit in a list with these marks; the open entry j may be any, whatever its mark (Q97)
+unfoldable pub othersFit : (j marks : ℕ) (s : List ℕ) (n : ℕ) → Bool
+othersFit j marks s zero = true
+othersFit j marks s (suc k) = othersFit j marks s k && (eqb k j || fits (bitOf marks k) (signedAt s (4 * k)))
 
 -- 1, 2 or 18, 5, 3, 8, 10, 11, before the checks that follow (Q96)
 unfoldable pub checkReach : (K : Family) (n f phase j marks : ℕ) (entries : List ℕ) (rest : ℕ) → ℕ
-checkReach K n f p j m s rest =
+checkReach K n f p j marks s rest =
     checkSize K n f
     (check (isPhase p) refusal.phase-out-of-range
     (check (ltb j n) refusal.number-too-high
     (check (eqb (length s) (4 * n)) refusal.wrong-length-for-kind
-    (check (marksBelow m n) refusal.bad-count-or-marks
-    (check (othersFit j m s n) refusal.entry-out-of-range rest)))))
+    (check (marksBelow marks n) refusal.bad-count-or-marks
+    (check (othersFit j marks s n) refusal.entry-out-of-range rest)))))
 
 -- and then 25: "the open entry is not null when nulls are counted" (Q98)
 unfoldable pub reachRefusal : (K : Family) (n f phase j marks : ℕ) (entries : List ℕ) → ℕ
-reachRefusal K n f p j m s =
-    checkReach K n f p j m s (check (enough n (ruleOf K f) (opened (entriesGiven n m s) j (pos 0))) refusal.too-few-trusted 0)
+reachRefusal K n f p j marks s =
+    checkReach K n f p j marks s (check (enough n (ruleOf K f) (entryOpened (entriesGiven n marks s) j (pos 0))) refusal.too-few-trusted 0)
 
 -- what is answered: the number of the first check that fails, and else what is found for the wanted position x
-pub data Answers (K : Family) (n f p j m : ℕ) (s : List ℕ) (x : ℤ) : Reached → Type 0 where
-  refused : (c : ℕ) → reachRefusal K n f p j m s ≡ suc c → Answers K n f p j m s x (Reached.Refused (suc c))
-  found : reachRefusal K n f p j m s ≡ 0 → (a : Reached) → Found (Brings (rounding p) n (ruleOf K f) (entriesGiven n m s) j x) a → Answers K n f p j m s x a
+pub data ReachAnswer (K : Family) (n f p j marks : ℕ) (s : List ℕ) (x : ℤ) : Reached → Type 0 where
+  refused : (c : ℕ) → reachRefusal K n f p j marks s ≡ suc c → ReachAnswer K n f p j marks s x (Reached.Refused (suc c))
+  found : reachRefusal K n f p j marks s ≡ 0 → (a : Reached) → Found (EntryBrings (rounding p) n (ruleOf K f) (entriesGiven n marks s) j x) a
+      → ReachAnswer K n f p j marks s x a
 
 -- one answer at most
-abbrev pub OneAnswer : Type 0
-OneAnswer = (K : Family) (n f p j m : ℕ) (s : List ℕ) (x : ℤ) (a b : Reached) → Answers K n f p j m s x a → Answers K n f p j m s x b → a ≡ b
+abbrev pub OneReachAnswer : Type 0
+OneReachAnswer =
+    (K : Family) (n f p j marks : ℕ) (s : List ℕ) (x : ℤ) (a b : Reached) → ReachAnswer K n f p j marks s x a → ReachAnswer K n f p j marks s x b → a ≡ b
 
 -- a wanted position that is out of range is never refused for that, and none brings it (Q96, Q100)
 abbrev pub OutOfRange : Type 0
-OutOfRange = (K : Family) (n f p j m : ℕ) (s : List ℕ) (x : ℤ) → reachRefusal K n f p j m s ≡ 0 → isPosition x ≡ false → Answers K n f p j m s x Reached.None
+OutOfRange =
+    (K : Family) (n f p j marks : ℕ) (s : List ℕ) (x : ℤ) → reachRefusal K n f p j marks s ≡ 0 → isPosition x ≡ false → ReachAnswer K n f p j marks s x Reached.None
 
 -- the position that is answered, put into the list, makes the midpoint call give the wanted one, in either family
 abbrev pub MidpointReaches : Type 0
 MidpointReaches =
-    (K : Family) (n f p j m : ℕ) (s : List ℕ) (x u : ℤ) → Answers K n f p j m s x (Reached.Set u)
-    → (m′ : ℕ) (s′ : List ℕ) → listRefusal K n f p m′ s′ ≡ 0 → Each n (λ k. entriesGiven n m′ s′ k ≡ opened (entriesGiven n m s) j u k)
-    → settledEntry (midpointCall K n f p m′ s′) ≡ Position x
+    (K : Family) (n f p j marks : ℕ) (s : List ℕ) (x u : ℤ) → ReachAnswer K n f p j marks s x (Reached.Set u)
+    → (marks′ : ℕ) (s′ : List ℕ) → listRefusal K n f p marks′ s′ ≡ 0 → Each n (λ k. entriesGiven n marks′ s′ k ≡ entryOpened (entriesGiven n marks s) j u k)
+    → settledEntry (midpointCall K n f p marks′ s′) ≡ Position x

@@ -19,9 +19,9 @@ use Rattle.settle_trust.specs.declared.Links.{Links}
 
 -- the mark word of what a link gave: no list has no marks
 abbrev pub marksGiven : Bool → Bool → ℕ → ℕ
-marksGiven true lists m = 0
-marksGiven false true m = m
-marksGiven false false m = 0
+marksGiven true lists marks = 0
+marksGiven false true marks = marks
+marksGiven false false marks = 0
 
 abbrev pub marksOfLink : Links → ℕ → ℕ
 marksOfLink g k = marksGiven (bitOf (g .confessed) k) (bitOf (g .listed) k) (getD (g .marks) k 0)

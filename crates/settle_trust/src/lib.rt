@@ -45,13 +45,13 @@ fn cell_of(v: i32) -> u64
 }
 
 // The mark word of what a link gave: that of its list, or 0.
-fn marks_given(confessed: bool, listed: bool, m: u32) -> u32
-    ensures { λ r. ⌜ r ≡ marksGiven confessed listed m ⌝ }
+fn marks_given(confessed: bool, listed: bool, marks: u32) -> u32
+    ensures { λ r. ⌜ r ≡ marksGiven confessed listed marks ⌝ }
 {
     if confessed {
         return 0;
     }
-    if listed { m } else { 0 }
+    if listed { marks } else { 0 }
 }
 
 // The mark words of what the first n links gave, and 0 from there on.
@@ -70,11 +70,11 @@ pub fn all_marks(links: Links, n: u8) -> Words
     marks
 }
 
-// The cell of entry j of a list with the mark word m.
-pub fn entry_cell(m: u32, list: &Numbers, j: usize) -> u64
-    ensures { λ r. ⌜ CellOf r (entryAt m (now (list .entry)) j) ⌝ }
+// The cell of entry j of a list with these marks.
+pub fn entry_cell(marks: u32, list: &Numbers, j: usize) -> u64
+    ensures { λ r. ⌜ CellOf r (entryAt marks (now (list .entry)) j) ⌝ }
 {
-    if marks::marked(m, j) {
+    if marks::marked(marks, j) {
         if j < HEADS {
             return cell_of(list[j]);
         }

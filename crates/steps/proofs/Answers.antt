@@ -10,11 +10,11 @@ use Rattle.steps.specs.Scale.{isScale, nanometres, scaleRefusal, scaled}
 use Rattle.steps.specs.declared.Scaled.{Scaled}
 use Rattle.steps.specs.declared.Scaled.the-variants as scale
 use Rattle.steps.specs.declared.Unscaled.{Unscaled}
-use Rattle.steps.specs.Unscale.{ReadsAs, OneAnswer, ThroughAndBack, GivenItsReading}
-use Rattle.steps.specs.Unscale.Answers.{refused, step, none}
+use Rattle.steps.specs.Unscale.{ReadsAs, OneUnscaleAnswer, ThroughAndBack, GivenItsReading}
+use Rattle.steps.specs.Unscale.UnscaleAnswer.{refused, step, none}
 use Rattle.steps.proofs.OneStep.{only-rounded-up}
 
-pub one-answer : OneAnswer
+pub one-answer : OneUnscaleAnswer
 one-answer x a d _ _ (refused f) (refused g) = refl
 one-answer x a d _ _ (refused f) (step s w q) = absurd (true≢false (sym s ∙ f))
 one-answer x a d _ _ (refused f) (none s n) = absurd (true≢false (sym s ∙ f))

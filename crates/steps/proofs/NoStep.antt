@@ -10,8 +10,8 @@ use denote.Floats.{passes}
 use Rattle.terms.specs.Positions.{isPosition, Within}
 use Rattle.steps.specs.Scale.{isScale, nanometres}
 use Rattle.steps.specs.declared.Unscaled.{Unscaled}
-use Rattle.steps.specs.Unscale.{OnlyOne, Answers}
-use Rattle.steps.specs.Unscale.Answers.{none}
+use Rattle.steps.specs.Unscale.{OnlyOne, UnscaleAnswer}
+use Rattle.steps.specs.Unscale.UnscaleAnswer.{none}
 use Rattle.steps.proofs.Floor.{nanometres-bound}
 
 -- ---- tests
@@ -44,19 +44,19 @@ near x t u = (leZ-yes (passes _ (at-least (negsuc 999_999_999_999) x false t)), 
 -- ---- none
 
 module _ (x : ℤ) (a d : ℕ) (s : isScale a d ≡ true) where
-  far : (Within 1_000_000_000_000 x → ⊥) → Answers x a d Unscaled.None
+  far : (Within 1_000_000_000_000 x → ⊥) → UnscaleAnswer x a d Unscaled.None
   far n = none s (λ v r. n (subst (Within 1_000_000_000_000) (r .1) (nanometres-bound v a d (r .0) s)))
 
-  pub far-below : ltZ x (negsuc 999_999_999_999) ≡ true → Answers x a d Unscaled.None
+  pub far-below : ltZ x (negsuc 999_999_999_999) ≡ true → UnscaleAnswer x a d Unscaled.None
   far-below t = far (λ w. clashℤ (ltZ-yes (passes _ t)) (w .0))
 
-  pub far-above : ltZ (pos 1_000_000_000_000) x ≡ true → Answers x a d Unscaled.None
+  pub far-above : ltZ (pos 1_000_000_000_000) x ≡ true → UnscaleAnswer x a d Unscaled.None
   far-above t = far (λ w. clashℤ (ltZ-yes (passes _ t)) (w .1))
 
   -- w is the only number of steps that can read x
   module _ (w : ℤ) (only : OnlyOne x a d w) where
-    pub out-of-range : isPosition w ≡ false → Answers x a d Unscaled.None
+    pub out-of-range : isPosition w ≡ false → UnscaleAnswer x a d Unscaled.None
     out-of-range e = none s (λ v r. true≢false (sym (r .0) ∙ ap isPosition (only v (r .1)) ∙ e))
 
-    pub reads-otherwise : (nanometres w a d ≡ x → ⊥) → Answers x a d Unscaled.None
+    pub reads-otherwise : (nanometres w a d ≡ x → ⊥) → UnscaleAnswer x a d Unscaled.None
     reads-otherwise n = none s (λ v r. n (sym (ap (λ (z : ℤ). nanometres z a d) (only v (r .1))) ∙ r .1))

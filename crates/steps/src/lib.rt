@@ -4,7 +4,7 @@ ghost use mathlib.Core.Bool.{true};
 ghost use Prim.Native.Nat.{_<_};
 ghost use Rattle.terms.specs.Positions.{isPosition, Within, floorDiv};
 ghost use Rattle.steps.specs.Scale.{isScale, nanometres, scaled};
-ghost use Rattle.steps.specs.Unscale.{OnlyOne, Answers};
+ghost use Rattle.steps.specs.Unscale.{OnlyOne, UnscaleAnswer};
 use terms::refusal;
 
 // What the scale answers.
@@ -76,7 +76,7 @@ fn candidate(reading: i64, numerator: u32, denominator: u32) -> i64
 // The step in range whose reading it is, or none, for a reading no farther from zero than 10^12.
 fn step_near(reading: i64, numerator: u32, denominator: u32) -> Unscaled
     requires { ⌜ Within 1_000_000_000_000 reading × (isScale numerator denominator ≡ true) ⌝ }
-    ensures { λ r. ⌜ Answers reading numerator denominator r ⌝ }
+    ensures { λ r. ⌜ UnscaleAnswer reading numerator denominator r ⌝ }
 {
     let only = candidate(reading, numerator, denominator);
     if only < -1000000 {
@@ -95,7 +95,7 @@ fn step_near(reading: i64, numerator: u32, denominator: u32) -> Unscaled
 
 // The step in range whose reading it is, or none. Refused 12 for a bad scale, and nothing else is refused.
 pub fn unscale(nanometres: i64, numerator: u32, denominator: u32) -> Unscaled
-    ensures { λ r. ⌜ Answers nanometres numerator denominator r ⌝ }
+    ensures { λ r. ⌜ UnscaleAnswer nanometres numerator denominator r ⌝ }
 {
     if is_scale(numerator, denominator) {
         if nanometres < -1000000000000 {

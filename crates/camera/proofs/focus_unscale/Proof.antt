@@ -4,19 +4,19 @@ use Prim.Native.Nat.{ℕ}
 use lib.IntN.{ℤ}
 use mir.Facts.{toZ-ofZ}
 use borrow.Author.Needs.{needs}
-use Rattle.steps.specs.Unscale.{Answers}
+use Rattle.steps.specs.Unscale.{UnscaleAnswer}
 use Rattle.steps.specs.declared.Unscaled.{Unscaled}
 use Rattle.camera.specs.Out.{stepNumber, stepOr, StepLent}
 use Rattle.camera.proofs.focus_unscale.Statement.{statement}
 use Rattle.camera.proofs.focus_unscale.Tie as tie
 
 -- what the call gave is an answer for the reading passed
-is-answer : (c : tie.After-unscale) → Answers (c .before .args .nanometres) (c .before .args .numerator) (c .before .args .denominator) (c .unscale .result)
-is-answer c = subst (λ (x : ℤ). Answers x (c .before .args .numerator) (c .before .args .denominator) (c .unscale .result)) (toZ-ofZ (c .before .fits .nanometres)) (c .unscale .ensures)
+is-answer : (c : tie.After-unscale) → UnscaleAnswer (c .before .args .nanometres) (c .before .args .numerator) (c .before .args .denominator) (c .unscale .result)
+is-answer c = subst (λ (x : ℤ). UnscaleAnswer x (c .before .args .numerator) (c .before .args .denominator) (c .unscale .result)) (toZ-ofZ (c .before .fits .nanometres)) (c .unscale .ensures)
 
 -- and was found to be t
-lent-out : {x : ℤ} {a d r : ℕ} {s t : Unscaled} {old new : ℤ} → Answers x a d s → s ≡ t → r ≡ stepNumber t → new ≡ stepOr t old → StepLent x a d r old new
-lent-out {x} {a} {d} {t} h e p q = record { answer = t; means = subst (Answers x a d) e h; number = p; lent = q }
+lent-out : {x : ℤ} {a d r : ℕ} {s t : Unscaled} {old new : ℤ} → UnscaleAnswer x a d s → s ≡ t → r ≡ stepNumber t → new ≡ stepOr t old → StepLent x a d r old new
+lent-out {x} {a} {d} {t} h e p q = record { answer = t; means = subst (UnscaleAnswer x a d) e h; number = p; lent = q }
 
 returns : tie.Need-returns
 returns c = lent-out (is-answer (c .before .before .before)) (c .before .answer .given .1) refl refl

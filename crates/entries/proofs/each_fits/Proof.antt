@@ -12,10 +12,10 @@ use Rattle.entries.proofs.each_fits.Statement.{statement}
 use Rattle.entries.proofs.each_fits.Tie as tie
 
 abbrev Inv-loop : tie.InvT-loop
-Inv-loop m s n count whole j₀ j = (j ≤ n) × (entriesFit m s j ≡ true)
+Inv-loop marks s n count whole j₀ j = (j ≤ n) × (entriesFit marks s j ≡ true)
 
 abbrev μ-loop : tie.MeasureT-loop
-μ-loop m s n count whole j₀ j = n - j
+μ-loop marks s n count whole j₀ j = n - j
 
 loop-holds : tie.Need-loop-holds Inv-loop μ-loop
 unfolding entriesFit
@@ -28,17 +28,17 @@ word-in-requires c κs = λ t. omega (arith, leb-true)
 next : (c : tie.After-word-fits Inv-loop μ-loop) →
     let l = c .before .before .before .before in
     let a = l .before .before .args in
-    entriesFit (a .m) (now (a .s)) (l .loop .j + 1) ≡ c .word-fits .result
+    entriesFit (a .marks) (now (a .s)) (l .loop .j + 1) ≡ c .word-fits .result
 next c =
     let l = c .before .before .before .before in
     let a = l .before .before .args in
-    fits-next (a .m) (now (a .s)) (l .loop .j) (l .loop .inv .1) (c .before .before .marked .ensures) (c .before .word-in .ensures) (c .word-fits .ensures)
+    fits-next (a .marks) (now (a .s)) (l .loop .j) (l .loop .inv .1) (c .before .before .marked .ensures) (c .before .word-in .ensures) (c .word-fits .ensures)
 
 returns : tie.Need-returns Inv-loop μ-loop
 returns c =
     let l = c .before .before .before .before .before in
     let a = l .before .before .args in
-    sym (misfit (a .m) (now (a .s)) (l .loop .j + 1) (a .n) (next (c .before) ∙ not-true _ (c .if1 .taken)) (omega arith))
+    sym (misfit (a .marks) (now (a .s)) (l .loop .j + 1) (a .n) (next (c .before) ∙ not-true _ (c .if1 .taken)) (omega arith))
 
 loop-again : tie.Need-loop-again Inv-loop μ-loop
 loop-again c = (search needs, next (c .before) ∙ not-false _ (c .if1 .left))

@@ -15,7 +15,7 @@ use Rattle.head_spec.specs.declared.Answer.{Answer}
 use Rattle.head_spec.specs.declared.Offer.{Offer}
 use Rattle.head_spec.specs.Calls.{hear, adopt}
 use Rattle.headplay.specs.declared.Outcome.{Outcome}
-use Rattle.headplay.specs.Script.{answered, opening, batched, written, closed, turnOf, turn}
+use Rattle.headplay.specs.Script.{answered, opening, batched, writeOutcome, closed, turnOf, turn}
 use Rattle.headplay.proofs.turn.Statement.{statement}
 use Rattle.headplay.proofs.turn.Tie as tie
 
@@ -32,7 +32,7 @@ module _ (s : List ℕ) (h : Head) (o : Offer) where
   unfolding turnOf
   is-batch z d e = rw (d, e, z)
 
-  is-writing : {n : ℕ} → getD s 2 0 ≡ 6 → n ≡ getD s 3 0 → written h n o ≡ turn s h o
+  is-writing : {n : ℕ} → getD s 2 0 ≡ 6 → n ≡ getD s 3 0 → writeOutcome h n o ≡ turn s h o
   unfolding turnOf
   is-writing z e = rw (e, z)
 

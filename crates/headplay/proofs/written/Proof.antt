@@ -20,7 +20,7 @@ unfolding writeAnswer written
 by-length h a b e = rw e
 
 is-written : (h : Head) (b : List ℕ) (o : Offer) {n : ℕ} → n ≡ writtenNumber (writeAnswer h b)
-    → _≡_ {A = Outcome} (record { number = n; head = h; offer = o }) (script.written h (length b) o)
+    → _≡_ {A = Outcome} (record { number = n; head = h; offer = o }) (script.writeOutcome h (length b) o)
 is-written h b o e = rw (e, by-length h b (replicate (length b) 0) (sym (length-replicate (length b) 0)))
 
 returns : tie.Need-returns

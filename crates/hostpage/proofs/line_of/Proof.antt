@@ -7,7 +7,7 @@ use Rattle.texts.specs.Numbers.{decimal, spaced}
 use Rattle.texts.specs.Texts.{Longer}
 use Rattle.texts.proofs.Digits.{decimal-short}
 use Rattle.texts.proofs.Writing.{from-empty, longer-then, put-fits}
-use Rattle.hostpage.specs.Page.{point, lineOf}
+use Rattle.hostpage.specs.Page.{point, readingLine}
 use Rattle.hostpage.proofs.Lines.{unknown-is, point-is, range-line}
 use Rattle.hostpage.proofs.line_of.Statement.{statement}
 use Rattle.hostpage.proofs.line_of.Tie as tie
@@ -37,7 +37,7 @@ returns c =
     let s = n .before .before in
     let o = n .before .empty .ensures in
     let l = put-fits 8 (omega arith) (omega (arith, o, number n .room)) (c .put .ensures) in (
-      from-empty o (longer-then (number n) l) ∙ unknown-is (s .args .head) ∙ ap (lineOf (s .args .head)) (sym (t .enum-told .given .1)),
+      from-empty o (longer-then (number n) l) ∙ unknown-is (s .args .head) ∙ ap (readingLine (s .args .head)) (sym (t .enum-told .given .1)),
       omega (arith, o, number n .room, l .room),
     )
 
@@ -50,7 +50,7 @@ returns-2 c =
     let o = n .before .empty .ensures in (
       from-empty o (longer-then (number n) (longer-then (word p) (c .put-float .ensures)))
           ∙ point-is (s .args .head) (r .reading .given .0 .0)
-          ∙ ap (lineOf (s .args .head)) (sym (r .reading .given .1)),
+          ∙ ap (readingLine (s .args .head)) (sym (r .reading .given .1)),
       omega (arith, o, number n .room, word p .room, c .put-float .ensures .room),
     )
 
@@ -62,7 +62,7 @@ returns-3 c =
     let o = n .before .empty .ensures in (
       from-empty o (longer-then (number n) (c .put-range .ensures))
           ∙ range-line (s .args .head) (r .reading2 .given .0 .0)
-          ∙ ap (lineOf (s .args .head)) (sym (r .reading2 .given .1)),
+          ∙ ap (readingLine (s .args .head)) (sym (r .reading2 .given .1)),
       omega (arith, o, number n .room, c .put-range .ensures .room),
     )
 

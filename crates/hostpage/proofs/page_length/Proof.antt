@@ -6,7 +6,7 @@ use lib.ListN.{length, getD}
 use borrow.Author.Needs.{needs}
 use Rattle.reading.specs.declared.Reading.{Reading}
 use Rattle.texts.proofs.Writing.{text-long}
-use Rattle.hostpage.specs.Page.{lineOf, pageOf}
+use Rattle.hostpage.specs.Page.{readingLine, pageOf}
 use Rattle.hostpage.proofs.Pages.{page-none, next-length}
 use Rattle.hostpage.proofs.page_length.Statement.{statement}
 use Rattle.hostpage.proofs.page_length.Tie as tie
@@ -46,7 +46,7 @@ loop-again c =
     let t = c .before .line-of in
     let l = c .before .before .before .before in
     let rs = l .before .args .t2 in
-    let e : t .result .len ≡ length (lineOf (l .loop .k) (getD rs (l .loop .k) Reading.Unknown)) = sym (text-long (t .result) (t .ok) (t .ensures .1)) ∙ ap length (t .ensures .0) in
+    let e : t .result .len ≡ length (readingLine (l .loop .k) (getD rs (l .loop .k) Reading.Unknown)) = sym (text-long (t .result) (t .ok) (t .ensures .1)) ∙ ap length (t .ensures .0) in
     (search needs, omega (arith, next-length (l .loop .k) rs), search needs)
 
 returns : tie.Need-returns Inv-loop μ-loop

@@ -7,7 +7,7 @@ use denote.Ref.{now}
 use borrow.Author.Needs.{needs}
 use Rattle.reading.specs.declared.Reading.{Reading}
 use Rattle.texts.specs.Texts.{bytesOf}
-use Rattle.hostpage.specs.Page.{lineOf, pageOf}
+use Rattle.hostpage.specs.Page.{readingLine, pageOf}
 use Rattle.hostpage.proofs.Pages.{page-none, next-length, page-grows, front, front-none, front-next, front-is}
 use Rattle.hostpage.proofs.put_page.Statement.{statement}
 use Rattle.hostpage.proofs.put_page.Tie as tie
@@ -40,7 +40,7 @@ fit c =
     let s = l .before .before in
     let rs = s .args .t2 in
     let k = l .loop .k in
-    let e : length (bytesOf (c .line-of .result)) ≡ length (lineOf k (getD rs k Reading.Unknown)) = ap length (c .line-of .ensures .0) in
+    let e : length (bytesOf (c .line-of .result)) ≡ length (readingLine k (getD rs k Reading.Unknown)) = ap length (c .line-of .ensures .0) in
     let h : k + 1 ≤ s .args .n = omega arith in
     omega (arith, next-length k rs, page-grows (k + 1) (s .args .n) rs h, l .loop .inv .1, l .loop .inv .2, s .pre .1)
 

@@ -16,13 +16,13 @@ unfolding allMarked
 returns c =
     let a = c .before .args in
     let h : 2 ^ 33 ≤ 2 ^ (a .n) = pow-mono (c .if1 .taken) in
-    sym (ne-eqb (a .m + 1) (2 ^ (a .n)) (λ e. omega (arith, c .before .fits .m .fits)))
+    sym (ne-eqb (a .marks + 1) (2 ^ (a .n)) (λ e. omega (arith, c .before .fits .marks .fits)))
 
 returns-2 : tie.Need-returns-2
 unfolding allMarked
 returns-2 c =
     let a = c .before .args in
-    ap (λ (x : ℕ). eqb (a .m + 1) x) (power-is (a .n) (c .if1 .left))
+    ap (λ (x : ℕ). eqb (a .marks + 1) x) (power-is (a .n) (c .if1 .left))
 
 pub all-marked-spec : {M : Type 1} → statement M
 all-marked-spec = tie.close (tie.spec returns (λ c. search needs) (λ c. search needs) returns-2)

@@ -12,13 +12,13 @@ use Rattle.marks.proofs.marks_below.Tie as tie
 
 returns : tie.Need-returns
 unfolding marksBelow
-returns c = shift-none (c .before .args .m) (c .before .args .n)
+returns c = shift-none (c .before .args .marks) (c .before .args .n)
 
 returns-2 : tie.Need-returns-2
 unfolding marksBelow
 returns-2 c =
     let h : 2 ^ 32 ≤ 2 ^ (c .before .args .n) = pow-mono (c .if1 .left) in
-    sym (lt-ltb (c .before .args .m) (2 ^ (c .before .args .n)) (omega arith))
+    sym (lt-ltb (c .before .args .marks) (2 ^ (c .before .args .n)) (omega arith))
 
 pub marks-below-spec : {M : Type 1} → statement M
 marks-below-spec = tie.close (tie.spec (λ c. search needs) (λ c. search needs) returns returns-2)

@@ -16,13 +16,13 @@ add-result : tie.Need-add-result
 add-result c =
     let s = c .before .before .before .before in
     let e = sym (c .before .before .marked .ensures) ∙ c .before .if2 .left in
-    record { fits = rw (c .mark .ensures) (bit-below (s .args .m) 32 (s .args .k) (s .fits .m .fits) (c .before .before .before .if1 .left) e) }
+    record { fits = rw (c .mark .ensures) (bit-below (s .args .marks) 32 (s .args .k) (s .fits .marks .fits) (c .before .before .before .if1 .left) e) }
 
 returns-3 : tie.Need-returns-3
 returns-3 c =
     let s = c .before .before .before .before in
     let e = sym (c .before .before .marked .ensures) ∙ c .before .if2 .left in
-    ap (λ (x : ℕ). s .args .m + x) (c .mark .ensures) ∙ sym (with-new (s .args .m) (s .args .k) (c .before .before .before .if1 .left) e)
+    ap (λ (x : ℕ). s .args .marks + x) (c .mark .ensures) ∙ sym (with-new (s .args .marks) (s .args .k) (c .before .before .before .if1 .left) e)
 
 pub with-mark-spec : {M : Type 1} → statement M
 with-mark-spec =

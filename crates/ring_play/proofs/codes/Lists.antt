@@ -17,7 +17,7 @@ use Rattle.terms.proofs.Sums.{sums-le, sum-one, bit-le}
 use Rattle.settle_trust.specs.declared.Links.{Links}
 use Rattle.settle_trust.specs.Received.{givenBy}
 use Rattle.ring_play.specs.Inner.Codes.{codeAt, holds}
-use Rattle.ring_play.specs.Inner.Votes.{Voted, Leads, givesList}
+use Rattle.ring_play.specs.Inner.Votes.{Voted, CodeLeads, givesList}
 use Rattle.ring_play.proofs.codes.Codes.{code-entry, holds-le}
 use Rattle.ring_play.proofs.codes.Votes.{leads-same, vote-step}
 
@@ -63,11 +63,11 @@ module _ (g : Links) (lists : List (List ℤ)) (j : ℕ) where
   pub counted-le : (k : ℕ) (w : ℤ) → counted k w ≤ k
   counted-le k w = omega (arith, sum-one k, sums-le k ((λ i. holds j w (G i)) ∷ []) ((λ i. 1) ∷ []) (λ i l. omega (arith, holds-le j w (G i))))
 
-  module _ (k : ℕ) {L l : ℕ} {c : ℤ} (h : Leads (counted k) L c l) where
-    pub vote-given : givesList (g .confessed) (g .listed) k ≡ true → {c′ : ℤ} {l′ : ℕ} → Voted (x k) c l c′ l′ → Leads (counted (k + 1)) (L + 1) c′ l′
+  module _ (k : ℕ) {L l : ℕ} {c : ℤ} (h : CodeLeads (counted k) L c l) where
+    pub vote-given : givesList (g .confessed) (g .listed) k ≡ true → {c′ : ℤ} {l′ : ℕ} → Voted (x k) c l c′ l′ → CodeLeads (counted (k + 1)) (L + 1) c′ l′
     vote-given e v = vote-step (counted k) (counted (k + 1)) (x k) (λ w. sum-step _ k ∙ ap (λ (y : ℕ). counted k w + y) (holds-given k e w)) h v
 
-    pub vote-skipped : givesList (g .confessed) (g .listed) k ≡ false → Leads (counted (k + 1)) L c l
+    pub vote-skipped : givesList (g .confessed) (g .listed) k ≡ false → CodeLeads (counted (k + 1)) L c l
     vote-skipped e = leads-same (λ w. omega (arith, sum-step (λ i. holds j w (G i)) k, holds-not k e w)) h
 
   module _ (k : ℕ) (w : ℤ) {s : ℕ} (h : s ≡ counted k w) where

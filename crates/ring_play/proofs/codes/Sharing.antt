@@ -17,7 +17,7 @@ use Rattle.settle_trust.proofs.Received.{confessed-given}
 use Rattle.settle_trust.proofs.Trusted.{support-parts}
 use Rattle.ring_play.specs.Inner.Codes.{noCode, holds}
 use Rattle.ring_play.specs.Inner.Shares.{Shares}
-use Rattle.ring_play.specs.Inner.Votes.{Leads}
+use Rattle.ring_play.specs.Inner.Votes.{CodeLeads}
 use Rattle.ring_play.proofs.codes.Codes.{is-le-holds}
 use Rattle.ring_play.proofs.codes.Votes.{too-few}
 use Rattle.ring_play.proofs.codes.Lists.{counted, counted-le}
@@ -43,7 +43,7 @@ module _ (n f struck : ℕ) (g : Links) (lists : List (List ℤ)) (codes codes�
       )
 
   module _ {need count : ℕ} (small : n ≤ 32) (needed : need ≡ n - f - countBelow (g .confessed) (min n 32)) (enough : struck < need)
-      (led : Each n (λ j. Leads (counted g lists j n) count (getD codes j (pos 0)) (getD leads j 0)))
+      (led : Each n (λ j. CodeLeads (counted g lists j n) count (getD codes j (pos 0)) (getD leads j 0)))
       (apart : Each n (λ j. bitOf (g .confessed) j ≡ false → count < getD leads j 0 + 2 * (need - struck)))
       (tallied : Each n (λ j. getD same j 0 ≡ counted g lists j n (getD codes j (pos 0))))
       (dropped : Each n (λ j. getD codes′ j (pos 0) ≡ cond (bitOf (g .confessed) j) noCode (getD codes j (pos 0)))) where

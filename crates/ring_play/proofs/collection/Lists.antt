@@ -28,7 +28,7 @@ use Rattle.settle_midpoint.proofs.Middle.{settling-same}
 use Rattle.entries.specs.Tables.{tableAt}
 use Rattle.entries.proofs.TableAt.{table-at}
 use Rattle.ring_play.specs.Memory.{heads, sends, InRange, listEntry, rowIn, positionOf, heardPosition}
-use Rattle.ring_play.specs.Inner.Collection.{ownEntry, sentBy, heardOf, heardWith, Shared, settledFrom}
+use Rattle.ring_play.specs.Inner.Collection.{ownEntry, sentBy, heardOf, heardWith, Shared, positionFrom}
 use Rattle.ring_play.specs.Inner.Struck.{NextStruck}
 use Rattle.ring_play.proofs.round.Struck.{WalkedTo, walked}
 use Rattle.ring_play.proofs.round.Filling.{filledTo, Filled, filled-none, filled-passed, filled-stored, filled-yet}
@@ -138,13 +138,13 @@ filled-row picked new old marks lists i {t} h a b e q =
 
 -- x: what was settled of the list t; n, r: the heads and the rounding, as the code has them
 pub position-settled : (s : Stage) (t : Table) {n r : ℕ} {x : Settled} → n ≡ heads s → r ≡ rounding (s .phase)
-    → x ≡ settling r n (oneRoundRule (s .f)) (tableAt t) → positionOf x ≡ settledFrom s (tableAt t)
-unfolding settledFrom
+    → x ≡ settling r n (oneRoundRule (s .f)) (tableAt t) → positionOf x ≡ positionFrom s (tableAt t)
+unfolding positionFrom
 position-settled s t p q e = ap positionOf (rw (p, q) at e)
 
 pub concluded : (s : Stage) (positions : List ℤ) → s .phase < 65536 → InRange s positions → (plant : ℕ → ℕ → List ℕ) (i : ℕ)
-    → settledFrom s (tableAt (tableOf (heads s) (heardWith s (sentBy s positions) plant i))) ≡ heardPosition s positions plant i
-unfolding settledFrom heardPosition
+    → positionFrom s (tableAt (tableOf (heads s) (heardWith s (sentBy s positions) plant i))) ≡ heardPosition s positions plant i
+unfolding positionFrom heardPosition
 concluded s positions small fit plant i =
     ap (λ (t : Table). positionOf (settling (rounding (s .phase)) (heads s) (oneRoundRule (s .f)) (tableAt t))) (heard-list s positions small fit plant i)
     ∙ ap positionOf (settling-same (rounding (s .phase)) (heads s) (oneRoundRule (s .f)) _ _ (table-at (heads s) (listEntry s positions plant i) (omega arith)))

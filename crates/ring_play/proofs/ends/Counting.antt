@@ -22,7 +22,7 @@ use Rattle.ring_play.specs.declared.Stage.{Stage}
 use Rattle.ring_play.specs.declared.ends.Counts.{Counts}
 use Rattle.ring_play.specs.Inner.Struck.{NextStruck}
 use Rattle.ring_play.specs.Inner.Collection.{heardOf}
-use Rattle.ring_play.specs.Inner.Ends.{plantedEntry, tested, withEntry, EndsCounted}
+use Rattle.ring_play.specs.Inner.Ends.{plantedEntry, tested, countsWith, EndsCounted}
 use Rattle.ring_play.proofs.round.Struck.{WalkedTo, walked}
 
 pub tested-le : (q : ℤ → Bool) (e : Entry) → tested q e ≤ 1
@@ -40,7 +40,7 @@ pub one-more-fits : {x : ℕ} (b : Bool) → x < 32 → Fits w64 (x + boolByte b
 one-more-fits b h = record { fits = omega (arith, byte-bit b, bit-le b) }
 
 module _ (lowest highest : ℤ) (c : Counts) where
-  pub with-null : c ≡ withEntry lowest highest Null c
+  pub with-null : c ≡ countsWith lowest highest Null c
   with-null = rw (add-zero (c .all), add-zero (c .low), add-zero (c .high)) refl
 
   -- as the code works it out
@@ -49,7 +49,7 @@ module _ (lowest highest : ℤ) (c : Counts) where
         all = c .all + 1;
         low = c .low + boolByte (leZ (toZ w32 (ofZ w32 v)) (toZ w32 (ofZ w32 lowest)));
         high = c .high + boolByte (leZ (toZ w32 (ofZ w32 highest)) (toZ w32 (ofZ w32 v)));
-      }) (withEntry lowest highest (Position v) c)
+      }) (countsWith lowest highest (Position v) c)
   with-position {v} a b d = rw (toZ-ofZ a, toZ-ofZ b, toZ-ofZ d, byte-bit (leZ v lowest), byte-bit (leZ highest v)) refl
 
 -- half of the sum of two positions that were read
@@ -76,7 +76,7 @@ module _ (E : ℕ → Entry) (lowest highest : ℤ) where
     counts-small =
         (rw (h .all) (sum-tested-le k _ E), rw (h .low) (sum-tested-le k _ E), rw (h .high) (sum-tested-le k _ E))
 
-    pub counts-more : {e : Entry} → E k ≡ e → EndsCounted (k + 1) E lowest highest (withEntry lowest highest e c)
+    pub counts-more : {e : Entry} → E k ≡ e → EndsCounted (k + 1) E lowest highest (countsWith lowest highest e c)
     counts-more q =
         record {
           all = sum-next _ k (h .all) (ap (tested (λ u. true)) (sym q));

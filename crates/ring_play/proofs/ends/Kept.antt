@@ -22,7 +22,7 @@ use Rattle.convergence.proofs.Order.{passes, gt-fails, KeptRange, kept-counts, 
 use Rattle.settle_midpoint.specs.Answers.{settling}
 use Rattle.ring_play.specs.declared.ends.Counts.{Counts}
 use Rattle.ring_play.specs.Memory.{positionOf}
-use Rattle.ring_play.specs.Inner.Ends.{tested, EndsCounted, Decides}
+use Rattle.ring_play.specs.Inner.Ends.{tested, EndsCounted, EndsDecide}
 
 -- ---- counts tell what is kept
 
@@ -99,7 +99,7 @@ module _ (n f : ℕ) (H P E : ℕ → Entry) (split : (q : ℤ → Bool) → Eac
   abbrev l : List ℤ
   l = ordered n H
 
-  module _ {c : Counts} (C : EndsCounted n P (getD l 0 (pos 0)) (getD l (length l - 1) (pos 0)) c) (D : Decides n f (length l) c) where
+  module _ {c : Counts} (C : EndsCounted n P (getD l 0 (pos 0)) (getD l (length l - 1) (pos 0)) c) (D : EndsDecide n f (length l) c) where
     both : (q : ℤ → Bool) → sum n (λ j. passes q (H j)) + sum n (λ j. passes q (P j)) ≤ sum n (λ j. passes q (E j))
     both q =
         let h : ℕ → ℕ = λ j. passes q (H j) in

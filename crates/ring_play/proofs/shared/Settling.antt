@@ -21,11 +21,11 @@ use Rattle.settle_midpoint.proofs.Middle.{settling-same}
 use Rattle.ring_play.specs.Inner.Codes.{entryOf}
 use Rattle.head_spec.specs.Record.{givenOf}
 use Rattle.ring_play.specs.declared.Stage.{Stage}
-use Rattle.ring_play.specs.declared.shared.Last.{Last}
-use Rattle.ring_play.specs.declared.shared.Last.the-variants.{At}
+use Rattle.ring_play.specs.declared.shared.Earlier.{Earlier}
+use Rattle.ring_play.specs.declared.shared.Earlier.the-variants.{At}
 use Rattle.ring_play.specs.Memory.{heads, SamePlanted, positionOf}
 use Rattle.ring_play.specs.Inner.Planted.{givenOrPlanted, positionSettled}
-use Rattle.ring_play.specs.Inner.Told.{settledBy, settledAt, LastOf}
+use Rattle.ring_play.specs.Inner.Told.{settledBy, settledAt, EarlierOf}
 
 pub settled-same : (s : Stage) (G G′ : ℕ → Given) → Each (heads s) (λ k. G k ≡ G′ k) → positionSettled s G ≡ positionSettled s G′
 unfolding positionSettled
@@ -44,9 +44,9 @@ settled-trusted s G E h = ap positionOf (settling-same (rounding (s .phase)) (he
 pub codes-alike : (s : Stage) (a b : List ℤ) → Each (heads s) (λ j. getD a j (pos 0) ≡ getD b j (pos 0)) → settledAt s a ≡ settledAt s b
 codes-alike s a b h = settled-entries s _ _ (λ j l. ap entryOf (h j l))
 
--- what was settled last
-pub last-at : (s : Stage) (codes : List ℤ) {x : Last} {p : ℤ} → x ≡ At p → LastOf s x codes → p ≡ settledAt s codes
-last-at s codes e h = rw e at h
+-- what was settled earlier
+pub earlier-at : (s : Stage) (codes : List ℤ) {x : Earlier} {p : ℤ} → x ≡ At p → EarlierOf s x codes → p ≡ settledAt s codes
+earlier-at s codes e h = rw e at h
 
 -- receivers told alike settle the same
 pub told-settled : (s : Stage) (G : ℕ → Given) (plant : ℕ → ℕ → List ℕ) (i m : ℕ) → SamePlanted s plant i m

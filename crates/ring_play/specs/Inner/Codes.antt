@@ -29,9 +29,9 @@ entryOf c = cond (eqZ c noCode) Null (Position c)
 abbrev pub entryIn : List ℤ → ℕ → Entry
 entryIn codes j = entryOf (getD codes j (pos 0))
 
--- the code of entry j of a list with the mark word m and the numbers E
+-- the code of entry j of a list with these marks and the numbers E
 abbrev pub codeAt : ℕ → List ℤ → ℕ → ℤ
-codeAt m E j = cond (bitOf m j) (getD E j (pos 0)) noCode
+codeAt marks E j = cond (bitOf marks j) (getD E j (pos 0)) noCode
 
 -- the code that a receiver takes for entry j: the shared one if as many lists have it as are needed, and none if the entry's link confessed
 abbrev pub codeTaken : (codes : List ℤ) (same : List ℕ) (need confesses j : ℕ) → ℤ
@@ -44,6 +44,6 @@ holds j c confessed = 0
 holds j c (gave l) = bit (eqZ (codeOf (l j)) c)
 
 -- one more for each entry at which a list has the code; counts are words
-pub record Tallied (n m : ℕ) (E codes : List ℤ) (same same′ : List ℕ) : Type 0 where
+pub record Tallied (n marks : ℕ) (E codes : List ℤ) (same same′ : List ℕ) : Type 0 where
   pub long : length same′ ≡ length same
-  pub counts : Each n (λ j. getD same′ j 0 ≡ (getD same j 0 + bit (eqZ (codeAt m E j) (getD codes j (pos 0)))) % 2 ^ 32)
+  pub counts : Each n (λ j. getD same′ j 0 ≡ (getD same j 0 + bit (eqZ (codeAt marks E j) (getD codes j (pos 0)))) % 2 ^ 32)

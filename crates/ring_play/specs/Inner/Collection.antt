@@ -47,5 +47,5 @@ pub record Shared (s : Stage) (t : Table) : Type 0 where
   pub none : (k : ℕ) → bitOf (s .struck) k ≡ true → entry k ≡ Entry.Null
 
 -- the position that a receiver settles from these entries, in a phase of one round
-unfoldable pub settledFrom : Stage → (ℕ → Entry) → ℤ
-settledFrom s E = positionOf (settling (rounding (s .phase)) (heads s) (oneRoundRule (s .f)) E)
+unfoldable pub positionFrom : Stage → (ℕ → Entry) → ℤ
+positionFrom s E = positionOf (settling (rounding (s .phase)) (heads s) (oneRoundRule (s .f)) E)

@@ -23,8 +23,8 @@ tested q Null = 0
 tested q (Position u) = bit (q u)
 
 -- an entry more
-abbrev pub withEntry : (lowest highest : ℤ) (e : Entry) (c : Counts) → Counts
-withEntry lowest highest e c =
+abbrev pub countsWith : (lowest highest : ℤ) (e : Entry) (c : Counts) → Counts
+countsWith lowest highest e c =
     record {
       all = c .all + tested (λ u. true) e;
       low = c .low + tested (λ u. leZ u lowest) e;
@@ -39,7 +39,7 @@ pub record EndsCounted (n : ℕ) (E : ℕ → Entry) (lowest highest : ℤ) (c :
 
 -- Of n entries len are positions that all hear. No end has more than f planted ones, each planted one is at an end, and the nulls are few
 -- enough. Then of the positions that all hear f, less those planted at an end, are dropped there.
-pub record Decides (n f len : ℕ) (c : Counts) : Type 0 where
+pub record EndsDecide (n f len : ℕ) (c : Counts) : Type 0 where
   pub some : 2 * f < len
   pub few-low : c .low ≤ f
   pub few-high : c .high ≤ f

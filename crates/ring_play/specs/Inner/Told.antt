@@ -17,8 +17,8 @@ use Rattle.ring_play.specs.Inner.Codes.{entryOf, entryIn, codeTaken, hol
 use Rattle.ring_play.specs.Inner.Shares.{Shares}
 use Rattle.head_spec.specs.Record.{givenOf}
 use Rattle.ring_play.specs.declared.Stage.{Stage}
-use Rattle.ring_play.specs.declared.shared.Last.{Last}
-use Rattle.ring_play.specs.declared.shared.Last.the-variants.{None, At}
+use Rattle.ring_play.specs.declared.shared.Earlier.{Earlier}
+use Rattle.ring_play.specs.declared.shared.Earlier.the-variants.{None, At}
 use Rattle.ring_play.specs.Memory.{heads, positionOf}
 use Rattle.ring_play.specs.Inner.Planted.{isStruck}
 
@@ -59,7 +59,7 @@ neededHere s need confesses = need - countBelow confesses (heads s)
 abbrev pub takenHere : (s : Stage) (need : ℕ) (codes : List ℤ) (same : List ℕ) (confesses j : ℕ) → Entry
 takenHere s need codes same confesses j = entryOf (codeTaken codes same (neededHere s need confesses) confesses j)
 
--- what was settled last, if anything, was settled from these codes
-abbrev pub LastOf : Stage → Last → List ℤ → Type 0
-LastOf s None codes = Unit {0}
-LastOf s (At p) codes = p ≡ settledAt s codes
+-- what was settled earlier, if anything, was settled from these codes
+abbrev pub EarlierOf : Stage → Earlier → List ℤ → Type 0
+EarlierOf s None codes = Unit {0}
+EarlierOf s (At p) codes = p ≡ settledAt s codes

@@ -18,7 +18,7 @@ pub record Voted (x c : ℤ) (l : ℕ) (c′ : ℤ) (l′ : ℕ) : Type 0 where
   pub lead : l′ ≡ cond (eqb l 0) 1 (cond (eqZ x c) (l + 1) (l - 1))
 
 -- of L lists, count w have the code w, and c leads by l
-pub record Leads (count : ℤ → ℕ) (L : ℕ) (c : ℤ) (l : ℕ) : Type 0 where
+pub record CodeLeads (count : ℤ → ℕ) (L : ℕ) (c : ℤ) (l : ℕ) : Type 0 where
   pub others : (w : ℤ) → w ≢ c → 2 * count w + l ≤ L
   pub leader : 2 * count c ≤ L + l
   pub within : l ≤ L

@@ -9,13 +9,13 @@ use mir.Facts.{toZ-ofZ}
 use borrow.Author.Tests.{not-true, not-false}
 use borrow.Author.Needs.{needs}
 use Rattle.run_listing.specs.Held.{endIn}
-use Rattle.run_listing.specs.Heights.{Found}
+use Rattle.run_listing.specs.Heights.{LowestHighest}
 use Rattle.run_listing.proofs.Lowest.{found-none, found-struck, found-sound, found-all}
 use Rattle.run_listing.proofs.ends_of.Statement.{statement}
 use Rattle.run_listing.proofs.ends_of.Tie as tie
 
 abbrev Inv-loop : tie.InvT-loop
-Inv-loop n m struck positions count low₀ high₀ j₀ low high j = (j ≤ count) × Found j (endIn n m struck positions) low high
+Inv-loop n m struck positions count low₀ high₀ j₀ low high j = (j ≤ count) × LowestHighest j (endIn n m struck positions) low high
 
 abbrev μ-loop : tie.MeasureT-loop
 μ-loop n m struck positions count low₀ high₀ j₀ low high j = count - j

@@ -19,12 +19,12 @@ use Rattle.run_stream.proofs.pass_plants.Statement.{statement}
 use Rattle.run_stream.proofs.pass_plants.Tie as tie
 
 abbrev Inv-loop : tie.InvT-loop
-Inv-loop p bytes planted₀ lengths₀ last₀ used₀ n m struck planted lengths last used =
+Inv-loop p bytes planted₀ lengths₀ pair₀ used₀ n m struck planted lengths pair used =
     (used ≤ length bytes)
-    × ((carry : List ℕ) (M : Memory) → Still bytes p carry (withSlots M planted₀ lengths₀) (withPairPlanted p last) carry (withSlots M planted lengths) used)
+    × ((carry : List ℕ) (M : Memory) → Still bytes p carry (withSlots M planted₀ lengths₀) (withPairPlanted p pair) carry (withSlots M planted lengths) used)
 
 abbrev μ-loop : tie.MeasureT-loop
-μ-loop p bytes planted₀ lengths₀ last₀ used₀ n m struck planted lengths last used = length bytes - used
+μ-loop p bytes planted₀ lengths₀ pair₀ used₀ n m struck planted lengths pair used = length bytes - used
 
 returns : tie.Need-returns Inv-loop μ-loop
 returns c = (omega arith, λ a carry M L. none-there L)
@@ -35,8 +35,8 @@ loop-holds c =
     (search needs, λ carry M. rw (waits-as W) still-first)
 
 -- with another last pair it waits too
-waits : {p : Player} {n m struck : ℕ} {last : Pair} → Waits p n m struck last → (last′ : Pair) → Waits (withPairPlanted p last′) n m struck last′
-waits W last′ =
+waits : {p : Player} {n m struck : ℕ} {pair : Pair} → Waits p n m struck pair → (pair′ : Pair) → Waits (withPairPlanted p pair′) n m struck pair′
+waits W pair′ =
     record { sound = refl; fresh = refl; pending = W .pending; n = W .n; listeners = W .listeners; struck = W .struck; pair = refl }
 
 module _ (v : tie.After-pass-plant Inv-loop μ-loop) where
@@ -55,10 +55,10 @@ module _ (v : tie.After-pass-plant Inv-loop μ-loop) where
       let p = start .args .p in
       let s = now (start .args .bytes) in
       moved-within (here .loop .used) used s (here .loop .inv .0)
-      (passed-within (p .n) (p .listeners) (p .struck) (here .loop .last) (rest (here .loop .used) s) (v .pass-plant .ensures .0))
+      (passed-within (p .n) (p .listeners) (p .struck) (here .loop .pair) (rest (here .loop .used) s) (v .pass-plant .ensures .0))
 
-  waiting : Waits (withPairPlanted (start .args .p) (here .loop .last)) (start .args .p .n) (start .args .p .listeners) (start .args .p .struck) (here .loop .last)
-  waiting = waits (here .before .before .before .awaits-plants .ensures (not-false _ (here .before .before .if1 .left))) (here .loop .last)
+  waiting : Waits (withPairPlanted (start .args .p) (here .loop .pair)) (start .args .p .n) (start .args .p .listeners) (start .args .p .struck) (here .loop .pair)
+  waiting = waits (here .before .before .before .awaits-plants .ensures (not-false _ (here .before .before .if1 .left))) (here .loop .pair)
 
 returns-2 : tie.Need-returns-2 Inv-loop μ-loop
 returns-2 c =

@@ -13,17 +13,17 @@ returns c =
     let b = c .before .before .before .before in
     let a = b .before .args in
     holds-same (holds-position (record { sfits = c .before .cell-of-arg .given }) (c .cell-of .ensures))
-    (sym (entry-marked (a .m) (now (a .list)) (a .j) (sym (b .marked .ensures) ∙ c .before .before .before .if1 .taken)))
+    (sym (entry-marked (a .marks) (now (a .list)) (a .j) (sym (b .marked .ensures) ∙ c .before .before .before .if1 .taken)))
 
 returns-2 : tie.Need-returns-2
 returns-2 c =
     let s = c .before .before .before in
-    holds-same holds-null (sym (entry-unmarked (s .args .m) (now (s .args .list)) (s .args .j) (bit-above (s .args .m) 32 (s .args .j) (s .fits .m .fits) (c .if2 .left))))
+    holds-same holds-null (sym (entry-unmarked (s .args .marks) (now (s .args .list)) (s .args .j) (bit-above (s .args .marks) 32 (s .args .j) (s .fits .marks .fits) (c .if2 .left))))
 
 returns-3 : tie.Need-returns-3
 returns-3 c =
     let a = c .before .before .args in
-    holds-same holds-null (sym (entry-unmarked (a .m) (now (a .list)) (a .j) (sym (c .before .marked .ensures) ∙ c .if1 .left)))
+    holds-same holds-null (sym (entry-unmarked (a .marks) (now (a .list)) (a .j) (sym (c .before .marked .ensures) ∙ c .if1 .left)))
 
 pub entry-cell-spec : {M : Type 1} → statement M
 entry-cell-spec =

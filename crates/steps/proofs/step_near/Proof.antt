@@ -9,7 +9,7 @@ use mir.Facts.{toZ-ofZ}
 use Rattle.terms.specs.Positions.{isPosition}
 use Rattle.terms.proofs.Machine.{read, position-fits}
 use Rattle.steps.specs.Unscale.{OnlyOne}
-use Rattle.steps.specs.Unscale.Answers.{step}
+use Rattle.steps.specs.Unscale.UnscaleAnswer.{step}
 use Rattle.steps.proofs.NoStep.{below-range, above-range, in-range, out-of-range, reads-otherwise}
 use Rattle.steps.proofs.step_near.Statement.{statement}
 use Rattle.steps.proofs.step_near.Tie as tie

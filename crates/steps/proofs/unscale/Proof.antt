@@ -6,8 +6,8 @@ use lib.IntN.{ℤ}
 use mir.Syntax.{w64}
 use mir.Facts.{toZ-ofZ}
 use Rattle.steps.specs.Scale.{isScale}
-use Rattle.steps.specs.Unscale.{Answers}
-use Rattle.steps.specs.Unscale.Answers.{refused}
+use Rattle.steps.specs.Unscale.{UnscaleAnswer}
+use Rattle.steps.specs.Unscale.UnscaleAnswer.{refused}
 use Rattle.steps.specs.declared.Unscaled.{Unscaled}
 use Rattle.terms.proofs.Machine.{read}
 use Rattle.steps.proofs.NoStep.{near, far-below, far-above}
@@ -18,8 +18,8 @@ scale-holds : (c : tie.Then1) → isScale (c .before .before .args .numerator) (
 scale-holds c = sym (c .before .is-scale .ensures) ∙ c .if1 .taken
 
 -- an answer for the reading as the machine reads it
-answers : (c : tie.Start) (s : Unscaled) → Answers (read w64 (c .args .nanometres)) (c .args .numerator) (c .args .denominator) s → Answers (c .args .nanometres) (c .args .numerator) (c .args .denominator) s
-answers c s = subst (λ (x : ℤ). Answers x (c .args .numerator) (c .args .denominator) s) (toZ-ofZ (c .fits .nanometres))
+answers : (c : tie.Start) (s : Unscaled) → UnscaleAnswer (read w64 (c .args .nanometres)) (c .args .numerator) (c .args .denominator) s → UnscaleAnswer (c .args .nanometres) (c .args .numerator) (c .args .denominator) s
+answers c s = subst (λ (x : ℤ). UnscaleAnswer x (c .args .numerator) (c .args .denominator) s) (toZ-ofZ (c .fits .nanometres))
 
 returns : tie.Need-returns
 returns c = answers (c .before .before .before) Unscaled.None (far-below _ _ _ (scale-holds (c .before)) (c .if2 .taken))

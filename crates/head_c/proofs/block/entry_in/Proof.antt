@@ -4,12 +4,12 @@ use Prim.Native.Nat.{ℕ, zero, suc}
 use lib.IntN.{ℤ}
 use mir.Facts.{toZ-ofZ}
 use Rattle.terms.specs.declared.Entry.{Entry}
-use Rattle.head_c.specs.Blocks.{entryIn}
+use Rattle.head_c.specs.Blocks.{heldEntry}
 use borrow.Author.Needs.{needs}
 use Rattle.head_c.proofs.block.entry_in.Statement.{statement}
 use Rattle.head_c.proofs.block.entry_in.Tie as tie
 
-held : (b : ℕ) (v : ℤ) → (b ≡ 0 → ⊥) → Entry.Position v ≡ entryIn b v
+held : (b : ℕ) (v : ℤ) → (b ≡ 0 → ⊥) → Entry.Position v ≡ heldEntry b v
 held zero v n = absurd (n refl)
 held (suc b) v n = refl
 

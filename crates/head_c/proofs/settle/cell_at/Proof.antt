@@ -19,13 +19,13 @@ returns c =
     let s = c .before .before .before .before in
     let a = s .args in
     holds-same (word-cell _ (word c))
-    (sym (entry-marked (a .m) _ (a .j) (sym (c .before .before .marked .ensures) ∙ c .before .if1 .taken)
+    (sym (entry-marked (a .marks) _ (a .j) (sym (c .before .before .marked .ensures) ∙ c .before .if1 .taken)
     ∙ ap Entry.Position (row-number (now (a .h)) (a .k) (a .j) (s .pre .1) (s .pre .2))))
 
 returns-2 : tie.Need-returns-2
 returns-2 c =
     let a = c .before .before .before .args in
-    holds-same holds-null (sym (entry-unmarked (a .m) _ (a .j) (sym (c .before .marked .ensures) ∙ c .if1 .left)))
+    holds-same holds-null (sym (entry-unmarked (a .marks) _ (a .j) (sym (c .before .marked .ensures) ∙ c .if1 .left)))
 
 pub cell-at-spec : {M : Type 1} → statement M
 cell-at-spec =

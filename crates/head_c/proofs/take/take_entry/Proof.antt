@@ -9,7 +9,7 @@ use denote.Ref.{now}
 use Rattle.terms.specs.declared.Entry.{Entry}
 use Rattle.fields.specs.Bytes.{wordOf}
 use Rattle.frame_spec.specs.Said.{collected}
-use Rattle.head_c.specs.Blocks.{marked, changed}
+use Rattle.head_c.specs.Blocks.{marked, blockWith}
 use Rattle.head_c.proofs.Hearing.{heard-below, heard-past}
 use borrow.Author.Needs.{needs}
 use Rattle.head_c.proofs.take.take_entry.Statement.{statement}
@@ -24,7 +24,7 @@ returns-2 c =
     let e = one .before .before in
     let a = e .before .before .args in
     one .put-heard .ensures
-    ∙ ap (λ (x : Entry). changed (now (a .h)) (a .k) (collected x)) (sym (c .enum-told .given .1))
+    ∙ ap (λ (x : Entry). blockWith (now (a .h)) (a .k) (collected x)) (sym (c .enum-told .given .1))
     ∙ sym (heard-below _ _ _ (e .if1 .left))
 
 same-length-2 : tie.Need-same-length-2
@@ -42,7 +42,7 @@ returns-3 c =
     let v = toZ-ofZ {w = w32} (record { sfits = t .known-told .given .0 .1 }) in
     let marks = two .put-mark .ensures ∙ ap (marked 25 (a .k)) (one .put-heard .ensures) in
     ap₂ (λ (l : List ℕ) (x : ℕ). set l (26 + a .k) x) marks (c .unsigned .ensures ∙ ap wordOf v)
-    ∙ ap (λ (x : Entry). changed (now (a .h)) (a .k) (collected x)) (sym (t .before .e .given .1))
+    ∙ ap (λ (x : Entry). blockWith (now (a .h)) (a .k) (collected x)) (sym (t .before .e .given .1))
     ∙ sym (heard-below _ _ _ (e .if1 .left))
 
 pub take-entry-spec : {M : Type 1} → statement M

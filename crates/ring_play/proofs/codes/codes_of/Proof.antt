@@ -16,10 +16,10 @@ use Rattle.ring_play.proofs.codes.codes_of.Statement.{statement}
 use Rattle.ring_play.proofs.codes.codes_of.Tie as tie
 
 abbrev Inv-loop : tie.InvT-loop
-Inv-loop m list n codes₀ j₀ codes j = (j ≤ n) × (length codes ≡ 32) × Each j (λ i. getD codes i (pos 0) ≡ codeAt m list i)
+Inv-loop marks list n codes₀ j₀ codes j = (j ≤ n) × (length codes ≡ 32) × Each j (λ i. getD codes i (pos 0) ≡ codeAt marks list i)
 
 abbrev μ-loop : tie.MeasureT-loop
-μ-loop m list n codes₀ j₀ codes j = n - j
+μ-loop marks list n codes₀ j₀ codes j = n - j
 
 loop-holds : tie.Need-loop-holds Inv-loop μ-loop
 loop-holds c = (search needs, refl, λ i l. absurd (omega arith))
@@ -31,7 +31,7 @@ loop-again c =
     let a = h .before .args in (
       search needs,
       simp length-set (l .inv .1),
-      each-set (pos 0) (l .codes) (l .j) _ (λ i v. v ≡ codeAt (a .m) (now (a .list)) i) (omega arith) (l .inv .2) (toZ-ofZ (record { sfits = c .code .ok }) ∙ c .code .ensures ∙ ap (λ (v : ℤ). cond (bitOf (a .m) (l .j)) v noCode) (toZ-ofZ (record { sfits = c .before .code-arg .given }))),
+      each-set (pos 0) (l .codes) (l .j) _ (λ i v. v ≡ codeAt (a .marks) (now (a .list)) i) (omega arith) (l .inv .2) (toZ-ofZ (record { sfits = c .code .ok }) ∙ c .code .ensures ∙ ap (λ (v : ℤ). cond (bitOf (a .marks) (l .j)) v noCode) (toZ-ofZ (record { sfits = c .before .code-arg .given }))),
     )
 
 returns : tie.Need-returns Inv-loop μ-loop

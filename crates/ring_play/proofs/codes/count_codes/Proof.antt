@@ -18,13 +18,13 @@ use Rattle.ring_play.proofs.codes.count_codes.Statement.{statement}
 use Rattle.ring_play.proofs.codes.count_codes.Tie as tie
 
 abbrev Inv-loop : tie.InvT-loop
-Inv-loop m list codes same₀ n j₀ same j =
+Inv-loop marks list codes same₀ n j₀ same j =
     (j ≤ n) × (length same ≡ 32)
-    × Each j (λ i. getD same i 0 ≡ (getD same₀ i 0 + bit (eqZ (codeAt m list i) (getD codes i (pos 0)))) % 4294967296)
+    × Each j (λ i. getD same i 0 ≡ (getD same₀ i 0 + bit (eqZ (codeAt marks list i) (getD codes i (pos 0)))) % 4294967296)
     × ((i : ℕ) → j ≤ i → getD same i 0 ≡ getD same₀ i 0)
 
 abbrev μ-loop : tie.MeasureT-loop
-μ-loop m list codes same₀ n j₀ same j = n - j
+μ-loop marks list codes same₀ n j₀ same j = n - j
 
 loop-holds : tie.Need-loop-holds Inv-loop μ-loop
 loop-holds c = (search needs, c .before .pre .1, λ i l. absurd (omega arith), λ i l. refl)
@@ -37,9 +37,9 @@ loop-again c =
     let a = h .before .before .args in (
       search needs,
       simp length-set (l .inv .1),
-      each-set 0 (l .same) (l .j) _ (λ i v. v ≡ (getD (now (a .same)) i 0 + bit (eqZ (codeAt (a .m) (now (a .list)) i) (getD (now (a .codes)) i (pos 0)))) % 4294967296) (omega arith) (l .inv .2)
+      each-set 0 (l .same) (l .j) _ (λ i v. v ≡ (getD (now (a .same)) i 0 + bit (eqZ (codeAt (a .marks) (now (a .list)) i) (getD (now (a .codes)) i (pos 0)))) % 4294967296) (omega arith) (l .inv .2)
           (c .wrapping-add-u32 .ensures ∙ added-bit (record { sfits = k .code .ok }) (record { sfits = c .before .wrapping-add-u32-arg .given }) (l .inv .3 (l .j) (omega arith))
-          (k .code .ensures ∙ ap (λ (v : ℤ). cond (bitOf (a .m) (l .j)) v noCode) (toZ-ofZ (record { sfits = k .before .code-arg .given })))),
+          (k .code .ensures ∙ ap (λ (v : ℤ). cond (bitOf (a .marks) (l .j)) v noCode) (toZ-ofZ (record { sfits = k .before .code-arg .given })))),
       λ i q. later-set 0 (l .same) (l .j) _ i q ∙ l .inv .3 i (omega arith),
     )
 

@@ -15,13 +15,13 @@ use Rattle.ring_play.proofs.codes.count_numbers.Statement.{statement}
 use Rattle.ring_play.proofs.codes.count_numbers.Tie as tie
 
 abbrev Inv-loop : tie.InvT-loop
-Inv-loop m list codes same₀ n j₀ same j =
+Inv-loop marks list codes same₀ n j₀ same j =
     (j ≤ n) × (length same ≡ 32)
-    × Each j (λ i. getD same i 0 ≡ (getD same₀ i 0 + bit (eqZ (codeAt m list i) (getD codes i (pos 0)))) % 4294967296)
+    × Each j (λ i. getD same i 0 ≡ (getD same₀ i 0 + bit (eqZ (codeAt marks list i) (getD codes i (pos 0)))) % 4294967296)
     × ((i : ℕ) → j ≤ i → getD same i 0 ≡ getD same₀ i 0)
 
 abbrev μ-loop : tie.MeasureT-loop
-μ-loop m list codes same₀ n j₀ same j = n - j
+μ-loop marks list codes same₀ n j₀ same j = n - j
 
 loop-holds : tie.Need-loop-holds Inv-loop μ-loop
 loop-holds c = (search needs, c .before .pre .1, λ i l. absurd (omega arith), λ i l. refl)
@@ -33,9 +33,9 @@ loop-again c =
     let a = h .before .before .args in (
       search needs,
       simp length-set (l .inv .1),
-      each-set 0 (l .same) (l .j) _ (λ i v. v ≡ (getD (now (a .same)) i 0 + bit (eqZ (codeAt (a .m) (now (a .list)) i) (getD (now (a .codes)) i (pos 0)))) % 4294967296) (omega arith) (l .inv .2)
+      each-set 0 (l .same) (l .j) _ (λ i v. v ≡ (getD (now (a .same)) i 0 + bit (eqZ (codeAt (a .marks) (now (a .list)) i) (getD (now (a .codes)) i (pos 0)))) % 4294967296) (omega arith) (l .inv .2)
           (c .wrapping-add-u32 .ensures ∙ added-bit (record { sfits = c .before .before .wrapping-add-u32-arg .given }) (record { sfits = c .before .wrapping-add-u32-arg2 .given }) (l .inv .3 (l .j) (omega arith))
-          (code-marked (a .m) (now (a .list)) (l .j) (h .before .before .pre .2 (l .j) (omega arith)))),
+          (code-marked (a .marks) (now (a .list)) (l .j) (h .before .before .pre .2 (l .j) (omega arith)))),
       λ i q. later-set 0 (l .same) (l .j) _ i q ∙ l .inv .3 i (omega arith),
     )
 

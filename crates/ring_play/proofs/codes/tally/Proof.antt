@@ -9,7 +9,7 @@ count-numbers-requires : tie.Need-count-numbers-requires
 count-numbers-requires c κs =
     let m = c .before .before in
     let s = m .before .before in
-    (s .pre .0, s .pre .1, λ j l. all-bits (s .args .m) (s .args .n) j (sym (m .all-marked .ensures) ∙ c .before .if1 .taken) l)
+    (s .pre .0, s .pre .1, λ j l. all-bits (s .args .marks) (s .args .n) j (sym (m .all-marked .ensures) ∙ c .before .if1 .taken) l)
 
 returns : tie.Need-returns
 returns c = search needs

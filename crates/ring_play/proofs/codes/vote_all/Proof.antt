@@ -8,7 +8,7 @@ use lib.IntN.{pos}
 use lib.ListN.{length, getD}
 use borrow.Author.Needs.{needs}
 use Rattle.terms.specs.Counting.{Each, sum}
-use Rattle.ring_play.specs.Inner.Votes.{Leads}
+use Rattle.ring_play.specs.Inner.Votes.{CodeLeads}
 use Rattle.ring_play.proofs.codes.Votes.{leads-none}
 use Rattle.ring_play.proofs.codes.Lists.{counted, vote-given, vote-skipped}
 use Rattle.ring_play.proofs.codes.vote_all.Statement.{statement}
@@ -17,7 +17,7 @@ use Rattle.ring_play.proofs.codes.vote_all.Tie as tie
 abbrev Inv-loop : tie.InvT-loop
 Inv-loop lists n codes₀ leads₀ links count₀ k₀ codes leads count k =
     (k ≤ n) × (length codes ≡ 32) × (length leads ≡ 32) × (count ≤ k)
-    × Each n (λ j. Leads (counted links lists j k) count (getD codes j (pos 0)) (getD leads j 0))
+    × Each n (λ j. CodeLeads (counted links lists j k) count (getD codes j (pos 0)) (getD leads j 0))
 
 abbrev μ-loop : tie.MeasureT-loop
 μ-loop lists n codes₀ leads₀ links count₀ k₀ codes leads count k = n - k

@@ -13,7 +13,7 @@ returns c =
     let v = c .before .before .before in
     let t = v .before .before .before in
     let s = t .before .before .before in
-    let bits : Each (s .args .n) (λ j. bitOf (s .args .m) j ≡ true) = λ j l. all-bits (s .args .m) (s .args .n) j (sym (t .before .all-marked .ensures) ∙ t .if1 .taken) l in
+    let bits : Each (s .args .n) (λ j. bitOf (s .args .marks) j ≡ true) = λ j l. all-bits (s .args .marks) (s .args .n) j (sym (t .before .all-marked .ensures) ∙ t .if1 .taken) l in
     (v .vote .ensures .0, v .vote .ensures .1, λ j l. rw (bits j l) (v .vote .ensures .2 j l))
 
 returns-2 : tie.Need-returns-2

@@ -12,7 +12,7 @@ use Rattle.convergence.specs.Settling.{ordered}
 use Rattle.settle_midpoint.specs.Orders.{orderOf}
 use Rattle.ring_play.specs.Memory.{heads, settles, InRange, heardPosition}
 use Rattle.frame_slots.specs.Slots.{plantedIn}
-use Rattle.ring_play.specs.Inner.Collection.{heardWith, Shared, settledFrom}
+use Rattle.ring_play.specs.Inner.Collection.{heardWith, Shared, positionFrom}
 use Rattle.ring_play.proofs.round.Frames.{phase-small}
 use Rattle.ring_play.proofs.collection.Lists.{sent-shared, concluded}
 use Rattle.ring_play.proofs.collection.conclude.Statement.{statement}
@@ -28,7 +28,7 @@ module _ (e : tie.After-entries-sent) where
   is-new : (let a = start .args in InRange (a .s) (now (a .positions))) → (i : ℕ) → let a = start .args in
       let plant = plantedIn (now (a .planted)) (now (a .lengths)) in
       let had = getD (now (a .positions)) i (pos 0) in
-      cond (settles (a .s) i) (settledFrom (a .s) (tableAt (tableOf (heads (a .s)) (heardWith (a .s) (shared .entry) plant i)))) had
+      cond (settles (a .s) i) (positionFrom (a .s) (tableAt (tableOf (heads (a .s)) (heardWith (a .s) (shared .entry) plant i)))) had
       ≡ cond (settles (a .s) i) (heardPosition (a .s) (now (a .positions)) plant i) had
   is-new fit i =
       let a = start .args in

@@ -15,7 +15,7 @@ use Rattle.marks.proofs.Marks.{bit-none}
 use Rattle.entries.specs.Tables.{tableAt, tableOf}
 use Rattle.ring_play.specs.declared.Stage.{Stage}
 use Rattle.ring_play.specs.Memory.{heads, settles}
-use Rattle.ring_play.specs.Inner.Collection.{heardWith, settledFrom}
+use Rattle.ring_play.specs.Inner.Collection.{heardWith, positionFrom}
 use Rattle.ring_play.proofs.collection.conclude_quiet.Statement.{statement}
 use Rattle.ring_play.proofs.collection.conclude_quiet.Tie as tie
 
@@ -34,8 +34,8 @@ returns c z S plant i =
     c .fill-same .ensures i
     ∙ ap (λ (x : ℤ). cond (settles (a .s) i) x had)
     (toZ-ofZ (record { sfits = t .position-of .ok }) ∙ t .position-of .ensures
-    ∙ ap (λ (u : Table). settledFrom (a .s) (tableAt u)) (S .is)
-    ∙ ap (λ (E : ℕ → Entry). settledFrom (a .s) (tableAt (tableOf (heads (a .s)) E))) (quiet-heard (a .s) (S .entry) plant i z))
+    ∙ ap (λ (u : Table). positionFrom (a .s) (tableAt u)) (S .is)
+    ∙ ap (λ (E : ℕ → Entry). positionFrom (a .s) (tableAt (tableOf (heads (a .s)) E))) (quiet-heard (a .s) (S .entry) plant i z))
 
 pub conclude-quiet-spec : {M : Type 1} → statement M
 conclude-quiet-spec = tie.close (tie.spec (λ c κs. search needs) (λ c κs. search needs) returns)

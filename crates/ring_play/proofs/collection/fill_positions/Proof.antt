@@ -10,7 +10,7 @@ use lib.IntN.{pos}
 use Rattle.entries.specs.Tables.{tableAt, tableOf}
 use Rattle.ring_play.specs.Memory.{heads, settles}
 use Rattle.frame_slots.specs.Slots.{plantedIn}
-use Rattle.ring_play.specs.Inner.Collection.{heardWith, Shared, settledFrom}
+use Rattle.ring_play.specs.Inner.Collection.{heardWith, Shared, positionFrom}
 use Rattle.ring_play.proofs.round.Filling.{Filled, filled-none, filled-passed, filled-set, filled-all}
 use Rattle.ring_play.proofs.round.Receivers.{end-small, settles-below}
 use Rattle.ring_play.proofs.collection.fill_positions.Statement.{statement}
@@ -20,7 +20,7 @@ abbrev Inv-loop : tie.InvT-loop
 Inv-loop s sent order planted lengths positions₀ end i₀ positions i =
     (i ≤ end) × (end ≤ 48) × (length positions ≡ 48)
     × ((S : Shared s sent)
-    → Filled (settles s) (λ j. settledFrom s (tableAt (tableOf (heads s) (heardWith s (S .entry) (plantedIn planted lengths) j))))
+    → Filled (settles s) (λ j. positionFrom s (tableAt (tableOf (heads s) (heardWith s (S .entry) (plantedIn planted lengths) j))))
     (λ j. getD positions₀ j (pos 0)) i (λ j. getD positions j (pos 0)))
 
 abbrev μ-loop : tie.MeasureT-loop

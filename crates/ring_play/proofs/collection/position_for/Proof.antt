@@ -11,7 +11,7 @@ use Rattle.entries.specs.Tables.{tableAt}
 use Rattle.settle_midpoint.specs.declared.Order.{Order}
 use Rattle.frame_slots.specs.Slots.{plantedIn}
 use Rattle.ring_play.specs.Memory.{heads}
-use Rattle.ring_play.specs.Inner.Collection.{settledFrom}
+use Rattle.ring_play.specs.Inner.Collection.{positionFrom}
 use Rattle.ring_play.proofs.ends.Counting.{counts-small}
 use Rattle.ring_play.proofs.ends.Settling.{order-small, settles-inside}
 use Rattle.ring_play.proofs.collection.position_for.Statement.{statement}
@@ -55,7 +55,7 @@ returns-2 c S =
     let a = c .before .before .before .before .before .before .before .before .before .before .args in
     toZ-ofZ (record { sfits = c .position-of .ok })
     ∙ c .position-of .ensures
-    ∙ ap (λ (t : Table). settledFrom (a .s) (tableAt t)) (c .before .before .list-for .ensures .1 S)
+    ∙ ap (λ (t : Table). positionFrom (a .s) (tableAt t)) (c .before .before .list-for .ensures .1 S)
 
 pub position-for-spec : {M : Type 1} → statement M
 position-for-spec =

@@ -1,4 +1,4 @@
--- `ring_play::round::same_before` meets its contract: `last` settles before i, and is told the same.
+-- `ring_play::round::same_before` meets its contract: `before` settles before i, and is told the same.
 use mathlib.Core.Path.{_≡_}
 use mathlib.Core.Bool.{true}
 use Prim.Native.Nat.{_<_}
@@ -9,22 +9,22 @@ use Rattle.ring_play.proofs.round.Receivers.{settles-at}
 use Rattle.ring_play.proofs.round.same_before.Statement.{statement}
 use Rattle.ring_play.proofs.round.same_before.Tie as tie
 
-module _ (l : tie.After-last) where
+module _ (l : tie.After-before2) where
   abbrev start : tie.Start
   start = l .before .before .before .before
 
-  settles-last : let m = l .last .given .0 .0 in (m < start .args .i) × (settles (start .args .s) m ≡ true)
-  settles-last = settles-at (start .args .s) (l .last .given .1) (start .pre .1)
+  settles-before : let m = l .before2 .given .0 .0 in (m < start .args .i) × (settles (start .args .s) m ≡ true)
+  settles-before = settles-at (start .args .s) (l .before2 .given .1) (start .pre .1)
 
 is-same-planted-requires : tie.Need-is-same-planted-requires
 is-same-planted-requires c κs =
     let p = start (c .before) .pre in
-    (p .0, omega (arith, settles-last (c .before) .0, p .0))
+    (p .0, omega (arith, settles-before (c .before) .0, p .0))
 
 returns : tie.Need-returns
 returns c =
     let a = c .before in
-    let q = settles-last (a .before .before) in
+    let q = settles-before (a .before .before) in
     (q .0, q .1, a .is-same-planted .ensures .0 (c .if1 .taken))
 
 pub same-before-spec : {M : Type 1} → statement M

@@ -1,4 +1,4 @@
--- `ring_play::shared::fill_positions` meets its contract: before receiver i, each unstruck one below i has its new position, and `last` was settled from `settled`.
+-- `ring_play::shared::fill_positions` meets its contract: before receiver i, each unstruck one below i has its new position, and `earlier` was settled from `settled`.
 use mathlib.Core.Path.{_≡_, sym, _∙_}
 use mathlib.Core.Logic.{⊎-elim}
 use mathlib.Core.List.{List}
@@ -16,20 +16,20 @@ use Rattle.ring_play.specs.declared.round.Before.the-variants.{As}
 use Rattle.ring_play.proofs.round.Filling.{Filled, filled-none, filled-passed, filled-set, filled-had, filled-all}
 use Rattle.ring_play.proofs.round.Receivers.{end-small, settles-below, settles-more}
 use Rattle.ring_play.specs.Inner.Planted.{givenOrPlanted, positionSettled, Alike}
-use Rattle.ring_play.specs.Inner.Told.{SharedBy, LastOf}
+use Rattle.ring_play.specs.Inner.Told.{SharedBy, EarlierOf}
 use Rattle.ring_play.proofs.shared.Settling.{told-settled}
 use Rattle.ring_play.proofs.shared.Told.{settled-here}
 use Rattle.ring_play.proofs.shared.fill_positions.Statement.{statement}
 use Rattle.ring_play.proofs.shared.fill_positions.Tie as tie
 
 abbrev Inv-loop : tie.InvT-loop
-Inv-loop s planted lengths codes counts need positions₀ end settled₀ last₀ two₀ i₀ positions settled last two i =
-    (i ≤ end) × (end ≤ 48) × (length positions ≡ 48) × LastOf s last settled × SettlesBefore s i (two .last) × SettlesBefore s i (two .other)
+Inv-loop s planted lengths codes counts need positions₀ end settled₀ earlier₀ two₀ i₀ positions settled earlier two i =
+    (i ≤ end) × (end ≤ 48) × (length positions ≡ 48) × EarlierOf s earlier settled × SettlesBefore s i (two .newer) × SettlesBefore s i (two .older)
     × ((S : SharedBy s need codes counts) → Alike s (S .given)
     → Filled (settles s) (λ j. positionSettled s (givenOrPlanted s (S .given) (plantedIn planted lengths) j)) (λ j. getD positions₀ j (pos 0)) i (λ j. getD positions j (pos 0)))
 
 abbrev μ-loop : tie.MeasureT-loop
-μ-loop s planted lengths codes counts need positions₀ end settled₀ last₀ two₀ i₀ positions settled last two i = end - i
+μ-loop s planted lengths codes counts need positions₀ end settled₀ earlier₀ two₀ i₀ positions settled earlier two i = end - i
 
 loop-holds : tie.Need-loop-holds Inv-loop μ-loop
 loop-holds c =
@@ -75,7 +75,7 @@ loop-again c =
       rw (w .7) (simp length-set (l .inv .2)),
       rw (w .8, w .9) (l .inv .3),
       rw (w .10, w .6 .ensures .0) (omega arith, b ∙ w .0 .taken),
-      rw (w .10) (w .6 .ensures .1 (a .s) _ (settles-more (a .s) (l .i) (l .two .last) (l .inv .4)) (settles-more (a .s) (l .i) (l .two .other) (l .inv .5))),
+      rw (w .10) (w .6 .ensures .1 (a .s) _ (settles-more (a .s) (l .i) (l .two .newer) (l .inv .4)) (settles-more (a .s) (l .i) (l .two .older) (l .inv .5))),
       λ S A.
           let f : AsBefore (a .s) (plant h) (l .i) (As (w .3 .given .0 .0)) = rw (w .3 .given .1) at (w .1 .ensures) in
           rw (w .7) (filled-set _ _ _ (l .positions) (pos 0) (l .i) (l .inv .6 S A) (omega arith) (b ∙ w .0 .taken)
@@ -89,7 +89,7 @@ loop-again c =
       rw (w .11) (simp length-set (l .inv .2)),
       rw (w .12, w .13) (toZ-ofZ (record { sfits = w .9 .ok }) ∙ w .9 .ensures .1),
       rw (w .14, w .10 .ensures .0) (omega arith, b ∙ w .0 .taken),
-      rw (w .14) (w .10 .ensures .1 (a .s) _ (settles-more (a .s) (l .i) (l .two .last) (l .inv .4)) (settles-more (a .s) (l .i) (l .two .other) (l .inv .5))),
+      rw (w .14) (w .10 .ensures .1 (a .s) _ (settles-more (a .s) (l .i) (l .two .newer) (l .inv .4)) (settles-more (a .s) (l .i) (l .two .older) (l .inv .5))),
       λ S A. rw (w .11) (filled-set _ _ _ (l .positions) (pos 0) (l .i) (l .inv .6 S A) (omega arith) (b ∙ w .0 .taken)
           (toZ-ofZ (record { sfits = w .9 .ok }) ∙ w .9 .ensures .0 ∙ settled-here (a .s) (plant h) (l .i) S A (w .6 .ensures))),
     ))
@@ -98,8 +98,8 @@ loop-again c =
       l .inv .1,
       rw (w .1) (l .inv .2),
       rw (w .2, w .3) (l .inv .3),
-      rw (w .4) (settles-more (a .s) (l .i) (l .two .last) (l .inv .4)),
-      rw (w .4) (settles-more (a .s) (l .i) (l .two .other) (l .inv .5)),
+      rw (w .4) (settles-more (a .s) (l .i) (l .two .newer) (l .inv .4)),
+      rw (w .4) (settles-more (a .s) (l .i) (l .two .older) (l .inv .5)),
       λ S A. rw (w .1) (filled-passed _ _ _ (l .i) (l .inv .6 S A) (b ∙ w .0 .left)),
     ))
     v)

@@ -1,4 +1,4 @@
--- `ring_play::shared::position_counted` meets its contract: a receiver with the codes that the last position was settled from settles that one. Else the counts, and the lists that
+-- `ring_play::shared::position_counted` meets its contract: a receiver with the codes that the earlier position was settled from settles that one. Else the counts, and the lists that
 -- are needed with its confessions, decide its entries.
 use mathlib.Core.Path.{_≡_, ap, sym, _∙_}
 use mathlib.Core.List.{List}
@@ -11,7 +11,7 @@ use borrow.Author.Needs.{needs}
 use Rattle.marks.specs.Marks.{countBelow}
 use Rattle.ring_play.specs.Inner.Codes.{entryOf, codeTaken}
 use Rattle.ring_play.specs.Inner.Told.{settledBy, settledAt, neededHere, takenHere}
-use Rattle.ring_play.proofs.shared.Settling.{settled-entries, codes-alike, last-at}
+use Rattle.ring_play.proofs.shared.Settling.{settled-entries, codes-alike, earlier-at}
 use Rattle.ring_play.proofs.shared.position_counted.Statement.{statement}
 use Rattle.ring_play.proofs.shared.position_counted.Tie as tie
 
@@ -47,7 +47,7 @@ returns c =
     let t = l .before .before .before in
     let a = start t .args in
     let alike = codes-alike (a .s) (own t) (now (a .settled)) (λ j q. t .trust-codes .ensures .1 (l .before .before .if1 .taken) j (omega (arith, played t .head-count .ensures))) in
-    let e = toZ-ofZ (record { sfits = c .known-told .given .0 .1 }) ∙ last-at (a .s) (now (a .settled)) (l .last .given .1) (start t .pre) ∙ sym alike in
+    let e = toZ-ofZ (record { sfits = c .known-told .given .0 .1 }) ∙ earlier-at (a .s) (now (a .settled)) (l .earlier .given .1) (start t .pre) ∙ sym alike in
     (e ∙ own-taken t, e)
 
 returns-2 : tie.Need-returns-2
