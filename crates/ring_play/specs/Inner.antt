@@ -2,7 +2,7 @@
 pub mod Before
 pub mod Struck
 pub mod Collection
-pub mod Ends
+pub mod Sides
 pub mod Codes
 pub mod Votes
 pub mod Shares

@@ -16,8 +16,8 @@ ghost use Rattle.settle_midpoint.specs.Orders.{orderOf};
 ghost use Rattle.frame_slots.specs.Slots.{plantedIn};
 ghost use Rattle.ring_play.specs.Inner.Collection.{isPositionFrame, ownEntry, sentBy, heardOf, heardWith, Shared, positionFrom};
 use crate::Stage;
-use crate::ends;
 use crate::round;
+use crate::sides;
 use settle_midpoint::Order;
 use terms::Entry;
 use terms::Family;
@@ -217,9 +217,9 @@ fn position_for(
     ensures { λ r. ⌜ ((S : Shared s sent)
         → r ≡ positionFrom s (tableAt (tableOf (heads s) (heardWith s (S .entry) (plantedIn (now (planted .entry)) (now (lengths .entry))) i)))) ⌝ }
 {
-    let c = ends::count_ends(s, order, planted, lengths, i);
-    if ends::decides(s, order.len, c) {
-        return ends::position_inside(s, order, c);
+    let c = sides::count_sides(s, order, planted, lengths, i);
+    if sides::decides(s, order.len, c) {
+        return sides::position_inside(s, order, c);
     }
     let mut entries = sent.entries;
     let marks = list_for(s, sent.marks, planted, lengths, i, &mut entries);

@@ -3,9 +3,9 @@
 mod codes;
 mod collection;
 mod confession;
-mod ends;
 mod round;
 mod shared;
+mod sides;
 
 pub use collection::collect;
 pub use collection::conclude;

@@ -25,7 +25,7 @@ use texts::Line;
 use texts::Text;
 
 // The lowest and the highest position.
-pub struct Ends {
+pub struct Extremes {
     pub low: Entry,
     pub high: Entry,
 }
@@ -84,7 +84,7 @@ fn is_sound(n: u8, m: u8, struck: u64, j: usize) -> bool
 }
 
 // The lowest and the highest position of the heads and listeners that the mark word leaves.
-pub fn ends_of(n: u8, m: u8, struck: u64, positions: &Positions) -> Ends
+pub fn extremes_of(n: u8, m: u8, struck: u64, positions: &Positions) -> Extremes
     ensures { λ r. ⌜ LowestHighest receivers (endIn n m struck (now (positions .entry))) (r .low) (r .high) ⌝ }
 {
     let count = reach(n, m);
@@ -99,7 +99,7 @@ pub fn ends_of(n: u8, m: u8, struck: u64, positions: &Positions) -> Ends
         }
         j += 1;
     }
-    Ends { low, high }
+    Extremes { low, high }
 }
 
 // The position of the first head or listener that the mark word leaves.
@@ -136,9 +136,9 @@ pub fn level(n: u8, m: u8, struck: u64, positions: &mut Positions) -> bool
     ensures is { λ r. ⌜ r ≡ isAgreed (heldByAll (endIn n m struck (now (positions .entry)))) ⌝ }
     ensures becomes { λ _. ⌜ now (positions .exit) ≡ levelled (heldByAll (endIn n m struck (now (positions .entry)))) (now (positions .entry)) ⌝ }
 {
-    let ends = ends_of(n, m, struck, positions);
-    let low = ends.low;
-    let high = ends.high;
+    let extremes = extremes_of(n, m, struck, positions);
+    let low = extremes.low;
+    let high = extremes.high;
     let Entry::Position(a) = low else {
         return false;
     };
@@ -211,12 +211,12 @@ fn heads_of(marks: u64) -> u32
 }
 
 // The line of a phase end: its lowest and highest position, and the two mark words of which it prints the heads' bits.
-pub fn end_line(phase: u16, ends: Ends, collect: u64, confess: u64) -> Text
-    ensures { λ r. ⌜ bytesOf r ≡ fields phase (ends .low) (ends .high) (apart (ends .low) (ends .high)) collect confess ⌝ }
+pub fn end_line(phase: u16, extremes: Extremes, collect: u64, confess: u64) -> Text
+    ensures { λ r. ⌜ bytesOf r ≡ fields phase (extremes .low) (extremes .high) (apart (extremes .low) (extremes .high)) collect confess ⌝ }
     ensures { λ r. ⌜ r .len ≤ 64 ⌝ }
 {
-    let low = ends.low;
-    let high = ends.high;
+    let low = extremes.low;
+    let high = extremes.high;
     let mut bytes = [0u8; 64];
     let at = texts::put_number_at(&mut bytes, 0, phase as u32, b' ');
     let at = put_entry(&mut bytes, at, low);

@@ -17,7 +17,7 @@ use Rattle.run_state.specs.Memory.{Memory}
 use Rattle.run_piece.specs.Advances.{StateAt, Advances}
 use Rattle.run_stream.specs.declared.FillResult.{FillResult}
 use Rattle.run_stream.specs.Pages.{Fills, pageSize}
-use Rattle.run_stream.specs.Ends.{Ends}
+use Rattle.run_stream.specs.Finish.{Finishes}
 use Rattle.run_stream.proofs.Cutting.{shown-first}
 use Rattle.run_program.specs.declared.Stage.{Stage}
 use Rattle.run_program.specs.declared.Program.{Program}
@@ -174,7 +174,7 @@ module _ {a out : List ℕ} {p : Program} {piece page carry : List ℕ} {M : Mem
       }
 
   -- at the end
-  pub input-ended : {page′ : List ℕ} {M′ : Memory} (to : ℕ) → to ≤ pageSize → ((b c : List ℕ) → StateAt b (p .player) c M → Ends b M (take to page′) M′)
+  pub input-ended : {page′ : List ℕ} {M′ : Memory} (to : ℕ) → to ≤ pageSize → ((b c : List ℕ) → StateAt b (p .player) c M → Finishes b M (take to page′) M′)
       → AfterReading (a ++ []) out (programAt (p .player) Stage.Last 0 0 to) page′
   input-ended {page′} to room E =
       let e = E (P .played) carry (P .state) in

@@ -69,7 +69,7 @@ fn take_start(family: Family, p: Player, bytes: &[u8], positions: &mut Positions
     store_heads(&first, positions);
     RecordResult {
         player: run_state::fresh(true, family, n, fields::byte_at(bytes, 5)),
-        text: run_listing::end_line(0, run_listing::ends_of(n, 0, 0, positions), 0, 0),
+        text: run_listing::end_line(0, run_listing::extremes_of(n, 0, 0, positions), 0, 0),
     }
 }
 

@@ -18,7 +18,7 @@ use frame_slots::PlantedBytes;
 use frame_slots::PlantedLengths;
 use ring_play::Stage;
 use run_judge::HEAD_MARKS;
-use run_listing::Ends;
+use run_listing::Extremes;
 use run_state::Player;
 use terms::Family;
 use terms::Lists;
@@ -43,17 +43,17 @@ fn stage_of(p: Player) -> Stage
 }
 
 // The line of the phase that the pending round ends, by the lowest and the highest position at its end.
-fn line_with(p: Player, ends: Ends) -> Text
+fn line_with(p: Player, extremes: Extremes) -> Text
     ensures { λ r. ⌜ ((positions : List ℤ) → endsPhase (p .family) (p .given) ≡ true
-        → LowestHighest receivers (endIn (p .n) (p .listeners) (p .struck) positions) (ends .low) (ends .high) → bytesOf r ≡ lineOf p positions) ⌝ }
+        → LowestHighest receivers (endIn (p .n) (p .listeners) (p .struck) positions) (extremes .low) (extremes .high) → bytesOf r ≡ lineOf p positions) ⌝ }
     ensures { λ r. ⌜ r .len ≤ 64 ⌝ }
 {
     let family = p.family;
     let phase = run_state::phase_of(family, p.given);
     let struck = p.struck;
     match family {
-        Family::TwoRounds => run_listing::end_line(phase, ends, p.before, struck),
-        Family::OneRound => run_listing::end_line(phase, ends, struck, 0),
+        Family::TwoRounds => run_listing::end_line(phase, extremes, p.before, struck),
+        Family::OneRound => run_listing::end_line(phase, extremes, struck, 0),
     }
 }
 
@@ -68,7 +68,7 @@ fn line_of(p: Player, positions: &Positions) -> Text
     }
     line_with(
         p,
-        run_listing::ends_of(p.n, p.listeners, p.struck, positions),
+        run_listing::extremes_of(p.n, p.listeners, p.struck, positions),
     )
 }
 
@@ -114,11 +114,11 @@ pub fn play_agreed(p: Player, positions: &Positions) -> Text
         return texts::empty();
     }
     let held = run_listing::first_sound(p.n, p.listeners, p.struck, positions);
-    let ends = Ends {
+    let extremes = Extremes {
         low: held,
         high: held,
     };
-    line_with(p, ends)
+    line_with(p, extremes)
 }
 
 // Plays the pending round, and answers the line of the phase that it ends, if it ends one.

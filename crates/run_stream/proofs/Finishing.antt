@@ -26,7 +26,7 @@ use Rattle.run_round.specs.Played.{Played}
 use Rattle.run_piece.specs.Advances.{StateAt, Grown, none}
 use Rattle.run_piece.proofs.Growing.{next-grown}
 use Rattle.texts.proofs.Writing.{empty-text}
-use Rattle.run_stream.specs.Ends.{EndsWith}
+use Rattle.run_stream.specs.Finish.{EndsWith}
 use Rattle.run_stream.specs.Inner.{endingOf}
 use Rattle.run_round.proofs.Converging.{held-converges}
 use Rattle.run_piece.proofs.Feeding.{unshown}

@@ -7,7 +7,7 @@ use Rattle.run_spec.specs.Listing.{title, listing}
 use Rattle.run_state.specs.declared.Player.{Player}
 use Rattle.run_state.specs.Memory.{Memory}
 use Rattle.run_piece.specs.Advances.{StateAt, Advances}
-use Rattle.run_stream.specs.Ends.{Ends}
+use Rattle.run_stream.specs.Finish.{Finishes}
 
 -- the bytes a, fed piece by piece after the title, have shown these texts, one after the other
 pub data Cut : List ℕ → List ℕ → Player → List ℕ → Memory → Type 0 where
@@ -18,4 +18,4 @@ pub data Cut : List ℕ → List ℕ → Player → List ℕ → Memory → Type
 -- any cutting of any file
 abbrev pub AnyCutting : Type 0
 AnyCutting =
-    (a texts rest : List ℕ) (p : Player) (carry : List ℕ) (M M′ : Memory) → Cut a texts p carry M → Ends a M rest M′ → texts ++ rest ≡ listing a
+    (a texts rest : List ℕ) (p : Player) (carry : List ℕ) (M M′ : Memory) → Cut a texts p carry M → Finishes a M rest M′ → texts ++ rest ≡ listing a

@@ -1,5 +1,5 @@
--- Ends: the end of the file. Cutting: a file fed in any pieces. Pages: how much a page takes. Inner: of private functions.
-pub mod Ends
+-- Finish: the end of the file. Cutting: a file fed in any pieces. Pages: how much a page takes. Inner: of private functions.
+pub mod Finish
 pub mod Cutting
 pub mod Inner
 pub mod Pages

@@ -9,7 +9,7 @@ ghost use Rattle.run_state.specs.Memory.{memoryBefore, memoryAfter, Memory};
 ghost use Rattle.run_state.specs.Changes.{withPairPlanted};
 ghost use Rattle.run_piece.specs.Advances.{StateAt, AdvancesOnce, Advances};
 ghost use Rattle.run_piece.specs.Steps.{Used, Reads, Waits, Passes};
-ghost use Rattle.run_stream.specs.Ends.{Ends, EndsWith};
+ghost use Rattle.run_stream.specs.Finish.{Finishes, EndsWith};
 ghost use Rattle.run_stream.specs.Pages.{Fills, pageSize};
 ghost use Rattle.run_spec.specs.Listing.{title};
 ghost use Rattle.run_stream.specs.Inner.{endingOf, Follows};
@@ -348,7 +348,7 @@ pub fn last_page(
 ) -> usize
     ensures { λ r. ⌜ r ≤ pageSize ⌝ }
     ensures { λ r. ⌜ ((a carry : List ℕ) → StateAt a p carry (memoryBefore positions marks lists planted lengths)
-        → Ends a (memoryBefore positions marks lists planted lengths) (take r (now (page .exit))) (memoryAfter positions marks lists planted lengths)) ⌝ }
+        → Finishes a (memoryBefore positions marks lists planted lengths) (take r (now (page .exit))) (memoryAfter positions marks lists planted lengths)) ⌝ }
 {
     let end = finish(p, positions, marks, lists, planted, lengths);
     let line = end.line;

@@ -38,7 +38,7 @@ use Rattle.run_state.specs.State.{ringBefore, agreedBefore}
 use Rattle.run_state.specs.Counts.{CountsOf}
 use Rattle.run_piece.specs.Advances.{StateAt, AdvancesOnce}
 use Rattle.run_stream.specs.declared.FinishResult.{FinishResult}
-use Rattle.run_stream.specs.Ends.{ringAtEnd, EndsWith}
+use Rattle.run_stream.specs.Finish.{ringAtEnd, EndsWith}
 use Rattle.run_stream.proofs.Pieces.{rest, joined}
 use Rattle.run_stream.proofs.Cutting.{shown-first}
 use Rattle.run_whole.specs.declared.Place.{Place}

@@ -42,7 +42,7 @@ returns c =
     put-fits 9 (le-of-eq (hex-length 8 (h2 .heads-of2 .result) 10)) (omega (arith, p .room, low .room, high .room, wide .room, collect .room))
     (c .put-hex-at2 .ensures) in (
       from-empty refl (longer-then p (longer-then low (longer-then high (longer-then wide (longer-then collect confess)))))
-          ∙ fields-are (a .phase) (a .collect) (a .confess) (a .ends .low) (a .ends .high) (w .spread-of .ensures) (h1 .heads-of .ensures) (h2 .heads-of2 .ensures),
+          ∙ fields-are (a .phase) (a .collect) (a .confess) (a .extremes .low) (a .extremes .high) (w .spread-of .ensures) (h1 .heads-of .ensures) (h2 .heads-of2 .ensures),
       omega (arith, p .room, low .room, high .room, wide .room, collect .room, confess .room),
     )
 

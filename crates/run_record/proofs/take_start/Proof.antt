@@ -38,7 +38,7 @@ returns-2 c =
           rw (judged-taken (start K) F s e (t .if1 .left))
           (start-next s K begun (sym e ∙ t .if1 .left) (λ j b. h .store-heads .ensures j b ∙ d .first-positions .ensures j b)
           (f .fresh .ensures ∙ ap₂ (freshPlayer true K) (n .byte-at .ensures) (l .byte-at2 .ensures))
-          (text ∙ found-line (n .byte-at .result) 0 0 0 0 0 (h .store-heads .last .1 .0) (g .ends-of .ensures) ∙ ap (λ (m : ℕ). endLine m 0 0 (h .store-heads .last .1 .0) 0 0 0) (n .byte-at .ensures))
+          (text ∙ found-line (n .byte-at .result) 0 0 0 0 0 (h .store-heads .last .1 .0) (g .extremes-of .ensures) ∙ ap (λ (m : ℕ). endLine m 0 0 (h .store-heads .last .1 .0) 0 0 0) (n .byte-at .ensures))
           room),
       room,
     )

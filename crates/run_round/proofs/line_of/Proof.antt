@@ -17,7 +17,7 @@ returns-2 c =
     let t = c .before .before in
     let ends = sym (t .before .ends-phase .ensures) ∙ not-false _ (t .if1 .left) in
     let (text, room) = c .line-with .ensures in
-    (text _ ends (c .before .ends-of .ensures), room)
+    (text _ ends (c .before .extremes-of .ensures), room)
 
 pub line-of-spec : {M : Type 1} → statement M
 line-of-spec = tie.close (tie.spec (λ c κs. search needs) (λ c κs. search needs) returns (λ c κs. search needs) (λ c κs. search needs) returns-2)

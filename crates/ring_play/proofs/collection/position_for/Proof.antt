@@ -12,21 +12,21 @@ use Rattle.settle_midpoint.specs.declared.Order.{Order}
 use Rattle.frame_slots.specs.Slots.{plantedIn}
 use Rattle.ring_play.specs.Memory.{heads}
 use Rattle.ring_play.specs.Inner.Collection.{positionFrom}
-use Rattle.ring_play.proofs.ends.Counting.{counts-small}
-use Rattle.ring_play.proofs.ends.Settling.{order-small, settles-inside}
+use Rattle.ring_play.proofs.sides.Counting.{counts-small}
+use Rattle.ring_play.proofs.sides.Settling.{order-small, settles-inside}
 use Rattle.ring_play.proofs.collection.position_for.Statement.{statement}
 use Rattle.ring_play.proofs.collection.position_for.Tie as tie
 
 short : (s : tie.Start) → s .args .order .len ≤ 32
 short s = order-small (heads (s .args .s)) (tableAt (s .args .sent)) (omega arith) (s .pre .2)
 
-count-ends-requires : tie.Need-count-ends-requires
-count-ends-requires c κs = let s = c .before .before in (s .pre .0, short s)
+count-sides-requires : tie.Need-count-sides-requires
+count-sides-requires c κs = let s = c .before .before in (s .pre .0, short s)
 
 decides-requires : tie.Need-decides-requires
 decides-requires c κs =
     let s = c .before .before .before in
-    let h = counts-small _ _ _ (heads (s .args .s)) (c .count-ends .ensures) in
+    let h = counts-small _ _ _ (heads (s .args .s)) (c .count-sides .ensures) in
     (short s, omega (arith, h .0), omega (arith, h .1), omega (arith, h .2))
 
 position-inside-requires : tie.Need-position-inside-requires
@@ -40,7 +40,7 @@ returns c S =
     let a = s .args in
     toZ-ofZ (record { sfits = c .position-inside .ok })
     ∙ settles-inside (a .s) S (plantedIn (now (a .planted)) (now (a .lengths))) (a .i) (ap (λ (o : Order). o .len) (s .pre .2)) (ap (λ (o : Order). o .positions) (s .pre .2))
-    (n .count-ends .ensures) (d .decides .ensures (c .before .if1 .taken)) (c .position-inside .ensures)
+    (n .count-sides .ensures) (d .decides .ensures (c .before .if1 .taken)) (c .position-inside .ensures)
 
 aggregate : tie.Need-slice-aggregate-list-for
 aggregate c = let e : length (c .before .before .before .before .before .before .before .args .sent .entries) ≡ 32 = search needs in sym e
@@ -61,7 +61,7 @@ pub position-for-spec : {M : Type 1} → statement M
 position-for-spec =
     tie.close
     (tie.spec
-    count-ends-requires
+    count-sides-requires
     decides-requires
     position-inside-requires
     returns

@@ -1,4 +1,4 @@
--- `run_listing::ends_of` meets its contract: before receiver j the two entries are the lowest and the highest of those below j, and past the last turn there
+-- `run_listing::extremes_of` meets its contract: before receiver j the two entries are the lowest and the highest of those below j, and past the last turn there
 -- is no receiver.
 use mathlib.Core.Path.{_≡_, sym, _∙_}
 use mathlib.Core.Logic.{⊎-elim}
@@ -11,8 +11,8 @@ use borrow.Author.Needs.{needs}
 use Rattle.run_listing.specs.Held.{endIn}
 use Rattle.run_listing.specs.Heights.{LowestHighest}
 use Rattle.run_listing.proofs.Lowest.{found-none, found-struck, found-sound, found-all}
-use Rattle.run_listing.proofs.ends_of.Statement.{statement}
-use Rattle.run_listing.proofs.ends_of.Tie as tie
+use Rattle.run_listing.proofs.extremes_of.Statement.{statement}
+use Rattle.run_listing.proofs.extremes_of.Tie as tie
 
 abbrev Inv-loop : tie.InvT-loop
 Inv-loop n m struck positions count low₀ high₀ j₀ low high j = (j ≤ count) × LowestHighest j (endIn n m struck positions) low high
@@ -43,8 +43,8 @@ returns c =
     let e : l .j ≡ r .reach .result = omega arith in
     found-all (a .n) (a .m) (a .struck) (now (a .positions)) (l .inv .1) (rw e (r .reach .ensures))
 
-pub ends-of-spec : {M : Type 1} → statement M
-ends-of-spec =
+pub extremes-of-spec : {M : Type 1} → statement M
+extremes-of-spec =
     tie.close
     (tie.spec
     Inv-loop

@@ -20,9 +20,9 @@ use Rattle.convergence.specs.Settling.{isNull, nulls, ordered, lowKept, highKep
 use Rattle.terms.proofs.Sums.{bit-le, bit-yes, sum-one, sums-le}
 use Rattle.convergence.proofs.Order.{passes, gt-fails, KeptRange, kept-counts, length-ordered, in-order, in-order-at}
 use Rattle.settle_midpoint.specs.Answers.{settling}
-use Rattle.ring_play.specs.declared.ends.Counts.{Counts}
+use Rattle.ring_play.specs.declared.sides.Counts.{Counts}
 use Rattle.ring_play.specs.Memory.{positionOf}
-use Rattle.ring_play.specs.Inner.Ends.{tested, EndsCounted, EndsDecide}
+use Rattle.ring_play.specs.Inner.Sides.{tested, SidesCounted, SidesDecide}
 
 -- ---- counts tell what is kept
 
@@ -67,7 +67,7 @@ module _ (n : ℕ) (E : ℕ → Entry) where
       let w : high ≤ℤ y = meets y high c (K .from-high) (omega arith) in
       (omega arithZ, omega arithZ)
 
--- ---- positions planted at the ends
+-- ---- positions planted on the two sides
 
 tested-passes : (q : ℤ → Bool) (e : Entry) → tested q e ≡ passes q e
 tested-passes q Null = refl
@@ -99,7 +99,7 @@ module _ (n f : ℕ) (H P E : ℕ → Entry) (split : (q : ℤ → Bool) → Eac
   abbrev l : List ℤ
   l = ordered n H
 
-  module _ {c : Counts} (C : EndsCounted n P (getD l 0 (pos 0)) (getD l (length l - 1) (pos 0)) c) (D : EndsDecide n f (length l) c) where
+  module _ {c : Counts} (C : SidesCounted n P (getD l 0 (pos 0)) (getD l (length l - 1) (pos 0)) c) (D : SidesDecide n f (length l) c) where
     both : (q : ℤ → Bool) → sum n (λ j. passes q (H j)) + sum n (λ j. passes q (P j)) ≤ sum n (λ j. passes q (E j))
     both q =
         let h : ℕ → ℕ = λ j. passes q (H j) in

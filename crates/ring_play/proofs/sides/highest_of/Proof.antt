@@ -1,4 +1,4 @@
--- `ring_play::ends::highest_of` meets its contract: the last place of none is the first, as 0 - 1 is 0.
+-- `ring_play::sides::highest_of` meets its contract: the last place of none is the first, as 0 - 1 is 0.
 use mathlib.Core.Path.{_≡_, ap, _∙_}
 use Prim.Native.Nat.{ℕ, _-_}
 use native.Mathlib.Omega.{arith}
@@ -6,8 +6,8 @@ use lib.ListN.{getD}
 use lib.IntN.{pos}
 use mir.Facts.{toZ-ofZ}
 use borrow.Author.Needs.{needs}
-use Rattle.ring_play.proofs.ends.highest_of.Statement.{statement}
-use Rattle.ring_play.proofs.ends.highest_of.Tie as tie
+use Rattle.ring_play.proofs.sides.highest_of.Statement.{statement}
+use Rattle.ring_play.proofs.sides.highest_of.Tie as tie
 
 returns : tie.Need-returns
 returns c =

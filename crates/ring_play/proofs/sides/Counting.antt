@@ -19,10 +19,10 @@ use Rattle.marks.proofs.Counts.{byte-bit, sum-next}
 use Rattle.terms.specs.Counting.{sum}
 use Rattle.terms.proofs.Sums.{bit-le}
 use Rattle.ring_play.specs.declared.Stage.{Stage}
-use Rattle.ring_play.specs.declared.ends.Counts.{Counts}
+use Rattle.ring_play.specs.declared.sides.Counts.{Counts}
 use Rattle.ring_play.specs.Inner.Struck.{NextStruck}
 use Rattle.ring_play.specs.Inner.Collection.{heardOf}
-use Rattle.ring_play.specs.Inner.Ends.{plantedEntry, tested, countsWith, EndsCounted}
+use Rattle.ring_play.specs.Inner.Sides.{plantedEntry, tested, countsWith, SidesCounted}
 use Rattle.ring_play.proofs.round.Struck.{WalkedTo, walked}
 
 pub tested-le : (q : ℤ → Bool) (e : Entry) → tested q e ≤ 1
@@ -67,16 +67,16 @@ unfolding plantedEntry
 told-some s plant i k b = rw b
 
 module _ (E : ℕ → Entry) (lowest highest : ℤ) where
-  pub counts-none : EndsCounted 0 E lowest highest (record { all = 0; low = 0; high = 0 })
+  pub counts-none : SidesCounted 0 E lowest highest (record { all = 0; low = 0; high = 0 })
   unfolding sum
   counts-none = record { all = refl; low = refl; high = refl }
 
-  module _ (k : ℕ) {c : Counts} (h : EndsCounted k E lowest highest c) where
+  module _ (k : ℕ) {c : Counts} (h : SidesCounted k E lowest highest c) where
     pub counts-small : (c .all ≤ k) × (c .low ≤ k) × (c .high ≤ k)
     counts-small =
         (rw (h .all) (sum-tested-le k _ E), rw (h .low) (sum-tested-le k _ E), rw (h .high) (sum-tested-le k _ E))
 
-    pub counts-more : {e : Entry} → E k ≡ e → EndsCounted (k + 1) E lowest highest (countsWith lowest highest e c)
+    pub counts-more : {e : Entry} → E k ≡ e → SidesCounted (k + 1) E lowest highest (countsWith lowest highest e c)
     counts-more q =
         record {
           all = sum-next _ k (h .all) (ap (tested (λ u. true)) (sym q));
@@ -84,18 +84,18 @@ module _ (E : ℕ → Entry) (lowest highest : ℤ) where
           high = sum-next _ k (h .high) (ap (tested (λ u. leZ highest u)) (sym q));
         }
 
-    counts-passed : E k ≡ Null → EndsCounted (k + 1) E lowest highest c
+    counts-passed : E k ≡ Null → SidesCounted (k + 1) E lowest highest c
     unfolding sum
     counts-passed e = record { all = h .all ∙ next (λ u. true); low = h .low ∙ next (λ u. leZ u lowest); high = h .high ∙ next (λ u. leZ highest u) }
       where
         next : (q : ℤ → Bool) → sum k (λ j. tested q (E j)) ≡ sum (k + 1) (λ j. tested q (E j))
         next q = rw (add-one k) (omega (arith, ap (tested q) e))
 
-pub counts-walked : (s : Stage) (plant : ℕ → ℕ → List ℕ) (i : ℕ) {lowest highest : ℤ} {c : Counts} {k r : ℕ} → NextStruck s k r → EndsCounted k (plantedEntry s plant i) lowest highest c
-    → WalkedTo s (λ j. EndsCounted j (plantedEntry s plant i) lowest highest c) r
+pub counts-walked : (s : Stage) (plant : ℕ → ℕ → List ℕ) (i : ℕ) {lowest highest : ℤ} {c : Counts} {k r : ℕ} → NextStruck s k r → SidesCounted k (plantedEntry s plant i) lowest highest c
+    → WalkedTo s (λ j. SidesCounted j (plantedEntry s plant i) lowest highest c) r
 counts-walked s plant i {lowest} {highest} {c} h p =
-    walked s (λ j. EndsCounted j (plantedEntry s plant i) lowest highest c) h (λ j b q. counts-passed (plantedEntry s plant i) lowest highest j q (told-none s plant i j b)) p
+    walked s (λ j. SidesCounted j (plantedEntry s plant i) lowest highest c) h (λ j b q. counts-passed (plantedEntry s plant i) lowest highest j q (told-none s plant i j b)) p
 
 pub counts-as : {E : ℕ → Entry} {k n : ℕ} {lowest lowest′ highest highest′ : ℤ} {c : Counts} → k ≡ n → lowest ≡ lowest′ → highest ≡ highest′
-    → EndsCounted k E lowest highest c → EndsCounted n E lowest′ highest′ c
+    → SidesCounted k E lowest highest c → SidesCounted n E lowest′ highest′ c
 counts-as p q r h = rw (p, q, r) at h

@@ -8,7 +8,7 @@ ghost use lib.IntN.{pos, _+ℤ_};
 ghost use Rattle.terms.specs.Positions.{half, rounding};
 ghost use Rattle.frame_slots.specs.Slots.{plantedIn};
 ghost use Rattle.ring_play.specs.Memory.{heads};
-ghost use Rattle.ring_play.specs.Inner.Ends.{plantedEntry, countsWith, EndsCounted, EndsDecide};
+ghost use Rattle.ring_play.specs.Inner.Sides.{plantedEntry, countsWith, SidesCounted, SidesDecide};
 use crate::Stage;
 use crate::collection;
 use crate::round;
@@ -49,9 +49,15 @@ fn highest_of(order: Order) -> i32
 }
 
 // Counts what is planted to receiver i. `order`: the positions that all hear.
-pub(crate) fn count_ends(s: Stage, order: Order, planted: &[u8], lengths: &[u8], i: usize) -> Counts
+pub(crate) fn count_sides(
+    s: Stage,
+    order: Order,
+    planted: &[u8],
+    lengths: &[u8],
+    i: usize,
+) -> Counts
     requires { ⌜ (i < 48) × (order .len ≤ 32) ⌝ }
-    ensures { λ r. ⌜ EndsCounted (heads s) (plantedEntry s (plantedIn (now (planted .entry)) (now (lengths .entry))) i) (getD (order .positions) 0 (pos 0))
+    ensures { λ r. ⌜ SidesCounted (heads s) (plantedEntry s (plantedIn (now (planted .entry)) (now (lengths .entry))) i) (getD (order .positions) 0 (pos 0))
         (getD (order .positions) (order .len - 1) (pos 0)) r ⌝ }
 {
     let n = round::head_count(s) as usize;
@@ -74,7 +80,7 @@ pub(crate) fn count_ends(s: Stage, order: Order, planted: &[u8], lengths: &[u8],
 // Whether the counts decide what is kept, if all hear `len` positions. To answer no is free, and shows in the time alone.
 pub(crate) fn decides(s: Stage, len: usize, c: Counts) -> bool
     requires { ⌜ (len ≤ 32) × (c .all ≤ 32) × (c .low ≤ 32) × (c .high ≤ 32) ⌝ }
-    ensures { λ r. ⌜ (r ≡ true → EndsDecide (heads s) (s .f) len c) ⌝ }
+    ensures { λ r. ⌜ (r ≡ true → SidesDecide (heads s) (s .f) len c) ⌝ }
 {
     let n = round::head_count(s) as usize;
     let f = s.f as usize;
@@ -95,7 +101,7 @@ pub(crate) fn decides(s: Stage, len: usize, c: Counts) -> bool
 
 // The new position by the counts, if they decide.
 pub(crate) fn position_inside(s: Stage, order: Order, c: Counts) -> i32
-    requires { ⌜ (order .len ≤ 32) × EndsDecide (heads s) (s .f) (order .len) c ⌝ }
+    requires { ⌜ (order .len ≤ 32) × SidesDecide (heads s) (s .f) (order .len) c ⌝ }
     ensures { λ r. ⌜ r ≡ half (rounding (s .phase))
         (getD (order .positions) (s .f - c .low) (pos 0) +ℤ getD (order .positions) (order .len - 1 - (s .f - c .high)) (pos 0)) ⌝ }
 {

@@ -1,12 +1,12 @@
--- `ring_play::ends::decides` meets its contract: a test for each part, and no at the first that fails.
+-- `ring_play::sides::decides` meets its contract: a test for each part, and no at the first that fails.
 use mathlib.Core.Path.{sym}
 use mathlib.Core.Bool.{true≢false}
 use Prim.Native.Nat.{_+_, _*_}
 use native.Mathlib.Omega.{arith}
 use borrow.Author.Needs.{needs}
 use borrow.Author.Tests.{leb-true}
-use Rattle.ring_play.proofs.ends.decides.Statement.{statement}
-use Rattle.ring_play.proofs.ends.decides.Tie as tie
+use Rattle.ring_play.proofs.sides.decides.Statement.{statement}
+use Rattle.ring_play.proofs.sides.decides.Tie as tie
 
 returns-5 : tie.Need-returns-5
 returns-5 c e =

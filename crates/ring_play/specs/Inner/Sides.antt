@@ -1,4 +1,4 @@
--- What is planted to a receiver in a phase of one round, counted at both ends of the positions that all hear.
+-- What is planted to a receiver in a phase of one round, counted on both sides of the positions that all hear.
 use mathlib.Core.Path.{_≡_}
 use mathlib.Core.Bool.{Bool, true, cond}
 use mathlib.Core.List.{List}
@@ -10,7 +10,7 @@ use Rattle.terms.specs.declared.Entry.the-variants.{Null, Position}
 use Rattle.marks.specs.Marks.{bitOf}
 use Rattle.terms.specs.Counting.{sum, bit}
 use Rattle.ring_play.specs.declared.Stage.{Stage}
-use Rattle.ring_play.specs.declared.ends.Counts.{Counts}
+use Rattle.ring_play.specs.declared.sides.Counts.{Counts}
 use Rattle.ring_play.specs.Inner.Collection.{heardOf}
 
 -- what receiver i hears of head k, if it is struck
@@ -32,14 +32,14 @@ countsWith lowest highest e c =
     }
 
 -- of n entries
-pub record EndsCounted (n : ℕ) (E : ℕ → Entry) (lowest highest : ℤ) (c : Counts) : Type 0 where
+pub record SidesCounted (n : ℕ) (E : ℕ → Entry) (lowest highest : ℤ) (c : Counts) : Type 0 where
   pub all : c .all ≡ sum n (λ k. tested (λ u. true) (E k))
   pub low : c .low ≡ sum n (λ k. tested (λ u. leZ u lowest) (E k))
   pub high : c .high ≡ sum n (λ k. tested (λ u. leZ highest u) (E k))
 
--- Of n entries len are positions that all hear. No end has more than f planted ones, each planted one is at an end, and the nulls are few
--- enough. Then of the positions that all hear f, less those planted at an end, are dropped there.
-pub record EndsDecide (n f len : ℕ) (c : Counts) : Type 0 where
+-- Of n entries len are positions that all hear. No side has more than f planted ones, each planted one is on a side, and the nulls are few
+-- enough. Then of the positions that all hear f, less those planted on a side, are dropped there.
+pub record SidesDecide (n f len : ℕ) (c : Counts) : Type 0 where
   pub some : 2 * f < len
   pub few-low : c .low ≤ f
   pub few-high : c .high ≤ f

@@ -1,13 +1,13 @@
--- `ring_play::ends::position_inside` meets its contract: half of the sum of the two positions kept.
+-- `ring_play::sides::position_inside` meets its contract: half of the sum of the two positions kept.
 use mathlib.Core.Path.{_∙_}
 use Prim.Native.Nat.{_-_}
 use lib.ListN.{getD}
 use lib.IntN.{pos}
 use mir.Facts.{toZ-ofZ}
 use borrow.Author.Needs.{needs}
-use Rattle.ring_play.proofs.ends.Counting.{half-read}
-use Rattle.ring_play.proofs.ends.position_inside.Statement.{statement}
-use Rattle.ring_play.proofs.ends.position_inside.Tie as tie
+use Rattle.ring_play.proofs.sides.Counting.{half-read}
+use Rattle.ring_play.proofs.sides.position_inside.Statement.{statement}
+use Rattle.ring_play.proofs.sides.position_inside.Tie as tie
 
 returns : tie.Need-returns
 returns c =

@@ -22,7 +22,7 @@ ringAtEnd F = ringFrom (F .setup) (roundsPlayed F)
 
 -- the file ends after a, and the text that is left is shown: from the memory M to the memory M′, which is the same if no round was left to
 -- play
-pub record Ends (a : List ℕ) (M : Memory) (text : List ℕ) (M′ : Memory) : Type 0 where
+pub record Finishes (a : List ℕ) (M : Memory) (text : List ℕ) (M′ : Memory) : Type 0 where
   pub shows : listing a ≡ shown (readFile a) ++ text
   pub held : readFile a .setup .begun ≡ true → HeadsOf (readFile a .setup .n) (readFile a .setup .listeners) (agreedBefore (readFile a)) (ringAtEnd (readFile a)) M′
   pub unplayed : roundsPlayed (readFile a) ≡ readFile a .rounds .played → M′ ≡ M
@@ -32,7 +32,7 @@ pub record Ends (a : List ℕ) (M : Memory) (text : List ℕ) (M′ : Memory) : 
 -- 02, A10)
 pub record EndsWith (a : List ℕ) (M : Memory) (r : FinishResult) (M′ : Memory) : Type 0 where
   pub number : r .number ≡ ending (readFile a)
-  pub ends : Ends a M (bytesOf (r .line) ++ bytesOf (r .verdict)) M′
+  pub ends : Finishes a M (bytesOf (r .line) ++ bytesOf (r .verdict)) M′
   pub grown :
       Grown (readFile a .setup .n) (readFile a .setup .listeners) (endsSoFar (readFile a)) (endsPlayed (readFile a)) (ringAtEnd (readFile a)) (bytesOf (r .line))
   pub counts : CountsOf (readFile a .setup .family) (roundsPlayed (readFile a)) (r .since)

@@ -20,12 +20,12 @@ use Rattle.convergence.proofs.Order.{passes, length-ordered}
 use Rattle.settle_midpoint.specs.Orders.{padded, orderOf}
 use Rattle.settle_midpoint.specs.declared.Order.{Order}
 use Rattle.ring_play.specs.declared.Stage.{Stage}
-use Rattle.ring_play.specs.declared.ends.Counts.{Counts}
+use Rattle.ring_play.specs.declared.sides.Counts.{Counts}
 use Rattle.ring_play.specs.Memory.{heads}
 use Rattle.ring_play.specs.Inner.Collection.{heardOf, heardWith, Shared, positionFrom}
-use Rattle.ring_play.specs.Inner.Ends.{plantedEntry, EndsCounted, EndsDecide}
-use Rattle.ring_play.proofs.ends.Counting.{counts-as}
-use Rattle.ring_play.proofs.ends.Kept.{settled-inside}
+use Rattle.ring_play.specs.Inner.Sides.{plantedEntry, SidesCounted, SidesDecide}
+use Rattle.ring_play.proofs.sides.Counting.{counts-as}
+use Rattle.ring_play.proofs.sides.Kept.{settled-inside}
 
 padded-at : (l : List ℤ) (k : ℕ) → k < length l → getD (padded l) k (pos 0) ≡ getD l k (pos 0)
 unfolding padded
@@ -56,13 +56,13 @@ module _ (s : Stage) {t : Table} (S : Shared s t) (plant : ℕ → ℕ → List 
       go false e = omega arith
 
   pub settles-inside : {len : ℕ} {a : List ℤ} {c : Counts} {v : ℤ} → len ≡ length l → a ≡ padded l
-      → EndsCounted (heads s) (plantedEntry s plant i) (getD a 0 (pos 0)) (getD a (len - 1) (pos 0)) c → EndsDecide (heads s) (s .f) len c
+      → SidesCounted (heads s) (plantedEntry s plant i) (getD a 0 (pos 0)) (getD a (len - 1) (pos 0)) c → SidesDecide (heads s) (s .f) len c
       → v ≡ half (rounding (s .phase)) (getD a (s .f - c .low) (pos 0) +ℤ getD a (len - 1 - (s .f - c .high)) (pos 0)) → v ≡ positionFrom s heard
   unfolding positionFrom
   settles-inside {c = c} p q C D h =
-      let E : EndsDecide (heads s) (s .f) (length l) c = rw p at D in
+      let E : SidesDecide (heads s) (s .f) (length l) c = rw p at D in
       let some = E .some in
-      let B : EndsCounted (heads s) (plantedEntry s plant i) (getD l 0 (pos 0)) (getD l (length l - 1) (pos 0)) c =
+      let B : SidesCounted (heads s) (plantedEntry s plant i) (getD l 0 (pos 0)) (getD l (length l - 1) (pos 0)) c =
       counts-as refl (padded-at l 0 (omega arith)) (padded-at l (length l - 1) (omega arith)) (rw (p, q) at C) in
       rw (p, q) at h
       ∙ ap₂ (λ (x y : ℤ). half (rounding (s .phase)) (x +ℤ y)) (padded-at l (s .f - c .low) (omega arith)) (padded-at l (length l - 1 - (s .f - c .high)) (omega arith))

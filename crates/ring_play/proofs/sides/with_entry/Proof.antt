@@ -1,11 +1,11 @@
--- `ring_play::ends::with_entry` meets its contract: each arm is one case of the definition.
+-- `ring_play::sides::with_entry` meets its contract: each arm is one case of the definition.
 use mir.Syntax.{w32}
 use mir.Val.{toZ, ofZ}
 use lib.Signed.{leZ}
 use borrow.Author.Needs.{needs}
-use Rattle.ring_play.proofs.ends.Counting.{one-more-fits, with-null, with-position}
-use Rattle.ring_play.proofs.ends.with_entry.Statement.{statement}
-use Rattle.ring_play.proofs.ends.with_entry.Tie as tie
+use Rattle.ring_play.proofs.sides.Counting.{one-more-fits, with-null, with-position}
+use Rattle.ring_play.proofs.sides.with_entry.Statement.{statement}
+use Rattle.ring_play.proofs.sides.with_entry.Tie as tie
 
 add-t10 : tie.Need-add-t10
 add-t10 c =

@@ -1,4 +1,4 @@
--- `ring_play::ends::count_ends` meets its contract: before head k, what is planted by the struck heads below k is counted.
+-- `ring_play::sides::count_sides` meets its contract: before head k, what is planted by the struck heads below k is counted.
 use mathlib.Core.Path.{_≡_, sym, _∙_}
 use Prim.Native.Nat.{_-_}
 use native.Mathlib.Omega.{arith}
@@ -9,15 +9,15 @@ use denote.Ref.{now}
 use borrow.Author.Needs.{needs}
 use Rattle.frame_slots.specs.Slots.{plantedIn}
 use Rattle.ring_play.specs.Memory.{heads}
-use Rattle.ring_play.specs.Inner.Ends.{plantedEntry, EndsCounted}
+use Rattle.ring_play.specs.Inner.Sides.{plantedEntry, SidesCounted}
 use Rattle.ring_play.proofs.round.Struck.{WalkedTo}
-use Rattle.ring_play.proofs.ends.Counting.{told-some, counts-none, counts-small, counts-more, counts-walked, counts-as}
-use Rattle.ring_play.proofs.ends.count_ends.Statement.{statement}
-use Rattle.ring_play.proofs.ends.count_ends.Tie as tie
+use Rattle.ring_play.proofs.sides.Counting.{told-some, counts-none, counts-small, counts-more, counts-walked, counts-as}
+use Rattle.ring_play.proofs.sides.count_sides.Statement.{statement}
+use Rattle.ring_play.proofs.sides.count_sides.Tie as tie
 
 abbrev Inv-loop : tie.InvT-loop
 Inv-loop s planted lengths i n lowest highest c₀ k₀ c k =
-    WalkedTo s (λ j. EndsCounted j (plantedEntry s (plantedIn planted lengths) i) (toZ w32 lowest) (toZ w32 highest) c) k
+    WalkedTo s (λ j. SidesCounted j (plantedEntry s (plantedIn planted lengths) i) (toZ w32 lowest) (toZ w32 highest) c) k
 
 abbrev μ-loop : tie.MeasureT-loop
 μ-loop s planted lengths i n lowest highest c₀ k₀ c k = n - k
@@ -52,8 +52,8 @@ returns c =
     let e : l .k ≡ heads (o .before .before .before .before .before .args .s) = omega (arith, o .before .before .head-count .ensures) in
     counts-as e (toZ-ofZ (record { sfits = o .before .lowest .given })) (toZ-ofZ (record { sfits = o .highest-of .ok }) ∙ o .highest-of .ensures) (l .inv .2)
 
-pub count-ends-spec : {M : Type 1} → statement M
-count-ends-spec =
+pub count-sides-spec : {M : Type 1} → statement M
+count-sides-spec =
     tie.close
     (tie.spec
     Inv-loop
