@@ -86,8 +86,8 @@ extern "C" {
 /* Which interface this is. 1.14 has document 01, and of document 02 A1 to A14. A later one with the same first number has all of it. */
 #define FOCUS_VERSION_MAJOR 1
 #define FOCUS_VERSION_MINOR 14
-#define FOCUS_VERSION_PATCH 3
-#define FOCUS_VERSION_TEXT "1.14.3"
+#define FOCUS_VERSION_PATCH 4
+#define FOCUS_VERSION_TEXT "1.14.4"
 #define FOCUS_VERSION (FOCUS_VERSION_MAJOR * 10000 + FOCUS_VERSION_MINOR * 100 + FOCUS_VERSION_PATCH)
 
 /* No refusal: the version of the library that is linked, as FOCUS_VERSION is that of the header. */

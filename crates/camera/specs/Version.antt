@@ -3,4 +3,4 @@
 use Prim.Native.Nat.{ℕ, _+_, _*_}
 
 abbrev pub version : ℕ
-version = 10000 * 1 + 100 * 14 + 3
+version = 10000 * 1 + 100 * 14 + 4

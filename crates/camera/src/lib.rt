@@ -22,7 +22,7 @@ use terms::Family;
 pub extern "C" fn focus_version() -> u32
     ensures { λ r. ⌜ r ≡ version ⌝ }
 {
-    11403
+    11404
 }
 
 // The frame check: 0, 6, 7 or 8. The rest of an accepted frame starts at its byte 7.
