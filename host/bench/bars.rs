@@ -16,8 +16,8 @@ pub const FIRST_PHASE: (&str, f64) = ("(29,7) one round, quiet", 1.0 / 2.0);
 
 /// The name of a row, and its bar: in times of plain, and for limits and reach in times of the proved midpoint. A row that is not here has none.
 pub const BARS: [(&str, f64); 29] = [
-    ("(5,1) struck, other heads in each round", 1.0 / 6.0),
-    ("(5,1) struck, the same heads in all rounds", 1.0 / 6.0),
+    ("(5,1) struck, other heads in each round", 1.0 / 7.0),
+    ("(5,1) struck, the same heads in all rounds", 1.0 / 7.0),
     ("(5,1) quiet", 1.0 / 25.0),
     ("(32,8) quiet", 1.0 / 350.0),
     ("(32,8) struck, other heads in each round", 1.0 / 22.0),
