@@ -201,8 +201,8 @@ abbrev pub endSettled : Settled → Head → Closing
 endSettled (settled.Refused c) h = closing (Closed.Refused c) h
 endSettled (settled.New k) h = closing (Closed.Settled k) (closedPhase h k)
 
--- the end of a round in one step, closing and adopting together; last: the round is the last of its phase (P29, P31)
-abbrev pub endBy : Bool → Head → Closing
+-- the end of a round in one step, closing and adopting together; isLast: the round is the last of its phase (P29, P31)
+abbrev pub endBy : (isLast : Bool) (h : Head) → Closing
 endBy false h = closing Closed.Listed (closedCollection h)
 endBy true h = endSettled (settlingOf h) h
 
@@ -220,8 +220,8 @@ abbrev pub offerSettled : Settled → Head → Closing
 offerSettled (settled.Refused c) h = closing (Closed.Refused c) h
 offerSettled (settled.New k) h = closing (Closed.Settled k) h
 
--- closing; last: the round is the last of its phase (Q64)
-abbrev pub closeIn : Bool → Head → Closing
+-- closing; isLast: the round is the last of its phase (Q64)
+abbrev pub closeIn : (isLast : Bool) (h : Head) → Closing
 closeIn false h = closing Closed.Listed (closedCollection h)
 closeIn true h = offerSettled (settlingOf h) h
 

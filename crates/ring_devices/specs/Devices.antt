@@ -140,8 +140,8 @@ DevicesConverge =
 
 -- ---- and no call that a round asks for is refused
 
--- what closing answers; last: the round is the last of its phase. The list stands, or a position is offered
-abbrev pub ClosesUnrefused : Bool → Closed → Type 0
+-- what closing answers; isLast: the round is the last of its phase. The list stands, or a position is offered
+abbrev pub ClosesUnrefused : (isLast : Bool) (c : Closed) → Type 0
 ClosesUnrefused false c = c ≡ Closed.Listed
 ClosesUnrefused true c = (k : Kept) × (c ≡ Closed.Settled k)
 

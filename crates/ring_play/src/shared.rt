@@ -25,7 +25,7 @@ use terms::Numbers;
 use terms::Positions;
 use terms::Words;
 
-// What was settled earlier; none before the first.
+// The position that was settled before; none before the first.
 enum Earlier {
     None,
     At(i32),
@@ -89,8 +89,8 @@ fn need_after(need: u32, confessed: u32, n: usize) -> u32
     if all <= c { 0 } else { (all - c) as u32 }
 }
 
-// The position that a receiver settles, by what it counted, how many lists are needed of what all hear, and who confessed to it. `earlier` is
-// what was settled before, from the codes `settled`: a receiver with the same trusted entries settles the same.
+// The position that a receiver settles, by what it counted, how many lists are needed of what all hear, and who confessed to it. `earlier`
+// was settled before, from the codes `settled`: a receiver with the same trusted entries settles the same.
 fn position_counted(
     s: Stage,
     codes: &Numbers,
@@ -102,7 +102,7 @@ fn position_counted(
 ) -> i32
     requires { ⌜ EarlierOf s earlier (now settled) ⌝ }
     ensures position { λ r. ⌜ r ≡ settledBy s (takenHere s need (now (codes .entry)) (now (same .entry)) confessed) ⌝ }
-    ensures earlier { λ r. ⌜ r ≡ settledAt s (now (settled .exit)) ⌝ }
+    ensures codes { λ r. ⌜ r ≡ settledAt s (now (settled .exit)) ⌝ }
 {
     let n = round::head_count(s) as usize;
     let left = need_after(need, confessed, n);

@@ -83,12 +83,12 @@ abbrev pub mostRounds : Family → ℕ
 mostRounds TwoRounds = 131070
 mostRounds OneRound = 65535
 
--- after a round; last: it is the last of its phase
-abbrev pub phaseThen : Bool → ℕ → ℕ
+-- after a round; isLast: it is the last of its phase
+abbrev pub phaseThen : (isLast : Bool) (p : ℕ) → ℕ
 phaseThen false p = p
 phaseThen true p = p + 1
 
-abbrev pub roundThen : Bool → ℕ
+abbrev pub roundThen : (isLast : Bool) → ℕ
 roundThen false = 1
 roundThen true = 0
 

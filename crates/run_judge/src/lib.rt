@@ -171,16 +171,16 @@ pub fn strikes_fault(bytes: &[u8], m: u8) -> u8
 }
 
 // Whether a pair comes after the last of its round: by sender, then by receiver.
-fn comes_after(pair: Pair, from: u8, to: u8) -> bool
-    ensures { λ r. ⌜ r ≡ rises pair from to ⌝ }
+fn comes_after(previous: Pair, from: u8, to: u8) -> bool
+    ensures { λ r. ⌜ r ≡ rises previous from to ⌝ }
 {
-    if !pair.some {
+    if !previous.some {
         return true;
     }
-    if pair.from == from {
-        return pair.to < to;
+    if previous.from == from {
+        return previous.to < to;
     }
-    pair.from < from
+    previous.from < from
 }
 
 // Whether i is one of n heads or of m listeners.
@@ -198,8 +198,8 @@ pub fn is_receiver(n: u8, m: u8, i: usize) -> bool
 
 // Whether a pair may be planted: a sender among n heads that is struck, a receiver among them or m listeners that is not, after the last
 // pair.
-fn pair_fits(n: u8, m: u8, struck: u64, pair: Pair, from: u8, to: u8) -> bool
-    ensures { λ r. ⌜ r ≡ pairFits n m struck pair from to ⌝ }
+fn pair_fits(n: u8, m: u8, struck: u64, previous: Pair, from: u8, to: u8) -> bool
+    ensures { λ r. ⌜ r ≡ pairFits n m struck previous from to ⌝ }
 {
     if n <= from {
         return false;
@@ -213,16 +213,16 @@ fn pair_fits(n: u8, m: u8, struck: u64, pair: Pair, from: u8, to: u8) -> bool
     if marks::marked_wide(struck, to as usize) {
         return false;
     }
-    comes_after(pair, from, to)
+    comes_after(previous, from, to)
 }
 
 // A whole planted record, after the last pair of its round: 13.
-pub fn plant_fault(bytes: &[u8], n: u8, m: u8, struck: u64, pair: Pair) -> u8
-    ensures { λ r. ⌜ r ≡ plantFault n m struck pair (now (bytes .entry)) ⌝ }
+pub fn plant_fault(bytes: &[u8], n: u8, m: u8, struck: u64, previous: Pair) -> u8
+    ensures { λ r. ⌜ r ≡ plantFault n m struck previous (now (bytes .entry)) ⌝ }
 {
     let from = fields::byte_at(bytes, 4);
     let to = fields::byte_at(bytes, 5);
-    if pair_fits(n, m, struck, pair, from, to) {
+    if pair_fits(n, m, struck, previous, from, to) {
         return 0;
     }
     refusal::BAD_RUN_RECORD

@@ -40,22 +40,22 @@ Passes p bytes r planted lengths planted′ lengths′ =
 
 -- a planted record may come next: the player has no fault and no bytes of a record, and a round is pending, with these marks and this last
 -- pair
-pub record Waits (p : Player) (count number marks : ℕ) (planted : Pair) : Type 0 where
+pub record Waits (p : Player) (count number marks : ℕ) (previous : Pair) : Type 0 where
   pub sound : p .fault ≡ 0
   pub fresh : p .have ≡ 0
   pub pending : p .pending ≡ true
   pub n : p .n ≡ count
   pub listeners : p .listeners ≡ number
   pub struck : p .struck ≡ marks
-  pub pair : p .pair ≡ planted
+  pub pair : p .pair ≡ previous
 
 -- the size of the planted record that a piece begins with; 0 if it begins with no whole one
 abbrev pub plantSize : List ℕ → ℕ
 plantSize s = cond (eqb (at2 s 2) 0x12 && leb (lengthIn s) (length s) && isPlantLength (lengthIn s)) (lengthIn s) 0
 
 -- the same, but 0 if the record has a fault: of n heads and m listeners, in a round with the mark word struck, after the last planted pair
-abbrev pub plantPassed : (n m struck : ℕ) (pair : Pair) (s : List ℕ) → ℕ
-plantPassed n m struck pair s = cond (eqb (plantFault n m struck pair s) 0) (plantSize s) 0
+abbrev pub plantPassed : (n m struck : ℕ) (previous : Pair) (s : List ℕ) → ℕ
+plantPassed n m struck previous s = cond (eqb (plantFault n m struck previous s) 0) (plantSize s) 0
 
 -- whether the ring has agreed, nothing is planted in the pending round, and no record is cut or refused
 abbrev pub isSettled : Player → Bool

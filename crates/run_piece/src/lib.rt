@@ -184,21 +184,27 @@ pub fn pass_plant(
     n: u8,
     m: u8,
     struck: u64,
-    pair: Pair,
+    previous: Pair,
     rest: &[u8],
     planted: &mut PlantedBytes,
     lengths: &mut PlantedLengths,
 ) -> PlantResult
-    ensures { λ r. ⌜ r .used ≡ plantPassed n m struck pair (now (rest .entry)) ⌝ }
-    ensures { λ r. ⌜ ((p : Player) → Waits p n m struck pair → Passes p (now (rest .entry)) (record { player = withPairPlanted p (r .pair); used = r .used })
+    ensures { λ r. ⌜ r .used ≡ plantPassed n m struck previous (now (rest .entry)) ⌝ }
+    ensures { λ r. ⌜ ((p : Player) → Waits p n m struck previous → Passes p (now (rest .entry)) (record { player = withPairPlanted p (r .pair); used = r .used })
         (now (planted .entry)) (now (lengths .entry)) (now (planted .exit)) (now (lengths .exit))) ⌝ }
 {
     let used = plant_size(rest);
     if used == 0 {
-        return PlantResult { used: 0, pair };
+        return PlantResult {
+            used: 0,
+            pair: previous,
+        };
     }
-    if run_judge::plant_fault(rest, n, m, struck, pair) != 0 {
-        return PlantResult { used: 0, pair };
+    if run_judge::plant_fault(rest, n, m, struck, previous) != 0 {
+        return PlantResult {
+            used: 0,
+            pair: previous,
+        };
     }
     let next = run_record::plant_in(front(rest, used), planted, lengths);
     PlantResult { used, pair: next }

@@ -20,7 +20,7 @@ use Rattle.ring_play.specs.declared.Stage.{Stage}
 use Rattle.ring_play.specs.Memory.{heads, listeners, hears, isAway, settles, carries}
 
 -- the stage s and the planted bytes stand for round w of the ring R
-pub record Plays (n m f : ℕ) (R : Ring) (w : Round) (s : Stage) (plant : ℕ → ℕ → List ℕ) : Type 0 where
+pub record StagePlays (n m f : ℕ) (R : Ring) (w : Round) (s : Stage) (plant : ℕ → ℕ → List ℕ) : Type 0 where
   pub count : s .n ≡ n
   pub limit : s .f ≡ f
   pub phase : s .phase ≡ R .phase
@@ -31,7 +31,7 @@ pub record Plays (n m f : ℕ) (R : Ring) (w : Round) (s : Stage) (plant : ℕ �
   pub away : (i : ℕ) → 32 ≤ i → i < receivers → bitOf (s .away) (i - 32) ≡ bitOf (w .struck) i
   pub plants : (k i : ℕ) → k < 32 → k < n → i < receivers → plant k i ≡ planted (w .plants) k i
 
-module _ {K : Family} {n m f : ℕ} {R : Ring} {w : Round} {s : Stage} {plant : ℕ → ℕ → List ℕ} (P : Plays n m f R w s plant) (S : RingReady K n f R) where
+module _ {K : Family} {n m f : ℕ} {R : Ring} {w : Round} {s : Stage} {plant : ℕ → ℕ → List ℕ} (P : StagePlays n m f R w s plant) (S : RingReady K n f R) where
   pub heads-are : heads s ≡ n
   heads-are = omega (arith, P .count, S .size .most)
 

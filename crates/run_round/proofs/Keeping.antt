@@ -41,7 +41,7 @@ use Rattle.run_state.specs.Memory.{Memory}
 use Rattle.run_state.specs.Heads.{HeadsOf}
 use Rattle.entries.proofs.Tables.{table-same}
 use Rattle.frame_spec.proofs.Tables.{table-of-entries}
-use Rattle.run_round.proofs.Carried.{Plays, heads-are, hears-unstruck, settles-unstruck, said-same}
+use Rattle.run_round.proofs.Carried.{StagePlays, heads-are, hears-unstruck, settles-unstruck, said-same}
 
 -- a record holds one position at most
 pub one-position : {e : Entry} {u v : ℤ} → e ≡ Entry.Position u → e ≡ Entry.Position v → u ≡ v
@@ -92,7 +92,7 @@ settles-midpoint : (r n : ℕ) (z : Rule) (E : ℕ → Entry) → enough n z E �
 unfolding settling midpoint
 settles-midpoint r n z E e = rw e
 
-module _ {n m f : ℕ} {R : Ring} {w : Round} {s : Stage} {plant : ℕ → ℕ → List ℕ} (P : Plays n m f R w s plant)
+module _ {n m f : ℕ} {R : Ring} {w : Round} {s : Stage} {plant : ℕ → ℕ → List ℕ} (P : StagePlays n m f R w s plant)
     {A : Entry} {M : Memory} (H : HeadsOf n m A R M) where
   abbrev positions : List ℤ
   positions = M .positions
@@ -228,7 +228,7 @@ module _ (K : Family) (n m f : ℕ) (R : Ring) (w : Round) (M : Memory) where
 
 -- ---- a confession round
 
-module _ {n m f : ℕ} {R : Ring} {w : Round} {s : Stage} {plant : ℕ → ℕ → List ℕ} (P : Plays n m f R w s plant) {A : Entry} {M : Memory} (H : HeadsOf n m A R M)
+module _ {n m f : ℕ} {R : Ring} {w : Round} {s : Stage} {plant : ℕ → ℕ → List ℕ} (P : StagePlays n m f R w s plant) {A : Entry} {M : Memory} (H : HeadsOf n m A R M)
     (fresh : A ≡ Entry.Null) (D : Playable TwoRounds n f R) (few : AtMost f n (bitOf (w .struck))) (last : endsWith TwoRounds (R .round) ≡ true) where
   abbrev S : RingReady TwoRounds n f R
   S = D .ready
@@ -288,7 +288,7 @@ module _ {n m f : ℕ} {R : Ring} {w : Round} {s : Stage} {plant : ℕ → ℕ �
 
 -- ---- the round of a phase of one round
 
-module _ {n m f : ℕ} {R : Ring} {w : Round} {s : Stage} {plant : ℕ → ℕ → List ℕ} (P : Plays n m f R w s plant) {A : Entry} {M : Memory} (H : HeadsOf n m A R M)
+module _ {n m f : ℕ} {R : Ring} {w : Round} {s : Stage} {plant : ℕ → ℕ → List ℕ} (P : StagePlays n m f R w s plant) {A : Entry} {M : Memory} (H : HeadsOf n m A R M)
     (D : Playable OneRound n f R) (few : AtMost f n (bitOf (w .struck))) where
   abbrev S₁ : RingReady OneRound n f R
   S₁ = D .ready

@@ -38,7 +38,7 @@ use Rattle.run_state.specs.Heads.{HeadsOf}
 use Rattle.run_state.specs.State.{ringBefore, agreedBefore, PlayerOf, MemoryOf}
 use Rattle.run_round.specs.Played.{Played}
 use Rattle.run_round.specs.Inner.{stageOf, lineOf, ringPlayed, Kept}
-use Rattle.run_round.proofs.Carried.{Plays}
+use Rattle.run_round.proofs.Carried.{StagePlays}
 use Rattle.run_round.proofs.Keeping.{no-position, EndHeld, end-keeps, collection-keeps, collect-keeps, confess-ends, conclude-ends}
 use Rattle.run_round.proofs.Agreeing.{agreed-stays, agreed-end}
 use Rattle.run_round.proofs.Waiting.{given-number, ends-as, waiting-playable}
@@ -46,7 +46,7 @@ use Rattle.run_round.proofs.Shown.{no-line, last-line}
 
 -- by the family, whatever it is called
 module _ {n m f : ℕ} {R : Ring} {w : Round} {s : Stage} {plant : ℕ → ℕ → List ℕ} {A : Entry} {M : Memory} where
-  in-two : (K : Family) → K ≡ TwoRounds → Plays n m f R w s plant → HeadsOf n m A R M → A ≡ Null → Playable K n f R → AtMost f n (bitOf (w .struck))
+  in-two : (K : Family) → K ≡ TwoRounds → StagePlays n m f R w s plant → HeadsOf n m A R M → A ≡ Null → Playable K n f R → AtMost f n (bitOf (w .struck))
       → endsWith K (R .round) ≡ true → (M′ : Memory)
       → (Sayable s (M .marks) (M .lists) → (i : ℕ) → getD (M′ .positions) i (pos 0)
       ≡ cond (settles s i) (newPosition s (M .marks) (M .lists) plant i) (getD (M .positions) i (pos 0)))
@@ -55,7 +55,7 @@ module _ {n m f : ℕ} {R : Ring} {w : Round} {s : Stage} {plant : ℕ → ℕ �
       subst (λ (k : Family). EndHeld k n m f R w M′) (sym e)
       (confess-ends P H fresh (subst (λ (k : Family). Playable k n f R) e D) few (ap (λ (k : Family). endsWith k (R .round)) (sym e) ∙ last) M′ new)
 
-  in-one : (K : Family) → K ≡ OneRound → Plays n m f R w s plant → HeadsOf n m A R M → Playable K n f R → AtMost f n (bitOf (w .struck)) → (M′ : Memory)
+  in-one : (K : Family) → K ≡ OneRound → StagePlays n m f R w s plant → HeadsOf n m A R M → Playable K n f R → AtMost f n (bitOf (w .struck)) → (M′ : Memory)
       → (InRange s (M .positions) → (i : ℕ) → getD (M′ .positions) i (pos 0) ≡ cond (settles s i) (heardPosition s (M .positions) plant i) (getD (M .positions) i (pos 0)))
       → EndHeld K n m f R w M′
   in-one K e P H D few M′ new =
@@ -86,7 +86,7 @@ module _ {F : File} {p : Player} {s : Stage} {M : Memory}
   abbrev plant : ℕ → ℕ → List ℕ
   plant = plantedIn (M .planted) (M .lengths)
 
-  plays : Plays (F .setup .n) (F .setup .listeners) (F .setup .f) R (F .rounds .last) s plant
+  plays : StagePlays (F .setup .n) (F .setup .listeners) (F .setup .f) R (F .rounds .last) s plant
   plays =
       rw is
       record {

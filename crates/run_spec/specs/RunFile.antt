@@ -178,16 +178,16 @@ lastPair [] = record { some = false; from = 0; to = 0 }
 lastPair (x ∷ xs) = record { some = true; from = x .from; to = x .to }
 
 -- whether the pair k, i may come after the last one (P46)
-abbrev pub rises : Pair → ℕ → ℕ → Bool
-rises pair k i = not (pair .some) || (ltb (pair .from) k || eqb (pair .from) k && ltb (pair .to) i)
+abbrev pub rises : (previous : Pair) (k i : ℕ) → Bool
+rises previous k i = not (previous .some) || (ltb (previous .from) k || eqb (previous .from) k && ltb (previous .to) i)
 
 -- whether bytes may be planted from k to i, by who there is, who is struck, and the pair before (P46, P50, Q50, Q52)
-unfoldable pub pairFits : (n m struck : ℕ) (pair : Pair) (k i : ℕ) → Bool
-pairFits n m struck pair k i = ltb k n && isReceiver n m i && bitOf struck k && not (bitOf struck i) && rises pair k i
+unfoldable pub pairFits : (n m struck : ℕ) (previous : Pair) (k i : ℕ) → Bool
+pairFits n m struck previous k i = ltb k n && isReceiver n m i && bitOf struck k && not (bitOf struck i) && rises previous k i
 
 -- of n heads and m listeners, in a round with the mark word struck, after the last planted pair
-abbrev pub plantFault : (n m struck : ℕ) (pair : Pair) (s : List ℕ) → ℕ
-plantFault n m struck pair s = check (pairFits n m struck pair (senderIn s) (receiverIn s)) refusal.bad-run-record 0
+abbrev pub plantFault : (n m struck : ℕ) (previous : Pair) (s : List ℕ) → ℕ
+plantFault n m struck previous s = check (pairFits n m struck previous (senderIn s) (receiverIn s)) refusal.bad-run-record 0
 
 -- ---- a whole record: the number of its fault, 0 for none; 13, then 1, 2 or 18, 4, 14, 26
 

@@ -26,7 +26,7 @@ use Rattle.run_round.specs.Played.{Played}
 use Rattle.run_piece.specs.Advances.{StateAt, Grown, none}
 use Rattle.run_piece.proofs.Growing.{next-grown}
 use Rattle.texts.proofs.Writing.{empty-text}
-use Rattle.run_stream.specs.Finish.{EndsWith}
+use Rattle.run_stream.specs.Finish.{FinishesWith}
 use Rattle.run_stream.specs.Inner.{endingOf}
 use Rattle.run_round.proofs.Converging.{held-converges}
 use Rattle.run_piece.proofs.Feeding.{unshown}
@@ -67,13 +67,13 @@ module _ {a : List ℕ} {p : Player} {carry : List ℕ} {M : Memory} (L : StateA
       → (ws ≡ F .rounds .played → M′ ≡ M)
       → Grown (F .setup .n) (F .setup .listeners) (endsSoFar F) (cond (F .setup .begun) (endsFrom (F .setup) ws) []) (ringFrom (F .setup) ws) (bytesOf line)
       → CountsOf (F .setup .family) ws since
-      → EndsWith a M (record { number = n; line = line; verdict = v; since = since }) M′
+      → FinishesWith a M (record { number = n; line = line; verdict = v; since = since }) M′
   unfolding listingOf endsPlayed roundsPlayed
   ends {line} {v = t} ws e l i v K U G C =
       let whole : listingOf F ≡ shown F ++ bytesOf line ++ bytesOf t = rw (e, l, v, i, ends-by) in
       record {
         number = i ∙ sym ends-by;
-        ends =
+        finishes =
             record {
               shows = whole ∙ append-assoc (shown F) (bytesOf line) (bytesOf t);
               held = rw (← e) at K;
@@ -96,7 +96,7 @@ module _ {a : List ℕ} {p : Player} {carry : List ℕ} {M : Memory} (L : StateA
   pub ends-played : {line v : Text} {M′ : Memory} {n : ℕ} → n ≡ endingOf p → n ≡ 0 → p .pending ≡ true
       → bytesOf v ≡ verdict n → (F .setup .begun ≡ true → F .rounds .pending ≡ true → Played F line M′)
       → {since : List ℕ} → since ≡ countsPlayed p
-      → EndsWith a M (record { number = n; line = line; verdict = v; since = since }) M′
+      → FinishesWith a M (record { number = n; line = line; verdict = v; since = since }) M′
   unfolding shown roundsPlayed ringAfter
   ends-played {line} {n} e z w v P {since} counted =
       let begun = L .player .begun ∙ begun-by p (sym e ∙ z) in
@@ -110,7 +110,7 @@ module _ {a : List ℕ} {p : Player} {carry : List ℕ} {M : Memory} (L : StateA
 
   -- no round is played
   pub ends-unplayed : {line v : Text} {n : ℕ} → n ≡ endingOf p → (n ≡ 0 → p .pending ≡ false) → bytesOf v ≡ verdict n → line .len ≡ 0
-      → EndsWith a M (record { number = n; line = line; verdict = v; since = p .since }) M
+      → FinishesWith a M (record { number = n; line = line; verdict = v; since = p .since }) M
   unfolding shown roundsPlayed
   ends-unplayed {line} {n} e idle v empty =
       let same =

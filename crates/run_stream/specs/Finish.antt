@@ -30,9 +30,9 @@ pub record Finishes (a : List ℕ) (M : Memory) (text : List ℕ) (M′ : Memory
 
 -- and how it ends, with the text in two: the line of the last phase end, if the end plays one, and the last line; and the counts (document
 -- 02, A10)
-pub record EndsWith (a : List ℕ) (M : Memory) (r : FinishResult) (M′ : Memory) : Type 0 where
+pub record FinishesWith (a : List ℕ) (M : Memory) (r : FinishResult) (M′ : Memory) : Type 0 where
   pub number : r .number ≡ ending (readFile a)
-  pub ends : Finishes a M (bytesOf (r .line) ++ bytesOf (r .verdict)) M′
+  pub finishes : Finishes a M (bytesOf (r .line) ++ bytesOf (r .verdict)) M′
   pub grown :
       Grown (readFile a .setup .n) (readFile a .setup .listeners) (endsSoFar (readFile a)) (endsPlayed (readFile a)) (ringAtEnd (readFile a)) (bytesOf (r .line))
   pub counts : CountsOf (readFile a .setup .family) (roundsPlayed (readFile a)) (r .since)

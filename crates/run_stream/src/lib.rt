@@ -9,7 +9,7 @@ ghost use Rattle.run_state.specs.Memory.{memoryBefore, memoryAfter, Memory};
 ghost use Rattle.run_state.specs.Changes.{withPairPlanted};
 ghost use Rattle.run_piece.specs.Advances.{StateAt, AdvancesOnce, Advances};
 ghost use Rattle.run_piece.specs.Steps.{Used, Reads, Waits, Passes};
-ghost use Rattle.run_stream.specs.Finish.{Finishes, EndsWith};
+ghost use Rattle.run_stream.specs.Finish.{Finishes, FinishesWith};
 ghost use Rattle.run_stream.specs.Pages.{Fills, pageSize};
 ghost use Rattle.run_spec.specs.Listing.{title};
 ghost use Rattle.run_stream.specs.Inner.{endingOf, Follows};
@@ -196,7 +196,7 @@ pub fn finish(
 ) -> FinishResult
     ensures { λ r. ⌜ (r .line .len ≤ 64) × (r .verdict .len ≤ 64) ⌝ }
     ensures { λ r. ⌜ ((a carry : List ℕ) → StateAt a p carry (memoryBefore positions marks lists planted lengths)
-        → EndsWith a (memoryBefore positions marks lists planted lengths) r (memoryAfter positions marks lists planted lengths)) ⌝ }
+        → FinishesWith a (memoryBefore positions marks lists planted lengths) r (memoryAfter positions marks lists planted lengths)) ⌝ }
 {
     let number = ending(p);
     let verdict = run_listing::verdict_line(number);

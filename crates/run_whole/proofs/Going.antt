@@ -38,7 +38,7 @@ use Rattle.run_state.specs.State.{ringBefore, agreedBefore}
 use Rattle.run_state.specs.Counts.{CountsOf}
 use Rattle.run_piece.specs.Advances.{StateAt, AdvancesOnce}
 use Rattle.run_stream.specs.declared.FinishResult.{FinishResult}
-use Rattle.run_stream.specs.Finish.{ringAtEnd, EndsWith}
+use Rattle.run_stream.specs.Finish.{ringAtEnd, FinishesWith}
 use Rattle.run_stream.proofs.Pieces.{rest, joined}
 use Rattle.run_stream.proofs.Cutting.{shown-first}
 use Rattle.run_whole.specs.declared.Place.{Place}
@@ -303,7 +303,7 @@ module _ (s : List ℕ) {r : PlayResult} {B₀ B : Buffers} (number : r .number 
 
 module _ {file : List ℕ} {at : Place} {carry : List ℕ} {M : Memory} {B₀ B : Buffers} (G : Going file at carry M B₀ B) (all : at .used ≡ length file) where
   pub closes : {r : FinishResult} {M′ : Memory} {l l′ c : ℕ} {out out′ : List ℕ} {rows : List ℤ} {words : List ℕ} {some : Bool}
-      → EndsWith (take (at .used) file) M r M′ → r .line .len ≤ 64 → r .verdict .len ≤ 64
+      → FinishesWith (take (at .used) file) M r M′ → r .line .len ≤ 64 → r .verdict .len ≤ 64
       → Put (r .line) (at .len) l (B .out) out → some ≡ not (eqb (r .line .len) 0)
       → EndKept some (at .player .n) (at .player .listeners) (at .player .struck) (M′ .positions) (at .count) c (B .rows) (B .words) rows words
       → Put (r .verdict) l l′ out out′
@@ -320,10 +320,10 @@ module _ {file : List ℕ} {at : Place} {carry : List ℕ} {M : Memory} {B₀ B 
       → AtEnd (F .setup .n) (F .setup .listeners) x (ringAtEnd F) (at .player .struck) (M′ .positions) =
       λ x e z.
       let begun = begun-at F x _ e in
-      record { is = sym (last-struck F x e ∙ L .player .struck); held = last-held s begun (E .ends .held begun) z x e } in
+      record { is = sym (last-struck F x e ∙ L .player .struck); held = last-held s begun (E .finishes .held begun) z x e } in
       let (holds, small) = told-more (G .holds) room (G .small) short few {R = ringAtEnd F} ended P flag (rw (← L .player .n, ← L .player .listeners) at K) (E .grown) in
       let (len, put) = Q .puts short′ (omega (arith, out-long holds (omega (arith, holds .count, room .out)), holds .count, room .out)) in
       let whole =
       whole-told s {r = record { number = r .number; len = l′; ends = c; since = r .since }} {B₀ = B₀} {B = record { out = out′; rows = rows; words = words }} (E .number)
-      (rw (E .ends .shows ∙ sym (append-assoc (shown F) (bytesOf (r .line)) (bytesOf (r .verdict))), len) (told-put holds (bytesOf (r .verdict)) (r .verdict .len) (Q .long short′) put)) (E .counts) in
+      (rw (E .finishes .shows ∙ sym (append-assoc (shown F) (bytesOf (r .line)) (bytesOf (r .verdict))), len) (told-put holds (bytesOf (r .verdict)) (r .verdict .len) (Q .long short′) put)) (E .counts) in
       rw (← is) whole

@@ -21,7 +21,7 @@ use Rattle.settle_midpoint.specs.Call.{entriesGiven, listRefusal, midpointCall}
 use Rattle.settle_midpoint.specs.Answers.{settledEntry}
 use Rattle.terms.specs.declared.Family.{Family}
 use Rattle.settle_reach.specs.declared.Reached.{Reached}
-use Rattle.settle_reach.specs.Reach.{entryOpened, EntryBrings, Found}
+use Rattle.settle_reach.specs.Reach.{entrySet, EntryBrings, Found}
 
 -- whether the first n numbers of the bytes s fit in a list with these marks; the open entry j may be any, whatever its mark (Q97)
 unfoldable pub othersFit : (j marks : ℕ) (s : List ℕ) (n : ℕ) → Bool
@@ -41,7 +41,7 @@ checkReach K n f p j marks s rest =
 -- and then 25: "the open entry is not null when nulls are counted" (Q98)
 unfoldable pub reachRefusal : (K : Family) (n f phase j marks : ℕ) (entries : List ℕ) → ℕ
 reachRefusal K n f p j marks s =
-    checkReach K n f p j marks s (check (enough n (ruleOf K f) (entryOpened (entriesGiven n marks s) j (pos 0))) refusal.too-few-trusted 0)
+    checkReach K n f p j marks s (check (enough n (ruleOf K f) (entrySet (entriesGiven n marks s) j (pos 0))) refusal.too-few-trusted 0)
 
 -- what is answered: the number of the first check that fails, and else what is found for the wanted position x
 pub data ReachAnswer (K : Family) (n f p j marks : ℕ) (s : List ℕ) (x : ℤ) : Reached → Type 0 where
@@ -63,5 +63,5 @@ OutOfRange =
 abbrev pub MidpointReaches : Type 0
 MidpointReaches =
     (K : Family) (n f p j marks : ℕ) (s : List ℕ) (x u : ℤ) → ReachAnswer K n f p j marks s x (Reached.Set u)
-    → (marks′ : ℕ) (s′ : List ℕ) → listRefusal K n f p marks′ s′ ≡ 0 → Each n (λ k. entriesGiven n marks′ s′ k ≡ entryOpened (entriesGiven n marks s) j u k)
+    → (marks′ : ℕ) (s′ : List ℕ) → listRefusal K n f p marks′ s′ ≡ 0 → Each n (λ k. entriesGiven n marks′ s′ k ≡ entrySet (entriesGiven n marks s) j u k)
     → settledEntry (midpointCall K n f p marks′ s′) ≡ Position x

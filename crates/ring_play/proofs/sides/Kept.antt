@@ -122,7 +122,7 @@ module _ (n f : ℕ) (H P E : ℕ → Entry) (split : (q : ℤ → Bool) → Eac
           sums-le n (e ∷ p ∷ []) (h ∷ []) (λ j i. omega (arith, at j i)),
         )
 
-    -- a position among those that all hear: all planted at the low end are no higher, and all at the high end no lower
+    -- a position among those that all hear: all planted on the low side are no higher, and all on the high side no lower
     module _ (k : ℕ) (below : k < length l) where
       abbrev x : ℤ
       x = getD l k (pos 0)

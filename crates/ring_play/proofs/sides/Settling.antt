@@ -1,4 +1,4 @@
--- What a receiver hears are the positions that all hear, with what is planted where these have none. If the planted ones lie at the ends, it settles on the middle of
+-- What a receiver hears are the positions that all hear, with what is planted where these have none. If the planted ones lie outside, it settles on the middle of
 -- two positions that all hear.
 use mathlib.Core.Path.{_≡_, refl, ap, ap₂, _∙_}
 use mathlib.Core.Bool.{Bool, true, false, cond}

@@ -11,7 +11,7 @@ returns : tie.Need-returns
 returns c =
     let z = c .before in
     let a = z .before .before .args in
-    (passed-none (a .n) (a .m) (a .struck) (a .pair) (now (a .rest)) (sym (c .if1 .taken) ∙ z .plant-size .ensures), λ p W a carry M L. none-passed L W)
+    (passed-none (a .n) (a .m) (a .struck) (a .previous) (now (a .rest)) (sym (c .if1 .taken) ∙ z .plant-size .ensures), λ p W a carry M L. none-passed L W)
 
 returns-2 : tie.Need-returns-2
 returns-2 c = (rw (← c .before .plant-fault .ensures, ne-eqb _ _ (c .if2 .taken)), λ p W a carry M L. none-passed L W)

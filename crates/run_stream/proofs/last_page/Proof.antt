@@ -15,7 +15,7 @@ returns c =
     let (rooms, ends) = f .finish .ensures in
     let q = c .put2 .ensures in (
       omega (arith, p .put .ensures .0, q .0, rooms .0, rooms .1),
-      λ a carry L. rw (q .1 ∙ ap (λ (l : List ℕ). l ++ bytesOf (f .finish .result .verdict)) (p .put .ensures .1)) (ends a carry L .ends),
+      λ a carry L. rw (q .1 ∙ ap (λ (l : List ℕ). l ++ bytesOf (f .finish .result .verdict)) (p .put .ensures .1)) (ends a carry L .finishes),
     )
 
 pub last-page-spec : {M : Type 1} → statement M
