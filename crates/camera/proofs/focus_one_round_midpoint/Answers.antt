@@ -1,0 +1,12 @@
+-- `camera::focus_one_round_midpoint` meets its contract: it passes on what `midpoint` promises.
+use mathlib.Core.Path.{refl}
+use borrow.Author.Rules.{rules}
+use Rattle.terms.proofs.Refusals.{given_out}
+use Rattle.settle_midpoint.specs.Answers.{settled_number}
+use Rattle.camera.specs.Out.{settled_or}
+use Rattle.camera.proofs.focus_one_round_midpoint.Goals as goal
+
+pub returns : goal.returns
+returns c =
+    let put = c.put_position.ensures in
+    given_out settled_number settled_or put.0 put.1 c.midpoint.ensures refl

@@ -1,0 +1,8 @@
+-- `camera::focus_one_round_reach` meets its contract: it passes on what `reach` promises.
+use borrow.Author.Rules.{rules}
+use Rattle.camera.proofs.Lent.{position_lent}
+use Rattle.camera.proofs.focus_one_round_reach.Goals as goal
+
+pub returns : goal.returns
+returns c =
+    position_lent c.ranges.wanted c.reach.ensures c.put_reached.ensures

@@ -1,0 +1,15 @@
+-- `camera::put_position` meets its contract, case by case.
+use mathlib.Core.Path.{refl}
+use mir.Facts.{to_z-of_z}
+use borrow.Author.Rules.{rules}
+use Rattle.settle_midpoint.specs.Answers.{settled_number}
+use Rattle.camera.specs.Out.{settled_or}
+use Rattle.terms.proofs.Refusals.{given_out}
+use Rattle.camera.proofs.put_position.Goals as goal
+
+pub returns-in-Refused : goal.returns-in-Refused
+returns-in-Refused c = given_out settled_number settled_or refl refl refl c.in-Refused.is
+
+pub returns-in-New : goal.returns-in-New
+returns-in-New c =
+    given_out settled_number settled_or refl (to_z-of_z (record { sfits = c.struct_told-1.given.1.1.1.0.1 })) refl c.in-New.is

@@ -1,0 +1,16 @@
+-- `fields::copy_within` meets its contract: before each step the first j bytes are pasted, and as many are left over by eight of those to come as of all.
+use mathlib.Core.Path.{◌≡◌, refl, ◌∙◌, ap}
+use Prim.Native.Nat.{ℕ, ◌+◌, ◌-◌, ◌≤◌, ◌<◌, ◌%◌}
+use native.Mathlib.Nat.{mod-eq_of_lt, add-mod_right}
+use native.Mathlib.Omega.{arith}
+use lib.ListN.{length}
+use lib.Seq.{paste, paste-zero, length-paste}
+use borrow.Author.Rules.{rules}
+use Rattle.fields.proofs.Copying.{pasted_on}
+use Rattle.fields.proofs.copy_within.Given as goal
+
+abbrev pub invariant-loop-j : goal.invariant-loop-j
+invariant-loop-j l = (l.j ≤ length l.initial.s) × (length l.s ≡ length l.at) × (l.s ≡ paste l.at l.bytes l.initial.s l.j) × (length l.initial.s % 8 ≡ (length l.initial.s - l.j) % 8)
+
+abbrev pub decreases-loop-j : goal.decreases-loop-j
+decreases-loop-j l = length l.initial.s - l.j

@@ -1,0 +1,58 @@
+-- Each test reads what the definition's next check asks. At each return the tests before it held and, but at the last, the one that leads there failed.
+use mathlib.Core.Path.{◌≡◌, sym, ◌∙◌}
+use mathlib.Core.Bool.{true}
+use mathlib.Core.List.{List}
+use Prim.Native.Nat.{ℕ, ◌≤◌}
+use lib.Dec.{eqb}
+use lib.ListN.{length}
+use borrow.Author.Rules.{rules}
+use borrow.Author.Tests.{le-leb, lt-leb, eq-eqb, ne_eqb, not-true, not-false}
+use Rattle.terms.specs.Refusals as refusal
+use Rattle.terms.specs.Refusals.{check}
+use Rattle.fields.specs.Bytes.{at2}
+use Rattle.frame_check.specs.Check.{kind_of, is_known, length_of, length_field, count_field, check_frame, frame_refusal}
+use Rattle.frame_check.proofs.frame_refusal.Goals as goal
+
+-- the checks that are left once the length field is right
+left : (s : List ℕ) {stated kind : ℕ} → 4 ≤ length s → stated ≡ length_field s → stated ≡ length s → kind ≡ at2 s 2
+    → frame_refusal s ≡ check (is_known (kind_of kind)) refusal.unknown_kind (check (eqb (length s) (length_of (kind_of kind) (count_field s))) refusal.wrong_length_for_kind 0)
+unfolding check_frame
+left s l a b k = rw (le-leb 4 _ l, eq-eqb _ _ (sym a ∙ b), k)
+
+at_kind : (c : goal.After-half_at-kind)
+    → let s = c.args.frame.now in
+    let kind = c.half_at-kind.result in
+    frame_refusal s ≡ check (is_known (kind_of kind)) refusal.unknown_kind (check (eqb (length s) (length_of (kind_of kind) (count_field s))) refusal.wrong_length_for_kind 0)
+at_kind c =
+    left _ c.if-len-lt4.false c.half_at.ensures c.if-half_at-len.false c.half_at-kind.ensures
+
+-- the kind is known
+known : (c : goal.Else-not-is_known) → is_known (kind_of c.half_at-kind.result) ≡ true
+known c = sym c.is_known.ensures ∙ c.if-not-is_known.false
+
+-- all but the last check
+at_length : (c : goal.After-length_of)
+    → let s = c.args.frame.now in
+    frame_refusal s ≡ check (eqb (length s) c.length_of.result) refusal.wrong_length_for_kind 0
+at_length c =
+    rw (at_kind c.before.before.before.before, known c, ← c.byte_at.ensures, ← c.length_of.ensures)
+
+pub returns-then-len-lt4 : goal.returns-then-len-lt4
+unfolding check_frame
+returns-then-len-lt4 c = rw (lt-leb 4 _ c.if-len-lt4.true)
+
+pub returns-then-half_at-len : goal.returns-then-half_at-len
+unfolding check_frame
+returns-then-half_at-len c = rw (le-leb 4 _ c.if-len-lt4.false, ← c.half_at.ensures, ne_eqb _ _ c.if-half_at-len.true)
+
+pub returns-then-not-is_known : goal.returns-then-not-is_known
+returns-then-not-is_known c = rw (at_kind c.before.before, ← c.is_known.ensures, not-true c.is_known.result c.if-not-is_known.true-raw)
+
+pub length_of-requires : goal.length_of-requires
+length_of-requires c = known c
+
+pub returns-then-len-length_of : goal.returns-then-len-length_of
+returns-then-len-length_of c = rw (at_length c, ne_eqb _ _ c.if-len-length_of.true)
+
+pub returns : goal.returns
+returns c = rw (at_length c, eq-eqb _ _ c.if-len-length_of.false)

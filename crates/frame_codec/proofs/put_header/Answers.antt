@@ -1,0 +1,15 @@
+-- The four fields are written one behind the other, so that the front is then the header.
+use mathlib.Core.Path.{◌∙◌}
+use lib.ListN.{length-set}
+use Rattle.frame_spec.proofs.Fronts.{over_header}
+use borrow.Author.Rules.{rules}
+use Rattle.frame_codec.proofs.put_header.Goals as goal
+
+pub shape_of-buffer : goal.shape_of-buffer
+shape_of-buffer c =
+    c.put_half-3.auto.0 ∙ simp length-set (c.put_half-2.auto.0 ∙ c.put_half.auto.0)
+
+pub returns : goal.returns
+returns c =
+    let a = c.args in
+    over_header a.buffer.now a.size a.kind a.sender a.phase c.requires c.put_half.ensures c.put_half-2.ensures c.put_half-3.ensures

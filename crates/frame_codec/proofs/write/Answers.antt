@@ -1,0 +1,28 @@
+-- Each arm calls what writes the frame of what it matched. A refusal has the empty frame, which fits and changes nothing.
+use mathlib.Core.Path.{refl, ap, ◌∙◌}
+use mathlib.Core.List.{[]}
+use native.Mathlib.Omega.{arith}
+use mir.Facts.{to_z-of_z}
+use Rattle.frame_spec.specs.declared.Said.{Said}
+use Rattle.frame_spec.proofs.Fronts.{fits_front}
+use borrow.Author.Rules.{rules}
+use Rattle.frame_codec.proofs.write.Goals as goal
+
+pub returns-in-Refused : goal.returns-in-Refused
+returns-in-Refused c = rw c.in-Refused.is (fits_front [] c.args.buffer.now refl (omega arith) refl)
+
+pub returns-in-Null : goal.returns-in-Null
+returns-in-Null c =
+    rw (c.in-Collection.is ∙ ap Said.Collection c.in-Null.is) c.write_bare.ensures
+
+pub returns-in-Position : goal.returns-in-Position
+returns-in-Position c =
+    rw (c.in-Collection.is ∙ ap Said.Collection c.in-Position.is) (rw (to_z-of_z (record { sfits = c.known_told-in-Collection-1.given.0.1 })) at c.write_position.ensures)
+
+pub returns-in-List : goal.returns-in-List
+returns-in-List c =
+    rw c.in-List.is c.write_list.ensures
+
+pub returns-in-Confession : goal.returns-in-Confession
+returns-in-Confession c =
+    rw c.in-Confession.is c.write_bare-in-Confession.ensures

@@ -1,0 +1,17 @@
+-- The header is the whole frame; a buffer of fewer than seven bytes is left as it is.
+use mathlib.Core.Path.{refl}
+use mathlib.Core.List.{[]}
+use Rattle.frame_spec.specs.Written.{header}
+use Rattle.frame_spec.proofs.Fronts.{too_short, fits_front}
+use borrow.Author.Rules.{rules}
+use Rattle.frame_codec.proofs.write_bare.Goals as goal
+
+pub returns-then-buffer-lt7 : goal.returns-then-buffer-lt7
+returns-then-buffer-lt7 c =
+    let a = c.args in
+    too_short (header 7 a.kind a.sender a.phase []) a.buffer.now c.if-buffer-lt7.true
+
+pub returns : goal.returns
+returns c =
+    let a = c.args in
+    fits_front (header 7 a.kind a.sender a.phase []) a.buffer.now refl c.if-buffer-lt7.false c.put_header.ensures

@@ -1,0 +1,16 @@
+-- `frame_slots::wipe` meets its contract: before index s the first s lengths are 0.
+use mathlib.Core.Path.{◌≡◌}
+use mathlib.Core.List.{◌++◌}
+use Prim.Native.Nat.{◌-◌, ◌≤◌}
+use native.Mathlib.Omega.{arith}
+use lib.ListN.{length, drop, replicate}
+use borrow.Author.Fill.{fill_more}
+use borrow.Author.Rules.{rules}
+use Rattle.frame_slots.proofs.Slots.{wiped}
+use Rattle.frame_slots.proofs.wipe.Given as goal
+
+abbrev pub invariant-loop-s : goal.invariant-loop-s
+invariant-loop-s l = (l.s ≤ l.initial.lengths) × (length l.lengths ≡ length l.end) × (l.lengths ≡ replicate l.s 0 ++ drop l.s l.end)
+
+abbrev pub decreases-loop-s : goal.decreases-loop-s
+decreases-loop-s l = l.initial.lengths - l.s

@@ -1,0 +1,17 @@
+-- Word after word: after j turns the first j words are 0.
+use mathlib.Core.Path.{◌≡◌, refl, ap, sym, ◌∙◌}
+use mathlib.Core.List.{List}
+use Prim.Native.Nat.{ℕ, ◌-◌, ◌≤◌}
+use native.Mathlib.Omega.{arith}
+use lib.ListN.{length, get_or, length-set}
+use lib.Seq.{paste, paste-zero}
+use Rattle.head_c.specs.Blocks.{up_to}
+use Rattle.head_c.proofs.Copying.{up_to_long, up_to_at, copied}
+use borrow.Author.Rules.{rules}
+use Rattle.head_c.proofs.block.clear_links.Given as goal
+
+abbrev pub invariant-loop-j : goal.invariant-loop-j
+invariant-loop-j l = (l.j ≤ 34) × (length l.h ≡ length l.initial.h) × (l.h ≡ paste l.initial.h 58 blank l.j)
+
+abbrev pub decreases-loop-j : goal.decreases-loop-j
+decreases-loop-j l = 34 - l.j

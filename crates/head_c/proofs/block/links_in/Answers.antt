@@ -1,0 +1,21 @@
+-- Word after word: after k turns the first k mark words are there.
+use mathlib.Core.Path.{refl, sym}
+use Prim.Native.Nat.{◌+◌, ◌-◌, ◌≤◌}
+use native.Mathlib.Omega.{arith}
+use lib.ListN.{get_or}
+use Rattle.head_c.specs.Blocks.{up_to, head_of}
+use Rattle.head_c.proofs.Copying.{up_to_long, up_to_at, Filled, filled_none, filled_more, filled_all}
+use borrow.Author.Rules.{rules}
+use Rattle.head_c.proofs.block.links_in.Goals as goal
+
+pub loop-k-init : goal.loop-k-init
+loop-k-init c = (omega arith, filled_none _ _ refl)
+
+pub loop-k-preserved : goal.loop-k-preserved
+loop-k-preserved c =
+    let l = c.loop-k in
+    (omega arith, filled_more 0 l.invariant.1 (sym (up_to_at 32 _ l.k 0 (omega arith))) (omega arith) (up_to_long 32 _))
+
+pub returns : goal.returns
+unfolding head_of
+returns c = rw (filled_all c.loop-k.invariant.1 (omega arith) (up_to_long 32 _))

@@ -1,0 +1,19 @@
+-- Number after number: after j turns the first j words are there.
+use mathlib.Core.Path.{◌≡◌, refl, ap, sym, ◌∙◌}
+use Prim.Native.Nat.{◌-◌, ◌≤◌}
+use native.Mathlib.Omega.{arith}
+use lib.ListN.{length, length-set}
+use lib.Seq.{paste, paste-zero}
+use mir.Facts.{to_z-of_z}
+use Rattle.fields.specs.Bytes.{word_of}
+use Rattle.head_c.specs.Blocks.{words_of}
+use Rattle.head_c.proofs.Copying.{copied}
+use Rattle.head_c.proofs.Putting.{words_long, word_at}
+use borrow.Author.Rules.{rules}
+use Rattle.head_c.proofs.block.put_numbers.Given as goal
+
+abbrev pub invariant-loop-j : goal.invariant-loop-j
+invariant-loop-j l = (l.j ≤ 32) × (length l.h ≡ length l.from) × (l.h ≡ paste l.from l.numbers (words_of l.initial.h) l.j)
+
+abbrev pub decreases-loop-j : goal.decreases-loop-j
+decreases-loop-j l = 32 - l.j

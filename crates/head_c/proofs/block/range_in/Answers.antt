@@ -1,0 +1,20 @@
+-- A word that is not 0 says that a range is held.
+use mathlib.Core.Path.{◌≡◌, refl, ◌∙◌}
+use Prim.Native.Nat.{ℕ, zero, suc}
+use lib.IntN.{ℤ}
+use mir.Facts.{to_z-of_z}
+use Rattle.head_spec.specs.declared.LastKept.{LastKept}
+use Rattle.head_c.specs.Blocks.{range_in}
+use borrow.Author.Rules.{rules}
+use Rattle.head_c.proofs.block.range_in.Goals as goal
+
+held : (b : ℕ) {low high position low' high' position' : ℤ} (trim : ℕ) → (b ≡ 0 → ⊥) → low ≡ low' → high ≡ high' → position ≡ position'
+    → LastKept.Range (record { low = low; high = high; trim = trim; position = position }) ≡ range_in b low' high' trim position'
+held zero trim n p q r = absurd (n refl)
+held (suc b) trim n p q r = rw (p, q, r)
+
+pub returns : goal.returns
+returns c =
+    held c.args.ranged _ c.if-ranged-eq0.false (to_z-of_z (record { sfits = c.signed.type_inv }) ∙ c.signed.ensures)
+    (to_z-of_z (record { sfits = c.signed-2.type_inv }) ∙ c.signed-2.ensures)
+    (to_z-of_z (record { sfits = c.signed-3.type_inv }) ∙ c.signed-3.ensures)

@@ -1,0 +1,20 @@
+-- Entry by entry.
+use mathlib.Core.Path.{sym, ap, ◌∙◌}
+use lib.IntN.{pos}
+use mir.Syntax.{w32}
+use mir.Facts.{to_z-of_z}
+use Rattle.terms.specs.declared.Entry.{Entry}
+use Rattle.fields.specs.Bytes.{word_of}
+use Rattle.head_lent.specs.Answers.{held_or}
+use borrow.Author.Rules.{rules}
+use Rattle.head_c.proofs.block.word_of.Goals as goal
+
+pub returns-in-Null : goal.returns-in-Null
+unfolding word_of
+returns-in-Null c = search rules
+
+pub returns-in-Position : goal.returns-in-Position
+returns-in-Position c =
+    let k = c.known_told-1.given in
+    let v = to_z-of_z {w = w32} (record { sfits = k.0.1 }) in
+    c.unsigned.ensures ∙ ap word_of v ∙ ap (λ (e : Entry). word_of (held_or e (pos 0))) (sym c.in-Position.is)

@@ -1,0 +1,30 @@
+-- The kept range of the seat, if one is held.
+use mathlib.Core.Path.{◌≡◌, refl, ap, sym, ◌∙◌}
+use mathlib.Core.List.{List}
+use Prim.Native.Nat.{ℕ}
+use lib.IntN.{ℤ}
+use Rattle.settle_midpoint.proofs.Stored.{stored}
+use Rattle.head_spec.specs.declared.LastKept.{LastKept}
+use Rattle.head_spec.specs.declared.Seat.{Seat}
+use Rattle.head_lent.specs.Answers.{range_number, range_or}
+use Rattle.head_c.specs.Blocks.{head_of}
+use borrow.Author.Rules.{rules}
+use Rattle.head_c.proofs.focus_head_has_kept.Goals as goal
+
+-- s was read, and its range found to be x
+found : {s t : Seat} {x : LastKept} {n : ℕ} {v : List ℤ} (old : List ℤ) → s ≡ t → s.kept ≡ x → n ≡ range_number x → v ≡ range_or x old
+    → (n ≡ range_number t.kept) × (v ≡ range_or t.kept old)
+found old p q a b =
+    let same = sym q ∙ ap (λ (y : Seat). y.kept) p in
+    (a ∙ ap range_number same, b ∙ ap (λ (y : LastKept). range_or y old) same)
+
+pub returns-in-Nothing : goal.returns-in-Nothing
+unfolding head_of
+returns-in-Nothing c = let s = c in found _ s.seat-in.ensures c.in-Nothing.is refl refl
+
+pub returns-in-Range : goal.returns-in-Range
+unfolding head_of
+returns-in-Range c =
+    let told = c.type_inv.k in
+    found _ c.seat_in-seat.ensures c.in-Range.is refl
+    (stored _ (record { sfits = told.0.1 }) (record { sfits = told.1.0.1 }) (search rules) (record { sfits = told.1.1.1.0.1 }))

@@ -1,0 +1,17 @@
+-- The offer that stands, as it is read.
+use mathlib.Core.Path.{refl}
+use Rattle.settle_midpoint.proofs.Stored.{stored}
+use Rattle.terms.proofs.Refusals.{given_out}
+use Rattle.head_lent.specs.Answers.{offer_number, offer_or}
+use borrow.Author.Rules.{rules}
+use Rattle.head_c.proofs.focus_head_has_offer.Goals as goal
+
+pub returns-in-Nothing : goal.returns-in-Nothing
+returns-in-Nothing c = given_out offer_number offer_or refl refl c.offer_in.ensures c.in-Nothing.is
+
+pub returns-in-Standing : goal.returns-in-Standing
+returns-in-Standing c =
+    let told = c.type_inv.o in
+    given_out offer_number offer_or refl
+    (stored _ (record { sfits = told.0.1 }) (record { sfits = told.1.0.1 }) (search rules) (record { sfits = told.1.1.1.0.1 }))
+    c.offer_in.ensures c.in-Standing.is

@@ -1,0 +1,27 @@
+-- The position of the seat, if one is held.
+use mathlib.Core.Path.{◌≡◌, refl, ap, sym, ◌∙◌}
+use mir.Facts.{to_z-of_z}
+use lib.IntN.{ℤ}
+use Prim.Native.Nat.{ℕ}
+use Rattle.terms.specs.declared.Entry.{Entry}
+use Rattle.head_spec.specs.declared.Seat.{Seat}
+use Rattle.head_lent.specs.Answers.{held_number, held_or}
+use Rattle.head_c.specs.Blocks.{head_of}
+use borrow.Author.Rules.{rules}
+use Rattle.head_c.proofs.focus_head_has_position.Goals as goal
+
+-- s was read, and its position found to be e
+found : {s t : Seat} {e : Entry} {n : ℕ} {v : ℤ} (old : ℤ) → s ≡ t → s.position ≡ e → n ≡ held_number e → v ≡ held_or e old
+    → (n ≡ held_number t.position) × (v ≡ held_or t.position old)
+found old p q a b =
+    let same = sym q ∙ ap (λ (x : Seat). x.position) p in
+    (a ∙ ap held_number same, b ∙ ap (λ (x : Entry). held_or x old) same)
+
+pub returns-in-Null : goal.returns-in-Null
+unfolding head_of
+returns-in-Null c = let s = c in found _ s.seat-in.ensures c.in-Null.is refl refl
+
+pub returns-in-Position : goal.returns-in-Position
+unfolding head_of
+returns-in-Position c =
+    found _ c.seat_in-seat.ensures c.in-Position.is refl (to_z-of_z (record { sfits = c.known_told-1.given.0.1 }))

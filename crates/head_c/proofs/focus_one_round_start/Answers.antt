@@ -1,0 +1,7 @@
+-- A start in a ring of one round.
+use mir.Facts.{to_z-of_z}
+use borrow.Author.Rules.{rules}
+use Rattle.head_c.proofs.focus_one_round_start.Goals as goal
+
+pub returns : goal.returns
+returns c = rw (to_z-of_z c.ranges.position) at c.start_in.ensures

@@ -1,0 +1,31 @@
+-- Before entry j, the counts below j have one more if the two words are the same, and the others are as they were.
+use mathlib.Core.Bool.{Bool}
+use mathlib.Core.List.{List}
+use Prim.Native.Nat.{ℕ, ◌-◌}
+use native.Mathlib.Omega.{arith}
+use borrow.Author.Rules.{rules}
+use lib.ListN.{get_or}
+use Rattle.terms.specs.Positions.{eq_z}
+use Rattle.fields.specs.Bytes.{signed_of}
+use Rattle.settle_position.proofs.Counting.{AddedTo, added_none, added_small, added_next, added_all}
+use Rattle.head_c.proofs.Rows.{same_word}
+use Rattle.head_c.proofs.settle.add_same.Goals as goal
+
+abbrev same_at : List ℕ → List ℕ → ℕ → Bool
+same_at a b j = eq_z (signed_of (get_or a j 0)) (signed_of (get_or b j 0))
+
+pub loop-j-init : goal.loop-j-init
+loop-j-init c = added_none c.requires.2
+
+pub overflow_add-same : goal.overflow_add-same
+overflow_add-same c =
+    let j = c.loop-j.j in
+    omega (arith, added_small c.loop-j.invariant (omega arith) (same_word _ _ (c.type_inv.a j).fits (c.type_inv.b j).fits) c.requires.3)
+
+pub loop-j-preserved : goal.loop-j-preserved
+loop-j-preserved c =
+    let l = c.loop-j in
+    added_next l.invariant (omega arith) (same_word _ _ (c.type_inv.a l.j).fits (c.type_inv.b l.j).fits)
+
+pub returns : goal.returns
+returns c = added_all c.loop-j.invariant (omega arith)

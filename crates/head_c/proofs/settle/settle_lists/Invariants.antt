@@ -1,0 +1,26 @@
+-- Before entry j the order holds the positions among the trusted entries below j. After the last entry these are all that settling asks of the entries.
+use mathlib.Core.Path.{◌≡◌, refl, sym, ◌∙◌}
+use mathlib.Core.List.{[]}
+use Prim.Native.Nat.{ℕ, ◌-◌, ◌≤◌}
+use native.Mathlib.Omega.{arith}
+use lib.ListN.{length, get_or}
+use borrow.Author.Rules.{rules}
+use Rattle.terms.specs.declared.Entry.{Entry}
+use Rattle.convergence.specs.Trust.{trusted}
+use Rattle.settle_trust.specs.Received.{given_by}
+use Rattle.settle_trust.proofs.Received.{words}
+use Rattle.settle_trust.proofs.Trusted.{decided_marked, trusted_past}
+use Rattle.settle_midpoint.specs.Orders.{OrderAfter}
+use Rattle.settle_midpoint.proofs.Ordering.{order_long, order_none, order_next, order_all}
+use Rattle.settle_midpoint.proofs.Middle.{settling_after}
+use Rattle.settle_position.specs.Deciding.{Prepared}
+use Rattle.settle_position.proofs.Reference.{prepared}
+use Rattle.head_c.specs.Steps.{rows_in}
+use Rattle.head_c.proofs.settle.settle_lists.Given as goal
+
+abbrev pub invariant-loop-j : goal.invariant-loop-j
+invariant-loop-j l =
+    (l.j ≤ l.count) × (length l.cells ≡ 32) × ((E : ℕ → Entry) → Prepared E (rows_in l.h) l.marks (get_or (rows_in l.h) l.first []) l.same l.d → OrderAfter l.j E l.len l.positions)
+
+abbrev pub decreases-loop-j : goal.decreases-loop-j
+decreases-loop-j l = l.count - l.j

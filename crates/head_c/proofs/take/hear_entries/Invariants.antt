@@ -1,0 +1,19 @@
+-- Frame after frame: the record that the block is hears and answers them, and the block takes what hearing them changes.
+use mathlib.Core.Path.{◌≡◌, refl, ap, sym, ◌∙◌}
+use mathlib.Core.List.{List, [], ◌∷◌}
+use Prim.Native.Nat.{ℕ, ◌+◌, ◌-◌, ◌≤◌, ◌<◌}
+use native.Mathlib.Omega.{arith}
+use lib.ListN.{length, get_or, take, drop, drop_of_length-le}
+use borrow.Author.Rules.{rules}
+use Rattle.terms.specs.Refusals.{leaves}
+use Rattle.head_spec.specs.Calls.{said_to, hear, Delivery}
+use Rattle.head_spec.specs.Batch.{deliveries_of, cut_into}
+use Rattle.head_spec.proofs.BatchLoop.{Hearing, begins, ends, cut, fits, goes_on}
+use Rattle.head_c.specs.Blocks.{IsBlock, head_of, heard_in, Hears, heard_each}
+use Rattle.head_c.proofs.take.hear_entries.Given as goal
+
+abbrev pub invariant-loop-at : goal.invariant-loop-at
+invariant-loop-at l = Hearing (head_of l.batch) l.initial.h l.initial.answers (head_of l.h) l.answers l.at l.i × Changing l.batch l.initial.h l.h l.at
+
+abbrev pub decreases-loop-at : goal.decreases-loop-at
+decreases-loop-at l = length l.initial.h - l.at

@@ -1,0 +1,6 @@
+-- Arm by arm.
+use borrow.Author.Rules.{rules}
+use Rattle.head_calls.proofs.offers.offered.Goals as goal
+
+pub returns-in-Settled : goal.returns-in-Settled
+returns-in-Settled c = rw c.in-Settled.is

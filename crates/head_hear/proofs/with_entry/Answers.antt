@@ -1,0 +1,14 @@
+-- A null entry leaves the list, and a position goes to its place.
+use mathlib.Core.Path.{ap, sym, ◌∙◌}
+use mir.Syntax.{w32}
+use mir.Facts.{to_z-of_z}
+use Rattle.terms.specs.declared.Entry.{Entry}
+use Rattle.head_spec.specs.Calls.{with_entry}
+use borrow.Author.Rules.{rules}
+use Rattle.head_hear.proofs.with_entry.Goals as goal
+
+pub returns-in-Position : goal.returns-in-Position
+returns-in-Position c =
+    let a = c.args in
+    let v = to_z-of_z {w = w32} (record { sfits = c.known_told-1.given.0.1 }) in
+    c.with_position.ensures ∙ ap (λ (x : Entry). with_entry a.list a.k x) (ap Entry.Position v ∙ sym c.in-Position.is)

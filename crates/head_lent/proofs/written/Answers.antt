@@ -1,0 +1,19 @@
+-- `head_lent::written` meets its contract, case by case.
+use mathlib.Core.Path.{◌≡◌, refl}
+use borrow.Author.Rules.{rules}
+use Rattle.head_spec.specs.Calls.{write_buffer}
+use Rattle.head_lent.specs.Answers.{written_number, written_or}
+use Rattle.terms.proofs.Refusals.{given_with}
+use Rattle.head_lent.proofs.written.Goals as goal
+
+pub returns-in-Refused : goal.returns-in-Refused
+returns-in-Refused c =
+    let a = c.args in
+    given_with {P = c.write-answer.new.1.0 ≡ write_buffer a.h a.buffer.now} written_number written_or c.write-answer.ensures.1 refl refl c.write-answer.ensures.0
+    c.in-Refused.is
+
+pub returns-in-Length : goal.returns-in-Length
+returns-in-Length c =
+    let a = c.args in
+    given_with {P = c.write-answer.new.1.0 ≡ write_buffer a.h a.buffer.now} written_number written_or c.write-answer.ensures.1 refl refl c.write-answer.ensures.0
+    c.in-Length.is

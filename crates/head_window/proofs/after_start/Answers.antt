@@ -1,0 +1,10 @@
+-- A start that is refused leaves both.
+use mathlib.Core.Path.{sym}
+use Rattle.terms.proofs.Refusals.{unchanged, changed}
+use Rattle.head_window.proofs.after_start.Goals as goal
+
+pub returns-then-number-ne0 : goal.returns-then-number-ne0
+returns-then-number-ne0 c = unchanged _ _ _ c.if-number-ne0.true
+
+pub returns : goal.returns
+returns c = sym (changed _ _ _ c.if-number-ne0.false)

@@ -1,0 +1,7 @@
+-- Bit by bit.
+use borrow.Author.Rules.{rules}
+use Rattle.head_window.proofs.events_left.Goals as goal
+
+pub returns : goal.returns
+returns c =
+    rw (c.three.ensures, c.is_left-3.ensures, c.is_left-2.ensures, c.is_left.ensures)

@@ -1,0 +1,7 @@
+-- Bit by bit.
+use borrow.Author.Rules.{rules}
+use Rattle.head_window.proofs.low_bits.Goals as goal
+
+pub returns : goal.returns
+returns c =
+    rw (c.three.ensures, c.marked-3.ensures, c.marked-2.ensures, c.marked.ensures)

@@ -1,0 +1,14 @@
+-- Entry by entry.
+use mathlib.Core.Path.{sym, ap, ◌∙◌}
+use mir.Syntax.{w32}
+use mir.Facts.{to_z-of_z}
+use Rattle.fields.specs.Bytes.{word_of}
+use Rattle.head_window.specs.Window.{position_word}
+use borrow.Author.Rules.{rules}
+use Rattle.head_window.proofs.position_word.Goals as goal
+
+pub returns-in-Position : goal.returns-in-Position
+returns-in-Position c =
+    let k = c.known_told-1.given in
+    let v = to_z-of_z {w = w32} (record { sfits = k.0.1 }) in
+    c.unsigned.ensures ∙ ap word_of v ∙ ap position_word (sym c.in-Position.is)

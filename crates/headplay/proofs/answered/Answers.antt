@@ -1,0 +1,8 @@
+-- The offer lapses if nothing was refused.
+use mathlib.Core.Path.{ap}
+use borrow.Author.Rules.{rules}
+use Rattle.head_spec.specs.declared.Offer.{Offer}
+use Rattle.headplay.proofs.answered.Goals as goal
+
+pub returns : goal.returns
+returns c = let a = c.args.a in ap (λ (o : Offer). record { number = a.refusal; head = a.head; offer = o }) c.lapsed.ensures

@@ -1,0 +1,13 @@
+-- `hostpage::bits_of` meets its contract: only a NaN differs from itself.
+use borrow.Author.Rules.{rules}
+use Rattle.hostpage.proofs.Lines.{no_nan, nan_bits}
+use Rattle.hostpage.proofs.bits_of.Goals as goal
+
+pub float_to_bits-result : goal.float_to_bits-result
+float_to_bits-result c = no_nan c.args.x c.if-x.false
+
+pub returns-then-x : goal.returns-then-x
+returns-then-x c = nan_bits c.args.x c.if-x.true
+
+pub returns-else-x : goal.returns-else-x
+returns-else-x c = search rules

@@ -1,0 +1,17 @@
+-- `hostpage::page_length` meets its contract: before head k the total is the length of the page of the heads below k.
+use mathlib.Core.Path.{◌≡◌, sym, ap, ◌∙◌}
+use Prim.Native.Nat.{ℕ, ◌-◌, ◌*◌, ◌≤◌}
+use native.Mathlib.Omega.{arith}
+use lib.ListN.{length, get_or}
+use borrow.Author.Rules.{rules}
+use Rattle.reading.specs.declared.Reading.{Reading}
+use Rattle.texts.proofs.Writing.{text_long}
+use Rattle.hostpage.specs.Page.{reading_line, page_of}
+use Rattle.hostpage.proofs.Pages.{page_none, next_length}
+use Rattle.hostpage.proofs.page_length.Given as goal
+
+abbrev pub invariant-loop-k : goal.invariant-loop-k
+invariant-loop-k l = (l.k ≤ l.n) × (l.total ≡ length (page_of l.k l.readings)) × (l.total ≤ 64 * l.k)
+
+abbrev pub decreases-loop-k : goal.decreases-loop-k
+decreases-loop-k l = l.n - l.k

@@ -1,0 +1,17 @@
+-- `hostpage::put_page` meets its contract: before head k the page of the heads below k stands at the front of the buffer, and the rest is as it was.
+use mathlib.Core.Path.{◌≡◌, sym, ap, ◌∙◌}
+use Prim.Native.Nat.{ℕ, ◌+◌, ◌-◌, ◌≤◌}
+use native.Mathlib.Omega.{arith}
+use lib.ListN.{length, get_or}
+use borrow.Author.Rules.{rules}
+use Rattle.reading.specs.declared.Reading.{Reading}
+use Rattle.texts.specs.Texts.{bytes_of}
+use Rattle.hostpage.specs.Page.{reading_line, page_of}
+use Rattle.hostpage.proofs.Pages.{page_none, next_length, page_grows, front, front_none, front_next, front_is}
+use Rattle.hostpage.proofs.put_page.Given as goal
+
+abbrev pub invariant-loop-k : goal.invariant-loop-k
+invariant-loop-k l = (l.k ≤ l.n) × (length l.buffer ≡ length l.readings) × (l.at ≡ length (page_of l.k l.initial.buffer)) × (l.buffer ≡ front (page_of l.k l.initial.buffer) l.readings)
+
+abbrev pub decreases-loop-k : goal.decreases-loop-k
+decreases-loop-k l = l.n - l.k

@@ -1,0 +1,21 @@
+-- `reading::reading_of` meets its contract: of what is kept the two numbers are read back as they were held.
+use mathlib.Core.Path.{sym, ap, ◌∙◌}
+use lib.IntN.{ℤ}
+use mir.Syntax.{w32}
+use mir.Val.{SFits}
+use mir.Facts.{to_z-of_z}
+use borrow.Author.Rules.{rules}
+use Rattle.terms.proofs.Machine.{read}
+use Rattle.reading.specs.Readings.{reading_between, reading_of}
+use Rattle.reading.proofs.reading_of.Goals as goal
+
+pub returns-in-Range : goal.returns-in-Range
+returns-in-Range c =
+    let told = c.type_inv.kept in
+    let k = c.kept-1.given in
+    let low : SFits w32 k.0.0.low = record { sfits = told.0.1 } in
+    let high : SFits w32 k.0.0.high = record { sfits = told.1.0.1 } in
+    c.reading_between.ensures
+    ∙ ap (λ (z : ℤ). reading_between z (read w32 k.0.0.high)) (to_z-of_z low)
+    ∙ ap (reading_between k.0.0.low) (to_z-of_z high)
+    ∙ ap reading_of (sym k.1)

@@ -1,0 +1,15 @@
+-- `ring_play::codes::pick` meets its contract: before entry j, the codes below j are picked, and if nothing differed they are as they were; the later ones are.
+use Rattle.std.proofs.Common.{◌≡◌, ℕ, ◌-◌, ◌≤◌, Bool, true, cond, leb, length, get_or, ℤ, pos, sym, refl, ◌∙◌, ap₂, ⊎_elim, true≢false, arith, length-set, to_z-of_z, rules}
+use Rattle.terms.specs.Counting.{Each}
+use Rattle.ring_play.specs.Inner.Codes.{no_code, code_taken}
+use Rattle.ring_play.proofs.codes.Codes.{bits_same}
+use Rattle.ring_play.proofs.codes.Storing.{each_set, later_set}
+use Rattle.ring_play.proofs.codes.pick.Given as goal
+
+abbrev pub invariant-loop-j : goal.invariant-loop-j
+invariant-loop-j l =
+    (l.j ≤ l.n) × (length l.taken ≡ 32) × Each l.j (λ i. get_or l.taken i (pos 0) ≡ code_taken l.codes l.same l.need l.confessed i)
+    × ((i : ℕ) → l.j ≤ i → get_or l.taken i (pos 0) ≡ get_or l.initial.taken i (pos 0)) × (l.alike ≡ true → Each l.j (λ i. get_or l.taken i (pos 0) ≡ get_or l.initial.taken i (pos 0)))
+
+abbrev pub decreases-loop-j : goal.decreases-loop-j
+decreases-loop-j l = l.n - l.j

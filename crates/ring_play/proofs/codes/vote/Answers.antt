@@ -1,0 +1,32 @@
+-- `ring_play::codes::vote` meets its contract: before entry j, each entry below j has been voted at, and the others are as they were.
+use Rattle.std.proofs.Common.{◌≡◌, ℕ, ◌-◌, ◌≤◌, length, get_or, pos, refl, ◌∙◌, arith, length-set, to_z-of_z, rules}
+use Rattle.terms.specs.Counting.{Each}
+use Rattle.ring_play.specs.Inner.Votes.{Voted}
+use Rattle.ring_play.proofs.codes.Storing.{each_set_both, later_set}
+use Rattle.ring_play.proofs.codes.Votes.{voted}
+use Rattle.ring_play.proofs.codes.vote.Goals as goal
+
+pub loop-j-init : goal.loop-j-init
+loop-j-init c = (search rules, c.requires.1, c.requires.2, λ i l. absurd (omega arith), λ i l. refl, λ i l. refl)
+
+pub lead-requires : goal.lead-requires
+lead-requires c =
+    omega (arith, c.loop-j.invariant.5 c.loop-j.j (omega arith), c.requires.3 c.loop-j.j (omega arith))
+
+pub loop-j-preserved : goal.loop-j-preserved
+loop-j-preserved c =
+    let l = c.loop-j in
+    let a = c.args in (
+      search rules,
+      simp length-set l.invariant.1,
+      simp length-set l.invariant.2,
+      each_set_both (pos 0) 0 l.codes l.leads l.j _ _
+          (λ i x y. Voted (get_or a.row.now i (pos 0)) (get_or a.codes.now i (pos 0)) (get_or a.leads.now i 0) x y) (omega arith) (omega arith) l.invariant.3
+          (voted (to_z-of_z (record { sfits = c.x-1.given })) (to_z-of_z (record { sfits = c.c-1.given }) ∙ l.invariant.4 l.j (omega arith)) (l.invariant.5 l.j (omega arith))
+          (to_z-of_z (record { sfits = c.leader-v.type_inv }) ∙ c.leader-v.ensures) c.lead.ensures),
+      λ i q. later_set (pos 0) l.codes l.j _ i q ∙ l.invariant.4 i (omega arith),
+      λ i q. later_set 0 l.leads l.j _ i q ∙ l.invariant.5 i (omega arith),
+    )
+
+pub returns : goal.returns
+returns c = let l = c.loop-j in (l.invariant.1, l.invariant.2, λ j q. l.invariant.3 j (omega arith))

@@ -1,0 +1,21 @@
+-- `ring_play::confession::fill_positions` meets its contract: before receiver i, the unstruck ones below i have their new position, and all others the one they had.
+use Rattle.std.proofs.Common.{◌≡◌, ◌-◌, ◌≤◌, length, get_or, pos, sym, refl, ap, ◌∙◌, ⊎_elim, arith, length-set, to_z-of_z, rules}
+use Rattle.ring_play.specs.Memory.{settles}
+use Rattle.frame_slots.specs.Slots.{planted_in}
+use Rattle.settle_trust.specs.Received.{given_by}
+use Rattle.ring_play.specs.Inner.Planted.{given_or_planted, position_settled}
+use Rattle.ring_play.specs.Inner.Confession.{RowsKept}
+use Rattle.ring_play.proofs.round.Filling.{Filled, filled_none, filled_passed, filled_set, filled_all}
+use Rattle.ring_play.proofs.round.Receivers.{end_small, settles_below}
+use Rattle.ring_play.proofs.confession.Settling.{untold_kept, planted_kept}
+use Rattle.ring_play.proofs.confession.fill_positions.Given as goal
+
+abbrev pub invariant-loop-i : goal.invariant-loop-i
+invariant-loop-i l =
+    (l.i ≤ l.initial.positions) × (l.initial.positions ≤ 48) × (length l.positions ≡ 48)
+    × Filled (settles l.s) (λ j. position_settled l.s (given_or_planted l.s (given_by l.base l.end) (planted_in l.planted l.lengths) j))
+    (λ j. get_or l.initial.rows j (pos 0)) l.i (λ j. get_or l.positions j (pos 0))
+    × RowsKept l.base l.end l.rows
+
+abbrev pub decreases-loop-i : goal.decreases-loop-i
+decreases-loop-i l = l.initial.positions - l.i

@@ -1,0 +1,37 @@
+-- `ring_play::round::fill_same` meets its contract: before receiver i, the unstruck ones below i have the position, and all others the one they had.
+use Rattle.std.proofs.Common.{◌≡◌, ◌-◌, ◌≤◌, cond, length, get_or, ℤ, pos, sym, refl, ap, ◌∙◌, ⊎_elim, arith, length-set, to_z-of_z, w32, to_z, rules}
+use Rattle.ring_play.specs.Memory.{settles}
+use Rattle.ring_play.proofs.round.Filling.{Filled, filled_none, filled_passed, filled_set, filled_all}
+use Rattle.ring_play.proofs.round.Receivers.{end_small, settles_below}
+use Rattle.ring_play.proofs.round.fill_same.Goals as goal
+
+pub loop-i-init : goal.loop-i-init
+loop-i-init c =
+    (search rules, omega (arith, c.receiver_end-end.ensures, end_small c.args.s), search rules, filled_none _ _ _)
+
+pub loop-i-preserved : goal.loop-i-preserved
+loop-i-preserved c =
+    let l = c.loop-i in
+    let b = sym c.settles.ensures in
+    ⊎_elim
+    (λ w. (
+      search rules,
+      l.invariant.1,
+      rw w.1 (simp length-set l.invariant.2),
+      rw w.1 (filled_set _ _ _ l.positions (pos 0) l.i l.invariant.3 (omega arith) (b ∙ w.0.taken) refl),
+    ))
+    (λ w. (
+      search rules,
+      l.invariant.1,
+      rw w.1 l.invariant.2,
+      rw w.1 (filled_passed _ _ _ l.i l.invariant.3 (b ∙ w.0.left)),
+    ))
+    c.if-settles.branch
+
+pub returns : goal.returns
+returns c =
+    let l = c.loop-i in
+    let s = c.args.s in
+    λ i.
+    filled_all _ _ _ l.i (λ j t. omega (arith, settles_below s j t, c.receiver_end-end.ensures)) l.invariant.3 i
+    ∙ ap (λ (x : ℤ). cond (settles s i) x (get_or c.args.positions.now i (pos 0))) (to_z-of_z c.ranges.position)

@@ -1,0 +1,14 @@
+-- `ring_play::shared::count_planted` meets its contract: before head k, the struck heads below k gave what is planted.
+use Rattle.std.proofs.Common.{◌≡◌, ◌-◌, arith, rules}
+use Rattle.frame_slots.specs.Slots.{planted_in}
+use Rattle.ring_play.specs.Memory.{heads}
+use Rattle.ring_play.proofs.round.Struck.{WalkedTo}
+use Rattle.ring_play.proofs.shared.Counting.{counted_planted, PlantedTo, told_none, told_walked, told_heard}
+use Rattle.ring_play.proofs.shared.count_planted.Given as goal
+
+abbrev pub invariant-loop-k : goal.invariant-loop-k
+invariant-loop-k l =
+    WalkedTo l.s (λ j. PlantedTo l.s (planted_in l.planted l.lengths) l.i l.codes l.n j l.same l.confessed) l.k
+
+abbrev pub decreases-loop-k : goal.decreases-loop-k
+decreases-loop-k l = l.initial.same - l.k

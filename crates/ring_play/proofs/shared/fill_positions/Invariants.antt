@@ -1,0 +1,22 @@
+-- `ring_play::shared::fill_positions` meets its contract: before receiver i, each unstruck one below i has its new position, and `earlier` was settled from `settled`.
+use Rattle.std.proofs.Common.{◌≡◌, ℕ, ◌-◌, ◌≤◌, List, length, get_or, pos, sym, ◌∙◌, ⊎_elim, arith, length-set, to_z-of_z, rules}
+use Rattle.frame_slots.specs.Slots.{planted_in}
+use Rattle.ring_play.specs.Memory.{settles}
+use Rattle.ring_play.specs.Inner.Before.{SettlesBefore, AsBefore}
+use Rattle.ring_play.specs.declared.round.Before.TheVariants.{As}
+use Rattle.ring_play.proofs.round.Filling.{Filled, filled_none, filled_passed, filled_set, filled_had, filled_all}
+use Rattle.ring_play.proofs.round.Receivers.{end_small, settles_below, settles_more}
+use Rattle.ring_play.specs.Inner.Planted.{given_or_planted, position_settled, Alike}
+use Rattle.ring_play.specs.Inner.Told.{SharedBy, EarlierOf}
+use Rattle.ring_play.proofs.shared.Settling.{told_settled}
+use Rattle.ring_play.proofs.shared.Told.{settled_here}
+use Rattle.ring_play.proofs.shared.fill_positions.Given as goal
+
+abbrev pub invariant-loop-i : goal.invariant-loop-i
+invariant-loop-i l =
+    (l.i ≤ l.initial.positions) × (l.initial.positions ≤ 48) × (length l.positions ≡ 48) × EarlierOf l.s l.earlier l.settled × SettlesBefore l.s l.i l.two.newer × SettlesBefore l.s l.i l.two.older
+    × ((S : SharedBy l.s l.need l.codes l.counts) → Alike l.s S.given
+    → Filled (settles l.s) (λ j. position_settled l.s (given_or_planted l.s S.given (planted_in l.planted l.lengths) j)) (λ j. get_or l.end j (pos 0)) l.i (λ j. get_or l.positions j (pos 0)))
+
+abbrev pub decreases-loop-i : goal.decreases-loop-i
+decreases-loop-i l = l.initial.positions - l.i

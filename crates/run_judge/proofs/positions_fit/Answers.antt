@@ -1,0 +1,33 @@
+-- `run_judge::positions_fit` meets its contract. The loop's invariant: the first j positions fit. Where the next does not, no longer row fits either.
+use mathlib.Core.Path.{◌≡◌, refl, sym, ◌∙◌}
+use mathlib.Core.Bool.{true}
+use Prim.Native.Nat.{◌+◌, ◌-◌, ◌≤◌}
+use native.Mathlib.Omega.{arith}
+use borrow.Author.Rules.{rules}
+use borrow.Author.Tests.{not-true, not-false}
+use Rattle.run_spec.specs.RunFile.{positions_fit}
+use Rattle.run_judge.proofs.Positions.{fit_next, misfit}
+use Rattle.run_judge.proofs.positions_fit.Goals as goal
+
+-- the next position fits exactly if its word says so
+next : (c : goal.After-is_position_word) →
+    positions_fit c.args.bytes.now (c.loop-j.j + 1) ≡ c.is_position_word.result
+next c =
+    fit_next c.args.bytes.now c.loop-j.j c.loop-j.invariant.1 c.word_at.ensures c.is_position_word.ensures
+
+pub loop-j-init : goal.loop-j-init
+unfolding positions_fit
+loop-j-init c = (search rules, refl)
+
+pub returns-then-not-is_position_word : goal.returns-then-not-is_position_word
+returns-then-not-is_position_word c =
+    let a = c.args in
+    sym (misfit a.bytes.now (c.loop-j.j + 1) a.n (next c ∙ c.if-not-is_position_word.true) (omega arith))
+
+pub loop-j-preserved : goal.loop-j-preserved
+loop-j-preserved c = (search rules, next c ∙ c.if-not-is_position_word.false)
+
+pub returns : goal.returns
+returns c =
+    let e : c.loop-j.j ≡ c.args.n = omega arith in
+    sym (rw e at c.loop-j.invariant.1)

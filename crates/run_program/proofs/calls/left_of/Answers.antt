@@ -1,0 +1,12 @@
+-- `run_program::calls::left_of` meets its contract: it looks at what is asked for.
+use borrow.Author.Rules.{rules}
+use Rattle.run_program.proofs.calls.left_of.Goals as goal
+
+pub returns-in-Read : goal.returns-in-Read
+returns-in-Read c = rw (← c.ask_of.ensures, c.in-Read.is)
+
+pub returns-in-Write : goal.returns-in-Write
+returns-in-Write c = rw (← c.ask_of.ensures, c.in-Write.is) c.gap.ensures
+
+pub returns-in-Stop : goal.returns-in-Stop
+returns-in-Stop c = rw (← c.ask_of.ensures, c.in-Stop.is)

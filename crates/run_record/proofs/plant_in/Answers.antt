@@ -1,0 +1,16 @@
+-- Bytes 4 and 5 name the link, and those from 6 on are planted.
+use mathlib.Core.Bool.{true}
+use mathlib.Core.Path.{ap₂}
+use Prim.Native.Nat.{ℕ}
+use borrow.Author.Rules.{rules}
+use Rattle.run_spec.specs.declared.Pair.{Pair}
+use Rattle.run_record.proofs.plant_in.Goals as goal
+
+abbrev made : ℕ → ℕ → Pair
+made from to = record { some = true; from = from; to = to }
+
+pub returns : goal.returns
+returns c =
+    let from = c.byte_at-from.ensures in
+    let to = c.byte_at-to.ensures in
+    (ap₂ made from to, rw (← from, ← to, ← c.bytes_from-frame.ensures) c.plant.ensures)

@@ -1,0 +1,22 @@
+-- `run_record::play_waiting` meets its contract: what the player tells says whether a round is pending.
+use mathlib.Core.Path.{◌∙◌}
+use native.Mathlib.Omega.{arith}
+use borrow.Author.Rules.{rules}
+use borrow.Author.Tests.{not-true, not-false}
+use Rattle.run_record.proofs.Records.{played_turns, none_turns}
+use Rattle.run_record.proofs.play_waiting.Goals as goal
+
+pub returns-then-not-p : goal.returns-then-not-p
+returns-then-not-p c = (
+  λ a s begun T H. none_turns s (T.pending ∙ not-true _ c.if-not-p.true) begun H c.empty.ensures,
+  omega (arith, c.empty.ensures),
+)
+
+pub returns : goal.returns
+returns c =
+    let (played, room) = c.play_round.ensures in (
+      λ a s begun T H.
+          let pending = T.pending ∙ not-false _ c.if-not-p.false in
+          played_turns s begun pending (played a begun pending T H),
+      room,
+    )

@@ -1,0 +1,8 @@
+-- `run_record::refuse` meets its contract: all but the fault is as it was.
+use native.Mathlib.Omega.{arith}
+use borrow.Author.Rules.{rules}
+use Rattle.run_record.proofs.Records.{stopped_next}
+use Rattle.run_record.proofs.refuse.Goals as goal
+
+pub returns : goal.returns
+returns c = (λ F M T H. stopped_next T H c.stop.ensures c.empty.ensures, omega (arith, c.empty.ensures))

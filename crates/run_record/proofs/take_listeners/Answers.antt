@@ -1,0 +1,25 @@
+-- `run_record::take_listeners` meets its contract: a fault stops the file, and else the player has the number.
+use mathlib.Core.Path.{ap, ◌∙◌}
+use native.Mathlib.Omega.{arith}
+use borrow.Author.Rules.{rules}
+use Rattle.run_spec.specs.RunFile.{listeners}
+use Rattle.run_state.specs.Changes.{with_listeners_given}
+use Rattle.run_record.proofs.Records.{judged_stopped, judged_taken, listeners_next}
+use Rattle.run_record.proofs.take_listeners.Goals as goal
+
+pub returns-then-fault-ne0 : goal.returns-then-fault-ne0
+returns-then-fault-ne0 c =
+    let (next, room) = c.refuse.ensures in (
+      λ F M may T H. rw (judged_stopped listeners F _ _ c.listeners_fault-fault.ensures c.if-fault-ne0.true) (next F M T H),
+      room,
+    )
+
+pub returns : goal.returns
+returns c =
+    let x = c.args in
+    let s = x.bytes.now in (
+      λ F M may T H.
+          rw (judged_taken listeners F s c.listeners_fault-fault.ensures c.if-fault-ne0.false)
+          (listeners_next s may H T (c.given_listeners.ensures ∙ ap (with_listeners_given x.p) c.byte_at.ensures) c.empty.ensures),
+      omega (arith, c.empty.ensures),
+    )

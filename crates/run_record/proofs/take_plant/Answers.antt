@@ -1,0 +1,34 @@
+-- `run_record::take_plant` meets its contract: a fault stops the file, and else the bytes are planted on the link that the record names.
+use mathlib.Core.Path.{◌≡◌, ap, sym, ◌∙◌}
+use mathlib.Core.List.{List}
+use Prim.Native.Nat.{ℕ}
+use native.Mathlib.Omega.{arith}
+use borrow.Author.Rules.{rules}
+use Rattle.run_spec.specs.RunFile.{File, plant, plant_fault, record_fault}
+use Rattle.run_state.specs.declared.Player.{Player}
+use Rattle.run_state.specs.Changes.{with_pair_planted}
+use Rattle.run_state.specs.State.{PlayerOf}
+use Rattle.run_state.proofs.Told.{plant_fault_as}
+use Rattle.run_record.proofs.Records.{judged_stopped, judged_taken, plant_next}
+use Rattle.run_record.proofs.take_plant.Goals as goal
+
+-- its fault, by the player's numbers
+fault : {F : File} {p : Player} {c : ℕ} → PlayerOf p F → (s : List ℕ) → c ≡ plant_fault p.n p.listeners p.struck p.pair s → c ≡ record_fault plant F s
+fault T s e = e ∙ sym (plant_fault_as T s)
+
+pub returns-then-fault-ne0 : goal.returns-then-fault-ne0
+returns-then-fault-ne0 c =
+    let s = c.args.bytes.now in
+    let (next, room) = c.refuse.ensures in
+    (λ F M few T H. rw (judged_stopped plant F s _ (fault T s c.plant_fault-fault.ensures) c.if-fault-ne0.true) (next F _ T H), room)
+
+pub returns : goal.returns
+returns c =
+    let a = c.args in
+    let s = a.bytes.now in
+    let (pair, (_, (_, reads))) = c.plant_in-pair.ensures in (
+      λ F M few T H.
+          rw (judged_taken plant F s (fault T s c.plant_fault-fault.ensures) c.if-fault-ne0.false)
+          (plant_next s H few reads T (c.planted_pair.ensures ∙ ap (with_pair_planted a.p) pair) c.empty.ensures),
+      omega (arith, c.empty.ensures),
+    )

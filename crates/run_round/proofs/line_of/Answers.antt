@@ -1,0 +1,18 @@
+-- `run_round::line_of` meets its contract: nothing in a round that does not end its phase, else the line of the lowest and the highest.
+use mathlib.Core.Path.{sym, ◌∙◌}
+use native.Mathlib.Omega.{arith}
+use borrow.Author.Rules.{rules}
+use borrow.Author.Tests.{not-true, not-false}
+use Rattle.texts.proofs.Writing.{empty_text}
+use Rattle.run_round.proofs.line_of.Goals as goal
+
+pub returns-then-not-ends_phase : goal.returns-then-not-ends_phase
+returns-then-not-ends_phase c =
+    let opens = sym c.ends_phase.ensures ∙ c.if-not-ends_phase.true in
+    (rw opens (empty_text _ c.empty.ensures), omega (arith, c.empty.ensures))
+
+pub returns : goal.returns
+returns c =
+    let ends = sym c.ends_phase.ensures ∙ c.if-not-ends_phase.false in
+    let (text, room) = c.line_with.ensures in
+    (text _ ends c.extremes_of.ensures, room)

@@ -1,0 +1,6 @@
+-- `run_round::stage_of` meets its contract: the phase is the one field that is computed.
+use borrow.Author.Rules.{rules}
+use Rattle.run_round.proofs.stage_of.Goals as goal
+
+pub returns : goal.returns
+returns c = rw c.phase_of.ensures

@@ -1,0 +1,35 @@
+-- `run_state::cleared` meets its contract: after j turns those of the first j that are marked begin anew.
+use mathlib.Core.Path.{◌≡◌, refl, sym, ◌∙◌}
+use mathlib.Core.Logic.{⊎_elim}
+use Prim.Native.Nat.{◌-◌, ◌≤◌}
+use native.Mathlib.Omega.{arith}
+use native.Mathlib.Numerals.{add-one}
+use borrow.Author.Rules.{rules}
+use Rattle.run_state.specs.Counts.{cleared}
+use Rattle.run_state.proofs.Counts.{cleared_rest}
+use Rattle.run_state.proofs.cleared.Goals as goal
+
+pub loop-j-init : goal.loop-j-init
+unfolding cleared
+loop-j-init c = (omega arith, refl)
+
+pub returns-then-marks-j-eq0 : goal.returns-then-marks-j-eq0
+returns-then-marks-j-eq0 c =
+    let l = c.loop-j in
+    l.invariant.1 ∙ sym (cleared_rest l.j _ _ c.if-marks-j-eq0.true 48 l.invariant.0)
+
+pub loop-j-preserved : goal.loop-j-preserved
+unfolding cleared
+loop-j-preserved c =
+    let l = c.loop-j in
+    let marked = c.marked_wide.ensures in
+    ⊎_elim
+    (λ w. (omega arith, w.1 ∙ rw (add-one l.j, ← marked, w.0.taken, l.invariant.1)))
+    (λ w. (omega arith, w.1 ∙ rw (add-one l.j, ← marked, w.0.left, l.invariant.1)))
+    c.if-marked_wide.branch
+
+pub returns : goal.returns
+returns c =
+    let l = c.loop-j in
+    let e : l.j ≡ 48 = omega arith in
+    rw (← e) l.invariant.1

@@ -1,0 +1,6 @@
+-- `run_state::fresh` meets its contract: it makes the record that its definition makes.
+use borrow.Author.Rules.{rules}
+use Rattle.run_state.proofs.fresh.Goals as goal
+
+pub returns : goal.returns
+returns c = rw c.no_pair.ensures

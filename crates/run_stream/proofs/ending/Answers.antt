@@ -1,0 +1,23 @@
+-- `run_stream::ending` meets its contract: it asks what the definition asks, in its order.
+use mathlib.Core.Path.{sym, ◌∙◌}
+use mathlib.Core.Logic.{⊎_elim}
+use borrow.Author.Rules.{rules}
+use borrow.Author.Tests.{eq-eqb, ne_eqb}
+use Rattle.run_stream.specs.Inner.{ending_of}
+use Rattle.run_stream.proofs.ending.Goals as goal
+
+pub returns-then-fault-ne0 : goal.returns-then-fault-ne0
+unfolding ending_of
+returns-then-fault-ne0 c = rw (ne_eqb _ _ c.if-fault-ne0.true)
+
+pub returns-then-ends_phase : goal.returns-then-ends_phase
+unfolding ending_of
+returns-then-ends_phase c =
+    rw (eq-eqb _ _ c.if-fault-ne0.false, c.if-p.true, c.if-p-eq0.true-raw, sym c.ends_phase.ensures ∙ c.if-ends_phase.true)
+
+pub returns : goal.returns
+unfolding ending_of
+returns c =
+    rw (eq-eqb _ _ c.if-fault-ne0.false)
+    (⊎_elim (λ w. rw (w.0.taken, w.2.taken, sym w.3.ensures ∙ w.4.left))
+    (λ v. ⊎_elim (λ w. rw (w.0.taken, w.2.left)) (λ w. rw w.left) v) c.if-p.branch)

@@ -1,0 +1,19 @@
+-- `run_stream::feed` meets its contract: at the head of the loop the bytes before `used` have shown nothing, and the state is that after them.
+use Prim.Native.Nat.{◌+◌, ◌-◌, ◌≤◌, ◌<◌}
+use native.Mathlib.Omega.{arith}
+use lib.ListN.{length}
+use borrow.Author.Rules.{rules}
+use Rattle.texts.proofs.Writing.{empty_text}
+use Rattle.run_stream.proofs.Pieces.{Still, moved, still_first, last_step, still_more, at_last}
+use Rattle.run_stream.proofs.feed.Given as goal
+
+abbrev pub invariant-loop-used : goal.invariant-loop-used
+invariant-loop-used l =
+    Still l.bytes l.initial.player
+    l.initial.carry (record { l.positions = l.initial.positions; l.marks = l.initial.marks; l.lists = l.initial.lists; l.planted = l.initial.planted; l.lengths = l.initial.lengths })
+    l.player
+    l.carry (record { l.positions = l.positions; l.marks = l.marks; l.lists = l.lists; l.planted = l.planted; l.lengths = l.lengths })
+    l.used
+
+abbrev pub decreases-loop-used : goal.decreases-loop-used
+decreases-loop-used l = length l.bytes - l.used

@@ -1,0 +1,22 @@
+-- `run_stream::fill` meets its contract: at the head of the loop the page holds the text that the bytes before `used` show, and the state is that after them.
+use Prim.Native.Nat.{◌+◌, ◌-◌, ◌≤◌, ◌<◌}
+use native.Mathlib.Omega.{arith}
+use lib.ListN.{length, take}
+use borrow.Author.Rules.{rules}
+use borrow.Author.Tests.{leb-true, leb-false}
+use Rattle.run_stream.specs.Pages.{page_size}
+use Rattle.run_stream.proofs.Pieces.{Reached, at_first, moved, moved_within, one_more, more_then, text_as}
+use Rattle.run_stream.proofs.fill.Given as goal
+
+abbrev pub invariant-loop-used : goal.invariant-loop-used
+invariant-loop-used l =
+    Reached l.bytes l.initial.player
+    l.initial.carry (record { l.positions = l.initial.positions; l.marks = l.initial.marks; l.lists = l.initial.lists; l.planted = l.initial.planted; l.lengths = l.initial.lengths })
+    l.player
+    l.carry (record { l.positions = l.positions; l.marks = l.marks; l.lists = l.lists; l.planted = l.planted; l.lengths = l.lengths })
+    l.used (take l.len l.page)
+    × (l.len ≤ page_size) × (0 < l.len → 0 < l.used)
+
+abbrev pub decreases-loop-used : goal.decreases-loop-used
+decreases-loop-used l =
+    length l.bytes - l.used

@@ -1,0 +1,16 @@
+-- `run_stream::last_page` meets its contract: the last line of a phase, if there is one, and the last line of all are put one after the other.
+use mathlib.Core.Path.{ap, ◌∙◌}
+use mathlib.Core.List.{List, ◌++◌}
+use Prim.Native.Nat.{ℕ}
+use native.Mathlib.Omega.{arith}
+use borrow.Author.Rules.{rules}
+use Rattle.texts.specs.Texts.{bytes_of}
+use Rattle.run_stream.proofs.last_page.Goals as goal
+
+pub returns : goal.returns
+returns c =
+    let (rooms, ends) = c.finish-end.ensures in
+    let q = c.put.ensures in (
+      omega (arith, c.put-len.ensures.0, q.0, rooms.0, rooms.1),
+      λ a carry L. rw (q.1 ∙ ap (λ (l : List ℕ). l ++ bytes_of c.finish-end.result.verdict) c.put-len.ensures.1) (ends a carry L).finishes,
+    )

@@ -1,0 +1,11 @@
+-- `run_whole::close` meets its contract: what the end of the file shows is put and kept, and the last line put.
+use mathlib.Core.Path.{refl}
+use borrow.Author.Rules.{rules}
+use Rattle.run_whole.proofs.Going.{closes}
+use Rattle.run_whole.proofs.close.Goals as goal
+
+pub returns : goal.returns
+returns c =
+    let (rooms, rows) = c.finish-finished.ensures in
+    λ file carry B all G.
+    closes G all (rows _ carry G.state) rooms.0 rooms.1 c.put-len.ensures refl c.keep-count.ensures c.put.ensures

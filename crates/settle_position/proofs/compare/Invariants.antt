@@ -1,0 +1,20 @@
+-- `settle_position::compare` meets its contract: after k turns the lists compared are the first k.
+use mathlib.Core.Path.{◌≡◌, refl}
+use mathlib.Core.Logic.{⊎_elim}
+use Prim.Native.Nat.{◌-◌, ◌≤◌}
+use native.Mathlib.Omega.{arith}
+use borrow.Author.Rules.{rules}
+use lib.Dec.{eqb}
+use lib.ListN.{length, get_or}
+use Rattle.terms.proofs.Sums.{bit_le}
+use Rattle.marks.proofs.Counts.{byte_bit}
+use Rattle.settle_position.specs.Reference.{Compares}
+use Rattle.settle_position.proofs.Reference.{compares_none, compares_few, compares_alike, compares_other}
+use Rattle.settle_position.proofs.compare.Given as goal
+
+abbrev pub invariant-loop-k : goal.invariant-loop-k
+invariant-loop-k l =
+    (l.k ≤ l.n) × (length l.same ≡ 32) × Compares l.k l.marks l.lists l.reference (record { l.alike = l.alike; l.apart = l.apart; l.same = l.same })
+
+abbrev pub decreases-loop-k : goal.decreases-loop-k
+decreases-loop-k l = l.n - l.k
