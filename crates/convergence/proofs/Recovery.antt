@@ -112,7 +112,7 @@ at_last_one_step K n f N more size halves v range F within = late_enough (run K 
 pub at_last_from : AtLastFrom
 unfolding end_from
 at_last_from K n f N more size halves e q few I F within =
-    late_enough (run_from K n f size e q few F within N more (λ i l s z. not_null z (held_position _ _ (e.at i) (I i l s)))) halves I
+    late_enough (run_from K n f size e q few F within N more (λ i l s z. not_null z (held_position (Position (negsuc 999_999)) (Position (pos 1_000_000)) (e.at i) (I i l s)))) halves I
 
 -- ---- what is settled from entries between m and M
 

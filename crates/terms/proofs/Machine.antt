@@ -65,7 +65,7 @@ module _ {z : ℤ} (f : SFits w32 z) where
   wide_fits = fits_as (to_z-of_z f) (sfits_widen tt f)
 
   pub wide_is : read w64 (read w32 z) ≡ z
-  wide_is = read_as (to_z-of_z f) (sfits_widen tt f)
+  wide_is = read_as {w = w64} (to_z-of_z f) (sfits_widen tt f)
 
 -- the same of one with no sign
 pub wide_natural_is : {n : ℕ} → Fits w32 n → to_z w64 n ≡ pos n
@@ -134,7 +134,7 @@ module _ (a b : ℤ) (f : SFits w32 a) (g : SFits w32 b) where
     shifted_is : read w64 (shr_z (read w64 to_halve) 2) ≡ half (bit up) (a +ℤ b)
     unfolding half
     shifted_is =
-        read_as (ap (λ (z : ℤ). shr_z z 2) (read_as to_halve_is plain_fits) ∙ shift_floors ((a +ℤ b) +ℤ pos (bit up)) 2) (sfits_widen tt half_fits)
+        read_as {w = w64} (ap (λ (z : ℤ). shr_z z 2) (read_as {w = w64} to_halve_is plain_fits) ∙ shift_floors ((a +ℤ b) +ℤ pos (bit up)) 2) (sfits_widen tt half_fits)
 
     pub to_halve_fits : SFits w64 to_halve
     to_halve_fits = fits_as to_halve_is plain_fits

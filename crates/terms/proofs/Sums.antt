@@ -80,6 +80,7 @@ bit_le false = omega arith
 
 pub bit_yes : (b : Bool) → T b → bit b ≡ 1
 bit_yes true t = refl
+bit_yes false t = elim t [ ]
 
 pub bit_no : (b : Bool) → (T b → ⊥) → bit b ≡ 0
 bit_no true h = absurd (h tt)

@@ -10,9 +10,9 @@ use Rattle.run_stream.proofs.feed.Given as goal
 abbrev pub invariant-loop-used : goal.invariant-loop-used
 invariant-loop-used l =
     Still l.bytes l.initial.player
-    l.initial.carry (record { l.positions = l.initial.positions; l.marks = l.initial.marks; l.lists = l.initial.lists; l.planted = l.initial.planted; l.lengths = l.initial.lengths })
+    l.initial.carry (record { positions = l.initial.positions; marks = l.initial.marks; lists = l.initial.lists; planted = l.initial.planted; lengths = l.initial.lengths })
     l.player
-    l.carry (record { l.positions = l.positions; l.marks = l.marks; l.lists = l.lists; l.planted = l.planted; l.lengths = l.lengths })
+    l.carry (record { positions = l.positions; marks = l.marks; lists = l.lists; planted = l.planted; lengths = l.lengths })
     l.used
 
 abbrev pub decreases-loop-used : goal.decreases-loop-used

@@ -11,9 +11,9 @@ use Rattle.run_stream.proofs.fill.Given as goal
 abbrev pub invariant-loop-used : goal.invariant-loop-used
 invariant-loop-used l =
     Reached l.bytes l.initial.player
-    l.initial.carry (record { l.positions = l.initial.positions; l.marks = l.initial.marks; l.lists = l.initial.lists; l.planted = l.initial.planted; l.lengths = l.initial.lengths })
+    l.initial.carry (record { positions = l.initial.positions; marks = l.initial.marks; lists = l.initial.lists; planted = l.initial.planted; lengths = l.initial.lengths })
     l.player
-    l.carry (record { l.positions = l.positions; l.marks = l.marks; l.lists = l.lists; l.planted = l.planted; l.lengths = l.lengths })
+    l.carry (record { positions = l.positions; marks = l.marks; lists = l.lists; planted = l.planted; lengths = l.lengths })
     l.used (take l.len l.page)
     × (l.len ≤ page_size) × (0 < l.len → 0 < l.used)
 

@@ -13,10 +13,10 @@ abbrev pub invariant-loop-at : goal.invariant-loop-at
 invariant-loop-at l =
     (l.at.used ≤ length l.file) × (length l.out ≡ length l.initial.out) × (length l.rows ≡ length l.initial.rows) × (length l.words ≡ length l.initial.words)
     × ((B : Buffers)
-    → Going l.file l.initial.at l.initial.carry (record { l.positions = l.initial.positions; l.marks = l.initial.marks; l.lists = l.initial.lists; l.planted = l.initial.planted; l.lengths = l.initial.lengths })
-    B (record { l.out = l.initial.out; l.rows = l.initial.rows; l.words = l.initial.words })
-    → Going l.file l.at l.carry (record { l.positions = l.positions; l.marks = l.marks; l.lists = l.lists; l.planted = l.planted; l.lengths = l.lengths })
-    B (record { l.out = l.out; l.rows = l.rows; l.words = l.words }))
+    → Going l.file l.initial.at l.initial.carry (record { positions = l.initial.positions; marks = l.initial.marks; lists = l.initial.lists; planted = l.initial.planted; lengths = l.initial.lengths })
+    B (record { out = l.initial.out; rows = l.initial.rows; words = l.initial.words })
+    → Going l.file l.at l.carry (record { positions = l.positions; marks = l.marks; lists = l.lists; planted = l.planted; lengths = l.lengths })
+    B (record { out = l.out; rows = l.rows; words = l.words }))
 
 abbrev pub decreases-loop-at : goal.decreases-loop-at
 decreases-loop-at l =

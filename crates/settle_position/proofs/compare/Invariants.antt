@@ -14,7 +14,7 @@ use Rattle.settle_position.proofs.compare.Given as goal
 
 abbrev pub invariant-loop-k : goal.invariant-loop-k
 invariant-loop-k l =
-    (l.k ≤ l.n) × (length l.same ≡ 32) × Compares l.k l.marks l.lists l.reference (record { l.alike = l.alike; l.apart = l.apart; l.same = l.same })
+    (l.k ≤ l.n) × (length l.same ≡ 32) × Compares l.k l.marks l.lists l.reference (record { alike = l.alike; apart = l.apart; same = l.same })
 
 abbrev pub decreases-loop-k : goal.decreases-loop-k
 decreases-loop-k l = l.n - l.k
