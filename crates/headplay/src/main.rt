@@ -24,9 +24,13 @@ ghost use Rattle.head_lent.specs.Answers.{closed_number, written_number, written
 ghost use Rattle.headplay.specs.Script.{answered, family_at, opening, batched, write_outcome, closed, turn, record_size, played};
 
 use head_spec::{Answer, Closed, Closing, Head, Offer};
-use libc::{STDIN_FILENO, STDOUT_FILENO};
 use settle_midpoint::Kept;
 use terms::{Entry, Family};
+
+// Standard input and output, by their numbers.
+const STDIN_FILENO: i32 = 0;
+
+const STDOUT_FILENO: i32 = 1;
 
 // ---- The record, lent: each function puts it into a local, lends that to the call, and gives back what the call answers and the record
 // that it left.

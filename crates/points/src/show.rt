@@ -1,8 +1,10 @@
 // Answers, printed. Each gives back one number for what it printed: a number's own word, and others for words.
-use libc::STDOUT_FILENO;
 use settle_midpoint::Settled;
 use steps::Scaled;
 use terms::Entry;
+
+// Standard output, by its number.
+const STDOUT_FILENO: i32 = 1;
 
 pub(crate) fn text(words: &[u8]) {
     io::write_all(STDOUT_FILENO, words);

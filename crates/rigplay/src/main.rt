@@ -2,22 +2,40 @@
 // system call that is asked for, and says what that did.
 #![tactic(auto)]
 
+ghost use Rattle.std.specs.Prelude.{◌<◌, ◌^◌};
+ghost use Rattle.std.specs.Result.{ForOk};
+
 use frame_slots::{PlantedBytes, PlantedLengths};
-use libc::{STDIN_FILENO, STDOUT_FILENO};
 use run_program::{Ask, Did};
 use run_state::Carry;
 use run_stream::Page;
+use std::io;
+use std::io::{Print, Read};
 use terms::{HEADS, Lists, Positions, RECEIVERS, Words};
 
 // How many bytes are read at a time, at most.
 const PIECE: usize = 131072;
 
+// What a system call gave, as C's read and write answer it.
+fn answer(got: io::Result<usize>) -> isize
+    requires { ForOk got (λ n. n < 2 ^ 63) }
+{
+    match got {
+        Ok(n) => n as isize,
+        Err(_) => -1,
+    }
+}
+
 // Makes the system call that is asked for.
-fn call(ask: Ask, piece: &mut [u8], page: &Page) -> Did {
+fn call(rt: &HostRuntime, ask: Ask, piece: &mut [u8], page: &Page) -> Did {
     match ask {
-        Ask::Read => run_program::after_read(libc::read(STDIN_FILENO, piece)),
+        Ask::Read => {
+            let got = rt.stdin().read(piece);
+            run_program::after_read(answer(got))
+        }
         Ask::Write { from, to } => {
-            run_program::after_write(libc::write(STDOUT_FILENO, run_program::asked(page, from, to)))
+            let got = rt.stdout().write_some(run_program::asked(page, from, to));
+            run_program::after_write(answer(got))
         }
         Ask::Stop => Did::Nothing,
     }
@@ -25,6 +43,7 @@ fn call(ask: Ask, piece: &mut [u8], page: &Page) -> Did {
 
 // Step by step. A proved loop ends, and nothing says that the input does: the turns are counted down from a number that no run uses up.
 fn run(
+    rt: &HostRuntime,
     piece: &mut [u8],
     page: &mut Page,
     carry: &mut Carry,
@@ -46,12 +65,12 @@ fn run(
         if let Ask::Stop = ask {
             return;
         }
-        did = call(ask, piece, page);
+        did = call(rt, ask, piece, page);
         turns -= 1;
     }
 }
 
-fn main() {
+fn main(rt: HostRuntime) {
     let mut piece = [0u8; PIECE];
     let mut page = [0u8; run_stream::PAGE];
     let mut carry = [0u8; run_state::CARRY];
@@ -62,6 +81,7 @@ fn main() {
     let mut planted = [0u8; frame_slots::BYTES];
     let mut lengths = [0u8; frame_slots::LINKS];
     run(
+        &rt,
         &mut piece,
         &mut page,
         &mut carry,
