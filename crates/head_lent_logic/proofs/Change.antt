@@ -1,7 +1,8 @@
 -- A thin function over a record lent by `&mut`, walked once for every record of plain data and every list of parameters that can be
 -- copied: let out = g(*h, p..); *h = out.head; out.refusal The borrow is opened, the record is copied into a local and passed to g,
 -- the record that comes back is stored behind the reference, and the borrow is closed at it. Of g nothing is known but that it meets
--- its contract, and no field of the record is named.
+-- its contract, and no field of the record is named. The MIR is as it was lowered when this was written: today out.head goes through a
+-- local of its own before it is stored behind the reference.
 use mathlib.Core.Path.{◌≡◌, refl, ap, subst}
 use Prim.Native.Nat.{ℕ, zero, suc}
 use mathlib.Core.List.{List, [], ◌∷◌}

@@ -1,7 +1,8 @@
 -- A thin function that changes a record lent by `&mut`, and passes on what else is lent to it: bytes by `&`, a buffer and a number by
 -- `&mut`: let out = g(*h, bytes, buffer, number); *h = out.head; out.refusal The borrow of the record is opened, the record is copied
 -- into a local and passed to g, the record that comes back is stored behind the reference, and the borrow is closed at it. What else
--- is lent goes to g, and what g says of it at its exit is what the function says.
+-- is lent goes to g, and what g says of it at its exit is what the function says. The MIR is as it was lowered when this was written:
+-- today out.head goes through a local of its own before it is stored behind the reference.
 use mathlib.Core.Path.{◌≡◌, refl, ap, subst}
 use Prim.Native.Nat.{ℕ, ◌<◌, ◌^◌}
 use mathlib.Core.List.{List, [], ◌∷◌}

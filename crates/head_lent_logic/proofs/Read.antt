@@ -112,7 +112,7 @@ module _ {M : Type 1} {𝓤 : Ura M} (𝓛 : Logic 𝓤) (L : Lending) (C : Call
       looks ! tt (R L) (LL.copied L.T L.copy 𝓛).opens h b o
       (λ q' us. spelt ! (R L) (Is (R L)) (shows 𝓛 (R L)) (LL.vals L.T L.laws) (LL.tells L.T L.laws) q' h us b o $
       move ! (1 ∷ []) $ peeks ! (R L) (Is (R L)) (shows 𝓛 (R L)) h (val L h ∷ []) (λ was. move ! (1 ∷ 0 ∷ []) $
-      -- [the record's cell; what the record owns; the open borrow; what the reference holds; the other tokens; what is lent on; _4;
+      -- [the record's cell; what the record owns; the token's way back; what the reference holds; the other tokens; what is lent on; _4;
       -- …; _3; …; _2; …; _1; …; _0; …]
       assigns ! (of_opd ! (load ! (from ! (hop ! (look ! 12 refl) (stop !))) (look_raw ! 0 refl))) (from ! (stop !))
       (init ! 8 refl ((LL.lawful L.T L.laws 𝓛).typed h _ was).0) $
@@ -153,7 +153,7 @@ module _ {M : Type 1} {𝓤 : Ura M} (𝓛 : Logic 𝓤) (L : Lending) (C : Call
       looks ! tt (R L) (LL.copied L.T L.copy 𝓛).opens h b o
       (λ q' us. spelt ! (R L) (Is (R L)) (shows 𝓛 (R L)) (LL.vals L.T L.laws) (LL.tells L.T L.laws) q' h us b o $
       move ! (1 ∷ []) $ peeks ! (R L) (Is (R L)) (shows 𝓛 (R L)) h (val L h ∷ []) (λ was. move ! (1 ∷ 0 ∷ []) $
-      -- [the record's cell; what the record owns; the open borrow; what the reference holds; the other tokens; what is lent on; _7;
+      -- [the record's cell; what the record owns; the token's way back; what the reference holds; the other tokens; what is lent on; _7;
       -- …; _6; …; _5; …; _4; …; _3; …; _2; …; _1; …; _0; …]
       assigns ! (of_opd ! (load ! (from ! (hop ! (look ! 18 refl) (stop !))) (look_raw ! 0 refl))) (from ! (stop !))
       (init ! 12 refl ((LL.lawful L.T L.laws 𝓛).typed h _ was).0) $
