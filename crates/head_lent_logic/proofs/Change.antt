@@ -1,13 +1,14 @@
 -- A thin function over a record lent by `&mut`, walked once for every record of plain data and every list of parameters that can be
 -- copied: let out = g(*h, p..); *h = out.head; out.refusal The borrow is opened, the record is copied into a local and passed to g,
 -- the record that comes back is stored behind the reference, and the borrow is closed at it. Of g nothing is known but that it meets
--- its contract, and no field of the record is named.
+-- its contract, and no field of the record is named. The MIR is as it was lowered when this was written: today out.head goes through a
+-- local of its own before it is stored behind the reference.
 use mathlib.Core.Path.{◌≡◌, refl, ap, subst}
 use Prim.Native.Nat.{ℕ, zero, suc}
 use mathlib.Core.List.{List, [], ◌∷◌}
 use seplogic.Ra.Ura.{Ura}
-use seplogic.Ra.TreeShare.{full_share}
-use mir.Syntax.{Name, Ty, ty_int, ty_ref, named, mut, w8, deref, field as at_field, place, copy, rv_opd, seq, assign, call, return, local}
+use base.Fraction.{full_share}
+use mir.Syntax.{Callee, Ty, ty_int, ty_ref, named, mut, w8, deref, field as at_field, place, copy, rv_opd, seq, assign, call, return, local}
 use mir.Syntax.{value_local, Fn}
 use mir.Val.{Val, vint, vptr}
 use base.Logic.{SProp, ent, sep, ex, emp}
@@ -41,10 +42,12 @@ use Rattle.head_lent_logic.proofs.Locals.{operands}
 module _ (L : Lending) where
   -- the function's MIR, from its own head f, the function g that it calls and the types of its parameters. The answer and the copy of
   -- the record come after those
-  abbrev pub thin : Fn → Name → List Ty → Fn
+  abbrev pub thin : Fn → Callee → List Ty → Fn
   thin f g τs = record {
     lifetimes = f.lifetimes;
     outlives = f.outlives;
+    ty_params = f.ty_params;
+    givens = f.givens;
     params = f.params;
     locals = local (ty_int w8) value_local ∷ local (ty_ref (named 0) mut (pointee (R L).written)) value_local ∷ locals_of τs
         (local (τS L) value_local ∷ local (τR L) value_local ∷ []);
@@ -56,7 +59,7 @@ module _ (L : Lending) where
   }
 
 module _ {M : Type 1} {𝓤 : Ura M} (𝓛 : Logic 𝓤) (L : Lending) (C : Calls 𝓤 𝓛.H) (Λ : Loops 𝓤 𝓛.H)
-    (fm : FmC 𝓤 𝓛.H 𝓛.laws C) (f : Fn) (g : Name) (c : Contract 𝓤) (known : Triple 𝓤 (C g) c)
+    (fm : FmC 𝓤 𝓛.H 𝓛.laws C) (f : Fn) (g : Callee) (c : Contract 𝓤) (known : Triple 𝓤 (C g) c)
     (τs : List Ty) (Rs : List RattleType) (a : Denots Rs) (vss : Valss Rs) (ty : Typed τs (flat Rs vss)) (copied : Copies 𝓛 Rs)
     (κ : Lft) (q : Share) (b o : ℕ) (γ : GName) (h : L.T.D) (toks : SProp 𝓤)
     (x : c.Ghost) (passed : c.args x ≡ val L h ∷ flat Rs vss)

@@ -3,7 +3,7 @@ use mathlib.Core.Path.{◌≡◌, refl, sym, ap, subst}
 use Prim.Native.Nat.{ℕ, suc}
 use mathlib.Core.List.{List, [], ◌∷◌}
 use seplogic.Ra.Ura.{Ura}
-use mir.Syntax.{Name, Ty, Fn, named, w8}
+use mir.Syntax.{Callee, Ty, Fn, named, w8}
 use mir.Val.{Val, vint}
 use base.Logic.{SProp, ent, sep, ex, emp, via, fst∗, id⊢}
 use base.Fml.{Fml, ftrue, fsep, flft}
@@ -114,7 +114,7 @@ module _ (L : Lending) (n : ℕ) (ss : List (Slot (suc n))) where
 -- d says the function's contract and c that of g. x is what g's triple binds: how it is passed, what it asks, what it answers and says
 -- of its answer, and that what it says shows what the function ensures
 module _ {M : Type 1} {𝓤 : Ura M} (𝓛 : Logic 𝓤) (L : Lending) (n : ℕ) (ss : List (Slot (suc n)))
-    (cs : Kinds ss) (d : Clauses 𝓤 (thinly L n ss)) (f : Fn) (g : Name) (c : Contract 𝓤) where
+    (cs : Kinds ss) (d : Clauses 𝓤 (thinly L n ss)) (f : Fn) (g : Callee) (c : Contract 𝓤) where
   -- the arguments, and the machine values of those after the record
   open 𝓛 use {H}
 
@@ -181,7 +181,7 @@ module _ {M : Type 1} {𝓤 : Ura M} (𝓛 : Logic 𝓤) (L : Lending) (n : ℕ)
           (Told κs a) (answers κs qs a) (Says κs a) (says κs a) _ (ends κs qs a ghost))))
 
       -- the same of the function's routine
-      pub changes : (env : Names) (#f : Name) (𝓜 : Model 𝓤 H) (𝓡 : Running 𝓤 H 𝓜)
+      pub changes : (env : Names) (#f : Callee) (𝓜 : Model 𝓤 H) (𝓡 : Running 𝓤 H 𝓜)
           → Closed 𝓤 H (tables 𝓤 H 𝓜 𝓡 env).C (tables 𝓤 H 𝓜 𝓡 env).Λ #f (thin L f g τs)
           → (r : Routine) → env g ≡ r → Triple 𝓤 (𝓡.run r) c
           → Meets 𝓛 (thinly L n ss).signature ((tables 𝓤 H 𝓜 𝓡 env).C #f) (closing 𝓛 (thinly L n ss) d)

@@ -1,13 +1,14 @@
 -- A thin function that changes a record lent by `&mut`, and passes on what else is lent to it: bytes by `&`, a buffer and a number by
 -- `&mut`: let out = g(*h, bytes, buffer, number); *h = out.head; out.refusal The borrow of the record is opened, the record is copied
 -- into a local and passed to g, the record that comes back is stored behind the reference, and the borrow is closed at it. What else
--- is lent goes to g, and what g says of it at its exit is what the function says.
+-- is lent goes to g, and what g says of it at its exit is what the function says. The MIR is as it was lowered when this was written:
+-- today out.head goes through a local of its own before it is stored behind the reference.
 use mathlib.Core.Path.{◌≡◌, refl, ap, subst}
 use Prim.Native.Nat.{ℕ, ◌<◌, ◌^◌}
 use mathlib.Core.List.{List, [], ◌∷◌}
 use seplogic.Ra.Ura.{Ura}
-use seplogic.Ra.TreeShare.{full_share}
-use mir.Syntax.{Name, ty_int, ty_ref, named, erased, mut, imm, w8, w64, deref, field as at_field, place, copy, rv_opd, addr_of, aggregate}
+use base.Fraction.{full_share}
+use mir.Syntax.{Callee, ty_int, ty_ref, named, erased, mut, imm, w8, w64, deref, field as at_field, place, copy, rv_opd, addr_of, aggregate}
 use mir.Syntax.{seq, assign, call, return, local, value_local, Fn}
 use mir.Val.{Val, vint, vptr}
 use base.Logic.{SProp, ent, sep, ex}
@@ -37,10 +38,12 @@ use Rattle.head_lent_logic.proofs.Lending.{Lending, R, Answer, S, τR, τS, answ
 
 module _ (L : Lending) where
   -- the function's MIR, from its own head f and the function g that it calls
-  abbrev pub changer : Fn → Name → Fn
+  abbrev pub changer : Fn → Callee → Fn
   changer f g = record {
     lifetimes = f.lifetimes;
     outlives = f.outlives;
+    ty_params = f.ty_params;
+    givens = f.givens;
     params = f.params;
     locals =
         local (ty_int w8) value_local ∷ local (ty_ref (named 0) mut (pointee (R L).written)) value_local ∷ local
@@ -59,7 +62,7 @@ module _ (L : Lending) where
   }
 
 module _ {M : Type 1} {𝓤 : Ura M} (𝓛 : Logic 𝓤) (L : Lending) (C : Calls 𝓤 𝓛.H) (Λ : Loops 𝓤 𝓛.H)
-    (fm : FmC 𝓤 𝓛.H 𝓛.laws C) (f : Fn) (g : Name) (c : Contract 𝓤) (known : Triple 𝓤 (C g) c)
+    (fm : FmC 𝓤 𝓛.H 𝓛.laws C) (f : Fn) (g : Callee) (c : Contract 𝓤) (known : Triple 𝓤 (C g) c)
     (κ : Lft) (q : Share) (b o : ℕ) (γ : GName) (h : L.T.D) (toks : SProp 𝓤) (X : Fml)
     (x : c.Ghost) (asks : ent 𝓤 (sep 𝓤 (sem 𝓛 ((R L).own_val h (val L h ∷ []))) (sep 𝓤 toks (sem 𝓛 X))) (c.pre x))
     (Z : Type 0) (Left : Z → SProp 𝓤) (Told : L.D → Z → SProp 𝓤)

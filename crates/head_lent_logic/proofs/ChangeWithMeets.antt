@@ -3,7 +3,7 @@ use mathlib.Core.Path.{◌≡◌, refl}
 use Prim.Native.Nat.{ℕ}
 use mathlib.Core.List.{List, [], ◌∷◌}
 use seplogic.Ra.Ura.{Ura}
-use mir.Syntax.{Name, Fn, named, w8}
+use mir.Syntax.{Callee, Fn, named, w8}
 use mir.Val.{vint}
 use base.Logic.{ent, emp, via, fst∗, id⊢}
 use base.Fml.{Fml, flft}
@@ -18,8 +18,8 @@ use types.Kit.{‵, raw, ◌⊛◌, ◌$◌, ◌∵◌, !, qed, by, move, drop, 
 use sound.WpLaws.{fm_of, WpFn-mono}
 use denote.RattleType.{owns}
 use denote.Builtin.{u8, usize}
-use denote.Ref.{MutRef, at_last, shr_vals, mut_Tells}
-use denote.Slice.{ShrSlice, MutSlice, shr_slice_vals, shr_slice_Tells, mut_slice_Tells}
+use denote.Ref.{MutRef, at_last, mut_vals, mut_Tells}
+use denote.Slice.{ShrSlice, MutSlice, shr_slice_vals, mut_slice_vals, shr_slice_Tells, mut_slice_Tells}
 use denote.Signature.{plain, mut_ref_to, shr_slice_of, mut_slice_of}
 use lib.ListN.{length}
 use denote.Exit.{yes}
@@ -73,7 +73,7 @@ module _ (L : Lending) where
   )
 
 module _ {M : Type 1} {𝓤 : Ura M} (𝓛 : Logic 𝓤) (L : Lending) (d : Clauses 𝓤 (changing L))
-    (k : Clauses 𝓤 (changed L)) (f : Fn) (g : Name)
+    (k : Clauses 𝓤 (changed L)) (f : Fn) (g : Callee)
     (ghosts : (κs : Lfts 3) (a : Args (changed L).signature κs) → (k κs a).ghost)
     (free : (κs : Lfts 3) (a : Args (changed L).signature κs) → ent 𝓤 (emp 𝓤) ((k κs a).requires (ghosts κs a)))
     (Says : L.T.D → List ℕ → List ℕ → ℕ → L.D → List ℕ → ℕ → Type 0)
@@ -92,7 +92,7 @@ module _ {M : Type 1} {𝓤 : Ura M} (𝓛 : Logic 𝓤) (L : Lending) (d : Clau
   abbrev On : (κs : Lfts 4) → Args (changing L).signature κs → Fml
   On κs a =
       owns (ShrSlice (named 1) κs.1.0 u8 ∷ MutSlice (named 2) κs.1.1.0 u8 ∷ MutRef (named 3) κs.1.1.1.0 usize ∷ [])
-      a.1 (shr_slice_vals a.1.0, (shr_slice_vals a.1.1.0, (shr_vals a.1.1.1.0, tt)))
+      a.1 (shr_slice_vals a.1.0, (mut_slice_vals a.1.1.0, (mut_vals a.1.1.1.0, tt)))
 
   changing_meets : (𝓣 : Tables 𝓤 H) → Triple 𝓤 (𝓣.C g) Called
       → Meets 𝓛 (changing L).signature (WpFn 𝓤 H 𝓣.C 𝓣.Λ (changer L f g)) (closing 𝓛 (changing L) d)
@@ -106,7 +106,7 @@ module _ {M : Type 1} {𝓤 : Ura M} (𝓛 : Logic 𝓤) (L : Lending) (d : Clau
       ) d
       (WpFn 𝓤 H 𝓣.C 𝓣.Λ (changer L f g)) (WpFn-mono 𝓤 H 𝓛.laws 𝓣 (changer L f g))
       (walked 𝓛 (changing L) (stayed L) d (WpFn 𝓤 H 𝓣.C 𝓣.Λ (changer L f g))
-      (λ κs. (shr_vals, (shr_slice_vals, (shr_slice_vals, (shr_vals, tt)))))
+      (λ κs. (mut_vals, (shr_slice_vals, (mut_slice_vals, (mut_vals, tt)))))
       (λ κs. (
         mut_Tells (named 0) κs.0 (R L),
         (
@@ -115,14 +115,14 @@ module _ {M : Type 1} {𝓤 : Ura M} (𝓛 : Logic 𝓤) (L : Lending) (d : Clau
         ),
       ))
       (λ κs qs bounds a ghost are. via 𝓤 _ (fst∗ 𝓤 _ ((d κs a).requires ghost))
-      (changes_and_passes 𝓛 L 𝓣.C 𝓣.Λ (fm_of 𝓤 H 𝓛.laws 𝓣) f g Called known κs.0 qs.0 a.0.ptr.0 a.0.ptr.1
+      (changes_and_passes 𝓛 L 𝓣.C 𝓣.Λ (fm_of 𝓤 H 𝓛.laws 𝓣) f g Called known κs.0 qs.0 a.0.ref_ptr.0 a.0.ref_ptr.1
       a.0.ghost_name a.0.now (toks 𝓛 3 κs.1 qs.1) (On κs a) (
         (
           κs.1,
           qs.1,
           tt,
           (a.0.now, a.1),
-          (val L a.0.now ∷ [], (shr_slice_vals a.1.0, (shr_slice_vals a.1.1.0, (shr_vals a.1.1.1.0, tt)))),
+          (val L a.0.now ∷ [], (shr_slice_vals a.1.0, (mut_slice_vals a.1.1.0, (mut_vals a.1.1.1.0, tt)))),
         ),
         ghosts κs.1
             (a.0.now, a.1),
@@ -134,22 +134,22 @@ module _ {M : Type 1} {𝓤 : Ura M} (𝓛 : Logic 𝓤) (L : Lending) (d : Clau
       (λ r z. says κs.1 (a.0.now, a.1) r z)
       _ (λ r z e. qed 𝓛
       ((‵ (flft κs.0 qs.0) ⊛ raw (toks 𝓛 3 κs.1 qs.1)) ∷ ‵
-      ((MutRef (named 0) κs.0 (R L)).own_val (at_last a.0 (L.next r)) (shr_vals a.0)) ∷ ‵
+      ((MutRef (named 0) κs.0 (R L)).own_val (at_last a.0 (L.next r)) (mut_vals a.0)) ∷ ‵
       (lasts (changed L) κs.1 (a.0.now, a.1) z) ∷ ‵ (u8.own_val (L.number r) (vint w8 (L.number r) ∷ [])) ∷ []) ∵
-      move ! (2 ∷ []) $ fsplit ! $ drop ! $ fsplit ! $ move ! (1 ∷ []) $ fsplit ! $ fsplit ! $ move ! (1 ∷ []) $ feq_l ! (λ long.
+      move ! (2 ∷ []) $ fsplit ! $ drop ! $ fsplit ! $ move ! (1 ∷ []) $ fsplit ! $ fsplit ! $ fsplit ! $ move ! (1 ∷ []) $ feq_l ! (λ long.
       suffices ! _
       (ends_at 𝓛 (changing L) (stayed L) d (
-        (κs, qs, bounds, a, (shr_vals a.0, (shr_slice_vals a.1.0, (shr_slice_vals a.1.1.0, (shr_vals a.1.1.1.0, tt))))),
+        (κs, qs, bounds, a, (mut_vals a.0, (shr_slice_vals a.1.0, (mut_slice_vals a.1.1.0, (mut_vals a.1.1.1.0, tt))))),
         ghost,
       ) (vint w8 (L.number r)) (L.number r) (L.next r, (tt, (z.1.1.0, (z.1.1.1.0, tt))))
       (tt, (tt, (long, (tt, tt))))) $
-      fjoin ! $ move ! (1 ∷ 0 ∷ []) $ fjoin ! $ move ! (2 ∷ 0 ∷ []) $ fjoin ! $ move ! (0 ∷ 2 ∷ []) $ join ! $ move !
+      fjoin ! $ fjoin ! $ move ! (1 ∷ 0 ∷ []) $ fjoin ! $ move ! (2 ∷ 0 ∷ []) $ fjoin ! $ move ! (0 ∷ 2 ∷ []) $ join ! $ move !
       (1 ∷ 0 ∷ []) $ join ! $ frame ! $ by ! (shown κs a ghost r z.1.1.0 z.1.1.1.0 e)))
       a.1.0.ref_ptr (length a.1.0.now) are.1.0.0.1.0 a.1.1.0.ref_ptr (length a.1.1.0.now) are.1.1.0.0.1.0
-      a.1.1.1.0.ptr.0 a.1.1.1.0.ptr.1 refl)))
+      a.1.1.1.0.ref_ptr.0 a.1.1.1.0.ref_ptr.1 refl)))
 
   -- the same of the function's routine
-  pub changes_with : (env : Names) (#f : Name) (𝓜 : Model 𝓤 H) (𝓡 : Running 𝓤 H 𝓜)
+  pub changes_with : (env : Names) (#f : Callee) (𝓜 : Model 𝓤 H) (𝓡 : Running 𝓤 H 𝓜)
       → Closed 𝓤 H (tables 𝓤 H 𝓜 𝓡 env).C (tables 𝓤 H 𝓜 𝓡 env).Λ #f (changer L f g)
       → (r : Routine) → env g ≡ r → Triple 𝓤 (𝓡.run r) Called
       → Meets 𝓛 (changing L).signature ((tables 𝓤 H 𝓜 𝓡 env).C #f) (closing 𝓛 (changing L) d)

@@ -1,14 +1,17 @@
 -- A record of plain data that is lent, and what a call on it answers: a number, and the record.
-use mathlib.Core.Path.{◌≡◌}
+use mathlib.Core.Path.{◌≡◌, refl, sym, ap, ◌∙◌}
+use mathlib.Core.HLevel.{Σ_prop_path}
 use Prim.Native.Nat.{ℕ}
 use mathlib.Core.List.{[], ◌∷◌}
 use mir.Syntax.{Sym, Ty, w8}
 use mir.Val.{Val, vint}
+use base.Stored.{coded_unit, coded_ℕ, coded×, Coded-set}
 use denote.RattleType.{RattleType, Denots}
 use denote.Laws.{Is}
 use denote.Builtin.{u8}
 use denote.Struct.Struct.{layout, Plains}
 use denote.Struct.Field.{u8-field}
+use denote.Struct.Cover.{Cover}
 use denote.Struct.Declared.{Declared, fields, shape, row, field}
 use denote.Struct.Laws as LL
 use denote.Struct.Laws.{Laws, Copyables, Lowered, u8-laws, field_laws}
@@ -31,15 +34,41 @@ module _ (L : Lending) where
   abbrev pub R : RattleType
   R = row L.T
 
+  -- an answer is its number and its record: it is made of those that are some answer's
+  abbrev Parts : Type 0
+  Parts = ℕ × (L.T.D × Unit {0})
+
+  abbrev answered : L.D → Parts
+  answered d = (L.number d, (L.next d, tt))
+
+  abbrev cover : Cover L.D Parts answered
+  cover = record {
+    Ghost = λ v. (d : L.D) × (answered d ≡ v);
+    ghosts = λ d. (d, refl);
+    make = λ v g. g.0;
+    eta = λ d. refl;
+    beta = λ v g. g.1;
+  }
+
+  pub propositions : (v : Parts) → IsProp (cover.Ghost v)
+  propositions v g g' =
+      Σ_prop_path (λ d. Coded-set (coded× coded_ℕ (coded× R.coded coded_unit)) (answered d) v)
+      (L.one g.0 g'.0 (ap (λ (x : Parts). (x.0, (L.T.to x.1.0, tt))) (g.1 ∙ sym g'.1)))
+
   abbrev pub Answer : Declared
   Answer = record {
     name = L.answer;
     args = [];
+    types = [];
     parts = u8-field ∷ field L.T ∷ [];
     D = L.D;
     to =
         λ d. (L.number d, (L.T.to (L.next d), tt));
     to_one = L.one;
+    as_values = answered;
+    to_is = λ d. refl;
+    cover = cover;
+    propositions = propositions;
   }
 
   abbrev pub S : RattleType

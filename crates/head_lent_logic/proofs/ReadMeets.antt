@@ -4,7 +4,7 @@ use Prim.Native.Nat.{ℕ}
 use mathlib.Core.List.{List, [], ◌∷◌}
 use seplogic.Ra.Ura.{Ura}
 use lib.IntN.{ℤ}
-use mir.Syntax.{Name, ty_int, Fn, named, w8, w32, w64}
+use mir.Syntax.{Callee, ty_int, Fn, named, w8, w32, w64}
 use base.Logic.{ent, emp, via, fst∗, id⊢}
 use base.Fml.{flft}
 use prog.Model.{Model}
@@ -19,7 +19,7 @@ use sound.WpLaws.{fm_of, WpFn-mono}
 use denote.RattleType.{owns}
 use denote.Builtin.{u8, i32, usize}
 use denote.Ref.{ShrRef, MutRef, shr_vals, mut_vals, shr_Tells, mut_Tells}
-use denote.Slice.{MutSlice, shr_slice_vals, mut_slice_Tells}
+use denote.Slice.{MutSlice, mut_slice_vals, mut_slice_Tells}
 use denote.Signature.{plain, shr_ref_to, mut_ref_to, mut_slice_of}
 use lib.ListN.{length}
 use denote.Exit.{yes}
@@ -67,7 +67,7 @@ module _ (L : Lending) where
   stayed = (stay_none_ref (0 ∷ []) tt (plain (λ _. R L)) yes, (gave_ref (1 ∷ []) tt (plain (λ _. i32)), tt))
 
 module _ {M : Type 1} {𝓤 : Ura M} (𝓛 : Logic 𝓤) (L : Lending) (d : Clauses 𝓤 (reading L))
-    (k : Clauses 𝓤 (read L)) (f : Fn) (g : Name)
+    (k : Clauses 𝓤 (read L)) (f : Fn) (g : Callee)
     (ghosts : (κs : Lfts 1) (a : Args (read L).signature κs) → (k κs a).ghost) (free : (κs : Lfts 1) (a : Args (read L).signature κs)
     → ent 𝓤 (emp 𝓤) ((k κs a).requires (ghosts κs a)))
     (Says : L.T.D → ℤ → ℕ → ℤ → Type 0)
@@ -89,12 +89,11 @@ module _ {M : Type 1} {𝓤 : Ura M} (𝓛 : Logic 𝓤) (L : Lending) (d : Clau
       (walked 𝓛 (reading L) (stayed L) d (WpFn 𝓤 H 𝓣.C 𝓣.Λ (reader L f g (ty_int w32)))
       (λ κs. (shr_vals, (mut_vals, tt))) (λ κs. (shr_Tells (named 0) κs.0 (R L), (mut_Tells (named 1) κs.1.0 i32, tt)))
       (λ κs qs bounds a ghost are. via 𝓤 _ (fst∗ 𝓤 _ ((d κs a).requires ghost))
-      (reads 𝓛 L 𝓣.C 𝓣.Λ (fm_of 𝓤 H 𝓛.laws 𝓣) f g Called known κs.0 qs.0 a.0.ptr.0 a.0.ptr.1 a.0.name
-      a.0.now (toks 𝓛 1 κs.1 qs.1)
-      (owns (MutRef (named 1) κs.1.0 i32 ∷ []) a.1 (shr_vals a.1.0, tt))
-      ((κs.1, qs.1, tt, (a.0.now, a.1), (val L a.0.now ∷ [], (shr_vals a.1.0, tt))), ghosts κs.1 (a.0.now, a.1))
+      (reads 𝓛 L 𝓣.C 𝓣.Λ (fm_of 𝓤 H 𝓛.laws 𝓣) f g Called known κs.0 qs.0 a.0.ref_ptr.0 a.0.ref_ptr.1 a.0.now (toks 𝓛 1 κs.1 qs.1)
+      (owns (MutRef (named 1) κs.1.0 i32 ∷ []) a.1 (mut_vals a.1.0, tt))
+      ((κs.1, qs.1, tt, (a.0.now, a.1), (val L a.0.now ∷ [], (mut_vals a.1.0, tt))), ghosts κs.1 (a.0.now, a.1))
       (qed 𝓛 (‵ ((R L).own_val a.0.now (val L a.0.now ∷ [])) ∷ raw (toks 𝓛 1 κs.1 qs.1) ∷ ‵
-      (owns (MutRef (named 1) κs.1.0 i32 ∷ []) a.1 (shr_vals a.1.0, tt)) ∷ []) ∵ move ! (0 ∷ 2 ∷ []) $ fjoin ! $ move !
+      (owns (MutRef (named 1) κs.1.0 i32 ∷ []) a.1 (mut_vals a.1.0, tt)) ∷ []) ∵ move ! (0 ∷ 2 ∷ []) $ fjoin ! $ move !
       (1 ∷ 0 ∷ []) $ join ! $ frame ! $ by ! (free κs.1 (a.0.now, a.1)))
       (Lasts (read L) κs.1 (a.0.now, a.1)) (λ z. sem 𝓛 (lasts (read L) κs.1 (a.0.now, a.1) z)) _ (λ u. id⊢ 𝓤 _)
       (λ r z. Says a.0.now a.1.0.now r z.1.0) (λ r z. says κs.1 (a.0.now, a.1) r z)
@@ -103,14 +102,14 @@ module _ {M : Type 1} {𝓤 : Ura M} (𝓛 : Logic 𝓤) (L : Lending) (d : Clau
       ((ShrRef (named 0) κs.0 (R L)).own_val a.0 (shr_vals a.0)) ∷ ‵ (lasts (read L) κs.1 (a.0.now, a.1) z) ∷ ‵
       (u8.own_val r (u ∷ [])) ∷ []) ∵
       suffices ! _
-      (ends_at 𝓛 (reading L) (stayed L) d ((κs, qs, bounds, a, (shr_vals a.0, (shr_vals a.1.0, tt))), ghost) u r
+      (ends_at 𝓛 (reading L) (stayed L) d ((κs, qs, bounds, a, (shr_vals a.0, (mut_vals a.1.0, tt))), ghost) u r
       (tt, (z.1.0, tt)) (tt, (tt, tt))) $
       move ! (2 ∷ []) $ fsplit ! $ drop ! $ move ! (2 ∷ 0 ∷ []) $ fjoin ! $ move ! (0 ∷ 2 ∷ []) $ join ! $ move !
       (1 ∷ 0 ∷ []) $ join ! $ frame ! $ by ! (shown κs a ghost r z.1.0 e))
-      (ty_int w32) a.1.0.ptr.0 a.1.0.ptr.1 refl)))
+      (ty_int w32) a.1.0.ref_ptr.0 a.1.0.ref_ptr.1 refl)))
 
   -- the same of the function's routine
-  pub reads_number : (env : Names) (#f : Name) (𝓜 : Model 𝓤 H) (𝓡 : Running 𝓤 H 𝓜)
+  pub reads_number : (env : Names) (#f : Callee) (𝓜 : Model 𝓤 H) (𝓡 : Running 𝓤 H 𝓜)
       → Closed 𝓤 H (tables 𝓤 H 𝓜 𝓡 env).C (tables 𝓤 H 𝓜 𝓡 env).Λ #f (reader L f g (ty_int w32))
       → (r : Routine) → env g ≡ r → Triple 𝓤 (𝓡.run r) Called
       → Meets 𝓛 (reading L).signature ((tables 𝓤 H 𝓜 𝓡 env).C #f) (closing 𝓛 (reading L) d)
@@ -153,7 +152,7 @@ module _ (L : Lending) where
   )
 
 module _ {M : Type 1} {𝓤 : Ura M} (𝓛 : Logic 𝓤) (L : Lending) (d : Clauses 𝓤 (writing L))
-    (k : Clauses 𝓤 (write L)) (f : Fn) (g : Name)
+    (k : Clauses 𝓤 (write L)) (f : Fn) (g : Callee)
     (ghosts : (κs : Lfts 2) (a : Args (write L).signature κs) → (k κs a).ghost)
     (free : (κs : Lfts 2) (a : Args (write L).signature κs) → ent 𝓤 (emp 𝓤) ((k κs a).requires (ghosts κs a)))
     (Says : L.T.D → List ℕ → ℕ → ℕ → List ℕ → ℕ → Type 0)
@@ -177,23 +176,22 @@ module _ {M : Type 1} {𝓤 : Ura M} (𝓛 : Logic 𝓤) (L : Lending) (d : Clau
       ) d
       (WpFn 𝓤 H 𝓣.C 𝓣.Λ (writer L f g (ty_int w8) (ty_int w64))) (WpFn-mono 𝓤 H 𝓛.laws 𝓣 (writer L f g (ty_int w8) (ty_int w64)))
       (walked 𝓛 (writing L) (stayed_writing L) d (WpFn 𝓤 H 𝓣.C 𝓣.Λ (writer L f g (ty_int w8) (ty_int w64)))
-      (λ κs. (shr_vals, (shr_slice_vals, (shr_vals, tt))))
+      (λ κs. (shr_vals, (mut_slice_vals, (mut_vals, tt))))
       (λ κs. (
         shr_Tells (named 0) κs.0 (R L),
         (mut_slice_Tells (named 1) κs.1.0 u8, (mut_Tells (named 2) κs.1.1.0 usize, tt)),
       ))
       (λ κs qs bounds a ghost are. via 𝓤 _ (fst∗ 𝓤 _ ((d κs a).requires ghost))
-      (writes 𝓛 L 𝓣.C 𝓣.Λ (fm_of 𝓤 H 𝓛.laws 𝓣) f g Written known κs.0 qs.0 a.0.ptr.0 a.0.ptr.1
-      a.0.ghost_name a.0.now (toks 𝓛 2 κs.1 qs.1)
+      (writes 𝓛 L 𝓣.C 𝓣.Λ (fm_of 𝓤 H 𝓛.laws 𝓣) f g Written known κs.0 qs.0 a.0.ref_ptr.0 a.0.ref_ptr.1 a.0.now (toks 𝓛 2 κs.1 qs.1)
       (owns (MutSlice (named 1) κs.1.0 u8 ∷ MutRef (named 2) κs.1.1.0 usize ∷ []) a.1
-      (shr_slice_vals a.1.0, (shr_vals a.1.1.0, tt))) (
-        (κs.1, qs.1, tt, (a.0.now, a.1), (val L a.0.now ∷ [], (shr_slice_vals a.1.0, (shr_vals a.1.1.0, tt)))),
+      (mut_slice_vals a.1.0, (mut_vals a.1.1.0, tt))) (
+        (κs.1, qs.1, tt, (a.0.now, a.1), (val L a.0.now ∷ [], (mut_slice_vals a.1.0, (mut_vals a.1.1.0, tt)))),
         ghosts
             κs.1 (a.0.now, a.1),
       )
       (qed 𝓛 (‵ ((R L).own_val a.0.now (val L a.0.now ∷ [])) ∷ raw (toks 𝓛 2 κs.1 qs.1) ∷ ‵
       (owns (MutSlice (named 1) κs.1.0 u8 ∷ MutRef (named 2) κs.1.1.0 usize ∷ []) a.1
-      (shr_slice_vals a.1.0, (shr_vals a.1.1.0, tt))) ∷ []) ∵ move ! (0 ∷ 2 ∷ []) $ fjoin ! $ move !
+      (mut_slice_vals a.1.0, (mut_vals a.1.1.0, tt))) ∷ []) ∵ move ! (0 ∷ 2 ∷ []) $ fjoin ! $ move !
       (1 ∷ 0 ∷ []) $ join ! $ frame ! $ by ! (free κs.1 (a.0.now, a.1)))
       (Lasts (write L) κs.1 (a.0.now, a.1)) (λ z. sem 𝓛 (lasts (write L) κs.1 (a.0.now, a.1) z)) _ (λ u. id⊢ 𝓤 _)
       (λ r z. Says a.0.now a.1.0.now a.1.1.0.now r z.1.0 z.1.1.0) (λ r z. says κs.1 (a.0.now, a.1) r z)
@@ -201,17 +199,17 @@ module _ {M : Type 1} {𝓤 : Ura M} (𝓛 : Logic 𝓤) (L : Lending) (d : Clau
       ((‵ (flft κs.0 qs.0) ⊛ raw (toks 𝓛 2 κs.1 qs.1)) ∷ ‵
       ((ShrRef (named 0) κs.0 (R L)).own_val a.0 (shr_vals a.0)) ∷ ‵ (lasts (write L) κs.1 (a.0.now, a.1) z) ∷ ‵
       (u8.own_val r (u ∷ [])) ∷ []) ∵
-      move ! (2 ∷ []) $ fsplit ! $ drop ! $ fsplit ! $ fsplit ! $ move ! (1 ∷ []) $ feq_l ! (λ long.
+      move ! (2 ∷ []) $ fsplit ! $ drop ! $ fsplit ! $ fsplit ! $ fsplit ! $ move ! (1 ∷ []) $ feq_l ! (λ long.
       suffices ! _
       (ends_at 𝓛 (writing L) (stayed_writing L) d
-      ((κs, qs, bounds, a, (shr_vals a.0, (shr_slice_vals a.1.0, (shr_vals a.1.1.0, tt)))), ghost) u r
+      ((κs, qs, bounds, a, (shr_vals a.0, (mut_slice_vals a.1.0, (mut_vals a.1.1.0, tt)))), ghost) u r
       (tt, (z.1.0, (z.1.1.0, tt))) (tt, (long, (tt, tt)))) $
-      fjoin ! $ move ! (2 ∷ 0 ∷ []) $ fjoin ! $ move ! (0 ∷ 2 ∷ []) $ join ! $ move ! (1 ∷ 0 ∷ []) $ join ! $ frame ! $ by !
+      fjoin ! $ fjoin ! $ move ! (2 ∷ 0 ∷ []) $ fjoin ! $ move ! (0 ∷ 2 ∷ []) $ join ! $ move ! (1 ∷ 0 ∷ []) $ join ! $ frame ! $ by !
       (shown κs a ghost r z.1.0 z.1.1.0 e)))
-      (ty_int w8) (ty_int w64) a.1.0.ref_ptr (length a.1.0.now) are.1.0.0.1.0 a.1.1.0.ptr.0 a.1.1.0.ptr.1 refl)))
+      (ty_int w8) (ty_int w64) a.1.0.ref_ptr (length a.1.0.now) are.1.0.0.1.0 a.1.1.0.ref_ptr.0 a.1.1.0.ref_ptr.1 refl)))
 
   -- the same of the function's routine
-  pub reads_bytes : (env : Names) (#f : Name) (𝓜 : Model 𝓤 H) (𝓡 : Running 𝓤 H 𝓜)
+  pub reads_bytes : (env : Names) (#f : Callee) (𝓜 : Model 𝓤 H) (𝓡 : Running 𝓤 H 𝓜)
       → Closed 𝓤 H (tables 𝓤 H 𝓜 𝓡 env).C (tables 𝓤 H 𝓜 𝓡 env).Λ #f (writer L f g (ty_int w8) (ty_int w64))
       → (r : Routine) → env g ≡ r → Triple 𝓤 (𝓡.run r) Written
       → Meets 𝓛 (writing L).signature ((tables 𝓤 H 𝓜 𝓡 env).C #f) (closing 𝓛 (writing L) d)
