@@ -10,4 +10,4 @@ pub returns-in-Null : goal.returns-in-Null
 returns-in-Null c = given_out held_number held_or refl refl refl c.in-Null.is
 
 pub returns-in-Position : goal.returns-in-Position
-returns-in-Position c = given_out held_number held_or refl (to_z-of_z (record { sfits = c.known_told-1.given.0.1 })) refl c.in-Position.is
+returns-in-Position c = given_out held_number held_or refl (search rules) refl c.in-Position.is
