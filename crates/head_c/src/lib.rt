@@ -33,8 +33,7 @@ pub const WORDS: usize = 1116;
 pub type Block = [u32; WORDS];
 
 // Starts the head with a position, in phase 1: 0, or 1, 2, 3, 4.
-#[unsafe(no_mangle)]
-pub extern "C" fn focus_head_start(h: &mut Block, n: u32, f: u32, number: u32, position: i32) -> u8
+pub fn focus_head_start(h: &mut Block, n: u32, f: u32, number: u32, position: i32) -> u8
     ensures { (result ≡ (start (head_of h.old) TwoRounds n f number position).refusal)
         × (h.new ≡ block_after h.old (starts TwoRounds n f number position)) }
 {
@@ -42,15 +41,7 @@ pub extern "C" fn focus_head_start(h: &mut Block, n: u32, f: u32, number: u32, p
 }
 
 // Starts a head again whose strike is over, in the phase and round given, with no position: 0, or 1, 2, 3, 5.
-#[unsafe(no_mangle)]
-pub extern "C" fn focus_head_restart(
-    h: &mut Block,
-    n: u32,
-    f: u32,
-    number: u32,
-    phase: u32,
-    round: u32,
-) -> u8
+pub fn focus_head_restart(h: &mut Block, n: u32, f: u32, number: u32, phase: u32, round: u32) -> u8
     ensures { (result ≡ (restart (head_of h.old) TwoRounds n f number phase round).refusal)
         × (h.new ≡ block_after h.old (restarts TwoRounds n f number phase round)) }
 {
@@ -58,8 +49,7 @@ pub extern "C" fn focus_head_restart(
 }
 
 // Starts a listener, in phase 1, with no position: 0, or 1, 2, 3.
-#[unsafe(no_mangle)]
-pub extern "C" fn focus_listener_start(h: &mut Block, n: u32, f: u32, number: u32) -> u8
+pub fn focus_listener_start(h: &mut Block, n: u32, f: u32, number: u32) -> u8
     ensures { (result ≡ (start_listener (head_of h.old) TwoRounds n f number).refusal)
         × (h.new ≡ block_after h.old (starts_listener TwoRounds n f number)) }
 {
@@ -67,8 +57,7 @@ pub extern "C" fn focus_listener_start(h: &mut Block, n: u32, f: u32, number: u3
 }
 
 // Starts a listener again whose strike is over, in the phase and round given, with no position: 0, or 1, 2, 3, 5.
-#[unsafe(no_mangle)]
-pub extern "C" fn focus_listener_restart(
+pub fn focus_listener_restart(
     h: &mut Block,
     n: u32,
     f: u32,
@@ -86,14 +75,7 @@ pub extern "C" fn focus_listener_restart(
 // families.
 
 // Starts the head with a position, in phase 1: 0, or 1, 18, 3, 4.
-#[unsafe(no_mangle)]
-pub extern "C" fn focus_one_round_start(
-    h: &mut Block,
-    n: u32,
-    f: u32,
-    number: u32,
-    position: i32,
-) -> u8
+pub fn focus_one_round_start(h: &mut Block, n: u32, f: u32, number: u32, position: i32) -> u8
     ensures { (result ≡ (start (head_of h.old) OneRound n f number position).refusal)
         × (h.new ≡ block_after h.old (starts OneRound n f number position)) }
 {
@@ -101,8 +83,7 @@ pub extern "C" fn focus_one_round_start(
 }
 
 // Starts a head again whose strike is over, in the phase and round given, with no position: 0, or 1, 18, 3, 5.
-#[unsafe(no_mangle)]
-pub extern "C" fn focus_one_round_restart(
+pub fn focus_one_round_restart(
     h: &mut Block,
     n: u32,
     f: u32,
@@ -117,8 +98,7 @@ pub extern "C" fn focus_one_round_restart(
 }
 
 // Starts a listener, in phase 1, with no position: 0, or 1, 18, 3.
-#[unsafe(no_mangle)]
-pub extern "C" fn focus_one_round_listener_start(h: &mut Block, n: u32, f: u32, number: u32) -> u8
+pub fn focus_one_round_listener_start(h: &mut Block, n: u32, f: u32, number: u32) -> u8
     ensures { (result ≡ (start_listener (head_of h.old) OneRound n f number).refusal)
         × (h.new ≡ block_after h.old (starts_listener OneRound n f number)) }
 {
@@ -126,8 +106,7 @@ pub extern "C" fn focus_one_round_listener_start(h: &mut Block, n: u32, f: u32, 
 }
 
 // Starts a listener again whose strike is over, in the phase and round given, with no position: 0, or 1, 18, 3, 5.
-#[unsafe(no_mangle)]
-pub extern "C" fn focus_one_round_listener_restart(
+pub fn focus_one_round_listener_restart(
     h: &mut Block,
     n: u32,
     f: u32,
@@ -142,8 +121,7 @@ pub extern "C" fn focus_one_round_listener_restart(
 }
 
 // Hears a frame on a link: 0, or 26, 3, 21, 6, 7, 8, 22, 9, 23, 10, 11.
-#[unsafe(no_mangle)]
-pub extern "C" fn focus_head_hear(h: &mut Block, link: u32, frame: &[u8]) -> u8
+pub fn focus_head_hear(h: &mut Block, link: u32, frame: &[u8]) -> u8
     ensures { Hears h.old link frame.now result h.new }
 {
     hear(h, link, frame)
@@ -151,8 +129,7 @@ pub extern "C" fn focus_head_hear(h: &mut Block, link: u32, frame: &[u8]) -> u8
 
 // Hears a round's frames, each behind its link byte, in order, going on past a refused one: 0, or 15, 24. The front of `answers` gets a
 // number for each frame, and `count` how many there are.
-#[unsafe(no_mangle)]
-pub extern "C" fn focus_head_hear_batch(
+pub fn focus_head_hear_batch(
     h: &mut Block,
     batch: &[u8],
     answers: &mut [u8],
@@ -171,8 +148,7 @@ pub extern "C" fn focus_head_hear_batch(
 }
 
 // Closes the round: 0, or 26, 25. It ends a collection round; in the last round of a phase it only offers the position.
-#[unsafe(no_mangle)]
-pub extern "C" fn focus_head_close(h: &mut Block) -> u8
+pub fn focus_head_close(h: &mut Block) -> u8
     ensures { (result ≡ closed_number (close (head_of h.old)).closed)
         × (h.new ≡ block_after h.old closes) }
 {
@@ -184,8 +160,7 @@ pub extern "C" fn focus_head_close(h: &mut Block) -> u8
 }
 
 // Adopts what is offered, and ends the phase: 0, or 27, 26.
-#[unsafe(no_mangle)]
-pub extern "C" fn focus_head_adopt(h: &mut Block) -> u8
+pub fn focus_head_adopt(h: &mut Block) -> u8
     ensures { (result ≡ (adopt (head_of h.old) (offer_of h.old)).refusal)
         × (h.new ≡ block_after h.old adopts) }
 {
@@ -204,8 +179,7 @@ pub extern "C" fn focus_head_adopt(h: &mut Block) -> u8
 }
 
 // What is offered, where it was lent: the lowest kept entry, the highest, the trim and the position. 1, or 0 if there is no offer.
-#[unsafe(no_mangle)]
-pub extern "C" fn focus_head_has_offer(h: &Block, kept: &mut [i32; 4]) -> u8
+pub fn focus_head_has_offer(h: &Block, kept: &mut [i32; 4]) -> u8
     ensures { (result ≡ offer_number (offer_of h.now)) × (kept.new ≡ offer_or (offer_of h.now) kept.old) }
 {
     match offer_in(h) {
@@ -218,8 +192,7 @@ pub extern "C" fn focus_head_has_offer(h: &Block, kept: &mut [i32; 4]) -> u8
 }
 
 // Writes what the head has to say at the front of the buffer, and the frame's length: 0, or 26, 17, 24.
-#[unsafe(no_mangle)]
-pub extern "C" fn focus_head_write(h: &Block, buffer: &mut [u8], length: &mut usize) -> u8
+pub fn focus_head_write(h: &Block, buffer: &mut [u8], length: &mut usize) -> u8
     ensures { (result ≡ written_number (write_answer (head_of h.now) buffer.old))
         × (buffer.new ≡ write_buffer (head_of h.now) buffer.old)
         × (length.new ≡ written_or (write_answer (head_of h.now) buffer.old) length.old) }
@@ -228,8 +201,7 @@ pub extern "C" fn focus_head_write(h: &Block, buffer: &mut [u8], length: &mut us
 }
 
 // The position that the head holds: 1, or 0 if it holds none.
-#[unsafe(no_mangle)]
-pub extern "C" fn focus_head_has_position(h: &Block, position: &mut i32) -> u8
+pub fn focus_head_has_position(h: &Block, position: &mut i32) -> u8
     ensures { (result ≡ held_number (head_of h.now).seat.position)
         × (position.new ≡ held_or (head_of h.now).seat.position position.old) }
 {
@@ -245,8 +217,7 @@ pub extern "C" fn focus_head_has_position(h: &Block, position: &mut i32) -> u8
 }
 
 // The kept range that the head holds: 1, and its lowest entry, its highest, its trim and its position; or 0 if it holds none.
-#[unsafe(no_mangle)]
-pub extern "C" fn focus_head_has_kept(h: &Block, kept: &mut [i32; 4]) -> u8
+pub fn focus_head_has_kept(h: &Block, kept: &mut [i32; 4]) -> u8
     ensures { (result ≡ range_number (head_of h.now).seat.kept)
         × (kept.new ≡ range_or (head_of h.now).seat.kept kept.old) }
 {
@@ -262,8 +233,7 @@ pub extern "C" fn focus_head_has_kept(h: &Block, kept: &mut [i32; 4]) -> u8
 }
 
 // How many phase ends the head has passed since it was started or restarted, up to 255, where the count rests.
-#[unsafe(no_mangle)]
-pub extern "C" fn focus_head_since(h: &Block) -> u8
+pub fn focus_head_since(h: &Block) -> u8
     ensures { result ≡ (head_of h.now).seat.since }
 {
     (h[place::SINCE] % 256) as u8

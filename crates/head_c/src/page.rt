@@ -14,8 +14,7 @@ use reading::Reading;
 use terms::{HEADS, refusal};
 
 // The head's reading: 0 unknown; 1 a point, and its float; 2 a range, and its lowest, its highest and their midpoint.
-#[unsafe(no_mangle)]
-pub extern "C" fn focus_head_reading(h: &Block, floats: &mut [f32; 3]) -> u8
+pub fn focus_head_reading(h: &Block, floats: &mut [f32; 3]) -> u8
     ensures { (result ≡ reading_kind (head_reading (head_of h.now)))
         × (floats.new ≡ floats_or (head_reading (head_of h.now)) floats.old) }
 {
@@ -62,13 +61,7 @@ fn readings_in(blocks: &[u32]) -> Readings
 }
 
 // The page of n heads whose blocks follow one another, at the front of the buffer, and its length: 0, or 1, 24.
-#[unsafe(no_mangle)]
-pub extern "C" fn focus_host_page(
-    blocks: &[u32],
-    n: u32,
-    buffer: &mut [u8],
-    length: &mut usize,
-) -> u8
+pub fn focus_host_page(blocks: &[u32], n: u32, buffer: &mut [u8], length: &mut usize) -> u8
     ensures { (result ≡ written_number (page_answer n (readings_of blocks.now) buffer.old))
         × (buffer.new ≡ page_in n (readings_of blocks.now) buffer.old)
         × (length.new ≡ written_or (page_answer n (readings_of blocks.now) buffer.old) length.old) }

@@ -19,8 +19,7 @@ fn window_in(h: &[u32]) -> Window
 }
 
 // Reads a byte of the window: 0, or 16.
-#[unsafe(no_mangle)]
-pub extern "C" fn focus_head_register(h: &Block, at: u32, byte: &mut u8) -> u8
+pub fn focus_head_register(h: &Block, at: u32, byte: &mut u8) -> u8
     ensures { (result ≡ read_refusal at)
         × (byte.new ≡ byte_read (head_of h.now).seat (registers_of h.now) at byte.old) }
 {
@@ -34,16 +33,14 @@ pub extern "C" fn focus_head_register(h: &Block, at: u32, byte: &mut u8) -> u8
 }
 
 // Reads all sixteen.
-#[unsafe(no_mangle)]
-pub extern "C" fn focus_head_window(h: &Block, bytes: &mut Window)
+pub fn focus_head_window(h: &Block, bytes: &mut Window)
     ensures { bytes.new ≡ window (head_of h.now).seat (registers_of h.now) }
 {
     *bytes = window_in(h);
 }
 
 // Writes a byte of the window: 0, or 16. Byte 10 clears the events written as one; byte 11 sets the mask.
-#[unsafe(no_mangle)]
-pub extern "C" fn focus_head_set_register(h: &mut Block, at: u32, byte: u8) -> u8
+pub fn focus_head_set_register(h: &mut Block, at: u32, byte: u8) -> u8
     ensures { (result ≡ set_refusal at) × (h.new ≡ block_after h.old (sets at byte)) }
 {
     let b = head_window::set_register(at, byte, registers_in(h));
@@ -53,8 +50,7 @@ pub extern "C" fn focus_head_set_register(h: &mut Block, at: u32, byte: u8) -> u
 
 // Writes both bytes anew after a strike, which may have left anything beside the head: no event is pending then, and the mask is given. A
 // restart that follows sets its event.
-#[unsafe(no_mangle)]
-pub extern "C" fn focus_head_window_reset(h: &mut Block, mask: u8)
+pub fn focus_head_window_reset(h: &mut Block, mask: u8)
     ensures { h.new ≡ window_reset h.old mask }
 {
     focus_head_set_register(h, 10, 7);
@@ -62,8 +58,7 @@ pub extern "C" fn focus_head_window_reset(h: &mut Block, mask: u8)
 }
 
 // Whether the interrupt line is up: 1, or 0.
-#[unsafe(no_mangle)]
-pub extern "C" fn focus_head_has_interrupt(h: &Block) -> u8
+pub fn focus_head_has_interrupt(h: &Block) -> u8
     ensures { result ≡ bit (is_line_up (registers_of h.now)) }
 {
     head_window::is_line_up(registers_in(h)) as u8
