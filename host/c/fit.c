@@ -1,20 +1,21 @@
-/* For the fitter: reads tables of positions and prints what the proved calls answer (document 02, A12 and A13). */
-#include "tool.h"
+/* For the fitter: reads tables of positions from standard input and prints what the proved calls answer (document 02, A12 and A13).
+ *
+ *     fit < examples/fitting.table
+ *
+ * A line says one thing; what follows # is a note.
+ *
+ *     ring 5 1                  5 lenses, at most 1 struck; `ring one-round 5 1` if a phase has one round
+ *     phase 1                   the phase that the table ends; until one is given, 1
+ *     entries 10 20..24 - 40 0  an entry for each lens: its position, its lowest and highest position, or - for null
+ *     limits                    from where to where the ring can settle
+ *     reach 4: 20 24            where to set lens 4 so that the ring settles on 20, and where for 24
+ *
+ * Anything that cannot be read stops it: one line on standard error, and status 1. */
+#include <focus.h>
 
-static const char usage[] = "fit [TABLE]";
-static const char help[] =
-    "Reads tables of positions and prints what the ring makes of them. Without TABLE, or with -, standard\n"
-    "input is read. A line says one thing; what follows # is a note.\n"
-    "\n"
-    "  ring 5 1                  5 lenses, at most 1 struck; `ring one-round 5 1` if a phase has one round\n"
-    "  phase 1                   the phase that the table ends; until one is given, 1\n"
-    "  entries 10 20..24 - 40 0  an entry for each lens: its position, its lowest and highest position, or\n"
-    "                            - for null\n"
-    "  limits                    from where to where the ring can settle\n"
-    "  reach 4: 20 24            where to set lens 4 so that the ring settles on 20, and where for 24\n"
-    "\n"
-    "Status: 0 if every question has its answer, 1 if one was refused (its line says why), 2 if a line\n"
-    "could not be read, with its number on standard error, or the answers could not be written.\n";
+#include <stdio.h>
+#include <stdlib.h>
+#include <string.h>
 
 enum { MOST = 64 }; /* entries of a table: more than a ring has */
 
@@ -31,25 +32,11 @@ static struct {
 } table = {0, 0, 0, 1, 0, {{0, 0, 0}}};
 
 static unsigned long line_number;
-static const char *table_name = "standard input";
-static int status = TOOL_DONE;
 
 static void stop(const char *what, const char *word) {
     fflush(stdout);
-    fprintf(stderr, "%s:%lu: %s: ", table_name, line_number, what);
-    if (word == NULL)
-        fputs("the line ends", stderr);
-    else
-        for (int i = 0; word[i] != '\0' && i < 60; i++) /* no control byte goes to a terminal */
-            fputc((unsigned char)word[i] < ' ' || word[i] == 127 ? '?' : word[i], stderr);
-    fputc('\n', stderr);
-    exit(TOOL_WRONG);
-}
-
-/* An answer that is a refusal, in words. */
-static void refused(const char *what, uint8_t number) {
-    printf("%s: refused %u, %s\n", what, number, focus_refusal_text(number));
-    status = TOOL_REFUSED;
+    fprintf(stderr, "line %lu: %s: %s\n", line_number, what, word == NULL ? "the line ends" : word);
+    exit(1);
 }
 
 static char *word(void) {
@@ -140,7 +127,7 @@ static void print_limits(void) {
     }
     uint8_t number = focus_limits(table.n, table.f, table.phase, marks(), bytes, 8 * table.count, &range);
     if (number != 0)
-        refused("limits", number);
+        printf("limits: refused %u\n", number);
     else
         printf("limits: the ring settles from %d to %d\n", range.lowest, range.highest);
 }
@@ -164,11 +151,9 @@ static void print_reach(uint32_t open, int32_t wanted) {
     }
     uint8_t number = (table.one_round ? focus_one_round_reach : focus_reach)(table.n, table.f, table.phase, open, marks(), bytes, 4 * table.count, wanted,
                                                                              &position);
-    if (number != 0) {
-        char what[32];
-        snprintf(what, sizeof what, "reach %u", open);
-        refused(what, number);
-    } else if (position == FOCUS_NO_STEP)
+    if (number != 0)
+        printf("reach %u: refused %u\n", open, number);
+    else if (position == FOCUS_NO_STEP)
         printf("reach %u: no position brings %d\n", open, wanted);
     else
         printf("reach %u: %d brings %d\n", open, position, brings(bytes, open, position));
@@ -202,23 +187,11 @@ static void read_line(char *line) {
         stop("more than the line says", more);
 }
 
-int main(int count, char **words) {
+int main(void) {
     char line[4096];
-    tool_words(count, words, 0, 1, "fit", usage, help);
-    const char *name = count > 1 ? words[1] : "-";
-    errno = 0;
-    FILE *from = strcmp(name, "-") == 0 ? stdin : fopen(name, "r");
-    if (from == NULL)
-        tool_unread(name);
-    if (from != stdin)
-        table_name = name;
-    while (fgets(line, sizeof line, from) != NULL) {
+    while (fgets(line, sizeof line, stdin) != NULL) {
         line_number++;
-        if (strchr(line, '\n') == NULL && !feof(from))
-            stop("a line is too long, or has a zero byte", line);
         read_line(line);
     }
-    if (ferror(from))
-        tool_unread(name);
-    tool_end(status);
+    return 0;
 }

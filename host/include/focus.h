@@ -75,19 +75,16 @@
 #include <stddef.h>
 #include <stdint.h>
 
-/* What is asked of a target: addresses of 32 bits or more, 32-bit floats of IEEE 754, and C's calls as ELF systems, bare metal and
- * WebAssembly have them. The order of bytes is not asked. The archives are proved and built for x86-64 Linux; `host/cross TARGET PREFIX`
- * compiles the same code for other processors, which is tested and not proved (docs/TRUST.md, B7). To use only the
- * names and types on any other target, define FOCUS_ANY_TARGET. */
+/* The archives are for one target. A program that wants the names alone, for another one, defines FOCUS_ANY_TARGET. */
 #ifndef FOCUS_ANY_TARGET
-#if SIZE_MAX < UINT32_MAX
-#error "focus.h: addresses of 32 bits or more are asked (define FOCUS_ANY_TARGET to read the header all the same)"
+#if !defined(__x86_64__) || !defined(__linux__) || SIZE_MAX != UINT64_MAX
+#error "focus.h: the archives are for x86-64 Linux alone (define FOCUS_ANY_TARGET to read the header for another target)"
 #endif
-#ifdef _WIN32
-#error "focus.h: no library is made for Windows, which calls functions otherwise (define FOCUS_ANY_TARGET to read the header all the same)"
+#if defined(__BYTE_ORDER__) && __BYTE_ORDER__ != __ORDER_LITTLE_ENDIAN__
+#error "focus.h: the archives are for little-endian numbers (define FOCUS_ANY_TARGET to read the header for another target)"
 #endif
 #if FLT_RADIX != 2 || FLT_MANT_DIG != 24 || FLT_MAX_EXP != 128
-#error "focus.h: readings are 32-bit floats of IEEE 754 (define FOCUS_ANY_TARGET to read the header all the same)"
+#error "focus.h: readings are 32-bit floats of IEEE 754 (define FOCUS_ANY_TARGET to read the header for another target)"
 #endif
 #endif
 

@@ -20,14 +20,11 @@ def draw(phases, ends, name):
     for at, phase in enumerate(phases):
         for node in phase.nodes:
             places[node.number].append((at, node))
-    flat = not any(column.spread for column in shown)      # no head is ever above another
-    bottom = TOP + HEIGHT if flat else BOTTOM
-    legend_y = bottom + 64
+    legend_y = BOTTOM + 64
     height = legend_y + LEGEND_HIGH * (1 + (len(numbers) - 1) // per_row()) + 8
     words = 'positions of %d heads and listeners, phases %d to %d' % (len(numbers), phases[0].number, phases[-1].number)
     out = svg.opening(height, name + ': ' + words, described(phases), 'heads')
-    out += positions(places, shown, axis) + ([] if flat else above(places, shown, axis))
-    out += svg.phase_axis(shown, axis, bottom + 6) + legend(numbers, legend_y)
+    out += positions(places, shown, axis) + above(places, shown, axis) + svg.phase_axis(shown, axis, BOTTOM + 6) + legend(numbers, legend_y)
     return '\n'.join(out + ['</svg>']) + '\n'
 
 

@@ -1,48 +1,24 @@
 """The text form of a run file: a line for each record, or for the like frames that one head sends to several."""
-import bisect
-
 from rig import place as places
 from rig import wire
-from rig.command import quoted
 from rig.words import (TextError, folded, number, read_bytes, read_frame, read_heads, signed, unfolded, write_bytes, write_frame,
                        write_heads)
 
 NOTES_AT = 40
 MOST_REPEATS = 65536
-MOST_BYTES = 2 ** 28                 # of a run file that a text says
-PIECE = 32                           # bytes of a `record` line
-MOST_SAID = 1200                     # bytes of a planted record that is said in one line
 
 
 # ---- text to bytes
 
 def pack(text):
     """The run file that the text says. A TextError begins with the line's number."""
-    return packed(text)[0]
-
-
-def packed(text):
-    """The run file, and where the bytes of each line begin, with its number. Lines `record` that follow each other may have one record in
-    pieces."""
-    place, out, begins, size, pieces = places.Place(), [], [], 0, b''
+    place, out = places.Place(), []
     for at, words in unrolled(numbered(text)):
         data = located(at, read_line, words, place)
-        records, rest = wire.split(pieces + data if words[0] == 'record' else data)
-        for record in records:
+        for record in wire.split(data)[0]:
             place.follow(record)
-        pieces = rest if words[0] == 'record' and len(rest) < 65536 and wire.may_go_on(rest) else b''
         out.append(data)
-        begins.append((size, at))
-        size += len(data)
-        if size > MOST_BYTES:
-            raise TextError('%d: up to here the text says more than %d bytes' % (at, MOST_BYTES))
-    return b''.join(out), begins
-
-
-def line_at(begins, offset):
-    """The number of the line that says the byte at this place, or the last line that says one before it; None if there is none."""
-    found = bisect.bisect_right(begins, (offset, float('inf')))
-    return begins[found - 1][1] if found else None
+    return b''.join(out)
 
 
 def located(at, read, *arguments):
@@ -93,7 +69,7 @@ def read_line(words, place):
     readers = {'start': read_start, 'listeners': read_listeners, 'round': read_round, 'strike': read_strike, 'plant': read_plant,
                'record': read_record}
     if words[0] not in readers:
-        raise TextError('a line begins with %s, repeat or end, not %s' % (', '.join(readers), quoted(words[0])))
+        raise TextError('a line begins with %s, repeat or end, not "%s"' % (', '.join(readers), words[0]))
     return readers[words[0]](words[1:], place)
 
 
@@ -112,7 +88,7 @@ def read_start(words, place):
 
 def read_round(words, place):
     if words and words[0] != 'struck':
-        raise TextError('round: only "struck" and heads may follow, not %s' % quoted(words[0]))
+        raise TextError('round: only "struck" and heads may follow, not "%s"' % words[0])
     heads = read_heads(words[1:], 31, 'struck') if words else []
     return wire.record(wire.ROUND, wire.marks_of(heads).to_bytes(4, 'little'))
 
@@ -174,8 +150,7 @@ class Line:
             everyone = len(self.receivers) > 1 and self.receivers == self.unstruck
             words = '%s %s: %s' % (words, 'all' if everyone else write_heads(self.receivers), self.frame)
         if self.note:
-            first, newline, more = words.partition('\n')
-            words = ('%-*s  # %s' % (NOTES_AT - 2, first, self.note) if words else '# ' + self.note) + newline + more
+            words = ('%-*s  # %s' % (NOTES_AT - 2, words, self.note)) if words else '# ' + self.note
         return '\n' + words + '\n' if self.opens else words + '\n'
 
 
@@ -196,7 +171,7 @@ def unpacked(data):
         yield write_line(record, place, note)
     last = None if fault else places.end_fault(place, rest)
     if rest or last:
-        yield Line(said_bytes(rest), refusal(last) if last else '')
+        yield Line('record ' + write_bytes(rest) if rest else '', refusal(last) if last else '')
 
 
 def joined(lines):
@@ -236,7 +211,7 @@ def usual_note(record, place, following):
 
 def write_line(record, place, note):
     kind, size = wire.kind_of(record), len(record)
-    if kind == wire.PLANT and 6 <= size <= MOST_SAID:    # most records are
+    if kind == wire.PLANT and size >= 6:                 # most records are
         frame = write_frame(record[6:], record[4], place.phase)
         return Line('plant %d to' % record[4], note, [record[5]], place.unstruck, frame)
     if kind in (wire.START, wire.START_ONE) and size >= 6 and size == 6 + 4 * record[4]:
@@ -249,12 +224,7 @@ def write_line(record, place, note):
     if kind == wire.STRIKE and size == 6:
         listeners = write_heads(wire.heads_in(wire.half(record, 4) << wire.FIRST_LISTENER))
         return Line('strike ' + (listeners or 'none'), note)
-    return Line(said_bytes(record), note)
-
-
-def said_bytes(data):
-    """Bytes as they stand, in lines that are not too long; no line for none."""
-    return '\n'.join('record ' + write_bytes(data[at:at + PIECE]) for at in range(0, len(data), PIECE))
+    return Line('record ' + write_bytes(record), note)
 
 
 def write_start(record):

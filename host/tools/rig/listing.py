@@ -2,8 +2,6 @@
 import re
 from collections import namedtuple
 
-from rig.command import quoted
-
 TITLE = 'phase low high spread collect confess'
 LINE = re.compile('([0-9]{1,6}) (-?[0-9]{1,9}) (-?[0-9]{1,9}) ([0-9]{1,9}) ([0-9a-f]{8}) ([0-9a-f]{8})')
 ENDING = re.compile('end|refused [0-9]{1,3}')
@@ -50,7 +48,7 @@ def whole_lines(text):
 def read_end(line, at, phase):
     found = LINE.fullmatch(line)
     if not found:
-        raise ListingError('%d: neither a phase nor "end" nor "refused" and a number: %s' % (at, quoted(line, 60)))
+        raise ListingError('%d: neither a phase nor "end" nor "refused" and a number: "%s"' % (at, line[:60]))
     end = PhaseEnd(*map(int, found.groups()[:4]), *(int(word, 16) for word in found.groups()[4:]))
     if end.phase != phase:
         raise ListingError('%d: phase %d stands where phase %d is due' % (at, end.phase, phase))
@@ -67,21 +65,6 @@ def no_confession(listing):
         if end.confess:
             raise ListingError('%d: a one-round ring has no confession round to be struck in' % at)
     return listing
-
-
-def is_one_round(listing):
-    """Whether it can be of a one-round ring alone: no head is struck in confession, and a spread is left that no two-round ring has then."""
-    return not any(end.confess for end in listing.ends) and any(end.phase and end.spread for end in listing.ends)
-
-
-def fits(n, f, one_round):
-    """Whether there is a ring of n heads of which f may be struck."""
-    return n >= 4 * f + 1 if one_round else 2 * n >= 7 * f + 2
-
-
-def least_words(f, one_round):
-    least = 4 * f + 1 if one_round else (7 * f + 3) // 2
-    return 'with f = %d it has at least %d heads%s' % (f, least, ', if a phase has one round' if one_round else '')
 
 
 def settles(phase, collect, confess, one_round):
@@ -114,16 +97,11 @@ def halved(spread, phases=1):
 def bounded(listing, known):
     """The listing, if its spreads halve where they must, and no mark is for a head that the ring does not have."""
     for at, (before, end) in enumerate(zip(listing.ends, listing.ends[1:]), 3):
-        bounded_by(before, end, at, known)
+        if halves(known) and end.spread > halved(before.spread):
+            raise ListingError('%d: a spread of %d after one of %d: it must halve in this ring' % (at, end.spread, before.spread))
+        if known.n is not None and (end.collect | end.confess) >> known.n:
+            raise ListingError('%d: a head is struck that is not there: there are %d' % (at, known.n))
     return listing
-
-
-def bounded_by(before, end, at, known):
-    """An error if line `at`, of a phase end, cannot follow the one before."""
-    if halves(known) and end.spread > halved(before.spread):
-        raise ListingError('%d: a spread of %d after one of %d: it must halve in this ring' % (at, end.spread, before.spread))
-    if known.n is not None and (end.collect & HEADS | end.confess & HEADS) >> known.n:
-        raise ListingError('%d: a head is struck that is not there: there are %d' % (at, known.n))
 
 
 def with_listeners(listing, known):

@@ -3,31 +3,19 @@
 The scale is that of the first line that is drawn: no later position leaves its range (demand 3).
 """
 from rig import columns as parts
-from rig.known import differing
-from rig.listing import (CUT, ENDING, TITLE, Known, Listing, ListingError, bounded_by, no_confession, read_end, settled,
-                         with_listeners)
+from rig.listing import CUT, ENDING, TITLE, Known, Listing, ListingError, no_confession, read_end, settled, with_listeners
 from rig.terminal import GAP, LEAST_BAND, Scale, digits_of, strikes
 
 PLACES = 8                           # of a position
 
 
-def rows(lines, width, known=Known(), first=0, last=65535, expected=None):
-    """The rows of a listing whose lines come one by one, each with its newline; the last says how it ended. From the first line that only a
-    one-round ring can have, it is drawn as one."""
-    scale, confessed, before = None, False, None
-    for at, end in ends(lines):
+def rows(lines, width, known=Known(), first=0, last=65535):
+    """The rows of a listing whose lines come one by one, each with its newline; the last says how it ended."""
+    scale = None
+    for at, end in ends(lines, known):
         if isinstance(end, str):
             yield end
             return
-        if expected:
-            differing(end, at, expected)
-        confessed = confessed or end.confess != 0
-        if end.phase and end.spread and not confessed and not expected:
-            known = known._replace(one_round=True)
-        end = checked(end, at, known)
-        if before:
-            bounded_by(before, end, at, known)
-        before = end
         row = parts.column([end])
         if not first <= row.first <= last:
             continue
@@ -42,7 +30,7 @@ def rows(lines, width, known=Known(), first=0, last=65535, expected=None):
                      strikes(row, numbers, known.one_round)), scale.size, digits)
 
 
-def ends(lines):
+def ends(lines, known):
     """Each phase end with the number of its line, then how the listing ended."""
     count = 0
     for at, line in enumerate(lines, 1):
@@ -56,7 +44,7 @@ def ends(lines):
         elif not whole:
             break
         else:
-            yield at, read_end(text, at, count)
+            yield at, checked(read_end(text, at, count), at, known)
             count += 1
     yield 0, CUT
 

@@ -7,57 +7,39 @@ from rig import trace as traces
 from rig.words import write_bytes, write_frame, write_heads
 
 MOST_PHASES = 200                    # shown one by one
-MOST_FRAMES = 500                    # rows of planted frames shown
+MOST_FRAMES = 500                    # refused frames shown
 
 STYLE = '''
-:root { color-scheme: light dark; --ink: #22303c; --paper: #fff; --rule: #dde3e8; --shade: #f3f6f8; --struck: #f0e2f5; --pulled: #cfe4f5 }
-:root { --good: #1f7a44; --bad: #a3202c }
-body { font: 15px/1.45 Helvetica, Arial, sans-serif; color: var(--ink); background: var(--paper) }
-body { margin: 2rem auto; max-width: 62rem; padding: 0 1rem; overflow-wrap: anywhere }
+body { font: 15px/1.45 Helvetica, Arial, sans-serif; color: #22303c; background: #fff }
+body { margin: 2rem auto; max-width: 62rem; padding: 0 1rem }
 h1 { font-size: 1.5rem } h2 { font-size: 1.15rem; margin-top: 2.2rem }
-table { border-collapse: separate; border-spacing: 0; font-size: 13px; font-variant-numeric: tabular-nums; margin: .6rem 0 }
-table { border-top: 1px solid var(--rule); border-left: 1px solid var(--rule); overflow-wrap: normal }
-th, td { border: solid var(--rule); border-width: 0 1px 1px 0; padding: .15rem .55rem; text-align: right; vertical-align: top }
-th { background: var(--shade) } td.words, th.words { text-align: left }
-td.struck { background: var(--struck); text-align: center } td.pulled { background: var(--pulled) }
-td:first-child, th:first-child { position: sticky; left: 0; background: var(--shade) }
-.played { color: var(--good) } .refused { color: var(--bad) } .wide { overflow-x: auto }
-pre { background: var(--shade); padding: .6rem; overflow-x: auto } svg { max-width: 100%; height: auto }
+table { border-collapse: collapse; font-size: 13px; font-variant-numeric: tabular-nums; margin: .6rem 0 }
+th, td { border: 1px solid #dde3e8; padding: .15rem .55rem; text-align: right; vertical-align: top }
+th { background: #f3f6f8 } td.words, th.words { text-align: left }
+td.struck { background: #f0e2f5; text-align: center } td.pulled { background: #cfe4f5 }
+.played { color: #1f7a44 } .refused { color: #a3202c } .wide { overflow-x: auto }
+pre { background: #f3f6f8; padding: .6rem; overflow-x: auto } svg { max-width: 100%; height: auto }
 summary { cursor: pointer; padding: .2rem 0 }
-@media (max-width: 45rem) {
-  body { margin: .8rem auto; padding: 0 .6rem }
-  .wide svg { max-width: none; width: 45rem }
-  summary { padding: .6rem 0 }
-}
-@media (prefers-color-scheme: dark) {
-  :root { --ink: #d7dee4; --paper: #14191d; --rule: #38424b; --shade: #1d242a; --struck: #4a2f55; --pulled: #1f4a6b }
-  :root { --good: #5fc98a; --bad: #ff8a8a }
-  svg { filter: invert(1) hue-rotate(180deg) }
-}
 '''
 
 SOURCE = ('All numbers are from the proved calls: the player judged the file, and heads as C keeps them were driven by its records; '
           'both agree at every phase end.')
-
-TAKEN = 'A frame that is taken is heard; whether it is trusted stands below, head by head.'
 
 REASONS = ('An entry is not trusted if its link confessed to the head; if no position has the support of n - f links ("1000 has 3 of 4": the '
            'one with the most has 3, and 4 are wanted), or two have; or if no list has a position for it. In a one-round ring: if its link '
            'gave silence, or nothing.')
 
 
-def page(name, trace, data, refresh=0):
-    """With `refresh` the browser loads it again after so many seconds."""
+def page(name, trace, data):
     played = trace.phases()
     phases = list(itertools.islice(played, MOST_PHASES))
     for _ in played:
         pass                         # so that all of it is checked
     parts = ['<!DOCTYPE html>', '<html lang="en">', '<head>', '<meta charset="utf-8"/>',
-             '<meta name="viewport" content="width=device-width, initial-scale=1"/>', element('title', name), '<style>%s</style>' % STYLE]
-    parts += ['<meta http-equiv="refresh" content="%d"/>' % refresh] if refresh else []
-    parts += ['</head>', '<body>', element('h1', name)]
+             '<meta name="viewport" content="width=device-width, initial-scale=1"/>', element('title', name), '<style>%s</style>' % STYLE,
+             '</head>', '<body>', element('h1', name)]
     parts += verdict(trace, data) + pictures(name, trace, phases, data) + positions(trace, phases)
-    parts += planted(trace, phases) + details(trace, phases)
+    parts += refused(trace, phases) + details(trace, phases)
     parts += ['<h2>The listing</h2>', element('pre', trace.printed)]
     parts += [element('p', SOURCE), '</body>', '</html>']
     return '\n'.join(parts) + '\n'
@@ -90,26 +72,25 @@ def cell(tag, words, kind=''):
 def verdict(trace, data):
     out = []
     if trace.ended.number:
-        found = traces.fault(data, trace.ended, trace.begins)
+        found = traces.fault(data, trace.ended)
         said, *rest = report.fault_words(trace.ended, found)
         out += [element('p', said, class_='refused'), element('pre', '\n'.join(line.strip() for line in rest))]
     else:
         out.append(element('p', 'Played to its end.', class_='played'))
     if trace.ring:
         out.append(element('p', '%s; %s.' % (report.ring_words(trace.ring), report.bound_words(trace.ring))))
-    out.append(element('p', report.size_words(trace) + '.'))
+    out.append(element('p', '%s, %s.' % (report.plural(trace.bytes, 'byte'), report.plural(trace.records, 'record'))))
     return out
 
 
 def pictures(name, trace, phases, data):
-    """Of each head, and as `draw` makes it of the listing; none of a single phase end, which is no way."""
-    if len(phases) < 2:
+    """Of each head, and as `draw` makes it of the listing."""
+    if not phases:
         return []
     ends = [trace.listing.ends[phase.number] for phase in phases]
     ring = known.of_run(data)
     shown = listing.part(listing.with_listeners(trace.listing, ring), phases[0].number, last_of(trace))
-    return ['<h2>Each head</h2>', '<div class="wide">', heads.draw(phases, ends, name), '</div>',
-            '<h2>The ring</h2>', '<div class="wide">', svg.draw(shown, name, ring), '</div>']
+    return ['<h2>Each head</h2>', heads.draw(phases, ends, name), '<h2>The ring</h2>', svg.draw(shown, name, ring)]
 
 
 def last_of(trace):
@@ -147,29 +128,20 @@ def cut_note(trace, phases):
     return [element('p', words)] if last < last_of(trace) else []
 
 
-def planted(trace, phases):
-    """The planted frames, and what their receivers answered; like frames that a head sends to several in one row."""
-    sent = [(phase.number, given, one) for phase in phases for given in phase.rounds for one in given.planted]
-    if not sent:
+def refused(trace, phases):
+    """The planted frames that their receivers refused."""
+    if not trace.ring:
         return []
-    rows = []
-    for (phase, round_, sender, frame, number), some in itertools.groupby(sent, planted_key):
-        some = list(some)
-        answer = 'refused %d: %s' % (number, trace.refusals[number]) if number else 'taken'
-        rows.append([phase, report.ROUNDS[trace.ring.rounds][round_], sender, write_heads([one.receiver for _, _, one in some]),
-                     frame_words(some[0][2], phase), element('td', answer, class_='words refused' if number else 'words')])
-    count = sum(one.number != 0 for _, _, one in sent)
-    words = '%s planted by struck heads: %d taken, %d refused.' % (report.plural(len(sent), 'frame'), len(sent) - count, count)
-    out = ['<h2>Planted frames</h2>', element('p', words + ' ' + TAKEN)]
-    out += table(['phase', 'round', 'from', 'to', 'frame', 'answer'], rows[:MOST_FRAMES], ('round', 'to', 'frame', 'answer'))
+    sent = [(phase.number, given, one) for phase in phases for given in phase.rounds for one in given.planted]
+    rows = [[phase, report.ROUNDS[trace.ring.rounds][given.round], one.sender, one.receiver, frame_words(one, phase), one.number,
+             trace.refusals[one.number]] for phase, given, one in sent if one.number]
+    out = ['<h2>Refused frames</h2>', element('p', '%s planted, %d refused.' % (report.plural(len(sent), 'frame'), len(rows)))]
+    if rows:
+        titles = ['phase', 'round', 'from', 'to', 'frame', 'number', 'why']
+        out += table(titles, rows[:MOST_FRAMES], ('round', 'frame', 'why'))
     if len(rows) > MOST_FRAMES:
-        out.append(element('p', 'Shown are the first %d of %d rows.' % (MOST_FRAMES, len(rows))))
+        out.append(element('p', 'Shown are the first %d.' % MOST_FRAMES))
     return out
-
-
-def planted_key(sent):
-    phase, given, one = sent
-    return phase, given.round, one.sender, one.frame, one.number
 
 
 def frame_words(one, phase):
@@ -178,12 +150,13 @@ def frame_words(one, phase):
 
 
 def details(trace, phases):
-    """For each phase what each head holds and why entries are not trusted; the first is open."""
-    phases = [phase for phase in phases if phase.number]
+    """For each phase what each head holds and why entries are not trusted."""
     out = ['<h2>Head by head</h2>', element('p', REASONS)] if phases else []
     for phase in phases:
+        if phase.number == 0:
+            continue
         summary = '%s: %s' % report.end_words(trace.listing.ends[phase.number])
-        out += ['<details open="open">' if phase is phases[0] else '<details>', element('summary', summary)] + [element('p', report.round_words(given, trace.ring)) for given in phase.rounds]
+        out += ['<details>', element('summary', summary)] + [element('p', report.round_words(given, trace.ring)) for given in phase.rounds]
         rows = [[node.number, *report.node_cells(node, trace.ring, True)] for node in phase.nodes]
         rows = sorted(rows + [[number, 'struck'] + [''] * 7 for number in phase.struck], key=lambda row: row[0])
         titles = ['head', 'position', 'kept from', 'to', 'trim', 'count', 'reading', 'not trusted', 'trusted table']

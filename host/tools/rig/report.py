@@ -30,9 +30,8 @@ def bound_words(ring):
 def fault_words(ended, found):
     """Where and why a file is refused, in a few lines."""
     shown = write_bytes(found.data[:MOST_BYTES]) + (' ..' if len(found.data) > MOST_BYTES else '')
-    line = ', line %d of the text' % found.line if found.line else ''
     yield 'refused %d: %s' % (ended.number, ended.words)
-    yield '  record %d, at byte %d%s, %s: %s' % (ended.record, ended.offset, line, found.where, found.says)
+    yield '  record %d, at byte %d, %s: %s' % (ended.record, ended.offset, found.where, found.says)
     if found.data and not found.says.startswith('record '):
         yield '  its bytes: ' + shown
     if found.why:
@@ -77,11 +76,6 @@ def end_words(end):
     return 'the start' if end.phase == 0 else 'phase %d' % end.phase, '%d to %d, spread %d' % (end.low, end.high, end.spread)
 
 
-def size_words(trace):
-    sizes = '%s, %s' % (plural(trace.bytes, 'byte'), plural(trace.records, 'record'))
-    return sizes if trace.begins is None else 'a text of ' + sizes
-
-
 def status_words(trace):
     return 'refused %d' % trace.ended.number if trace.ended.number else 'played to its end'
 
@@ -90,11 +84,11 @@ def status_words(trace):
 
 def text(name, trace, data, tables=False):
     """The lines of the report, as the phases are played."""
-    yield '%s: %s; %s' % (name, size_words(trace), status_words(trace))
+    yield '%s: %s, %s; %s' % (name, plural(trace.bytes, 'byte'), plural(trace.records, 'record'), status_words(trace))
     if trace.ring:
         yield ring_words(trace.ring) + '; ' + bound_words(trace.ring)
     if trace.ended.number:
-        yield from fault_words(trace.ended, traces.fault(data, trace.ended, trace.begins))
+        yield from fault_words(trace.ended, traces.fault(data, trace.ended))
     for phase in trace.phases():
         yield ''
         yield from phase_text(phase, trace, tables)
@@ -144,9 +138,8 @@ def ended_value(trace, data):
     ended = trace.ended
     value = {'number': ended.number, 'words': ended.words}
     if ended.number:
-        found = traces.fault(data, ended, trace.begins)
+        found = traces.fault(data, ended)
         value.update(record=ended.record, offset=ended.offset, where=found.where, says=found.says, bytes=found.data.hex(), rule=found.why)
-        value.update({'line': found.line} if found.line else {})
     return value
 
 

@@ -11,14 +11,10 @@ STRUCK_ONCE = {False: '·', True: '█'}
 
 
 def draw(listing, name, width, known=Known()):
-    return drawn(listing, name, width, known)[0]
-
-
-def drawn(listing, name, width, known=Known()):
-    """One table, or if that leaves the band too little room, one of positions and one of the rest; and how many columns these take."""
+    """One table, or if that leaves the band too little room, one of positions and one of the rest."""
     rows = parts.columns(listing.ends, ROWS, growth=65536)
     if not rows:
-        return '%s: %s\n' % (name, summary(listing)), 0
+        return '%s: %s\n' % (name, summary(listing))
     numbers, one_round = parts.rows_shown(rows, known), known.one_round
     phase = right('phase', [parts.phases(row) for row in rows])
     low, high = right('lowest', [row.low for row in rows]), left('highest', [row.high for row in rows])
@@ -30,9 +26,7 @@ def drawn(listing, name, width, known=Known()):
         tables = [positions, [phase] + rest]
     band = left('', Scale(rows, max(LEAST_BAND, room(tables[0], width))).bands(rows))
     tables[0].insert(2, band)
-    texts = [table(columns) for columns in tables]
-    wide = max(len(line) for text in texts for line in text.split('\n'))
-    return '\n'.join(['%s: %s' % (name, summary(listing)), ''] + texts + legend(rows, numbers, known)), wide
+    return '\n'.join(['%s: %s' % (name, summary(listing)), ''] + [table(columns) for columns in tables] + legend(rows, numbers, known))
 
 
 def digits_of(row, one_round):

@@ -6,11 +6,8 @@ from collections import namedtuple
 
 from rig import lines, listing, wire
 from rig import place as places
-from rig.command import shortened
 
-TOOLS = os.path.dirname(os.path.dirname(os.path.abspath(__file__)))
-ROOT = os.path.dirname(os.path.dirname(TOOLS))
-MOST_SAID = 160                      # letters of a record in words
+ROOT = os.path.dirname(os.path.dirname(os.path.dirname(os.path.dirname(os.path.abspath(__file__)))))
 CRATES = ('camera', 'head_c', 'run_whole')
 
 Ended = namedtuple('Ended', 'number record offset words')    # 0, or how the file is refused: at which record, from 1, and byte
@@ -26,34 +23,24 @@ Phase = namedtuple('Phase', 'number rounds nodes struck')    # of the nodes thos
 class TraceError(Exception):
     """The program cannot be built, or stopped at a check of its own."""
 
-    def __str__(self):
-        return 'play: ' + super().__str__()
-
 
 # ---- the program
 
 def program():
-    """Its path: beside the tools where these are installed. In the repository it is built if it is older than what it is built of, and the
-    archives are proved and written first if they are not there."""
-    installed = os.path.join(TOOLS, 'play_trace')
-    if os.path.exists(installed):
-        return installed
+    """Its path; built if it is older than what it is built of. The archives are proved and written first if they are not there."""
     archives = os.path.abspath(os.environ.get('STATICLIB') or os.path.join(ROOT, 'target', 'staticlib'))
     built = os.path.join(ROOT, 'target', 'host', 'play_trace')
     libraries = [os.path.join(archives, 'lib%s.a' % crate) for crate in CRATES]
-    missing = [library for library in libraries if not os.path.exists(library)]
-    if missing:
-        if os.environ.get('STATICLIB'):
-            raise TraceError('no %s' % missing[0])
-        run([os.path.join(ROOT, 'host', 'archives')], 'proving what C calls, once; the first time this takes minutes')
+    for crate, library in zip(CRATES, libraries):
+        if not os.path.exists(library):
+            if os.environ.get('STATICLIB'):
+                raise TraceError('no %s' % library)
+            run(['rt', 'staticlib', crate], 'proving %s, once; the first time this takes minutes' % crate)
     code = os.path.join(ROOT, 'host', 'c')
-    sources = [os.path.join(code, name) for name in ('play_trace.c', 'play.h', 'ring.h', 'check.h', 'tool.h')]
+    sources = [os.path.join(code, name) for name in ('play_trace.c', 'play.h', 'ring.h', 'check.h')]
     header = os.path.join(ROOT, 'host', 'include', 'focus.h')
     if not os.path.exists(built) or any(os.path.getmtime(path) > os.path.getmtime(built) for path in [*sources, header, *libraries]):
         os.makedirs(os.path.dirname(built), exist_ok=True)
-        if not os.access(os.path.dirname(built), os.W_OK):
-            raise TraceError('%s is older than what it is built of, and its folder is not yours to write: let its owner run play once, or '
-                             'use an installed one (host/install PREFIX)' % built)
         fresh = '%s.%d' % (built, os.getpid())
         run(['gcc', '-std=c11', '-O2', '-I' + os.path.dirname(header), sources[0], *libraries, '-o', fresh])
         os.replace(fresh, built)
@@ -66,9 +53,7 @@ def run(words, note=''):
     try:
         done = subprocess.run(words, cwd=ROOT, stdout=subprocess.PIPE, stderr=subprocess.STDOUT, check=False)
     except FileNotFoundError:
-        where = {'rt': ', the command of the Rattle toolchain, which proves the archives (an installed play needs it no more)',
-                 'gcc': ', which compiles host/c/play_trace.c (Debian has a package of that name)'}.get(words[0], '')
-        raise TraceError('no command %s%s' % (words[0], where)) from None
+        raise TraceError('no command %s' % words[0]) from None
     if done.returncode:
         raise TraceError('%s: status %d\n%s' % (' '.join(words[:3]), done.returncode, done.stdout.decode(errors='replace')[-2000:]))
 
@@ -76,17 +61,12 @@ def run(words, note=''):
 # ---- what it prints
 
 class Trace:
-    """Of the bytes of a file: how it ended, its listing, its ring or None, and its phases, one at a time as they are played. `begins` is where
-    the lines of a text begin, if the file was one (`lines.packed`); `progress` is told the phases."""
+    """Of the bytes of a file: how it ended, its listing, its ring or None, and its phases, one at a time as they are played."""
 
-    def __init__(self, data, first=0, last=65535, begins=None):
-        self.begins, self.progress = begins, None
-        try:
-            self.process = subprocess.Popen([program(), '-', str(first), str(last)], stdin=subprocess.PIPE, stdout=subprocess.PIPE)
-            self.process.stdin.write(data)      # all of it is read before a line is printed
-            self.process.stdin.close()
-        except BrokenPipeError:
-            raise TraceError('play_trace stopped before it had read the file: status %s' % self.process.wait()) from None
+    def __init__(self, data, first=0, last=65535):
+        self.process = subprocess.Popen([program(), '-', str(first), str(last)], stdin=subprocess.PIPE, stdout=subprocess.PIPE)
+        self.process.stdin.write(data)      # all of it is read before a line is printed
+        self.process.stdin.close()
         self.lines = (line.decode().rstrip('\n') for line in self.process.stdout)
         self.ring, self.refusals, self.last, printed = None, {}, last, []
         for line in self.lines:
@@ -111,8 +91,7 @@ class Trace:
 
     def finish(self, line):
         if line != 'done' or self.process.wait() != 0:
-            raise TraceError('the traced heads and the player differ: ' + shortened(line, 200))
-        self.process.stdout.close()
+            raise TraceError('the traced heads and the player differ: ' + line)
 
     def phases(self):
         """A phase is whole when the next begins."""
@@ -125,16 +104,12 @@ class Trace:
                 if builder:
                     yield builder.phase()
                 builder = Builder(int(rest))
-                if self.progress:
-                    self.progress.at(builder.number)
             elif name in Builder.READERS:
                 Builder.READERS[name](builder, rest.split())
             else:
                 if builder:
                     yield builder.phase()
                 self.finish(line)
-                if self.progress:
-                    self.progress.done()
                 return
         raise TraceError('the trace ends early')
 
@@ -175,11 +150,10 @@ class Builder:
 
 # ---- where a file is refused
 
-# The record in words and its bytes, its round, the rule that it breaks, and if the file was a text the number of the line that says it.
-Fault = namedtuple('Fault', 'says data where why line')
+Fault = namedtuple('Fault', 'says data where why')    # the record in words and its bytes, its round, and the rule that it breaks
 
 
-def fault(data, ended, begins=None):
+def fault(data, ended):
     """The record that the player refuses, said in words. The player names record and number; if the words of `rig.place` are for another
     number they are left out."""
     records, rest = wire.split(data)
@@ -192,11 +166,9 @@ def fault(data, ended, begins=None):
         at_fault = records[ended.record - 1]
         why = places.fault(place, at_fault)
         place.follow(at_fault)
-        first, _, more = lines.write_line(at_fault, place, '').text().strip().partition('\n')
-        says = shortened(first + ' ..' if more else first, MOST_SAID)
+        says = lines.write_line(at_fault, place, '').text().strip()
     where = place.round_name if place.rounds else 'before the first round' if place.begun else 'before the start'
-    line = lines.line_at(begins, ended.offset) if begins else None
-    return Fault(says, at_fault, where, why[1] if why and why[0] == ended.number else '', line)
+    return Fault(says, at_fault, where, why[1] if why and why[0] == ended.number else '')
 
 
 def halves(ring):

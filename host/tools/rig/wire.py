@@ -46,11 +46,6 @@ def split(data):
     return records, data[at:]
 
 
-def may_go_on(rest):
-    """Whether what `split` leaves can be the front of a record."""
-    return len(rest) < 2 or half(rest, 0) >= 4
-
-
 def marked(marks, head):
     return marks >> head & 1 == 1
 

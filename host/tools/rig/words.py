@@ -4,7 +4,6 @@ import re
 import struct
 
 from rig import wire
-from rig.command import quoted, shortened
 
 FEW = 8
 FIXED = {(wire.POSITION, 11), (wire.SILENCE, 7), (wire.CONFESSION, 7)}    # kinds with their sizes
@@ -21,9 +20,9 @@ class TextError(Exception):
 
 def number(word, low, high, what):
     if not NUMBER.fullmatch(word):
-        raise TextError('%s: a number is wanted, not %s' % (what, quoted(word)))
+        raise TextError('%s: a number is wanted, not "%s"' % (what, word))
     if len(word) > 12 or not low <= int(word) <= high:
-        raise TextError('%s: %s is not from %d to %d' % (what, shortened(word, 24), low, high))
+        raise TextError('%s: %s is not from %d to %d' % (what, word, low, high))
     return int(word)
 
 
@@ -33,7 +32,7 @@ def signed(word, what):
 
 def hexadecimal(word, digits, what):
     if not re.fullmatch('[0-9a-fA-F]{%d}' % digits, word):
-        raise TextError('%s: %d hexadecimal digits are wanted, not %s' % (what, digits, quoted(word)))
+        raise TextError('%s: %d hexadecimal digits are wanted, not "%s"' % (what, digits, word))
     return int(word, 16)
 
 
@@ -87,7 +86,7 @@ def folded(words):
 def read_bytes(words, what):
     for word in words:
         if not PAIRS.fullmatch(word):
-            raise TextError('%s: bytes are pairs of hexadecimal digits, not %s' % (what, quoted(word)))
+            raise TextError('%s: bytes are pairs of hexadecimal digits, not "%s"' % (what, word))
     if not words:
         raise TextError('%s: which bytes?' % what)
     return bytes.fromhex(''.join(words))
@@ -129,7 +128,7 @@ def read_plain(words):
     if words[0] == 'bytes':
         return read_bytes(words[1:], 'bytes')
     if len(words) > 1:
-        raise TextError('nothing: no word may follow, but %s does' % quoted(words[1]))
+        raise TextError('nothing: no word may follow, but "%s" does' % words[1])
     return b''
 
 
@@ -143,7 +142,7 @@ def split_changes(words):
         raise TextError('with: a field and its value are wanted, as in "with phase 9"')
     for name, value in zip(rest[::2], rest[1::2]):
         if name not in CHANGES:
-            raise TextError('with: a field is %s, not %s' % (', '.join(CHANGES), quoted(name)))
+            raise TextError('with: a field is %s, not "%s"' % (', '.join(CHANGES), name))
         if name in changes:
             raise TextError('with: %s stands twice' % name)
         changes[name] = CHANGES[name](value)
@@ -160,9 +159,9 @@ def read_said(words):
         return read_list(rest)
     kinds = {'silence': wire.SILENCE, 'confession': wire.CONFESSION}
     if name not in kinds:
-        raise TextError('a frame is position, silence, list, confession, bytes or nothing, not %s' % quoted(name))
+        raise TextError('a frame is position, silence, list, confession, bytes or nothing, not "%s"' % name)
     if rest:
-        raise TextError('%s: no word may follow but "with", not %s' % (name, quoted(rest[0])))
+        raise TextError('%s: no word may follow but "with", not "%s"' % (name, rest[0]))
     return {'kind': kinds[name]}
 
 
