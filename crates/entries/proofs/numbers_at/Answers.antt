@@ -21,7 +21,7 @@ overflow_mul-whole c = omega (arith, (capped c.args.s.now c.args.n c.at_most_32-
 
 pub loop-k-init : goal.loop-k-init
 unfolding numbers zeros
-loop-k-init c = ((capped c.args.s.now c.args.n c.at_most_32-end.ensures).0, (capped c.args.s.now c.at_most_32-end.ensures).1, search rules, refl)
+loop-k-init c = ((capped c.args.s.now c.args.n c.at_most_32-end.ensures).0, (capped c.args.s.now c.args.n c.at_most_32-end.ensures).1, search rules, refl)
 
 pub word_in-requires : goal.word_in-requires
 word_in-requires c = λ t. omega (arith, leb-true)
