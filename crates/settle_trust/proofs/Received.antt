@@ -8,7 +8,7 @@ use native.Mathlib.Omega.{arith}
 use mir.Syntax.{w32}
 use mir.Val.{Val}
 use denote.Laws.{Is}
-use borrow.Author.Rules.{elem_fits_field}
+use borrow.Author.Rules.{elem_Fits}
 use lib.IntN.{ℤ}
 use lib.ListN.{length, get_or, length-set}
 use Rattle.terms.specs.declared.Entry.{Entry}
@@ -80,7 +80,7 @@ pub words : {vs : List Val} (g : Links) → Is the_row g vs → Words g
 words g is = record {
   confessed = is.1.1.0.1;
   listed = is.1.1.1.0.1;
-  marks = λ k. (elem_fits_field w32 w32 g.marks _ k is.1.1.1.1.0.1.1 tt).fits;
+  marks = λ k. (elem_Fits w32 w32 g.marks _ k is.1.1.1.1.0.1.1 tt).fits;
 }
 
 module _ (g : Links) (lists : List (List ℤ)) (w : Words g) where

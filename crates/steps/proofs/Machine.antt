@@ -24,7 +24,7 @@ module _ (x : ℤ) (d : ℕ) (f : SFits w64 x) (g : Fits w32 d) where
     quotient = quot_z (read w64 (negsuc 0 -ℤ x)) (to_z w64 d)
 
     quotient_is : quotient ≡ pos (mag x / d)
-    quotient_is = ap₂ quot_z (read_as minus_is (record { sfits = f.sfits })) (wide_natural_is g)
+    quotient_is = ap₂ quot_z (read_as {w = w64} minus_is (record { sfits = f.sfits })) (wide_natural_is g)
 
     negative_floor : negsuc 0 -ℤ read w64 quotient ≡ floor_div x d
     unfolding floor_div

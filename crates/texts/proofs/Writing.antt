@@ -12,7 +12,7 @@ use lib.Dec.{leb}
 use borrow.Author.Tests.{leb-true, leb-false, le-leb, lt-leb}
 use mir.Val.{Val}
 use denote.Laws.{Is}
-use lib.ListN.{length, take, drop, set, length-set, length-append, length-map, take-append-drop}
+use lib.ListN.{length, take, drop, set, length-set, length-append, take-append-drop}
 use lib.Seq.{set_split, take-set-le, append_snoc, take_at, drop_at, take-paste, take-length, length-take-le}
 use Rattle.fields.specs.Bytes.{copied}
 use Rattle.fields.proofs.Copying.{copied_fits}
@@ -24,7 +24,7 @@ use Rattle.texts.proofs.Digits.{spelled_length}
 
 -- an array of 64 holds 64 bytes
 pub full : {vs : List Val} (t : Text) → Is the_row t vs → length t.bytes ≡ 64
-full t is = simp length-map at is.1.1.1.0.1.0.1
+full t is = is.1.1.1.0.1.0.1
 
 -- a text has as many bytes as it says
 pub text_long : {vs : List Val} (t : Text) → Is the_row t vs → t.len ≤ 64 → length (bytes_of t) ≡ t.len

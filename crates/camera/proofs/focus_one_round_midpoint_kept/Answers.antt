@@ -9,4 +9,5 @@ use Rattle.camera.proofs.focus_one_round_midpoint_kept.Goals as goal
 pub returns : goal.returns
 returns c =
     let put = c.put_kept.ensures in
-    given_out settled_number kept_or put.0 put.1 c.midpoint-settled.ensures refl
+    let out = given_out settled_number kept_or put.0 put.1 c.midpoint-settled.ensures refl in
+    record { number = out.0; result = out.1 }

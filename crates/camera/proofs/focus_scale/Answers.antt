@@ -1,24 +1,29 @@
 -- `camera::focus_scale` meets its contract: it passes on what `scale` promises, case by case.
 use mathlib.Core.Path.{◌≡◌, refl, ap, ◌∙◌}
+use Prim.Native.Nat.{ℕ}
 use lib.IntN.{ℤ}
+use mir.Syntax.{w32, w64}
+use mir.Val.{SFits}
 use mir.Facts.{to_z-of_z}
+use native.Mathlib.Omega.{arith}
 use borrow.Author.Rules.{rules}
+use Rattle.terms.proofs.Machine.{read}
 use Rattle.steps.specs.Scale.{scaled}
+use Rattle.steps.specs.declared.Scaled.{Scaled}
 use Rattle.camera.specs.Out.{scaled_number, scaled_or}
 use Rattle.terms.proofs.Refusals.{given_out}
 use Rattle.camera.proofs.focus_scale.Goals as goal
 
 -- what the call gave is the scale of the steps passed
-is_scaled : (c : goal.After-scale-answer) → c.scale-answer.result ≡ scaled c.args.steps c.args.numerator c.args.denominator
-is_scaled c =
-    c.scale-answer.ensures
-    ∙ ap (λ (z : ℤ). scaled z c.args.numerator c.args.denominator) (to_z-of_z c.ranges.steps)
+is_scaled : {v : ℤ} (a d : ℕ) {s : Scaled} → SFits w32 v → s ≡ scaled (read w32 v) a d → s ≡ scaled v a d
+is_scaled a d f e = e ∙ ap (λ (z : ℤ). scaled z a d) (to_z-of_z f)
 
 pub returns-in-Refused : goal.returns-in-Refused
-returns-in-Refused c = given_out scaled_number scaled_or refl refl (is_scaled c) c.in-Refused.is
+returns-in-Refused c =
+    let out = given_out scaled_number scaled_or refl refl (is_scaled _ _ c.ranges.steps c.scale-answer.ensures) c.in-Refused.is in
+    record { number = out.0; result = out.1 }
 
 pub returns-in-Nanometres : goal.returns-in-Nanometres
 returns-in-Nanometres c =
-    given_out scaled_number scaled_or refl (to_z-of_z (record { sfits = c.known_told-in-Nanometres-1.given.0.1 }))
-    (is_scaled c)
-    c.in-Nanometres.is
+    let out = given_out scaled_number scaled_or refl (to_z-of_z {w = w64} {z = c.in-Nanometres.x} (record { sfits = omega arith })) (is_scaled _ _ c.ranges.steps c.scale-answer.ensures) c.in-Nanometres.is in
+    record { number = out.0; result = out.1 }

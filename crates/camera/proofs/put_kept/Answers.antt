@@ -1,5 +1,6 @@
 -- `camera::put_kept` meets its contract, case by case.
 use mathlib.Core.Path.{refl}
+use native.Mathlib.Omega.{arith}
 use borrow.Author.Rules.{rules}
 use Rattle.settle_midpoint.proofs.Stored.{stored}
 use Rattle.settle_midpoint.specs.Answers.{settled_number}
@@ -12,8 +13,8 @@ returns-in-Refused c = given_out settled_number kept_or refl refl refl c.in-Refu
 
 pub returns-in-New : goal.returns-in-New
 returns-in-New c =
-    let told = c.type_inv.k in
+    let k = c.in-New.k in
     given_out settled_number kept_or refl
-    (stored _ (record { sfits = told.0.1 }) (record { sfits = told.1.0.1 }) (search rules) (record { sfits = told.1.1.1.0.1 }))
+    (stored {low = k.low} {high = k.high} {position = k.position} k.trim (record { sfits = omega arith }) (record { sfits = omega arith }) (search rules) (record { sfits = omega arith }))
     refl
     c.in-New.is

@@ -1,6 +1,8 @@
 -- `camera::put_position` meets its contract, case by case.
 use mathlib.Core.Path.{refl}
+use mir.Syntax.{w32}
 use mir.Facts.{to_z-of_z}
+use native.Mathlib.Omega.{arith}
 use borrow.Author.Rules.{rules}
 use Rattle.settle_midpoint.specs.Answers.{settled_number}
 use Rattle.camera.specs.Out.{settled_or}
@@ -12,4 +14,4 @@ returns-in-Refused c = given_out settled_number settled_or refl refl refl c.in-R
 
 pub returns-in-New : goal.returns-in-New
 returns-in-New c =
-    given_out settled_number settled_or refl (to_z-of_z (record { sfits = c.struct_told-1.given.1.1.1.0.1 })) refl c.in-New.is
+    given_out settled_number settled_or refl (to_z-of_z {w = w32} {z = c.in-New.kept.position} (record { sfits = omega arith })) refl c.in-New.is

@@ -1,6 +1,8 @@
 -- `camera::put_reached` meets its contract, case by case.
 use mathlib.Core.Path.{refl}
+use mir.Syntax.{w32}
 use mir.Facts.{to_z-of_z}
+use native.Mathlib.Omega.{arith}
 use borrow.Author.Rules.{rules}
 use Rattle.camera.specs.Out.{reached_number, reached_or}
 use Rattle.terms.proofs.Refusals.{given_out}
@@ -13,4 +15,4 @@ pub returns-in-None : goal.returns-in-None
 returns-in-None c = given_out reached_number reached_or refl refl refl c.in-None.is
 
 pub returns-in-Set : goal.returns-in-Set
-returns-in-Set c = given_out reached_number reached_or refl (to_z-of_z (record { sfits = c.known_told-in-Set-1.given.0.1 })) refl c.in-Set.is
+returns-in-Set c = given_out reached_number reached_or refl (to_z-of_z {w = w32} {z = c.in-Set.v} (record { sfits = omega arith })) refl c.in-Set.is

@@ -9,14 +9,6 @@ use Rattle.entries.specs.Entries.{entries_fit}
 use Rattle.entries.proofs.Entries.{fits_next, misfit}
 use Rattle.entries.proofs.each_fits.Goals as goal
 
--- the next entry fits exactly if `word_fits` says so
-next : (c : goal.After-word_fits) →
-    let a = c.args in
-    entries_fit a.marks a.s.now (c.loop-j.j + 1) ≡ c.word_fits.result
-next c =
-    let a = c.args in
-    fits_next a.marks a.s.now c.loop-j.j c.loop-j.invariant.1 c.marked.ensures c.word_in.ensures c.word_fits.ensures
-
 pub loop-j-init : goal.loop-j-init
 unfolding entries_fit
 loop-j-init c = (search rules, refl)
@@ -27,10 +19,13 @@ word_in-requires c = λ t. omega (arith, leb-true)
 pub returns-then-not-word_fits : goal.returns-then-not-word_fits
 returns-then-not-word_fits c =
     let a = c.args in
-    sym (misfit a.marks a.s.now (c.loop-j.j + 1) a.n (next c ∙ c.if-not-word_fits.true) (omega arith))
+    let next = fits_next a.marks a.s.now c.loop-j.j c.loop-j.invariant.1 c.marked.ensures c.word_in.ensures c.word_fits.ensures in
+    sym (misfit a.marks a.s.now (c.loop-j.j + 1) a.n (next ∙ c.if-not-word_fits.true) (omega arith))
 
 pub loop-j-preserved : goal.loop-j-preserved
-loop-j-preserved c = (search rules, next c ∙ c.if-not-word_fits.false)
+loop-j-preserved c =
+    let a = c.args in
+    (search rules, fits_next a.marks a.s.now c.loop-j.j c.loop-j.invariant.1 c.marked.ensures c.word_in.ensures c.word_fits.ensures ∙ c.if-not-word_fits.false)
 
 pub returns : goal.returns
 returns c =

@@ -11,7 +11,7 @@ use Rattle.entries.proofs.Entries.{numbers_next, numbers_first_32}
 use Rattle.entries.proofs.numbers_at.Given as goal
 
 abbrev pub invariant-loop-k : goal.invariant-loop-k
-invariant-loop-k l = (l.whole ≤ 32) × (numbers l.s l.whole ≡ numbers l.s l.n) × (l.k ≤ l.whole) × (l.out ≡ numbers l.s l.k)
+invariant-loop-k l = (l.end ≤ 32) × (numbers l.s l.end ≡ numbers l.s l.n) × (l.k ≤ l.end) × (l.out ≡ numbers l.s l.k)
 
 abbrev pub decreases-loop-k : goal.decreases-loop-k
-decreases-loop-k l = l.whole - l.k
+decreases-loop-k l = l.end - l.k

@@ -9,7 +9,7 @@ use borrow.Author.Rules.{rules}
 use Rattle.fields.proofs.copy_few.Given as goal
 
 abbrev pub invariant-loop-j : goal.invariant-loop-j
-invariant-loop-j l = (l.j ≤ l.initial.s) × (length l.s ≡ length l.at) × (l.s ≡ paste l.at l.bytes l.count l.j)
+invariant-loop-j l = (l.j ≤ l.count) × (length l.s ≡ length l.initial.s) × (l.s ≡ paste l.initial.s l.at l.bytes l.j)
 
 abbrev pub decreases-loop-j : goal.decreases-loop-j
-decreases-loop-j l = l.initial.s - l.j
+decreases-loop-j l = l.count - l.j

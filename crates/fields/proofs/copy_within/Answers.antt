@@ -19,7 +19,7 @@ loop-j-preserved c =
     let n = length a.bytes.now in
     let left : n - l.j ≡ n - (l.j + 8) + 8 = omega arith in (
       omega arith,
-      c.copy_eight.auto.0 ∙ l.invariant.1,
+      c.copy_eight.auto.s ∙ l.invariant.1,
       c.copy_eight.ensures ∙ pasted_on a.s.now a.bytes.now a.at l.j 8 (omega arith) (omega arith) l.invariant.2 refl,
       l.invariant.3 ∙ ap (λ (x : ℕ). x % 8) left ∙ add-mod_right (n - (l.j + 8)) 8,
     )

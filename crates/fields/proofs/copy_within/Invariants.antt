@@ -10,7 +10,7 @@ use Rattle.fields.proofs.Copying.{pasted_on}
 use Rattle.fields.proofs.copy_within.Given as goal
 
 abbrev pub invariant-loop-j : goal.invariant-loop-j
-invariant-loop-j l = (l.j ≤ length l.initial.s) × (length l.s ≡ length l.at) × (l.s ≡ paste l.at l.bytes l.initial.s l.j) × (length l.initial.s % 8 ≡ (length l.initial.s - l.j) % 8)
+invariant-loop-j l = (l.j ≤ length l.bytes) × (length l.s ≡ length l.initial.s) × (l.s ≡ paste l.initial.s l.at l.bytes l.j) × (length l.bytes % 8 ≡ (length l.bytes - l.j) % 8)
 
 abbrev pub decreases-loop-j : goal.decreases-loop-j
-decreases-loop-j l = length l.initial.s - l.j
+decreases-loop-j l = length l.bytes - l.j

@@ -8,7 +8,7 @@ use Rattle.fields.proofs.Bytes.{writes_past}
 use Rattle.fields.proofs.put_half.Goals as goal
 
 pub shape_of-s : goal.shape_of-s
-shape_of-s c = c.put_byte.auto.0 ∙ simp length-set
+shape_of-s c = c.put_byte.auto.s ∙ simp length-set
 
 pub returns-then-at-s : goal.returns-then-at-s
 unfolding over

@@ -24,7 +24,7 @@ returns-then-size-at-ge4 c =
 
 pub shape_of-s-else-size-at-ge4 : goal.shape_of-s-else-size-at-ge4
 shape_of-s-else-size-at-ge4 c =
-    c.put_byte-else-size-at-ge4-2.auto.0 ∙ c.put_byte-else-size-at-ge4.auto.0 ∙ c.put_byte.auto.0 ∙ simp length-set
+    c.put_byte-else-size-at-ge4-2.auto.s ∙ c.put_byte-else-size-at-ge4.auto.s ∙ c.put_byte.auto.s ∙ simp length-set
 
 pub returns-else-size-at-ge4 : goal.returns-else-size-at-ge4
 returns-else-size-at-ge4 c =

@@ -10,7 +10,7 @@ pub overflow_cast-result : goal.overflow_cast-result
 overflow_cast-result c = cast_fits (below_read c.args.v c.ranges.v c.if-v-lt0.true) c.ranges.v.sfits
 
 pub overflow_sub-result-then-v-lt0 : goal.overflow_sub-result-then-v-lt0
-overflow_sub-result-then-v-lt0 c = omega (arith, (cast_result c).1)
+overflow_sub-result-then-v-lt0 c = omega (arith, (cast_fits (below_read c.args.v c.ranges.v c.if-v-lt0.true) c.ranges.v.sfits).1)
 
 pub overflow_cast-result-else-v-lt0 : goal.overflow_cast-result-else-v-lt0
 overflow_cast-result-else-v-lt0 c = cast_fits (above_read c.args.v c.ranges.v c.if-v-lt0.false) c.ranges.v.sfits

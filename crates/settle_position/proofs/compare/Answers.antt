@@ -1,6 +1,5 @@
 -- `settle_position::compare` meets its contract: after k turns the lists compared are the first k.
 use mathlib.Core.Path.{◌≡◌, refl}
-use mathlib.Core.Logic.{⊎_elim}
 use Prim.Native.Nat.{◌-◌, ◌≤◌}
 use native.Mathlib.Omega.{arith}
 use borrow.Author.Rules.{rules}
@@ -11,6 +10,7 @@ use Rattle.marks.proofs.Counts.{byte_bit}
 use Rattle.settle_position.specs.Reference.{Compares}
 use Rattle.settle_position.proofs.Reference.{compares_none, compares_few, compares_alike, compares_other}
 use Rattle.settle_position.proofs.compare.Goals as goal
+use Rattle.settle_position.proofs.compare.Goals.{then-marks-k, else-marks-k}
 
 pub loop-k-init : goal.loop-k-init
 loop-k-init c = (search rules, refl, compares_none)
@@ -35,11 +35,11 @@ pub loop-k-preserved : goal.loop-k-preserved
 loop-k-preserved c =
     let l = c.loop-k in (
       search rules,
-      ⊎_elim (λ w. rw w.5 w.4.ensures.0) (λ w. rw w.1 l.invariant.1) c.if-marks-k.branch,
-      ⊎_elim
-          (λ w. rw w.5 (compares_alike l.invariant.2 c.is_apart.ensures w.0.taken w.4.ensures.1))
-          (λ w. rw w.1 (compares_other l.invariant.2 c.is_apart.ensures w.0.left))
-          c.if-marks-k.branch,
+      elim c.if-marks-k.branch [ then-marks-k w ↦ rw w.same-is w.add_same.ensures.0 | else-marks-k w ↦ rw w.same-is l.invariant.1 ],
+      elim c.if-marks-k.branch [
+        then-marks-k w ↦ rw w.same-is (compares_alike l.invariant.2 c.is_apart.ensures w.if-marks-k.true w.add_same.ensures.1)
+        | else-marks-k w ↦ rw w.same-is (compares_other l.invariant.2 c.is_apart.ensures w.if-marks-k.false)
+      ],
     )
 
 pub returns : goal.returns

@@ -1,5 +1,6 @@
 -- `settle_trust::entry_of` meets its contract: the cell of a position holds its number.
 use mathlib.Core.Path.{ap, sym, ◌∙◌}
+use mir.Syntax.{w32}
 use mir.Facts.{to_z-of_z}
 use borrow.Author.Rules.{rules}
 use Rattle.terms.specs.declared.Entry.TheVariants.{Position}
@@ -11,4 +12,4 @@ pub returns-then-x-eq0 : goal.returns-then-x-eq0
 returns-then-x-eq0 c = ap cell_entry (sym c.if-x-eq0.true)
 
 pub returns : goal.returns
-returns c = ap Position (to_z-of_z (record { sfits = c.value_of.type_inv }) ∙ c.value_of.ensures) ∙ cell_position c.args.x c.if-x-eq0.false
+returns c = ap Position (to_z-of_z {w = w32} (record { sfits = c.value_of.type_inv }) ∙ c.value_of.ensures) ∙ cell_position c.args.x c.if-x-eq0.false

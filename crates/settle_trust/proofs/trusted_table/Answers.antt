@@ -3,6 +3,7 @@
 use mathlib.Core.Path.{◌≡◌, refl, ap, ◌∙◌}
 use Prim.Native.Nat.{ℕ, ◌-◌, ◌≤◌, min}
 use native.Mathlib.Omega.{arith}
+use mir.Syntax.{w32}
 use mir.Facts.{to_z-of_z}
 use borrow.Author.Rules.{rules}
 use Rattle.terms.specs.declared.Entry.{Entry}
@@ -16,28 +17,16 @@ use Rattle.settle_trust.proofs.Trusted.{decided_marked, trusted_past}
 use Rattle.entries.proofs.Tables.{marks_next, marks_fit, numbers_next, table_first_32}
 use Rattle.settle_trust.proofs.trusted_table.Goals as goal
 
-module _ (c : goal.After-trusted_cell-x) where
-  abbrev here : goal.At-loop-j
-  here = c.before.before.before.before
-
-  abbrev given : goal.After-all_marks-given
-  given = here.before
-
-  abbrev counted : goal.After-at_most_32-count
-  counted = given.before
-
-  abbrev start : goal.Start
-  start = counted.before.before
-
+module _ (c : goal.After-mark_of) where
   abbrev entries : ℕ → Entry
-  entries = trusted start.args.n start.args.f (given_by start.args.links start.args.lists)
+  entries = trusted c.args.n c.args.f (given_by c.args.links c.args.lists)
 
-  held : cell_entry c.trusted_cell-x.result ≡ entries here.loop-j.j
+  held : cell_entry c.trusted_cell-x.result ≡ entries c.loop-j.j
   held =
-      let a = start.args in
+      let a = c.args in
       c.trusted_cell-x.ensures.entry
-      ∙ decided_marked a.links a.lists (words a.links start.well_formed.1.0) a.n a.f here.loop-j.j (omega (arith, counted.at_most_32-count.ensures))
-      counted.lists_needed-need.ensures given.all_marks-given.ensures
+      ∙ decided_marked a.links a.lists (words a.links c.well_formed.1.0) a.n a.f c.loop-j.j (omega (arith, c.at_most_32-count.ensures))
+      c.lists_needed-need.ensures c.all_marks-given.ensures
 
 pub loop-j-init : goal.loop-j-init
 unfolding marks_of values_of zeros
@@ -45,15 +34,15 @@ loop-j-init c = (search rules, refl, refl)
 
 pub overflow_add-marks : goal.overflow_add-marks
 overflow_add-marks c =
-    let l = (here c.before).loop-j in
-    record { fits = marks_fit (entries c.before) l.j (omega (arith, (counted c.before).at_most_32-count.ensures)) l.invariant.1 (c.mark_of.ensures ∙ ap mark (held c.before)) }
+    let l = c.loop-j in
+    record { fits = marks_fit (entries c) l.j (omega (arith, c.at_most_32-count.ensures)) l.invariant.1 (c.mark_of.ensures ∙ ap mark (held c)) }
 
 pub loop-j-preserved : goal.loop-j-preserved
 loop-j-preserved c =
-    let l = (here c.before.before).loop-j in (
+    let l = c.loop-j in (
       search rules,
-      marks_next (entries c.before.before) l.j (omega (arith, (counted c.before.before).at_most_32-count.ensures)) l.invariant.1 (c.mark_of.ensures ∙ ap mark (held c.before.before)),
-      numbers_next (entries c.before.before) l.j l.invariant.2 (to_z-of_z (record { sfits = c.value_of.type_inv }) ∙ c.value_of.ensures ∙ ap value_of (held c.before.before)),
+      marks_next (entries c.before) l.j (omega (arith, c.at_most_32-count.ensures)) l.invariant.1 (c.mark_of.ensures ∙ ap mark (held c.before)),
+      numbers_next (entries c.before) l.j l.invariant.2 (to_z-of_z {w = w32} (record { sfits = c.value_of.type_inv }) ∙ c.value_of.ensures ∙ ap value_of (held c.before)),
     )
 
 pub returns : goal.returns

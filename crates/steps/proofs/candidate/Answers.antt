@@ -55,4 +55,4 @@ returns c w e =
     only_rounded_up _ _ c.requires.1 _ w e
     ∙ ap (λ (z : ℤ). floor_div z c.args.numerator) (sym (read_as (divided_is c.before) (divided_fits c.before)))
     ∙ sym c.floor_div.ensures
-    ∙ sym (to_z-of_z (record { sfits = c.floor_div.type_inv }))
+    ∙ sym (to_z-of_z {w = w64} (record { sfits = c.floor_div.type_inv }))

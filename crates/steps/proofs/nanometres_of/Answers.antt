@@ -31,6 +31,6 @@ floor_div-requires c = (scale_within _ _ c.requires.1).1
 pub returns : goal.returns
 unfolding nanometres
 returns c =
-    to_z-of_z (record { sfits = c.floor_div.type_inv })
+    to_z-of_z {w = w64} (record { sfits = c.floor_div.type_inv })
     ∙ c.floor_div.ensures
     ∙ ap (λ (z : ℤ). floor_div z c.args.denominator) (read_as (product_is c.before) (product_fits c.before))

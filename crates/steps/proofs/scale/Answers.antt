@@ -4,7 +4,8 @@ use mathlib.Core.Bool.{true, false}
 use Prim.Native.Nat.{ℕ}
 use borrow.Author.Rules.{rules}
 use lib.IntN.{ℤ}
-use mir.Syntax.{w32}
+use mir.Syntax.{w32, w64}
+use mir.Val.{SFits}
 use mir.Facts.{to_z-of_z}
 use Rattle.terms.specs.Positions.{is_position}
 use Rattle.steps.specs.Scale.{is_scale, nanometres, scale_refusal, scaled}
@@ -26,28 +27,22 @@ module _ (v : ℤ) (a d : ℕ) where
   taken s p = simp (s, p)
 
 -- the callees are handed the steps as the machine reads them
-answer_is : (c : goal.Start) → scaled (read w32 c.args.steps) c.args.numerator c.args.denominator ≡ scaled c.args.steps c.args.numerator c.args.denominator
-answer_is c = ap (λ (z : ℤ). scaled z c.args.numerator c.args.denominator) (to_z-of_z c.ranges.steps)
-
-scale_holds : (c : goal.Then-is_scale) → is_scale c.args.numerator c.args.denominator ≡ true
-scale_holds c = sym c.is_scale.ensures ∙ c.if-is_scale.true
-
-position_holds : (c : goal.Then-is_position) → is_position (read w32 c.args.steps) ≡ true
-position_holds c = sym c.is_position.ensures ∙ c.if-is_position.true
+answer_is : {v : ℤ} (a d : ℕ) → SFits w32 v → scaled (read w32 v) a d ≡ scaled v a d
+answer_is a d f = ap (λ (z : ℤ). scaled z a d) (to_z-of_z f)
 
 pub nanometres_of-requires : goal.nanometres_of-requires
-nanometres_of-requires c = (position_holds c, scale_holds c.before.before)
+nanometres_of-requires c = (sym c.is_position.ensures ∙ c.if-is_position.true, sym c.is_scale.ensures ∙ c.if-is_scale.true)
 
 pub returns-then-is_position : goal.returns-then-is_position
 returns-then-is_position c =
-    ap Scaled.Nanometres (to_z-of_z (record { sfits = c.nanometres_of.type_inv }) ∙ c.nanometres_of.ensures)
-    ∙ taken _ _ _ (scale_holds c.before.before.before) (position_holds c.before)
-    ∙ answer_is c
+    ap Scaled.Nanometres (to_z-of_z {w = w64} (record { sfits = c.nanometres_of.type_inv }) ∙ c.nanometres_of.ensures)
+    ∙ taken _ _ _ (sym c.is_scale.ensures ∙ c.if-is_scale.true) (sym c.is_position.ensures ∙ c.if-is_position.true)
+    ∙ answer_is _ _ c.ranges.steps
 
 pub returns-then-is_scale : goal.returns-then-is_scale
 returns-then-is_scale c =
-    no_position _ _ _ (scale_holds c.before.before) (sym c.is_position.ensures ∙ c.if-is_position.false)
-    ∙ answer_is c
+    no_position _ _ _ (sym c.is_scale.ensures ∙ c.if-is_scale.true) (sym c.is_position.ensures ∙ c.if-is_position.false)
+    ∙ answer_is _ _ c.ranges.steps
 
 pub returns : goal.returns
 returns c = no_scale _ _ _ (sym c.is_scale.ensures ∙ c.if-is_scale.false)

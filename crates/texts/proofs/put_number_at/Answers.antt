@@ -8,20 +8,20 @@ use Rattle.texts.proofs.put_number_at.Goals as goal
 
 pub put_digits-requires : goal.put_digits-requires
 put_digits-requires c =
-    let k = c.type_size.result in
+    let k = c.size_of-k.result in
     let room = some_room c.args.at (k + 1) c.has_room.ensures c.if-has_room.true in
     (c.put_digits-arg-1.given.0.1, omega arith, omega arith, omega (arith, room))
 
 pub returns-then-has_room : goal.returns-then-has_room
 returns-then-has_room c =
-    let n = c.type_size in
+    let n = c.size_of-k in
     let a = c.args in
     let room = some_room a.at (n.result + 1) c.has_room.ensures c.if-has_room.true in
     digits_put 10 n.result a.x a.after (spelled_decimal a.x n.ensures.0) room c.put_digits.ensures
 
 pub returns : goal.returns
 returns c =
-    let n = c.type_size in
+    let n = c.size_of-k in
     let a = c.args in
     digits_none 10 n.result a.x a.after (spelled_decimal a.x n.ensures.0)
     (no_room a.at (n.result + 1) c.has_room.ensures c.if-has_room.false)
