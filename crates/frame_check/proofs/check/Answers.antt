@@ -23,9 +23,17 @@ slice_bounds-result-start c = accepted_long _ (sym c.frame_refusal-refused.ensur
 pub returns-then-refused-eq0 : goal.returns-then-refused-eq0
 returns-then-refused-eq0 c =
     let e = c.frame_refusal-refused.ensures in
-    (e, (to_the_end c.args.frame.now 7 ∙ sym (accepted_rest _ (sym e ∙ c.if-refused-eq0.true)), λ _. (refl, omega arith)))
+    record {
+      number = e;
+      rest = to_the_end c.args.frame.now 7 ∙ sym (accepted_rest _ (sym e ∙ c.if-refused-eq0.true));
+      place = λ _. (refl, omega arith);
+    }
 
 pub returns : goal.returns
 returns c =
     let e = c.frame_refusal-refused.ensures in
-    (e, (sym (refused_rest _ (λ q. c.if-refused-eq0.false (e ∙ q))), λ q. absurd (c.if-refused-eq0.false (e ∙ q))))
+    record {
+      number = e;
+      rest = sym (refused_rest _ (λ q. c.if-refused-eq0.false (e ∙ q)));
+      place = λ q. absurd (c.if-refused-eq0.false (e ∙ q));
+    }

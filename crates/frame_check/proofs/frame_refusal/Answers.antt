@@ -19,24 +19,6 @@ left : (s : List ℕ) {stated kind : ℕ} → 4 ≤ length s → stated ≡ leng
 unfolding check_frame
 left s l a b k = rw (le-leb 4 _ l, eq-eqb _ _ (sym a ∙ b), k)
 
-at_kind : (c : goal.After-half_at-kind)
-    → let s = c.args.frame.now in
-    let kind = c.half_at-kind.result in
-    frame_refusal s ≡ check (is_known (kind_of kind)) refusal.unknown_kind (check (eqb (length s) (length_of (kind_of kind) (count_field s))) refusal.wrong_length_for_kind 0)
-at_kind c =
-    left _ c.if-len-lt4.false c.half_at.ensures c.if-half_at-len.false c.half_at-kind.ensures
-
--- the kind is known
-known : (c : goal.Else-not-is_known) → is_known (kind_of c.half_at-kind.result) ≡ true
-known c = sym c.is_known.ensures ∙ c.if-not-is_known.false
-
--- all but the last check
-at_length : (c : goal.After-length_of)
-    → let s = c.args.frame.now in
-    frame_refusal s ≡ check (eqb (length s) c.length_of.result) refusal.wrong_length_for_kind 0
-at_length c =
-    rw (at_kind c.before.before.before.before, known c, ← c.byte_at.ensures, ← c.length_of.ensures)
-
 pub returns-then-len-lt4 : goal.returns-then-len-lt4
 unfolding check_frame
 returns-then-len-lt4 c = rw (lt-leb 4 _ c.if-len-lt4.true)
@@ -46,13 +28,18 @@ unfolding check_frame
 returns-then-half_at-len c = rw (le-leb 4 _ c.if-len-lt4.false, ← c.half_at.ensures, ne_eqb _ _ c.if-half_at-len.true)
 
 pub returns-then-not-is_known : goal.returns-then-not-is_known
-returns-then-not-is_known c = rw (at_kind c.before.before, ← c.is_known.ensures, not-true c.is_known.result c.if-not-is_known.true-raw)
+returns-then-not-is_known c =
+    rw (left _ c.if-len-lt4.false c.half_at.ensures c.if-half_at-len.false c.half_at-kind.ensures, ← c.is_known.ensures, c.if-not-is_known.true)
 
 pub length_of-requires : goal.length_of-requires
-length_of-requires c = known c
+length_of-requires c = sym c.is_known.ensures ∙ c.if-not-is_known.false
 
 pub returns-then-len-length_of : goal.returns-then-len-length_of
-returns-then-len-length_of c = rw (at_length c, ne_eqb _ _ c.if-len-length_of.true)
+returns-then-len-length_of c =
+    rw (left _ c.if-len-lt4.false c.half_at.ensures c.if-half_at-len.false c.half_at-kind.ensures, sym c.is_known.ensures ∙ c.if-not-is_known.false,
+    ← c.byte_at.ensures, ← c.length_of.ensures, ne_eqb _ _ c.if-len-length_of.true)
 
 pub returns : goal.returns
-returns c = rw (at_length c, eq-eqb _ _ c.if-len-length_of.false)
+returns c =
+    rw (left _ c.if-len-lt4.false c.half_at.ensures c.if-half_at-len.false c.half_at-kind.ensures, sym c.is_known.ensures ∙ c.if-not-is_known.false,
+    ← c.byte_at.ensures, ← c.length_of.ensures, eq-eqb _ _ c.if-len-length_of.false)

@@ -2,13 +2,14 @@
 use mathlib.Core.Path.{ap, sym, ◌∙◌}
 use lib.ListN.{get_or-eq_default}
 use lib.IntN.{pos}
+use mir.Syntax.{w32}
 use mir.Facts.{to_z-of_z}
 use Rattle.fields.specs.Bytes.{word_of}
 use borrow.Author.Rules.{rules}
 use Rattle.frame_codec.proofs.entry_word.Goals as goal
 
 pub returns-then-j-entries : goal.returns-then-j-entries
-returns-then-j-entries c = c.unsigned.ensures ∙ ap word_of (to_z-of_z (record { sfits = c.unsigned-arg-1.given }))
+returns-then-j-entries c = c.unsigned.ensures ∙ ap word_of (to_z-of_z {w = w32} (record { sfits = c.unsigned-arg-1.given }))
 
 pub returns-else-j-entries : goal.returns-else-j-entries
 unfolding word_of

@@ -16,7 +16,7 @@ loop-j-init c = (search rules, refl, refl)
 pub loop-j-preserved : goal.loop-j-preserved
 loop-j-preserved c =
     let a = c.args in
-    (search rules, c.put_word.auto.0 ∙ c.loop-j.invariant.1, over_entry a.entries.now a.buffer.now c.loop-j.j c.loop-j.invariant.2 c.entry_word.ensures c.put_word.ensures)
+    (search rules, c.put_word.auto.s ∙ c.loop-j.invariant.1, over_entry a.entries.now a.buffer.now c.loop-j.j c.loop-j.invariant.2 c.entry_word.ensures c.put_word.ensures)
 
 pub shape_of-buffer : goal.shape_of-buffer
 shape_of-buffer c = c.loop-j.invariant.1

@@ -10,7 +10,7 @@ use Rattle.frame_spec.proofs.Fronts.{over_entry}
 use Rattle.frame_codec.proofs.put_entries.Given as goal
 
 abbrev pub invariant-loop-j : goal.invariant-loop-j
-invariant-loop-j l = (l.j ≤ l.n) × (length l.buffer ≡ length l.count) × (l.buffer ≡ over (entry_bytes l.entries l.j) 12 l.count)
+invariant-loop-j l = (l.j ≤ l.n) × (length l.buffer ≡ length l.initial.buffer) × (l.buffer ≡ over (entry_bytes l.entries l.j) 12 l.initial.buffer)
 
 abbrev pub decreases-loop-j : goal.decreases-loop-j
 decreases-loop-j l = l.n - l.j

@@ -7,7 +7,7 @@ use Rattle.frame_codec.proofs.put_header.Goals as goal
 
 pub shape_of-buffer : goal.shape_of-buffer
 shape_of-buffer c =
-    c.put_half-3.auto.0 ∙ simp length-set (c.put_half-2.auto.0 ∙ c.put_half.auto.0)
+    c.put_half-3.auto.s ∙ simp length-set (c.put_half-2.auto.s ∙ c.put_half.auto.s)
 
 pub returns : goal.returns
 returns c =

@@ -2,6 +2,7 @@
 use mathlib.Core.Path.{refl, ap, ◌∙◌}
 use mathlib.Core.List.{[]}
 use native.Mathlib.Omega.{arith}
+use mir.Syntax.{w32}
 use mir.Facts.{to_z-of_z}
 use Rattle.frame_spec.specs.declared.Said.{Said}
 use Rattle.frame_spec.proofs.Fronts.{fits_front}
@@ -9,7 +10,9 @@ use borrow.Author.Rules.{rules}
 use Rattle.frame_codec.proofs.write.Goals as goal
 
 pub returns-in-Refused : goal.returns-in-Refused
-returns-in-Refused c = rw c.in-Refused.is (fits_front [] c.args.buffer.now refl (omega arith) refl)
+returns-in-Refused c = 
+    let w = fits_front [] c.args.buffer.now refl (omega arith) refl in
+    rw c.in-Refused.is (record { answer = w.0; bytes = w.1 })
 
 pub returns-in-Null : goal.returns-in-Null
 returns-in-Null c =
@@ -17,7 +20,7 @@ returns-in-Null c =
 
 pub returns-in-Position : goal.returns-in-Position
 returns-in-Position c =
-    rw (c.in-Collection.is ∙ ap Said.Collection c.in-Position.is) (rw (to_z-of_z (record { sfits = c.known_told-in-Collection-1.given.0.1 })) at c.write_position.ensures)
+    rw (c.in-Collection.is ∙ ap Said.Collection c.in-Position.is) (rw (to_z-of_z {w = w32} {z = c.in-Position.v} (record { sfits = search rules })) at c.write_position.ensures)
 
 pub returns-in-List : goal.returns-in-List
 returns-in-List c =

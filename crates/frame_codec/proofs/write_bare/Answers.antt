@@ -9,9 +9,11 @@ use Rattle.frame_codec.proofs.write_bare.Goals as goal
 pub returns-then-buffer-lt7 : goal.returns-then-buffer-lt7
 returns-then-buffer-lt7 c =
     let a = c.args in
-    too_short (header 7 a.kind a.sender a.phase []) a.buffer.now c.if-buffer-lt7.true
+    let w = too_short (header 7 a.kind a.sender a.phase []) a.buffer.now c.if-buffer-lt7.true in
+    record { answer = w.0; bytes = w.1 }
 
 pub returns : goal.returns
 returns c =
     let a = c.args in
-    fits_front (header 7 a.kind a.sender a.phase []) a.buffer.now refl c.if-buffer-lt7.false c.put_header.ensures
+    let w = fits_front (header 7 a.kind a.sender a.phase []) a.buffer.now refl c.if-buffer-lt7.false c.put_header.ensures in
+    record { answer = w.0; bytes = w.1 }

@@ -10,6 +10,7 @@ use lib.Seq.{ext_get_or}
 use borrow.Author.Rules.{rules}
 use borrow.Author.Count.{below_more}
 use Rattle.frame_slots.proofs.is_same.Goals as goal
+use Rattle.frame_slots.proofs.is_same.Goals.{then-a-j, else-a-j}
 
 pub returns-then-b-len : goal.returns-then-b-len
 returns-then-b-len c = (λ e. absurd (true≢false (sym e)), λ e. absurd (c.if-b-len.true (ap length (sym e))))
@@ -26,10 +27,10 @@ loop-j-init c = (search rules, λ e i l. absurd (omega arith), λ e. refl)
 pub loop-j-preserved : goal.loop-j-preserved
 loop-j-preserved c =
     let l = c.loop-j in
-    ⊎_elim
-    (λ w. (search rules, λ e. absurd (true≢false (sym e ∙ w.1)), λ e. absurd (w.0.taken (ap (λ (x : List ℕ). get_or x l.j 0) e))))
-    (λ w. (search rules, λ e. below_more _ l.j (l.invariant.1 (sym w.1 ∙ e)) w.0.left, λ e. w.1 ∙ l.invariant.2 e))
-    c.if-a-j.branch
+    elim c.if-a-j.branch [
+    | then-a-j w ↦ (search rules, λ e. absurd (true≢false (sym e ∙ w.same-is)), λ e. absurd (w.if-a-j.true (ap (λ (x : List ℕ). get_or x l.j 0) e)))
+    | else-a-j w ↦ (search rules, λ e. below_more _ l.j (l.invariant.1 (sym w.same-is ∙ e)) w.if-a-j.false, λ e. w.same-is ∙ l.invariant.2 e)
+    ]
 
 pub returns : goal.returns
 returns c =

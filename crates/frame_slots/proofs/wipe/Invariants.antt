@@ -10,7 +10,7 @@ use Rattle.frame_slots.proofs.Slots.{wiped}
 use Rattle.frame_slots.proofs.wipe.Given as goal
 
 abbrev pub invariant-loop-s : goal.invariant-loop-s
-invariant-loop-s l = (l.s ≤ l.initial.lengths) × (length l.lengths ≡ length l.end) × (l.lengths ≡ replicate l.s 0 ++ drop l.s l.end)
+invariant-loop-s l = (l.s ≤ l.end) × (length l.lengths ≡ length l.initial.lengths) × (l.lengths ≡ replicate l.s 0 ++ drop l.s l.initial.lengths)
 
 abbrev pub decreases-loop-s : goal.decreases-loop-s
-decreases-loop-s l = l.initial.lengths - l.s
+decreases-loop-s l = l.end - l.s

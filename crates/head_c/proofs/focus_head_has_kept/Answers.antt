@@ -20,11 +20,11 @@ found old p q a b =
 
 pub returns-in-Nothing : goal.returns-in-Nothing
 unfolding head_of
-returns-in-Nothing c = let s = c in found _ s.seat-in.ensures c.in-Nothing.is refl refl
+returns-in-Nothing c = found _ c.seat_in-seat.ensures c.in-Nothing.is refl refl
 
 pub returns-in-Range : goal.returns-in-Range
 unfolding head_of
 returns-in-Range c =
-    let told = c.type_inv.k in
+    let k = c.in-Range.k in
     found _ c.seat_in-seat.ensures c.in-Range.is refl
-    (stored _ (record { sfits = told.0.1 }) (record { sfits = told.1.0.1 }) (search rules) (record { sfits = told.1.1.1.0.1 }))
+    (stored {low = k.low} {high = k.high} {position = k.position} k.trim (record { sfits = search rules }) (record { sfits = search rules }) (search rules) (record { sfits = search rules }))

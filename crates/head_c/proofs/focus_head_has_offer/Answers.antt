@@ -11,7 +11,7 @@ returns-in-Nothing c = given_out offer_number offer_or refl refl c.offer_in.ensu
 
 pub returns-in-Standing : goal.returns-in-Standing
 returns-in-Standing c =
-    let told = c.type_inv.o in
+    let k = c.in-Standing.o in
     given_out offer_number offer_or refl
-    (stored _ (record { sfits = told.0.1 }) (record { sfits = told.1.0.1 }) (search rules) (record { sfits = told.1.1.1.0.1 }))
+    (stored {low = k.low} {high = k.high} {position = k.position} k.trim (record { sfits = search rules }) (record { sfits = search rules }) (search rules) (record { sfits = search rules }))
     c.offer_in.ensures c.in-Standing.is

@@ -1,5 +1,6 @@
 -- The position of the seat, if one is held.
 use mathlib.Core.Path.{◌≡◌, refl, ap, sym, ◌∙◌}
+use mir.Syntax.{w32}
 use mir.Facts.{to_z-of_z}
 use lib.IntN.{ℤ}
 use Prim.Native.Nat.{ℕ}
@@ -19,9 +20,9 @@ found old p q a b =
 
 pub returns-in-Null : goal.returns-in-Null
 unfolding head_of
-returns-in-Null c = let s = c in found _ s.seat-in.ensures c.in-Null.is refl refl
+returns-in-Null c = found _ c.seat_in-seat.ensures c.in-Null.is refl refl
 
 pub returns-in-Position : goal.returns-in-Position
 unfolding head_of
 returns-in-Position c =
-    found _ c.seat_in-seat.ensures c.in-Position.is refl (to_z-of_z (record { sfits = c.known_told-1.given.0.1 }))
+    found _ c.seat_in-seat.ensures c.in-Position.is refl (to_z-of_z {w = w32} {z = c.in-Position.v} (record { sfits = search rules }))

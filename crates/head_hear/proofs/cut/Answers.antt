@@ -12,13 +12,12 @@ use borrow.Author.Tests.{le-leb, lt-leb}
 use Rattle.terms.specs.Refusals as refusal
 use Rattle.head_spec.specs.Batch.{entry_size, deliveries_of, is_batch, batch_refusal, cut_into, is_cut_into}
 use Rattle.head_spec.proofs.Batches.{some_whole, none_torn, none_cut, torn_told, fits_here, cut_here, told_here}
+use Rattle.head_hear.proofs.cut.Invariants.{Cutting}
 use Rattle.head_hear.proofs.cut.Goals as goal
 
-record Cutting (s : List ℕ) (at i : ℕ) : Type 0 where
-  inside : at ≤ length s
-  few : i ≤ at
-  told : is_batch (drop at s) ≡ is_batch s
-  count : i + length (deliveries_of (drop at s)) ≡ length (deliveries_of s)
+-- the entry at the front of the bytes that remain
+sized : (s : List ℕ) (at : ℕ) {rest : List ℕ} {n : ℕ} → rest ≡ drop at s → n ≡ entry_size rest → n ≡ entry_size (drop at s)
+sized s at e g = g ∙ ap entry_size e
 
 module _ {s : List ℕ} {at i : ℕ} (C : Cutting s at i) where
   -- an entry of n bytes is whole, or not
@@ -62,42 +61,29 @@ module _ {s : List ℕ} {at i : ℕ} (C : Cutting s at i) where
     unfolding batch_refusal
     enough room m = rw (whole, le-leb (length (deliveries_of s)) room (omega (arith, all)))
 
--- the loop's head, at an entry
-module _ (c : tie.After-entry-size invariant_loop decreases_loop) where
-  abbrev here : tie.At-loop invariant_loop decreases_loop
-  here = c.before.before.before
-
-  size : c.entry-size.result ≡ entry_size (drop here.loop.at here.before.before.args.batch.now)
-  size = c.entry-size.ensures ∙ ap entry_size c.before.bytes-from.ensures
-
-  within : here.loop.at < length here.before.before.args.batch.now
-  within = c.before.before.loop-test.true
-
-some_fits : (c : goal.Else-size-eq0) → let n = c.entry_size-size.result in (5 ≤ n) × ((here c).loop.at + n ≤ length (here c).before.before.args.batch.now)
-some_fits c = fits (here c).loop.invariant (within c) (size c) c.if-size-eq0.false
-
 pub loop-at-init : goal.loop-at-init
 loop-at-init c = record { inside = omega arith; few = omega arith; told = refl; count = omega arith }
 
 pub returns-then-size-eq0 : goal.returns-then-size-eq0
 returns-then-size-eq0 c =
-    let (a, b) = torn (here c).loop.invariant (within c) (size c) c.if-size-eq0.true (here c).before.before.args.room in
+    let (a, b) = torn c.loop-at.invariant c.loop-at-test.true (sized c.args.batch.now c.loop-at.at c.bytes_from.ensures c.entry_size-size.ensures) c.if-size-eq0.true c.args.room in
     rw (a, b)
 
 pub overflow_add-at : goal.overflow_add-at
 overflow_add-at c =
-    omega (arith, some_fits c)
+    omega (arith, fits c.loop-at.invariant c.loop-at-test.true (sized c.args.batch.now c.loop-at.at c.bytes_from.ensures c.entry_size-size.ensures) c.if-size-eq0.false)
 
 pub overflow_add-entries : goal.overflow_add-entries
 overflow_add-entries c =
-    omega (arith, some_fits c, c.loop-at.invariant.few)
+    omega (arith, fits c.loop-at.invariant c.loop-at-test.true (sized c.args.batch.now c.loop-at.at c.bytes_from.ensures c.entry_size-size.ensures) c.if-size-eq0.false, c.loop-at.invariant.few)
 
 pub loop-at-smaller : goal.loop-at-smaller
 loop-at-smaller c =
-    omega (arith, some_fits c)
+    omega (arith, fits c.loop-at.invariant c.loop-at-test.true (sized c.args.batch.now c.loop-at.at c.bytes_from.ensures c.entry_size-size.ensures) c.if-size-eq0.false)
 
 pub loop-at-preserved : goal.loop-at-preserved
-loop-at-preserved c = let e = c in goes_on (here e).loop.invariant (within e) (size e) c.if-size-eq0.false
+loop-at-preserved c =
+    goes_on c.loop-at.invariant c.loop-at-test.true (sized c.args.batch.now c.loop-at.at c.bytes_from.ensures c.entry_size-size.ensures) c.if-size-eq0.false
 
 pub returns-then-room-entries : goal.returns-then-room-entries
 returns-then-room-entries c =

@@ -14,6 +14,12 @@ use Rattle.head_spec.specs.Batch.{entry_size, deliveries_of, is_batch, batch_ref
 use Rattle.head_spec.proofs.Batches.{some_whole, none_torn, none_cut, torn_told, fits_here, cut_here, told_here}
 use Rattle.head_hear.proofs.cut.Given as goal
 
+pub record Cutting (s : List ℕ) (at i : ℕ) : Type 0 where
+  pub inside : at ≤ length s
+  pub few : i ≤ at
+  pub told : is_batch (drop at s) ≡ is_batch s
+  pub count : i + length (deliveries_of (drop at s)) ≡ length (deliveries_of s)
+
 abbrev pub invariant-loop-at : goal.invariant-loop-at
 invariant-loop-at l = Cutting l.batch l.at l.entries
 

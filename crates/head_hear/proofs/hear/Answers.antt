@@ -1,8 +1,8 @@
 -- By each of its parts, what was said makes of the record what hearing makes of it. From link 32 on there is no place for a list, and none is stored.
-use mathlib.Core.Path.{◌≡◌, refl, sym, ◌∙◌}
+use mathlib.Core.Path.{◌≡◌, refl}
 use mathlib.Core.List.{List}
 use native.Mathlib.Omega.{arith}
-use lib.ListN.{length, length-map}
+use lib.ListN.{length}
 use lib.Seq.{set_out}
 use mir.Val.{Val}
 use denote.Laws.{Is}
@@ -17,7 +17,7 @@ use Rattle.head_hear.proofs.hear.Goals as goal
 
 -- the machine holds 32 lists, as their type says; they are the last of the record's fields
 lists_long : {vs : List Val} (h : Head) → Is the_row h vs → length h.lists ≡ 32
-lists_long h is = sym (length-map h.lists _) ∙ is.1.1.1.1.1.1.0.1.0.1
+lists_long h is = is.1.1.1.1.1.1.0.1.0.1
 
 pub returns-then-not-p : goal.returns-then-not-p
 returns-then-not-p c =

@@ -6,22 +6,12 @@ use borrow.Author.Rules.{rules}
 use Rattle.head_spec.proofs.BatchLoop.{Hearing, begins, ends, fits, goes_on}
 use Rattle.head_hear.proofs.hear_entries.Goals as goal
 
--- at an entry
-module _ (c : tie.After-entry-size invariant_loop decreases_loop) where
-  abbrev here : tie.At-loop invariant_loop decreases_loop
-  here = c.before.before.before
-
-  in_batch : let n = c.entry-size.result in
-      (5 ≤ n) × (n ≤ length c.before.bytes-from.result.now)
-      × (here.loop.at + n ≤ length here.before.before.before.args.batch.now) × (here.loop.i < length here.loop.answers)
-  in_batch = fits here.loop.inv c.before.before.loop-test.true c.before.bytes-from.ensures c.entry-size.ensures
-
 pub loop-at-init : goal.loop-at-init
 loop-at-init c = let p = c.requires in begins p.0 p.1
 
 pub bounds-rest-0 : goal.bounds-rest-0
 bounds-rest-0 c =
-    omega (arith, in_batch c)
+    omega (arith, fits c.loop-at.invariant c.loop-at-test.true c.bytes_from-rest.ensures c.entry_size-size.ensures)
 
 pub overflow_cast-rest : goal.overflow_cast-rest
 overflow_cast-rest c =
@@ -29,39 +19,41 @@ overflow_cast-rest c =
 
 pub slice_bounds-hear-count : goal.slice_bounds-hear-count
 slice_bounds-hear-count c =
-    omega (arith, in_batch c)
+    omega (arith, fits c.loop-at.invariant c.loop-at-test.true c.bytes_from-rest.ensures c.entry_size-size.ensures)
 
 pub slice_bounds-hear-start : goal.slice_bounds-hear-start
 slice_bounds-hear-start c =
-    omega (arith, in_batch c)
+    omega (arith, fits c.loop-at.invariant c.loop-at-test.true c.bytes_from-rest.ensures c.entry_size-size.ensures)
 
 pub slice_bounds-hear-end : goal.slice_bounds-hear-end
 slice_bounds-hear-end c =
-    omega (arith, in_batch c)
+    omega (arith, fits c.loop-at.invariant c.loop-at-test.true c.bytes_from-rest.ensures c.entry_size-size.ensures)
 
 pub bounds-answers-i : goal.bounds-answers-i
 bounds-answers-i c =
-    omega (arith, in_batch c)
+    omega (arith, fits c.loop-at.invariant c.loop-at-test.true c.bytes_from-rest.ensures c.entry_size-size.ensures)
 
 pub overflow_add-at : goal.overflow_add-at
 overflow_add-at c =
-    omega (arith, in_batch c)
+    omega (arith, fits c.loop-at.invariant c.loop-at-test.true c.bytes_from-rest.ensures c.entry_size-size.ensures)
 
 pub overflow_add-i : goal.overflow_add-i
 overflow_add-i c =
-    omega (arith, in_batch c)
+    omega (arith, fits c.loop-at.invariant c.loop-at-test.true c.bytes_from-rest.ensures c.entry_size-size.ensures)
 
 pub loop-at-smaller : goal.loop-at-smaller
 loop-at-smaller c =
-    omega (arith, in_batch c)
+    omega (arith, fits c.loop-at.invariant c.loop-at-test.true c.bytes_from-rest.ensures c.entry_size-size.ensures)
 
 pub loop-at-preserved : goal.loop-at-preserved
 loop-at-preserved c =
-    goes_on (here c).loop.invariant c.loop-at-test.true c.bytes_from-rest.ensures c.entry_size-size.ensures c.hear-heard.ensures
+    goes_on c.loop-at.invariant c.loop-at-test.true c.bytes_from-rest.ensures c.entry_size-size.ensures c.hear-heard.ensures
 
 pub shape_of-answers : goal.shape_of-answers
 shape_of-answers c =
     c.loop-at.invariant.long
 
 pub returns : goal.returns
-returns c = ends c.loop-at.invariant c.loop-at-test.false
+returns c =
+    let e = ends c.loop-at.invariant c.loop-at-test.false in
+    record { head = e.0; answers = e.1 }

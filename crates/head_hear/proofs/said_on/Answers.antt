@@ -1,5 +1,5 @@
 -- A refusal of the link stands whatever its frame says, and else the frame decides. Past the checks the link's number is below n, a byte.
-use mathlib.Core.Path.{◌≡◌, sym, ◌∙◌, ap}
+use mathlib.Core.Path.{sym, ◌∙◌, ap}
 use mathlib.Core.Bool.{not}
 use native.Mathlib.Omega.{arith}
 use lib.Dec.{ltb}
@@ -8,12 +8,7 @@ use borrow.Author.Tests.{ltb-true}
 use Rattle.terms.proofs.Refusals.{refuses}
 use Rattle.frame_spec.specs.Said.{refused, said_of}
 use Rattle.head_spec.proofs.Proper.{both_passed}
-use Rattle.head_hear.specs.Steps.{link_refusal}
 use Rattle.head_hear.proofs.said_on.Goals as goal
-
--- past the test no check of the link failed
-none : (c : goal.Else-refused-ne0) → let a = c.args in link_refusal a.ended a.n a.heard a.link ≡ 0
-none c = sym c.link_refusal-refused.ensures ∙ c.if-refused-ne0.false
 
 pub returns-then-refused-ne0 : goal.returns-then-refused-ne0
 returns-then-refused-ne0 c = rw (← c.link_refusal-refused.ensures) (ap said_of (refuses refused _ _ c.if-refused-ne0.true))
@@ -21,7 +16,7 @@ returns-then-refused-ne0 c = rw (← c.link_refusal-refused.ensures) (ap said_of
 pub overflow_cast-link : goal.overflow_cast-link
 overflow_cast-link c =
     let a = c.args in
-    omega (arith, ltb-true a.link a.n (both_passed (not a.ended) (ltb a.link a.n) 25 2 (none c)).1)
+    omega (arith, ltb-true a.link a.n (both_passed (not a.ended) (ltb a.link a.n) 25 2 (sym c.link_refusal-refused.ensures ∙ c.if-refused-ne0.false)).1)
 
 pub returns : goal.returns
-returns c = rw (none c) c.read.ensures
+returns c = rw (sym c.link_refusal-refused.ensures ∙ c.if-refused-ne0.false) c.read.ensures

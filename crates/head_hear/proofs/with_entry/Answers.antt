@@ -10,5 +10,5 @@ use Rattle.head_hear.proofs.with_entry.Goals as goal
 pub returns-in-Position : goal.returns-in-Position
 returns-in-Position c =
     let a = c.args in
-    let v = to_z-of_z {w = w32} (record { sfits = c.known_told-1.given.0.1 }) in
+    let v = to_z-of_z {w = w32} {z = c.in-Position.v} (record { sfits = search rules }) in
     c.with_position.ensures ∙ ap (λ (x : Entry). with_entry a.list a.k x) (ap Entry.Position v ∙ sym c.in-Position.is)

@@ -9,6 +9,5 @@ use Rattle.head_window.proofs.position_word.Goals as goal
 
 pub returns-in-Position : goal.returns-in-Position
 returns-in-Position c =
-    let k = c.known_told-1.given in
-    let v = to_z-of_z {w = w32} (record { sfits = k.0.1 }) in
+    let v = to_z-of_z {w = w32} {z = c.in-Position.v} (record { sfits = search rules }) in
     c.unsigned.ensures ∙ ap word_of v ∙ ap position_word (sym c.in-Position.is)

@@ -11,43 +11,55 @@ use Rattle.hostpage.specs.Page.{point, reading_line}
 use Rattle.hostpage.proofs.Lines.{unknown_is, point_is, range_line}
 use Rattle.hostpage.proofs.line_of.Goals as goal
 
-number : (c : goal.After-put_number-t) → Longer c.empty.result (spaced (decimal c.args.head) []) 11 c.put_number-t.result
-number c = put_fits 11 (decimal_short _ 32) (omega (arith, c.empty.ensures)) c.put_number-t.ensures
-
-word : (c : goal.After-put-in-Point) → Longer c.put_number-t.result (spaced point []) 6 c.put-in-Point.result
-word c =
-    put_fits 6 (omega arith) (omega (arith, c.empty.ensures, (number c.before.before.before.before.before.before).room)) c.put-in-Point.ensures
-
 pub put_float-requires : goal.put_float-requires
 put_float-requires c =
-    omega (arith, c.empty.ensures, (number c.before.before.before.before.before.before).room, (word c).room)
+    let o = c.empty.ensures in
+    let number : Longer c.empty.result (spaced (decimal c.args.head) []) 11 c.put_number-t.result =
+            put_fits 11 (decimal_short _ 32) (omega (arith, o)) c.put_number-t.ensures in
+    let word : Longer c.put_number-t.result (spaced point []) 6 c.put-in-Point.result =
+            put_fits 6 (omega arith) (omega (arith, o, number.room)) c.put-in-Point.ensures in
+    omega (arith, o, number.room, word.room)
 
 pub put_range-requires : goal.put_range-requires
 put_range-requires c =
-    omega (arith, c.empty.ensures, (number c.before.before.before).room)
+    let o = c.empty.ensures in
+    let number : Longer c.empty.result (spaced (decimal c.args.head) []) 11 c.put_number-t.result =
+            put_fits 11 (decimal_short _ 32) (omega (arith, o)) c.put_number-t.ensures in
+    omega (arith, o, number.room)
 
 pub returns-in-Unknown : goal.returns-in-Unknown
 returns-in-Unknown c =
     let o = c.empty.ensures in
-    let l = put_fits 8 (omega arith) (omega (arith, o, (number c.before.before.before.before.before).room)) c.put.ensures in (
-      from_empty o (longer_then (number c.before.before.before.before.before) l) ∙ unknown_is c.args.head ∙ ap (reading_line c.args.head) (sym c.in-Unknown.is),
-      omega (arith, o, (number c.before.before.before.before.before).room, l.room),
-    )
+    let number : Longer c.empty.result (spaced (decimal c.args.head) []) 11 c.put_number-t.result =
+            put_fits 11 (decimal_short _ 32) (omega (arith, o)) c.put_number-t.ensures in
+    let l = put_fits 8 (omega arith) (omega (arith, o, number.room)) c.put.ensures in
+    record {
+      result_value = from_empty o (longer_then number l) ∙ unknown_is c.args.head ∙ ap (reading_line c.args.head) (sym c.in-Unknown.is);
+      len_bound = omega (arith, o, number.room, l.room);
+    }
 
 pub returns-in-Point : goal.returns-in-Point
 returns-in-Point c =
-    let o = c.empty.ensures in (
-      from_empty o (longer_then (number c.before.before.before.before.before.before.before) (longer_then (word c.before) c.put_float.ensures))
+    let o = c.empty.ensures in
+    let number : Longer c.empty.result (spaced (decimal c.args.head) []) 11 c.put_number-t.result =
+            put_fits 11 (decimal_short _ 32) (omega (arith, o)) c.put_number-t.ensures in
+    let word : Longer c.put_number-t.result (spaced point []) 6 c.put-in-Point.result =
+            put_fits 6 (omega arith) (omega (arith, o, number.room)) c.put-in-Point.ensures in
+    record {
+      result_value = from_empty o (longer_then number (longer_then word c.put_float.ensures))
           ∙ point_is c.args.head c.in-Point.x
-          ∙ ap (reading_line c.args.head) (sym c.in-Point.is),
-      omega (arith, o, (number c.before.before.before.before.before.before.before).room, (word c.before).room, c.put_float.ensures.room),
-    )
+          ∙ ap (reading_line c.args.head) (sym c.in-Point.is);
+      len_bound = omega (arith, o, number.room, word.room, c.put_float.ensures.room);
+    }
 
 pub returns-in-Range : goal.returns-in-Range
 returns-in-Range c =
-    let o = c.empty.ensures in (
-      from_empty o (longer_then (number c.before.before.before.before) c.put_range.ensures)
+    let o = c.empty.ensures in
+    let number : Longer c.empty.result (spaced (decimal c.args.head) []) 11 c.put_number-t.result =
+            put_fits 11 (decimal_short _ 32) (omega (arith, o)) c.put_number-t.ensures in
+    record {
+      result_value = from_empty o (longer_then number c.put_range.ensures)
           ∙ range_line c.args.head c.in-Range.kept
-          ∙ ap (reading_line c.args.head) (sym c.in-Range.is),
-      omega (arith, o, (number c.before.before.before.before).room, c.put_range.ensures.room),
-    )
+          ∙ ap (reading_line c.args.head) (sym c.in-Range.is);
+      len_bound = omega (arith, o, number.room, c.put_range.ensures.room);
+    }

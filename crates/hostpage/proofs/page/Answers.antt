@@ -6,28 +6,28 @@ use Rattle.hostpage.proofs.Pages.{no_heads, many_heads, short, fits}
 use Rattle.hostpage.proofs.page.Goals as goal
 
 pub returns-then-n-eq0 : goal.returns-then-n-eq0
-returns-then-n-eq0 c = let a = c.args in no_heads a.n a.readings a.buffer.now c.if-n-eq0.true
+returns-then-n-eq0 c =
+    let a = c.args in
+    let w = no_heads a.n a.readings a.buffer.now c.if-n-eq0.true in
+    record { value = w.0; buffer_after = w.1 }
 
 pub returns-then-n-gt32 : goal.returns-then-n-gt32
-returns-then-n-gt32 c = let a = c.args in many_heads a.n a.readings a.buffer.now c.if-n-gt32.true
-
-pub page_length-len-requires : goal.page_length-len-requires
-page_length-len-requires c = search rules
+returns-then-n-gt32 c =
+    let a = c.args in
+    let w = many_heads a.n a.readings a.buffer.now c.if-n-gt32.true in
+    record { value = w.0; buffer_after = w.1 }
 
 pub returns-then-buffer-len : goal.returns-then-buffer-len
 returns-then-buffer-len c =
     let a = c.args in
     let l : 1 ≤ a.n = pos_of_ne-zero c.if-n-eq0.false in
-    short a.n a.readings a.buffer.now l c.if-n-gt32.false (rw c.page_length-len.ensures at c.if-buffer-len.true)
-
-pub put_page-requires : goal.put_page-requires
-put_page-requires c = search rules
-
-pub shape_of-buffer : goal.shape_of-buffer
-shape_of-buffer c = search rules
+    let w = short a.n a.readings a.buffer.now l c.if-n-gt32.false (rw c.page_length-len.ensures at c.if-buffer-len.true) in
+    record { value = w.0; buffer_after = w.1 }
 
 pub returns : goal.returns
 returns c =
     let a = c.args in
     let l : 1 ≤ a.n = pos_of_ne-zero c.if-n-eq0.false in
-    fits a.n a.readings a.buffer.now l c.if-n-gt32.false (rw c.page_length-len.ensures at c.if-buffer-len.false) c.page_length-len.ensures c.put_page.ensures
+    let w =
+        fits a.n a.readings a.buffer.now l c.if-n-gt32.false (rw c.page_length-len.ensures at c.if-buffer-len.false) c.page_length-len.ensures c.put_page.ensures in
+    record { value = w.0; buffer_after = w.1 }

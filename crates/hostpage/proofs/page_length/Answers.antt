@@ -13,32 +13,11 @@ use Rattle.hostpage.proofs.page_length.Goals as goal
 pub loop-k-init : goal.loop-k-init
 loop-k-init c = (search rules, sym (page_none c.args.readings), search rules)
 
-pub overflow_cast-reading : goal.overflow_cast-reading
-overflow_cast-reading c = search rules
-
-pub offset_bounds-readings-k : goal.offset_bounds-readings-k
-offset_bounds-readings-k c = search rules
-
-pub bounds-readings-k : goal.bounds-readings-k
-bounds-readings-k c = search rules
-
-pub line_of-t-requires : goal.line_of-t-requires
-line_of-t-requires c = search rules
-
-pub overflow_add-total : goal.overflow_add-total
-overflow_add-total c = search rules
-
-pub overflow_add-k : goal.overflow_add-k
-overflow_add-k c = search rules
-
-pub loop-k-smaller : goal.loop-k-smaller
-loop-k-smaller c = search rules
-
 pub loop-k-preserved : goal.loop-k-preserved
 loop-k-preserved c =
     let t = c.line_of-t in
     let rs = c.args.readings in
-    let e : t.result.len ≡ length (reading_line c.loop-k.k (get_or rs c.loop-k.k Reading.Unknown)) = sym (text_long t.result t.type_inv t.ensures.1) ∙ ap length t.ensures.0 in
+    let e : t.result.len ≡ length (reading_line c.loop-k.k (get_or rs c.loop-k.k Reading.Unknown)) = sym (text_long t.result t.type_inv t.ensures.len_bound) ∙ ap length t.ensures.result_value in
     (search rules, omega (arith, next_length c.loop-k.k rs), search rules)
 
 pub returns : goal.returns

@@ -11,7 +11,7 @@ use Rattle.hostpage.proofs.Pages.{page_none, next_length, page_grows, front, fro
 use Rattle.hostpage.proofs.put_page.Given as goal
 
 abbrev pub invariant-loop-k : goal.invariant-loop-k
-invariant-loop-k l = (l.k ≤ l.n) × (length l.buffer ≡ length l.readings) × (l.at ≡ length (page_of l.k l.initial.buffer)) × (l.buffer ≡ front (page_of l.k l.initial.buffer) l.readings)
+invariant-loop-k l = (l.k ≤ l.n) × (length l.buffer ≡ length l.initial.buffer) × (l.at ≡ length (page_of l.k l.readings)) × (l.buffer ≡ front (page_of l.k l.readings) l.initial.buffer)
 
 abbrev pub decreases-loop-k : goal.decreases-loop-k
 decreases-loop-k l = l.n - l.k

@@ -32,4 +32,4 @@ returns c =
     let high : c.float_of-high.result ≡ exact 0 b = c.float_of-high.ensures ∙ ap (exact 0) (to_z-of_z c.ranges.highest) in
     ap (λ (x : Float). made x c.float_of-high.result) low
     ∙ ap (made (exact 0 a)) high
-    ∙ ap (three (exact 0 a) (exact 0 b)) (midpoint_exact a b c.requires.0 c.requires.1)
+    ∙ ap (three (exact 0 a) (exact 0 b)) (midpoint_exact a b c.requires.lowest_value c.requires.highest_value)

@@ -11,11 +11,10 @@ use Rattle.reading.proofs.reading_of.Goals as goal
 
 pub returns-in-Range : goal.returns-in-Range
 returns-in-Range c =
-    let told = c.type_inv.kept in
-    let k = c.kept-1.given in
-    let low : SFits w32 k.0.0.low = record { sfits = told.0.1 } in
-    let high : SFits w32 k.0.0.high = record { sfits = told.1.0.1 } in
+    let k = c.in-Range.kept in
+    let low : SFits w32 k.low = record { sfits = search rules } in
+    let high : SFits w32 k.high = record { sfits = search rules } in
     c.reading_between.ensures
-    ∙ ap (λ (z : ℤ). reading_between z (read w32 k.0.0.high)) (to_z-of_z low)
-    ∙ ap (reading_between k.0.0.low) (to_z-of_z high)
-    ∙ ap reading_of (sym k.1)
+    ∙ ap (λ (z : ℤ). reading_between z (read w32 k.high)) (to_z-of_z low)
+    ∙ ap (reading_between k.low) (to_z-of_z high)
+    ∙ ap reading_of (sym c.in-Range.is)

@@ -8,10 +8,8 @@ use lib.Seq.{paste, paste-zero}
 use Rattle.head_c.specs.Blocks.{up_to}
 use Rattle.head_c.proofs.Copying.{up_to_long, up_to_at, copied}
 use borrow.Author.Rules.{rules}
+use Rattle.head_c.proofs.block.clear_links.Invariants.{blank}
 use Rattle.head_c.proofs.block.clear_links.Goals as goal
-
-abbrev blank : List ℕ
-blank = up_to 34 (λ i. 0)
 
 pub loop-j-init : goal.loop-j-init
 loop-j-init c = (omega arith, refl, paste-zero c.args.h.now 58 blank)

@@ -10,6 +10,9 @@ use Rattle.head_c.proofs.Copying.{up_to_long, up_to_at, copied}
 use borrow.Author.Rules.{rules}
 use Rattle.head_c.proofs.block.clear_links.Given as goal
 
+abbrev pub blank : List ℕ
+blank = up_to 34 (λ i. 0)
+
 abbrev pub invariant-loop-j : goal.invariant-loop-j
 invariant-loop-j l = (l.j ≤ 34) × (length l.h ≡ length l.initial.h) × (l.h ≡ paste l.initial.h 58 blank l.j)
 

@@ -2,6 +2,7 @@
 use mathlib.Core.Path.{◌≡◌, refl, ap, ◌∙◌}
 use Prim.Native.Nat.{ℕ, zero, suc}
 use lib.IntN.{ℤ}
+use mir.Syntax.{w32}
 use mir.Facts.{to_z-of_z}
 use Rattle.terms.specs.declared.Entry.{Entry}
 use Rattle.head_c.specs.Blocks.{held_entry}
@@ -14,5 +15,5 @@ held (suc b) v n = refl
 
 pub returns : goal.returns
 returns c =
-    let v = to_z-of_z (record { sfits = c.signed.type_inv }) ∙ c.signed.ensures in
+    let v = to_z-of_z {w = w32} (record { sfits = c.signed.type_inv }) ∙ c.signed.ensures in
     ap Entry.Position v ∙ held c.args.held _ c.if-held-eq0.false

@@ -3,6 +3,7 @@ use mathlib.Core.Path.{refl, sym, ◌∙◌}
 use Prim.Native.Nat.{◌-◌, ◌≤◌}
 use native.Mathlib.Omega.{arith}
 use lib.IntN.{pos}
+use mir.Syntax.{w32}
 use mir.Facts.{to_z-of_z}
 use Rattle.head_c.specs.Blocks.{numbers_at}
 use Rattle.head_c.proofs.Copying.{Filled, filled_none, filled_more, filled_all}
@@ -18,7 +19,7 @@ loop-j-preserved c =
     let l = c.loop-j in
     let a = c.args in
     let w = a.h.now in
-    let v = to_z-of_z (record { sfits = c.signed-v.type_inv }) ∙ c.signed-v.ensures ∙ sym (number_at w a.from l.j (omega arith)) in
+    let v = to_z-of_z {w = w32} (record { sfits = c.signed-v.type_inv }) ∙ c.signed-v.ensures ∙ sym (number_at w a.from l.j (omega arith)) in
     (omega arith, filled_more (pos 0) l.invariant.1 v (omega arith) (numbers_long w a.from))
 
 pub returns : goal.returns

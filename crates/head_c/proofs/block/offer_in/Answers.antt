@@ -2,6 +2,7 @@
 use mathlib.Core.Path.{◌≡◌, refl, sym, ◌∙◌}
 use Prim.Native.Nat.{ℕ, zero, suc}
 use lib.IntN.{ℤ}
+use mir.Syntax.{w32}
 use mir.Facts.{to_z-of_z}
 use Rattle.head_spec.specs.declared.Offer.{Offer}
 use Rattle.head_c.specs.Blocks.{offer_in, offer_of}
@@ -20,6 +21,6 @@ returns-then-h-eq0 c = sym (no_offer _ c.if-h-eq0.true)
 pub returns : goal.returns
 unfolding offer_of
 returns c =
-    stands _ _ c.if-h-eq0.false (to_z-of_z (record { sfits = c.signed.type_inv }) ∙ c.signed.ensures)
-    (to_z-of_z (record { sfits = c.signed-2.type_inv }) ∙ c.signed-2.ensures)
-    (to_z-of_z (record { sfits = c.signed-3.type_inv }) ∙ c.signed-3.ensures)
+    stands _ _ c.if-h-eq0.false (to_z-of_z {w = w32} (record { sfits = c.signed.type_inv }) ∙ c.signed.ensures)
+    (to_z-of_z {w = w32} (record { sfits = c.signed-2.type_inv }) ∙ c.signed-2.ensures)
+    (to_z-of_z {w = w32} (record { sfits = c.signed-3.type_inv }) ∙ c.signed-3.ensures)

@@ -11,7 +11,7 @@ pub put_numbers-requires : goal.put_numbers-requires
 put_numbers-requires c = simp length-set (omega arith)
 
 pub shape_of-h : goal.shape_of-h
-shape_of-h c = c.put_numbers.auto.0 ∙ simp length-set
+shape_of-h c = c.put_numbers.auto.h ∙ simp length-set
 
 pub returns : goal.returns
 returns c =

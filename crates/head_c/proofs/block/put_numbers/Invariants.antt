@@ -13,7 +13,7 @@ use borrow.Author.Rules.{rules}
 use Rattle.head_c.proofs.block.put_numbers.Given as goal
 
 abbrev pub invariant-loop-j : goal.invariant-loop-j
-invariant-loop-j l = (l.j ≤ 32) × (length l.h ≡ length l.from) × (l.h ≡ paste l.from l.numbers (words_of l.initial.h) l.j)
+invariant-loop-j l = (l.j ≤ 32) × (length l.h ≡ length l.initial.h) × (l.h ≡ paste l.initial.h l.from (words_of l.numbers) l.j)
 
 abbrev pub decreases-loop-j : goal.decreases-loop-j
 decreases-loop-j l = 32 - l.j

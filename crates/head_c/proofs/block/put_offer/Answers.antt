@@ -31,6 +31,6 @@ pub returns : goal.returns
 returns c =
     let k = c.args.kept in
     words_are c.args.h.now k.trim
-    (word_is k.low c.unsigned.ensures (record { sfits = c.type_inv.kept.0.1 }))
-    (word_is k.high c.unsigned-2.ensures (record { sfits = c.type_inv.kept.1.0.1 }))
-    (word_is k.position c.unsigned-3.ensures (record { sfits = c.type_inv.kept.1.1.1.0.1 }))
+    (word_is k.low c.unsigned.ensures (record { sfits = search rules }))
+    (word_is k.high c.unsigned-2.ensures (record { sfits = search rules }))
+    (word_is k.position c.unsigned-3.ensures (record { sfits = search rules }))

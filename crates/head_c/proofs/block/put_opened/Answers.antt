@@ -6,21 +6,14 @@ use Rattle.head_c.proofs.Putting.{put_record}
 use borrow.Author.Rules.{rules}
 use Rattle.head_c.proofs.block.put_opened.Goals as goal
 
-seat_long : (c : goal.After-put_seat) → IsBlock c.put_seat.new.0
-seat_long c = c.put_seat.auto.0 ∙ c.requires
-
-list_long : (c : goal.After-put_list) → IsBlock c.put_list.new.0
-list_long c = c.put_list.auto.0 ∙ simp length-set (seat_long c.before.before.before.before)
-
 pub put_list-requires : goal.put_list-requires
-put_list-requires c = simp length-set (seat_long c.before.before.before)
+put_list-requires c = simp length-set (c.put_seat.auto.h ∙ c.requires)
 
 pub clear_links-requires : goal.clear_links-requires
-clear_links-requires c = list_long c.before.before.before
+clear_links-requires c = c.put_list.auto.h ∙ simp length-set (c.put_seat.auto.h ∙ c.requires)
 
 pub shape_of-h : goal.shape_of-h
-shape_of-h c =
-    c.clear_links.auto.0 ∙ list_long c.before.before.before.before.before.before ∙ sym c.requires
+shape_of-h c = c.clear_links.auto.h ∙ c.put_list.auto.h ∙ simp length-set c.put_seat.auto.h
 
 pub returns : goal.returns
 returns c =

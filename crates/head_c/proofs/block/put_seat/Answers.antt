@@ -18,54 +18,6 @@ use Rattle.head_c.proofs.block.put_seat.Goals as goal
 word_is : (of : Kept → ℤ) {k k' : Kept} {x : ℕ} → x ≡ word_of (to_z w32 (of_z w32 (of k))) → SFits w32 (of k) → k ≡ k' → x ≡ word_of (of k')
 word_is of e f q = e ∙ ap word_of (to_z-of_z f) ∙ ap (λ (k : Kept). word_of (of k)) q
 
-pub bounds-h-4 : goal.bounds-h-4
-bounds-h-4 c =
-    simp length-set (omega arith)
-
-pub bounds-h-5 : goal.bounds-h-5
-bounds-h-5 c =
-    simp length-set (omega arith)
-
-pub bounds-h-6 : goal.bounds-h-6
-bounds-h-6 c =
-    simp length-set (omega arith)
-
-pub bounds-h-7 : goal.bounds-h-7
-bounds-h-7 c =
-    simp length-set (omega arith)
-
-pub bounds-h-8 : goal.bounds-h-8
-bounds-h-8 c =
-    simp length-set (omega arith)
-
-pub bounds-h-9 : goal.bounds-h-9
-bounds-h-9 c =
-    simp length-set (omega arith)
-
-pub bounds-h-10 : goal.bounds-h-10
-bounds-h-10 c =
-    simp length-set (omega arith)
-
-pub bounds-h-11 : goal.bounds-h-11
-bounds-h-11 c =
-    simp length-set (omega arith)
-
-pub bounds-h-12 : goal.bounds-h-12
-bounds-h-12 c =
-    simp length-set (omega arith)
-
-pub bounds-h-13 : goal.bounds-h-13
-bounds-h-13 c =
-    simp length-set (omega (arith, c.requires))
-
-pub bounds-h-14 : goal.bounds-h-14
-bounds-h-14 c =
-    simp length-set (omega (arith, c.requires))
-
-pub bounds-h-15 : goal.bounds-h-15
-bounds-h-15 c =
-    simp length-set (omega (arith, c.requires))
-
 pub shape_of-h : goal.shape_of-h
 shape_of-h c =
     simp length-set
@@ -76,8 +28,8 @@ returns c =
     let kept = c.kept_of-kept.ensures in
     put_words s c.args.h.now c.requires (byte_bit s.healed) (byte_bit s.ended) c.is_held.ensures c.word_of.ensures
     c.is_ranged.ensures
-    (word_is (λ x. x.low) c.unsigned.ensures (record { sfits = c.type_inv.kept.0.1 }) kept)
-    (word_is (λ x. x.high) c.unsigned-2.ensures (record { sfits = c.type_inv.kept.1.0.1 }) kept)
+    (word_is (λ x. x.low) {k = c.kept_of-kept.result} c.unsigned.ensures (record { sfits = search rules }) kept)
+    (word_is (λ x. x.high) {k = c.kept_of-kept.result} c.unsigned-2.ensures (record { sfits = search rules }) kept)
     (ap (λ (x : Kept). x.trim) kept)
-    (word_is (λ x. x.position) c.unsigned-3.ensures (record { sfits = c.type_inv.kept.1.1.1.0.1 }) kept)
+    (word_is (λ x. x.position) {k = c.kept_of-kept.result} c.unsigned-3.ensures (record { sfits = search rules }) kept)
     c.family_number.ensures

@@ -2,6 +2,7 @@
 use mathlib.Core.Path.{◌≡◌, refl, ◌∙◌}
 use Prim.Native.Nat.{ℕ, zero, suc}
 use lib.IntN.{ℤ}
+use mir.Syntax.{w32}
 use mir.Facts.{to_z-of_z}
 use Rattle.head_spec.specs.declared.LastKept.{LastKept}
 use Rattle.head_c.specs.Blocks.{range_in}
@@ -15,6 +16,6 @@ held (suc b) trim n p q r = rw (p, q, r)
 
 pub returns : goal.returns
 returns c =
-    held c.args.ranged _ c.if-ranged-eq0.false (to_z-of_z (record { sfits = c.signed.type_inv }) ∙ c.signed.ensures)
-    (to_z-of_z (record { sfits = c.signed-2.type_inv }) ∙ c.signed-2.ensures)
-    (to_z-of_z (record { sfits = c.signed-3.type_inv }) ∙ c.signed-3.ensures)
+    held c.args.ranged _ c.if-ranged-eq0.false (to_z-of_z {w = w32} (record { sfits = c.signed.type_inv }) ∙ c.signed.ensures)
+    (to_z-of_z {w = w32} (record { sfits = c.signed-2.type_inv }) ∙ c.signed-2.ensures)
+    (to_z-of_z {w = w32} (record { sfits = c.signed-3.type_inv }) ∙ c.signed-3.ensures)

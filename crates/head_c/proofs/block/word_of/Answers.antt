@@ -15,6 +15,5 @@ returns-in-Null c = search rules
 
 pub returns-in-Position : goal.returns-in-Position
 returns-in-Position c =
-    let k = c.known_told-1.given in
-    let v = to_z-of_z {w = w32} (record { sfits = k.0.1 }) in
+    let v = to_z-of_z {w = w32} {z = c.in-Position.v} (record { sfits = search rules }) in
     c.unsigned.ensures ∙ ap word_of v ∙ ap (λ (e : Entry). word_of (held_or e (pos 0))) (sym c.in-Position.is)

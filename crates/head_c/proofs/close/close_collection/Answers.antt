@@ -1,24 +1,20 @@
 -- The seat is put, and what was heard is cleared; the words of the list stand.
-use mathlib.Core.Path.{ap, sym, ◌∙◌}
+use mathlib.Core.Path.{ap, ◌∙◌}
 use lib.ListN.{length-set}
 use lib.Seq.{paste}
 use Rattle.head_spec.specs.declared.Seat.{Seat}
 use Rattle.head_spec.specs.Seats.{confession_seat}
 use Rattle.head_spec.specs.Calls.{closed_collection}
-use Rattle.head_c.specs.Blocks.{IsBlock, seat_words, head_of}
+use Rattle.head_c.specs.Blocks.{seat_words, head_of}
 use Rattle.head_c.proofs.Putting.{put_round}
 use borrow.Author.Rules.{rules}
 use Rattle.head_c.proofs.close.close_collection.Goals as goal
 
-seat_long : (c : goal.After-put_seat) → IsBlock c.put_seat.new.0
-seat_long c = c.put_seat.auto.0 ∙ c.requires
-
 pub clear_links-requires : goal.clear_links-requires
-clear_links-requires c = simp length-set (seat_long c.before.before.before)
+clear_links-requires c = simp length-set (c.put_seat.auto.h ∙ c.requires)
 
 pub shape_of-h : goal.shape_of-h
-shape_of-h c =
-    c.clear_links.auto.0 ∙ simp length-set (seat_long c.before.before.before.before.before.before ∙ sym c.requires)
+shape_of-h c = c.clear_links.auto.h ∙ simp length-set c.put_seat.auto.h
 
 pub returns : goal.returns
 unfolding closed_collection head_of

@@ -13,11 +13,11 @@ returns-then-n-gt32 c =
 pub returns-in-Refused : goal.returns-in-Refused
 returns-in-Refused c =
     let a = c.args in
-    paged a.blocks.now a.buffer.now a.n refl c.readings_in.ensures a.length.now c.page.ensures.0 c.page.ensures.1
+    paged a.blocks.now a.buffer.now a.n refl c.readings_in.ensures a.length.now c.page.ensures.value c.page.ensures.buffer_after
     c.in-Refused.is refl refl
 
 pub returns-in-Length : goal.returns-in-Length
 returns-in-Length c =
     let a = c.args in
-    paged a.blocks.now a.buffer.now a.n refl c.readings_in.ensures a.length.now c.page.ensures.0 c.page.ensures.1
+    paged a.blocks.now a.buffer.now a.n refl c.readings_in.ensures a.length.now c.page.ensures.value c.page.ensures.buffer_after
     c.in-Length.is refl refl

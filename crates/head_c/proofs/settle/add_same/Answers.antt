@@ -11,9 +11,6 @@ use Rattle.settle_position.proofs.Counting.{AddedTo, added_none, added_small, ad
 use Rattle.head_c.proofs.Rows.{same_word}
 use Rattle.head_c.proofs.settle.add_same.Goals as goal
 
-abbrev same_at : List ℕ → List ℕ → ℕ → Bool
-same_at a b j = eq_z (signed_of (get_or a j 0)) (signed_of (get_or b j 0))
-
 pub loop-j-init : goal.loop-j-init
 loop-j-init c = added_none c.requires.2
 

@@ -11,6 +11,9 @@ use Rattle.settle_position.proofs.Counting.{AddedTo, added_none, added_small, ad
 use Rattle.head_c.proofs.Rows.{same_word}
 use Rattle.head_c.proofs.settle.add_same.Given as goal
 
+abbrev pub same_at : List ℕ → List ℕ → ℕ → Bool
+same_at a b j = eq_z (signed_of (get_or a j 0)) (signed_of (get_or b j 0))
+
 abbrev pub invariant-loop-j : goal.invariant-loop-j
 invariant-loop-j l = AddedTo (same_at l.a l.b) l.initial.same l.j l.same
 

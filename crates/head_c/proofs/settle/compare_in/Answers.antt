@@ -1,6 +1,5 @@
 -- After k turns the lists compared are the first k.
 use mathlib.Core.Path.{◌≡◌, refl, ap, ◌∙◌}
-use mathlib.Core.Logic.{⊎_elim}
 use mathlib.Core.Bool.{Bool}
 use Prim.Native.Nat.{◌+◌, ◌-◌, ◌≤◌}
 use native.Mathlib.Omega.{arith}
@@ -15,6 +14,7 @@ use Rattle.settle_position.proofs.Reference.{compares_none, compares_few, compar
 use Rattle.head_c.specs.Steps.{rows_in}
 use Rattle.head_c.proofs.Rows.{row_long, same_number_lem}
 use Rattle.head_c.proofs.settle.compare_in.Goals as goal
+use Rattle.head_c.proofs.settle.compare_in.Goals.{then-marks-k, else-marks-k}
 
 pub loop-k-init : goal.loop-k-init
 loop-k-init c = (search rules, refl, compares_none)
@@ -43,16 +43,17 @@ add_same-requires c =
 pub loop-k-preserved : goal.loop-k-preserved
 loop-k-preserved c =
     let l = c.loop-k in
-    let a = c.args in (
-      omega arith,
-      ⊎_elim (λ x. rw x.4 x.3.ensures.0) (λ x. rw x.1 l.invariant.1) c.if-marks-k.branch,
-      ⊎_elim
-          (λ x. rw x.4 (compares_alike l.invariant.2 c.is_apart.ensures x.0.taken (λ j i. x.3.ensures.1 j i
-          ∙ ap (λ (b : Bool). get_or l.same j 0 + bit b)
-          (same_number_lem a.h.now l.k a.reference j (omega arith) c.requires.2 i x.1.ensures c.row_in-row.ensures))))
-          (λ x. rw x.1 (compares_other l.invariant.2 c.is_apart.ensures x.0.left))
-          c.if-marks-k.branch,
-    )
+    let a = c.args in
+    elim c.if-marks-k.branch [
+    | then-marks-k x ↦ (
+        omega arith,
+        rw x.same-is x.add_same.ensures.0,
+        rw x.same-is (compares_alike l.invariant.2 c.is_apart.ensures x.if-marks-k.true (λ j i. x.add_same.ensures.1 j i
+        ∙ ap (λ (b : Bool). get_or l.same j 0 + bit b)
+        (same_number_lem a.h.now l.k a.reference j (omega arith) c.requires.2 i x.row_in.ensures c.row_in-row.ensures))),
+      )
+    | else-marks-k x ↦ (omega arith, rw x.same-is l.invariant.1, rw x.same-is (compares_other l.invariant.2 c.is_apart.ensures x.if-marks-k.false))
+    ]
 
 pub returns : goal.returns
 returns c =

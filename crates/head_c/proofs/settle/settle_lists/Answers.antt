@@ -18,31 +18,6 @@ use Rattle.settle_position.proofs.Reference.{prepared}
 use Rattle.head_c.specs.Steps.{rows_in}
 use Rattle.head_c.proofs.settle.settle_lists.Goals as goal
 
--- the entries that are trusted, and the order that holds them
-module _ (l : tie.At-loop invariant_loop decreases_loop) where
-  abbrev start : tie.Start invariant_loop decreases_loop
-  start = l.before.before.before.before.before.before.before.before.before
-
-  abbrev entries : ℕ → Entry
-  entries = trusted start.args.n start.args.f (given_by start.args.links (rows_in start.args.h.now))
-
-  past : (j : ℕ) → 32 ≤ j → entries j ≡ Entry.Null
-  past = trusted_past start.args.links (rows_in start.args.h.now) (words start.args.links start.good.1.0) start.args.n start.args.f
-
-  held : OrderAfter l.loop.j entries l.loop.len l.loop.positions
-  held =
-      let needed = l.before in
-      let compared = needed.before.before in
-      let marks = compared.before.before in
-      let k = marks.before.before in
-      let a = start.args in
-      let g = words a.links start.good.1.0 in
-      let L = rows_in a.h.now in
-      l.loop.inv.2 entries
-      (prepared entries L _ _ compared.compare-in.result _ compared.compare-in.ensures refl refl refl
-      (λ j. decided_marked a.links L g a.n a.f j k.at-most-32.ensures needed.lists-needed.ensures marks.all-marks.ensures) past
-      (omega (arith, k.at-most-32.ensures)))
-
 pub compare_in-compared-requires : goal.compare_in-compared-requires
 compare_in-compared-requires c =
     (c.requires, omega (arith, c.at_most_32-count.ensures), omega arith)
@@ -64,11 +39,31 @@ loop-j-preserved c =
           (order_next E _ (omega (arith, few)) (sym (c.entry_of.ensures ∙ (c.cell_in-x.ensures.1 E P).entry)) (c.loop-j.invariant.2 E P)),
     )
 
+-- the entries E that are trusted, and the order that holds them
 pub slice_bounds-middle_in-end : goal.slice_bounds-middle_in-end
 slice_bounds-middle_in-end c =
-    let few : c.loop-j.j ≤ 32 = omega (arith, c.at_most_32-count.ensures) in
-    sym (order_long (entries c) few (held c))
+    let a = c.args in
+    let few = c.at_most_32-count.ensures in
+    let L = rows_in a.h.now in
+    let g = words a.links c.well_formed.1.0 in
+    let E = trusted a.n a.f (given_by a.links L) in
+    let past = trusted_past a.links L g a.n a.f in
+    let held : OrderAfter c.loop-j.j E c.loop-j.len c.loop-j.positions =
+        c.loop-j.invariant.2 E
+        (prepared E L _ _ c.compare_in-compared.result _ c.compare_in-compared.ensures refl refl refl
+        (λ j. decided_marked a.links L g a.n a.f j few c.lists_needed.ensures c.all_marks-marks.ensures) past (omega (arith, few))) in
+    sym (order_long E (omega (arith, few)) held)
 
 pub returns : goal.returns
 returns c =
-    c.middle_in.ensures ∙ settling_after _ _ _ _ (order_all (entries c) (past c) (start c).args.n (omega (arith, c.at_most_32-count.ensures)) (held c))
+    let a = c.args in
+    let few = c.at_most_32-count.ensures in
+    let L = rows_in a.h.now in
+    let g = words a.links c.well_formed.1.0 in
+    let E = trusted a.n a.f (given_by a.links L) in
+    let past = trusted_past a.links L g a.n a.f in
+    let held : OrderAfter c.loop-j.j E c.loop-j.len c.loop-j.positions =
+        c.loop-j.invariant.2 E
+        (prepared E L _ _ c.compare_in-compared.result _ c.compare_in-compared.ensures refl refl refl
+        (λ j. decided_marked a.links L g a.n a.f j few c.lists_needed.ensures c.all_marks-marks.ensures) past (omega (arith, few))) in
+    c.middle_in.ensures ∙ settling_after _ _ _ _ (order_all E past a.n (omega (arith, few)) held)

@@ -10,27 +10,8 @@ use Rattle.head_spec.specs.Calls.{said_to, hear, Delivery}
 use Rattle.head_spec.specs.Batch.{deliveries_of, cut_into}
 use Rattle.head_spec.proofs.BatchLoop.{Hearing, begins, ends, cut, fits, goes_on}
 use Rattle.head_c.specs.Blocks.{IsBlock, head_of, heard_in, Hears, heard_each}
+use Rattle.head_c.proofs.take.hear_entries.Invariants.{Changing}
 use Rattle.head_c.proofs.take.hear_entries.Goals as goal
-
--- the block so far, and what remains to be heard in it
-record Changing (w : List ℕ) (s : List ℕ) (v : List ℕ) (at : ℕ) : Type 0 where
-  block : IsBlock v
-  each : heard_each v (deliveries_of (drop at s)) ≡ heard_each w (deliveries_of s)
-
--- at an entry
-module _ (c : tie.After-entry-size invariant_loop decreases_loop) where
-  abbrev here : tie.At-loop invariant_loop decreases_loop
-  here = c.before.before.before
-
-  abbrev batch : List ℕ
-  batch = here.before.before.before.before.args.batch.now
-
-  abbrev rest : List ℕ
-  rest = c.before.bytes-from.result.now
-
-  in_batch : let n = c.entry-size.result in
-      (5 ≤ n) × (n ≤ length rest) × (here.loop.at + n ≤ length batch) × (here.loop.i < length here.loop.answers)
-  in_batch = fits here.loop.inv.0 c.before.before.loop-test.true c.before.bytes-from.ensures c.entry-size.ensures
 
 -- one frame more
 each_next : {w w' s : List ℕ} {k r : ℕ} (D : List Delivery) → Hears w k s r w' → heard_each w (record { link = k; bytes = s } ∷ D) ≡ heard_each w' D
@@ -43,7 +24,7 @@ loop-at-init c = let p = c.requires in (begins p.1 p.2, record { block = p.0; ea
 
 pub bounds-rest-0 : goal.bounds-rest-0
 bounds-rest-0 c =
-    omega (arith, in_batch c)
+    omega (arith, fits c.loop-at.invariant.0 c.loop-at-test.true c.bytes_from-rest.ensures c.entry_size-size.ensures)
 
 pub overflow_cast-rest : goal.overflow_cast-rest
 overflow_cast-rest c =
@@ -51,15 +32,15 @@ overflow_cast-rest c =
 
 pub slice_bounds-hear-count : goal.slice_bounds-hear-count
 slice_bounds-hear-count c =
-    omega (arith, in_batch c)
+    omega (arith, fits c.loop-at.invariant.0 c.loop-at-test.true c.bytes_from-rest.ensures c.entry_size-size.ensures)
 
 pub slice_bounds-hear-start : goal.slice_bounds-hear-start
 slice_bounds-hear-start c =
-    omega (arith, in_batch c)
+    omega (arith, fits c.loop-at.invariant.0 c.loop-at-test.true c.bytes_from-rest.ensures c.entry_size-size.ensures)
 
 pub slice_bounds-hear-end : goal.slice_bounds-hear-end
 slice_bounds-hear-end c =
-    omega (arith, in_batch c)
+    omega (arith, fits c.loop-at.invariant.0 c.loop-at-test.true c.bytes_from-rest.ensures c.entry_size-size.ensures)
 
 pub hear-requires : goal.hear-requires
 hear-requires c =
@@ -67,34 +48,35 @@ hear-requires c =
 
 pub bounds-answers-i : goal.bounds-answers-i
 bounds-answers-i c =
-    omega (arith, in_batch c)
+    omega (arith, fits c.loop-at.invariant.0 c.loop-at-test.true c.bytes_from-rest.ensures c.entry_size-size.ensures)
 
 pub overflow_add-at : goal.overflow_add-at
 overflow_add-at c =
-    omega (arith, in_batch c)
+    omega (arith, fits c.loop-at.invariant.0 c.loop-at-test.true c.bytes_from-rest.ensures c.entry_size-size.ensures)
 
 pub overflow_add-i : goal.overflow_add-i
 overflow_add-i c =
-    omega (arith, in_batch c)
+    omega (arith, fits c.loop-at.invariant.0 c.loop-at-test.true c.bytes_from-rest.ensures c.entry_size-size.ensures)
 
 pub loop-at-smaller : goal.loop-at-smaller
 loop-at-smaller c =
-    omega (arith, in_batch c)
+    omega (arith, fits c.loop-at.invariant.0 c.loop-at-test.true c.bytes_from-rest.ensures c.entry_size-size.ensures)
 
 pub loop-at-preserved : goal.loop-at-preserved
 loop-at-preserved c =
-    let l = (here c).loop in
+    let l = c.loop-at in
+    let rest = c.bytes_from-rest.result.now in
     let n = c.entry_size-size.result in
     let H = c.hear.ensures in
-    let heard : record { refusal = c.hear.result; head = head_of c.hear.new.0 } ≡ hear (head_of l.h) (get_or (rest c) 0 0) (take (n - 1) (drop 1 (rest c)))
+    let heard : record { refusal = c.hear.result; head = head_of c.hear.new.h } ≡ hear (head_of l.h) (get_or rest 0 0) (take (n - 1) (drop 1 rest))
     = rw (H.refusal, H.head) in
     let taken = c.loop-at-test.true in
     let rest_is = c.bytes_from-rest.ensures in
     let size = c.entry_size-size.ensures in (
       goes_on l.invariant.0 taken rest_is size heard,
       record {
-        block = c.hear.auto.0 ∙ l.invariant.1.block;
-        each = sym (each_next (deliveries_of (drop (l.at + n) (batch c))) H) ∙ sym (ap (heard_each l.h) (cut l.invariant.0 taken rest_is size)) ∙ l.invariant.1.each;
+        block = c.hear.auto.h ∙ l.invariant.1.block;
+        each = sym (each_next (deliveries_of (drop (l.at + n) c.args.batch.now)) H) ∙ sym (ap (heard_each l.h) (cut l.invariant.0 taken rest_is size)) ∙ l.invariant.1.each;
       },
     )
 

@@ -12,8 +12,14 @@ use Rattle.head_spec.proofs.BatchLoop.{Hearing, begins, ends, cut, fits, goes_on
 use Rattle.head_c.specs.Blocks.{IsBlock, head_of, heard_in, Hears, heard_each}
 use Rattle.head_c.proofs.take.hear_entries.Given as goal
 
+-- the block so far, and what remains to be heard in it
+pub record Changing (w : List ℕ) (s : List ℕ) (v : List ℕ) (at : ℕ) : Type 0 where
+  pub block : IsBlock v
+  pub each : heard_each v (deliveries_of (drop at s)) ≡ heard_each w (deliveries_of s)
+
 abbrev pub invariant-loop-at : goal.invariant-loop-at
-invariant-loop-at l = Hearing (head_of l.batch) l.initial.h l.initial.answers (head_of l.h) l.answers l.at l.i × Changing l.batch l.initial.h l.h l.at
+invariant-loop-at l =
+    Hearing (head_of l.initial.h) l.batch l.initial.answers (head_of l.h) l.answers l.at l.i × Changing l.initial.h l.batch l.h l.at
 
 abbrev pub decreases-loop-at : goal.decreases-loop-at
-decreases-loop-at l = length l.initial.h - l.at
+decreases-loop-at l = length l.batch - l.at

@@ -5,4 +5,4 @@ use borrow.Author.Rules.{rules}
 use Rattle.head_c.proofs.take.put_heard.Goals as goal
 
 pub shape_of-h : goal.shape_of-h
-shape_of-h c = c.put_mark.auto.0 ∙ simp length-set
+shape_of-h c = c.put_mark.auto.h ∙ simp length-set

@@ -25,12 +25,12 @@ returns-in-Null c =
 
 pub shape_of-h-in-Position : goal.shape_of-h-in-Position
 shape_of-h-in-Position c =
-    simp length-set (c.put_mark.auto.0 ∙ c.put_heard.auto.0)
+    simp length-set (c.put_mark.auto.h ∙ c.put_heard.auto.h)
 
 pub returns-in-Position : goal.returns-in-Position
 returns-in-Position c =
     let a = c.args in
-    let v = to_z-of_z {w = w32} (record { sfits = c.known_told-1.given.0.1 }) in
+    let v = to_z-of_z {w = w32} {z = c.in-Position.v} (record { sfits = search rules }) in
     let marks = c.put_mark.ensures ∙ ap (marked 25 a.k) c.put_heard.ensures in
     ap₂ (λ (l : List ℕ) (x : ℕ). set l (26 + a.k) x) marks (c.unsigned.ensures ∙ ap word_of v)
     ∙ ap (λ (x : Entry). block_with a.h.now a.k (collected x)) (sym c.in-Position.is)

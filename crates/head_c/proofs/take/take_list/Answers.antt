@@ -5,25 +5,20 @@ use mathlib.Core.List.{List}
 use Prim.Native.Nat.{ℕ, ◌+◌, ◌*◌}
 use lib.ListN.{set, length-set}
 use lib.Seq.{paste}
-use Rattle.head_c.specs.Blocks.{IsBlock, words_of, marked}
+use Rattle.head_c.specs.Blocks.{words_of, marked}
 use Rattle.head_c.proofs.Hearing.{heard_below, heard_past}
 use borrow.Author.Rules.{rules}
 use Rattle.head_c.proofs.take.take_list.Goals as goal
-
--- after both marks
-long : (c : goal.After-put_mark) → IsBlock c.put_mark.new.0
-long c =
-    c.put_mark.auto.0 ∙ c.put_heard.auto.0 ∙ c.requires
 
 pub returns-then-k-ge-HEADS : goal.returns-then-k-ge-HEADS
 returns-then-k-ge-HEADS c = sym (heard_past _ _ _ c.if-k-ge-HEADS.true)
 
 pub put_numbers-requires : goal.put_numbers-requires
-put_numbers-requires c = simp length-set (omega (arith, long c))
+put_numbers-requires c = simp length-set (omega (arith, c.put_mark.auto.h ∙ c.put_heard.auto.h ∙ c.requires))
 
 pub shape_of-h : goal.shape_of-h
 shape_of-h c =
-    c.put_numbers.auto.0 ∙ simp length-set (long c ∙ sym c.requires)
+    c.put_numbers.auto.h ∙ simp length-set (c.put_mark.auto.h ∙ c.put_heard.auto.h)
 
 pub returns : goal.returns
 returns c =

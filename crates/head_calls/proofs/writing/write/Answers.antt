@@ -48,15 +48,17 @@ pub returns-then-seat : goal.returns-then-seat
 returns-then-seat c =
     let a = c.args in
     let e = ended_writes a.h c.if-seat.true a.buffer.now in
-    (sym e.0, sym e.1)
+    record { answer = sym e.0; bytes = sym e.1 }
 
 pub returns-then-is_listener : goal.returns-then-is_listener
 returns-then-is_listener c =
     let a = c.args in
     let e = listener_writes a.h c.if-seat.false (sym c.is_listener.ensures ∙ c.if-is_listener.true) a.buffer.now in
-    (sym e.0, sym e.1)
+    record { answer = sym e.0; bytes = sym e.1 }
 
 pub returns : goal.returns
 returns c =
     let a = c.args in
-    writes a.h c.spoken.ensures a.buffer.now c.if-seat.false (sym c.is_listener.ensures ∙ c.if-is_listener.false) c.write.ensures
+    let o = c.write.ensures in
+    let w = writes a.h c.spoken.ensures a.buffer.now c.if-seat.false (sym c.is_listener.ensures ∙ c.if-is_listener.false) (o.answer, o.bytes) in
+    record { answer = w.0; bytes = w.1 }
