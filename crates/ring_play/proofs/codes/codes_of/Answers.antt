@@ -1,5 +1,5 @@
 -- `ring_play::codes::codes_of` meets its contract: before entry j, the codes below j are those of the list.
-use Rattle.std.proofs.Common.{◌≡◌, ◌-◌, ◌≤◌, cond, length, get_or, ℤ, pos, refl, ap, ◌∙◌, arith, length-set, to_z-of_z, rules}
+use Rattle.std.proofs.Common.{◌≡◌, ◌-◌, ◌≤◌, cond, length, get_or, ℤ, pos, refl, ap, ◌∙◌, arith, length-set, to_z-of_z, w32, rules}
 use Rattle.terms.specs.Counting.{Each}
 use Rattle.marks.specs.Marks.{bit_of}
 use Rattle.ring_play.specs.Inner.Codes.{no_code, code_at}
@@ -15,7 +15,7 @@ loop-j-preserved c =
     let a = c.args in (
       search rules,
       simp length-set l.invariant.1,
-      each_set (pos 0) l.codes l.j _ (λ i v. v ≡ code_at a.marks a.list.now i) (omega arith) l.invariant.2 (to_z-of_z (record { sfits = c.code-v.type_inv }) ∙ c.code-v.ensures ∙ ap (λ (v : ℤ). cond (bit_of a.marks l.j) v no_code) (to_z-of_z (record { sfits = c.code-arg-1.given }))),
+      each_set (pos 0) l.codes l.j _ (λ i v. v ≡ code_at a.marks a.list.now i) (omega arith) l.invariant.2 (to_z-of_z {w = w32} (record { sfits = c.code-v.type_inv }) ∙ c.code-v.ensures ∙ ap (λ (v : ℤ). cond (bit_of a.marks l.j) v no_code) (to_z-of_z {w = w32} (record { sfits = c.code-arg-1.given }))),
     )
 
 pub returns : goal.returns

@@ -1,5 +1,5 @@
 -- `ring_play::codes::count_codes` meets its contract: before entry j, the counts below j have one more if the list has the code, and the others are as they were.
-use Rattle.std.proofs.Common.{◌≡◌, ℕ, ◌+◌, ◌-◌, ◌%◌, ◌≤◌, cond, length, get_or, ℤ, pos, sym, refl, ap, ◌∙◌, arith, length-set, to_z-of_z, rules}
+use Rattle.std.proofs.Common.{◌≡◌, ℕ, ◌+◌, ◌-◌, ◌%◌, ◌≤◌, cond, length, get_or, ℤ, pos, sym, refl, ap, ◌∙◌, arith, length-set, to_z-of_z, rules, w32}
 use Rattle.terms.specs.Positions.{eq_z}
 use Rattle.terms.specs.Counting.{Each, bit}
 use Rattle.marks.specs.Marks.{bit_of}
@@ -18,8 +18,8 @@ loop-j-preserved c =
       search rules,
       simp length-set l.invariant.1,
       each_set 0 l.same l.j _ (λ i v. v ≡ (get_or a.same.now i 0 + bit (eq_z (code_at a.marks a.list.now i) (get_or a.codes.now i (pos 0)))) % 4294967296) (omega arith) l.invariant.2
-          (c.wrapping_add_u32.ensures ∙ added_bit (record { sfits = c.code-x.type_inv }) (record { sfits = c.wrapping_add_u32-arg-1.given }) (l.invariant.3 l.j (omega arith))
-          (c.code-x.ensures ∙ ap (λ (v : ℤ). cond (bit_of a.marks l.j) v no_code) (to_z-of_z (record { sfits = c.code-arg-1.given })))),
+          (c.wrapping_add_u32.ensures.value ∙ added_bit (record { sfits = c.code-x.type_inv }) (record { sfits = c.wrapping_add_u32-arg-1.given }) (l.invariant.3 l.j (omega arith))
+          (c.code-x.ensures ∙ ap (λ (v : ℤ). cond (bit_of a.marks l.j) v no_code) (to_z-of_z {w = w32} (record { sfits = c.code-arg-1.given })))),
       λ i q. later_set 0 l.same l.j _ i q ∙ l.invariant.3 i (omega arith),
     )
 

@@ -1,6 +1,6 @@
 -- `ring_play::codes::settle_codes` meets its contract: before entry j the order holds the positions among the entries below j. After the last entry these
 -- are all that settling asks of the entries.
-use Rattle.std.proofs.Common.{◌≡◌, ◌-◌, ◌≤◌, sym, ap, ◌∙◌, arith, to_z-of_z, rules}
+use Rattle.std.proofs.Common.{◌≡◌, ◌-◌, ◌≤◌, sym, ap, ◌∙◌, arith, to_z-of_z, w32, rules}
 use Rattle.settle_midpoint.specs.Orders.{OrderAfter}
 use Rattle.settle_midpoint.proofs.Ordering.{order_none, order_next, order_long}
 use Rattle.settle_midpoint.proofs.Middle.{settling_after}
@@ -15,7 +15,7 @@ pub loop-j-preserved : goal.loop-j-preserved
 loop-j-preserved c = (
   search rules,
   rw (c.place-len.ensures.0, c.place-len.ensures.1)
-      (order_next _ c.loop-j.j (omega arith) (sym (c.entry_of.ensures ∙ ap entry_of (to_z-of_z (record { sfits = c.entry_of-arg-1.given })))) c.loop-j.invariant.1),
+      (order_next _ c.loop-j.j (omega arith) (sym (c.entry_of.ensures ∙ ap entry_of (to_z-of_z {w = w32} (record { sfits = c.entry_of-arg-1.given })))) c.loop-j.invariant.1),
 )
 
 pub slice_bounds-middle_in-end : goal.slice_bounds-middle_in-end
@@ -26,5 +26,5 @@ slice_bounds-middle_in-end c =
 pub returns : goal.returns
 returns c =
     let e : c.loop-j.j ≡ c.head_count-n.result = omega arith in
-    to_z-of_z (record { sfits = c.position_in.type_inv }) ∙ c.position_in.ensures
+    to_z-of_z {w = w32} (record { sfits = c.position_in.type_inv }) ∙ c.position_in.ensures
     ∙ at_entries c.args.s _ c.head_count-n.ensures c.rounds_up-up.ensures (c.middle_in.ensures ∙ settling_after _ _ _ _ (rw e at c.loop-j.invariant.1))

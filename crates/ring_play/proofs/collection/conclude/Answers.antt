@@ -29,7 +29,7 @@ module _ (e : goal.After-entries_sent-sent) where
       (concluded a.s a.positions.now (phase_small a.s start.well_formed.0) fit (planted_in a.planted.now a.lengths.now) i)
 
 -- no head is struck
-returns : tie.Need-returns
+pub returns : tie.Need-returns
 returns c fit i =
     let t = c.before.before in
     let e = t.before.before in

@@ -1,5 +1,5 @@
 -- `ring_play::collection::entries_sent` meets its contract: before head k the marks and the numbers are those of the heads below k.
-use Rattle.std.proofs.Common.{◌≡◌, ◌-◌, ◌<◌, ◌≤◌, sym, refl, ap, ◌∙◌, ⊎_elim, arith, to_z-of_z, rules}
+use Rattle.std.proofs.Common.{◌≡◌, ◌-◌, ◌<◌, ◌≤◌, sym, refl, ap, ◌∙◌, ⊎_elim, arith, to_z-of_z, rules, w32}
 use borrow.Author.Tests.{not-true, not-false}
 use Rattle.entries.specs.Entries.{zeros}
 use Rattle.entries.specs.Tables.{mark, value_of, marks_of, values_of}
@@ -38,7 +38,7 @@ loop-k-preserved c =
     let l = (here c.before.before).loop-k in (
       search rules,
       marks_next _ l.k (below c.before.before) l.invariant.1 (c.mark_of.ensures ∙ ap mark (entry_is c.before.before)),
-      numbers_next _ l.k l.invariant.2 (to_z-of_z (record { sfits = c.value_of.type_inv }) ∙ c.value_of.ensures ∙ ap value_of (entry_is c.before.before)),
+      numbers_next _ l.k l.invariant.2 (to_z-of_z {w = w32} (record { sfits = c.value_of.type_inv }) ∙ c.value_of.ensures ∙ ap value_of (entry_is c.before.before)),
     )
 
 pub returns : goal.returns

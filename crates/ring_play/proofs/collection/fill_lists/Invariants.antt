@@ -11,9 +11,9 @@ use Rattle.ring_play.proofs.collection.fill_lists.Given as goal
 
 abbrev pub invariant-loop-i : goal.invariant-loop-i
 invariant-loop-i l =
-    (l.i ≤ l.initial.marks) × (length l.marks ≡ 32) × (length l.lists ≡ 32)
+    (l.i ≤ l.n) × (length l.marks ≡ 32) × (length l.lists ≡ 32)
     × ((S : Shared l.s l.sent)
-    → Filled (λ j. not (bit_of l.s.struck j)) (λ j. table_of (heads l.s) (heard_with l.s S.entry (planted_in l.planted l.lengths) j)) (row_in l.n l.entries) l.i (row_in l.marks l.lists))
+    → Filled (λ j. not (bit_of l.s.struck j)) (λ j. table_of (heads l.s) (heard_with l.s S.entry (planted_in l.planted l.lengths) j)) (row_in l.initial.marks l.initial.lists) l.i (row_in l.marks l.lists))
 
 abbrev pub decreases-loop-i : goal.decreases-loop-i
-decreases-loop-i l = l.initial.marks - l.i
+decreases-loop-i l = l.n - l.i

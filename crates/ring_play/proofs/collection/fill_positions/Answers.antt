@@ -1,5 +1,5 @@
 -- `ring_play::collection::fill_positions` meets its contract: before receiver i, the unstruck ones below i have their new position, and all others the one they had.
-use Rattle.std.proofs.Common.{◌≡◌, ◌-◌, ◌≤◌, length, get_or, pos, sym, ◌∙◌, ⊎_elim, arith, length-set, to_z-of_z, rules}
+use Rattle.std.proofs.Common.{◌≡◌, ◌-◌, ◌≤◌, length, get_or, pos, sym, ◌∙◌, ⊎_elim, arith, length-set, to_z-of_z, rules, w32}
 use Rattle.entries.specs.Tables.{table_at, table_of}
 use Rattle.ring_play.specs.Memory.{heads, settles}
 use Rattle.frame_slots.specs.Slots.{planted_in}
@@ -29,7 +29,7 @@ loop-i-preserved c =
       rw w.2 (simp length-set l.invariant.2),
       λ S. rw w.2
           (filled_set _ _ _ l.positions (pos 0) l.i (l.invariant.3 S) (omega arith) (b ∙ w.0.taken)
-          (to_z-of_z (record { sfits = w.1.ok }) ∙ w.1.ensures S)),
+          (to_z-of_z {w = w32} (record { sfits = w.1.ok }) ∙ w.1.ensures S)),
     ))
     (λ w. (
       search rules,

@@ -1,6 +1,6 @@
 -- `ring_play::collection::list_for` meets its contract: before head k, what is planted by the struck heads below k is in the list. A turn adds the mark and stores the
 -- number of one entry.
-use Rattle.std.proofs.Common.{◌≡◌, ℕ, ◌-◌, List, length, ◌∙◌, arith, length-set, to_z-of_z, rules}
+use Rattle.std.proofs.Common.{◌≡◌, ℕ, ◌-◌, List, length, ◌∙◌, arith, length-set, to_z-of_z, rules, w32}
 use Rattle.frame_slots.specs.Slots.{planted_in}
 use Rattle.ring_play.specs.Memory.{heads}
 use Rattle.ring_play.proofs.round.Struck.{WalkedTo}
@@ -38,7 +38,7 @@ loop-k-preserved c =
       simp length-set c.loop-k.invariant.0,
       list_walked a.s (plant c.before.before.before.before.before) a.i _ _ _ c.next_struck-k-in-loop-k.ensures
           (list_next a.s (plant c.before.before.before.before.before) a.i c.loop-k.k c.loop-k.invariant.1.2 (omega (arith, count c.before.before.before.before.before)) (c.loop-k.invariant.1.1 (omega (arith, count c.before.before.before.before.before)))
-          c.entry_planted-e.ensures c.mark_of.ensures (to_z-of_z (record { sfits = c.value_of.type_inv }) ∙ c.value_of.ensures)),
+          c.entry_planted-e.ensures c.mark_of.ensures (to_z-of_z {w = w32} (record { sfits = c.value_of.type_inv }) ∙ c.value_of.ensures)),
     )
 
 pub returns : goal.returns

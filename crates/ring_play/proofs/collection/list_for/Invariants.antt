@@ -9,7 +9,7 @@ use Rattle.ring_play.proofs.collection.list_for.Given as goal
 
 abbrev pub invariant-loop-k : goal.invariant-loop-k
 invariant-loop-k l =
-    (length l.entries ≡ 32) × WalkedTo l.s (ListTo l.s (planted_in l.planted l.lengths) l.i (record { marks = l.initial.marks; entries = l.n }) l.marks l.entries) l.k
+    (length l.entries ≡ 32) × WalkedTo l.s (ListTo l.s (planted_in l.planted l.lengths) l.i (record { marks = l.initial.marks; entries = l.initial.entries }) l.marks l.entries) l.k
 
 abbrev pub decreases-loop-k : goal.decreases-loop-k
-decreases-loop-k l = l.initial.entries - l.k
+decreases-loop-k l = l.n - l.k

@@ -1,5 +1,5 @@
 -- `ring_play::collection::position_for` meets its contract: by the counts if they decide, and else from the whole list.
-use Rattle.std.proofs.Common.{◌≡◌, ◌≤◌, length, sym, ap, ◌∙◌, arith, to_z-of_z, rules}
+use Rattle.std.proofs.Common.{◌≡◌, ◌≤◌, length, sym, ap, ◌∙◌, arith, to_z-of_z, rules, w32}
 use Rattle.terms.specs.declared.Table.{Table}
 use Rattle.entries.specs.Tables.{table_at}
 use Rattle.settle_midpoint.specs.declared.Order.{Order}
@@ -27,7 +27,7 @@ position_inside-requires c = (short c.before.before.before.before.before, c.deci
 pub returns-then-decides : goal.returns-then-decides
 returns-then-decides c S =
     let a = c.args in
-    to_z-of_z (record { sfits = c.position_inside.type_inv })
+    to_z-of_z {w = w32} (record { sfits = c.position_inside.type_inv })
     ∙ settles_inside a.s S (planted_in a.planted.now a.lengths.now) a.i (ap (λ (o : Order). o.len) c.requires.2) (ap (λ (o : Order). o.positions) c.requires.2)
     c.count_sides-c.ensures (c.decides.ensures c.if-decides.true) c.position_inside.ensures
 
@@ -42,6 +42,6 @@ list_for-marks-requires c =
 pub returns : goal.returns
 returns c S =
     let a = c.args in
-    to_z-of_z (record { sfits = c.position_of.type_inv })
+    to_z-of_z {w = w32} (record { sfits = c.position_of.type_inv })
     ∙ c.position_of.ensures
     ∙ ap (λ (t : Table). position_from a.s (table_at t)) (c.list_for-marks.ensures.1 S)

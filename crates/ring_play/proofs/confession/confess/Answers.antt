@@ -36,7 +36,7 @@ module _ (c : goal.After-links_of-links) where
         ap (λ (x : ℤ). cond (settles a.s i) x v) (new_settled a.s a.marks.now a.lists.now links a.lists.now own plant i)
 
 -- no head is struck
-returns : tie.Need-returns
+pub returns : tie.Need-returns
 returns c fit i =
     let t = c.before.before in
     let l = t.before.before in

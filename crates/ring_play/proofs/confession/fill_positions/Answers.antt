@@ -1,5 +1,5 @@
 -- `ring_play::confession::fill_positions` meets its contract: before receiver i, the unstruck ones below i have their new position, and all others the one they had.
-use Rattle.std.proofs.Common.{◌≡◌, ◌-◌, ◌≤◌, length, get_or, pos, sym, refl, ap, ◌∙◌, ⊎_elim, arith, length-set, to_z-of_z, rules}
+use Rattle.std.proofs.Common.{◌≡◌, ◌-◌, ◌≤◌, length, get_or, pos, sym, refl, ap, ◌∙◌, ⊎_elim, arith, length-set, to_z-of_z, rules, w32}
 use Rattle.ring_play.specs.Memory.{settles}
 use Rattle.frame_slots.specs.Slots.{planted_in}
 use Rattle.settle_trust.specs.Received.{given_by}
@@ -26,7 +26,7 @@ loop-i-preserved c =
     let a = c.args in
     ⊎_elim
     (λ w.
-    let e = to_z-of_z (record { sfits = w.2.ok }) ∙ w.2.ensures.0
+    let e = to_z-of_z {w = w32} (record { sfits = w.2.ok }) ∙ w.2.ensures.0
     ∙ ap (position_settled a.s) (planted_kept a.s a.base a.rows.now l.rows l.invariant.4 (planted_in a.planted.now a.lengths.now) l.i) in (
       search rules,
       l.invariant.1,

@@ -1,5 +1,5 @@
 -- `ring_play::shared::fill_positions` meets its contract: before receiver i, each unstruck one below i has its new position, and `earlier` was settled from `settled`.
-use Rattle.std.proofs.Common.{◌≡◌, ℕ, ◌-◌, ◌≤◌, List, length, get_or, pos, sym, ◌∙◌, ⊎_elim, arith, length-set, to_z-of_z, rules}
+use Rattle.std.proofs.Common.{◌≡◌, ℕ, ◌-◌, ◌≤◌, List, length, get_or, pos, sym, ◌∙◌, ⊎_elim, arith, length-set, to_z-of_z, rules, w32}
 use Rattle.frame_slots.specs.Slots.{planted_in}
 use Rattle.ring_play.specs.Memory.{settles}
 use Rattle.ring_play.specs.Inner.Before.{SettlesBefore, AsBefore}
@@ -61,7 +61,7 @@ loop-i-preserved c =
       λ S A.
           let f : AsBefore a.s (plant c.before.before.before) l.i (As w.3.given.0.0) = rw w.3.given.1 at w.1.ensures in
           rw w.7 (filled_set _ _ _ l.positions (pos 0) l.i (l.invariant.6 S A) (omega arith) (b ∙ w.0.taken)
-          (to_z-of_z (record { sfits = w.5.given }) ∙ filled_had _ _ _ l.i (l.invariant.6 S A) _ f.0 f.1 ∙ told_settled a.s S.given (plant c.before.before.before) l.i _ f.2)),
+          (to_z-of_z {w = w32} (record { sfits = w.5.given }) ∙ filled_had _ _ _ l.i (l.invariant.6 S A) _ f.0 f.1 ∙ told_settled a.s S.given (plant c.before.before.before) l.i _ f.2)),
     ))
     (λ v.
     ⊎_elim
@@ -69,11 +69,11 @@ loop-i-preserved c =
       search rules,
       l.invariant.1,
       rw w.11 (simp length-set l.invariant.2),
-      rw (w.12, w.13) (to_z-of_z (record { sfits = w.9.ok }) ∙ w.9.ensures.1),
+      rw (w.12, w.13) (to_z-of_z {w = w32} (record { sfits = w.9.ok }) ∙ w.9.ensures.1),
       rw (w.14, w.10.ensures.0) (omega arith, b ∙ w.0.taken),
       rw w.14 (w.10.ensures.1 a.s _ (settles_more a.s l.i l.two.newer l.invariant.4) (settles_more a.s l.i l.two.older l.invariant.5)),
       λ S A. rw w.11 (filled_set _ _ _ l.positions (pos 0) l.i (l.invariant.6 S A) (omega arith) (b ∙ w.0.taken)
-          (to_z-of_z (record { sfits = w.9.ok }) ∙ w.9.ensures.0 ∙ settled_here a.s (plant c.before.before.before) l.i S A w.6.ensures)),
+          (to_z-of_z {w = w32} (record { sfits = w.9.ok }) ∙ w.9.ensures.0 ∙ settled_here a.s (plant c.before.before.before) l.i S A w.6.ensures)),
     ))
     (λ w. (
       search rules,

@@ -1,6 +1,6 @@
 -- `ring_play::shared::position_counted` meets its contract: a receiver with the codes that the earlier position was settled from settles that one. Else the counts, and the lists that
 -- are needed with its confessions, decide its entries.
-use Rattle.std.proofs.Common.{◌≡◌, ℕ, ◌-◌, List, ℤ, sym, ap, ◌∙◌, arith, to_z-of_z, rules}
+use Rattle.std.proofs.Common.{◌≡◌, ℕ, ◌-◌, List, ℤ, sym, ap, ◌∙◌, arith, to_z-of_z, rules, w32}
 use Rattle.marks.specs.Marks.{count_below}
 use Rattle.ring_play.specs.Inner.Codes.{entry_of, code_taken}
 use Rattle.ring_play.specs.Inner.Told.{settled_by, settled_at, needed_here, taken_here}
@@ -37,10 +37,10 @@ pub returns-in-At : goal.returns-in-At
 returns-in-At c =
     let a = (start c).args in
     let alike = codes_alike a.s (own c) a.settled.now (λ j q. c.trust_codes.ensures.1 c.if-trust_codes.true j (omega (arith, (played c).head-count.ensures))) in
-    let e = to_z-of_z (record { sfits = c.known_told-1.given.0.1 }) ∙ earlier_at a.s a.settled.now c.in-At.is (start c).requires ∙ sym alike in
+    let e = to_z-of_z {w = w32} (record { sfits = c.known_told-1.given.0.1 }) ∙ earlier_at a.s a.settled.now c.in-At.is (start c).requires ∙ sym alike in
     (e ∙ own_taken c, e)
 
 pub returns : goal.returns
 returns c =
-    let e = to_z-of_z (record { sfits = c.settle_codes.type_inv }) ∙ c.settle_codes.ensures in
+    let e = to_z-of_z {w = w32} (record { sfits = c.settle_codes.type_inv }) ∙ c.settle_codes.ensures in
     (e ∙ own_taken c, e)

@@ -31,4 +31,4 @@ pub returns : goal.returns
 returns c =
     let l = c.loop-k in
     let e : l.k ≡ heads c.args.s = omega (arith, c.head_count-n.ensures) in
-    counts_as e (to_z-of_z (record { sfits = c.lowest-1.given })) (to_z-of_z (record { sfits = c.highest_of-highest.type_inv }) ∙ c.highest_of-highest.ensures) l.invariant.2
+    counts_as e (to_z-of_z {w = w32} (record { sfits = c.lowest-1.given })) (to_z-of_z {w = w32} (record { sfits = c.highest_of-highest.type_inv }) ∙ c.highest_of-highest.ensures) l.invariant.2
