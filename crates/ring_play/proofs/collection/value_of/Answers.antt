@@ -4,6 +4,3 @@ use Rattle.ring_play.proofs.collection.value_of.Goals as goal
 
 pub returns-in-Null : goal.returns-in-Null
 returns-in-Null c = rw c.in-Null.is
-
-pub returns-in-Position : goal.returns-in-Position
-returns-in-Position c = rw c.in-Position.is (to_z-of_z {w = w32} (record { sfits = c.known_told-1.given.0.1 }))

@@ -8,7 +8,7 @@ use Rattle.ring_play.proofs.round.fill_same.Given as goal
 abbrev pub invariant-loop-i : goal.invariant-loop-i
 invariant-loop-i l =
     (l.i ≤ l.end) × (l.end ≤ 48) × (length l.positions ≡ 48)
-    × Filled (settles l.s) (λ j. to_z w32 l.position) (λ j. get_or l.initial.positions j (pos 0)) l.i (λ j. get_or l.positions j (pos 0))
+    × Filled (settles l.s) (λ j. l.position) (λ j. get_or l.initial.positions j (pos 0)) l.i (λ j. get_or l.positions j (pos 0))
 
 abbrev pub decreases-loop-i : goal.decreases-loop-i
 decreases-loop-i l = l.end - l.i

@@ -9,7 +9,7 @@ use Rattle.ring_play.proofs.sides.count_sides.Given as goal
 
 abbrev pub invariant-loop-k : goal.invariant-loop-k
 invariant-loop-k l =
-    WalkedTo l.s (λ j. SidesCounted j (planted_entry l.s (planted_in l.planted l.lengths) l.i) (to_z w32 l.lowest) (to_z w32 l.highest) l.c) l.k
+    WalkedTo l.s (λ j. SidesCounted j (planted_entry l.s (planted_in l.planted l.lengths) l.i) l.lowest l.highest l.c) l.k
 
 abbrev pub decreases-loop-k : goal.decreases-loop-k
 decreases-loop-k l = l.n - l.k
