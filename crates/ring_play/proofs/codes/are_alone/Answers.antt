@@ -5,19 +5,16 @@ use Rattle.terms.specs.Counting.{Each}
 use Rattle.ring_play.proofs.codes.are_alone.Goals as goal
 use Rattle.ring_play.proofs.codes.are_alone.Goals.{then-not-marked+else-leads-j, else-not-marked}
 
-led : (c : goal.After-t12-1) → get_or c.args.leads.now c.loop-j.j 0 ≤ 32
-led c = omega (arith, c.requires.3 c.loop-j.j (omega arith))
-
 pub loop-j-init : goal.loop-j-init
 loop-j-init c = (search rules, λ i l. absurd (omega arith))
 
 pub overflow_cast-leads : goal.overflow_cast-leads
 overflow_cast-leads c =
-    let z = led c in record { fits = omega arith }
+    let z : get_or c.args.leads.now c.loop-j.j 0 ≤ 32 = omega (arith, c.requires.3 c.loop-j.j (omega arith)) in record { fits = omega arith }
 
 pub overflow_add-leads : goal.overflow_add-leads
 overflow_add-leads c =
-    let z = led c in search rules
+    let z : get_or c.args.leads.now c.loop-j.j 0 ≤ 32 = omega (arith, c.requires.3 c.loop-j.j (omega arith)) in search rules
 
 pub returns-then-leads-j : goal.returns-then-leads-j
 returns-then-leads-j c e = absurd (true≢false (sym e))

@@ -17,7 +17,7 @@ loop-j-preserved c =
       search rules,
       simp length-set l.invariant.1,
       each_set 0 l.same l.j _ (λ i v. v ≡ (get_or a.same.now i 0 + bit (eq_z (code_at a.marks a.list.now i) (get_or a.codes.now i (pos 0)))) % 4294967296) (omega arith) l.invariant.2
-          (c.wrapping_add_u32.ensures.value ∙ added_bit (record { sfits = c.wrapping_add_u32-arg-1.given }) (record { sfits = c.wrapping_add_u32-arg-in-loop-j-1.given }) (l.invariant.3 l.j (omega arith))
+          (c.wrapping_add_u32.ensures.value ∙ added_bit (search rules) (search rules) (l.invariant.3 l.j (omega arith))
           (code_marked a.marks a.list.now l.j (c.requires.2 l.j (omega arith)))),
       λ i q. later_set 0 l.same l.j _ i q ∙ l.invariant.3 i (omega arith),
     )

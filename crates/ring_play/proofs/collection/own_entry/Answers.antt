@@ -5,6 +5,3 @@ use Rattle.ring_play.proofs.collection.own_entry.Goals as goal
 
 pub returns-then-marked : goal.returns-then-marked
 returns-then-marked c = rw (sym c.marked.ensures ∙ c.if-marked.true)
-
-pub returns : goal.returns
-returns c = rw (sym c.marked.ensures ∙ c.if-marked.false) (ap Entry.Position (to_z-of_z {w = w32} (record { sfits = c.result-1.given })))

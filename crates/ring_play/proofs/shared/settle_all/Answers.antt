@@ -10,7 +10,7 @@ returns-then-not-share c = record { settles = λ e. absurd (true≢false (sym e)
 pub fill_positions-requires : goal.fill_positions-requires
 fill_positions-requires c =
     let a = c.args in (
-      c.fill_positions-arg-1.given.0.1,
+      search rules,
       shared_by a.s a.links a.rows.now c.head_count-n.ensures c.count_below-struck.ensures (c.share.ensures c.if-not-share.false) c.lists_needed-need.ensures,
     )
 

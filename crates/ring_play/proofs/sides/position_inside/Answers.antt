@@ -9,4 +9,4 @@ returns c =
     let l = a.order.positions in
     to_z-of_z {w = w32} (record { sfits = c.half_sum.type_inv })
     ∙ half_read (get_or l (a.s.f - a.c.low) (pos 0)) (get_or l (a.order.len - 1 - (a.s.f - a.c.high)) (pos 0))
-    (record { sfits = c.low-1.given }) (record { sfits = c.high-1.given }) c.rounds_up.ensures c.half_sum.ensures
+    (search rules) (search rules) c.rounds_up.ensures c.half_sum.ensures
