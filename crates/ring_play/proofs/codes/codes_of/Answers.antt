@@ -1,6 +1,5 @@
 -- `ring_play::codes::codes_of` meets its contract: before entry j, the codes below j are those of the list.
-use Rattle.std.proofs.Common.{◌≡◌, ◌-◌, ◌≤◌, cond, length, get_or, ℤ, pos, refl, ap, ◌∙◌, arith, length-set, to_z-of_z, w32, rules, to_z, of_z}
-use Rattle.terms.specs.Counting.{Each}
+use Rattle.std.proofs.Common.{◌≡◌, cond, get_or, ℤ, pos, refl, ap, ◌∙◌, arith, length-set, to_z-of_z, w32, rules, to_z, of_z}
 use Rattle.marks.specs.Marks.{bit_of}
 use Rattle.ring_play.specs.Inner.Codes.{no_code, code_at}
 use Rattle.ring_play.proofs.codes.Storing.{each_set}

@@ -1,11 +1,8 @@
 -- `ring_play::codes::count_codes` meets its contract: before entry j, the counts below j have one more if the list has the code, and the others are as they were.
-use Rattle.std.proofs.Common.{◌≡◌, ℕ, ◌+◌, ◌-◌, ◌%◌, ◌≤◌, cond, length, get_or, ℤ, pos, sym, refl, ap, ◌∙◌, arith, length-set, to_z-of_z, rules}
+use Rattle.std.proofs.Common.{◌≡◌, ℕ, ◌+◌, ◌-◌, ◌%◌, ◌≤◌, length, get_or, pos}
 use Rattle.terms.specs.Positions.{eq_z}
 use Rattle.terms.specs.Counting.{Each, bit}
-use Rattle.marks.specs.Marks.{bit_of}
-use Rattle.ring_play.specs.Inner.Codes.{no_code, code_at}
-use Rattle.ring_play.proofs.codes.Codes.{added_bit}
-use Rattle.ring_play.proofs.codes.Storing.{each_set, later_set}
+use Rattle.ring_play.specs.Inner.Codes.{code_at}
 use Rattle.ring_play.proofs.codes.count_codes.Given as goal
 
 abbrev pub invariant-loop-j : goal.invariant-loop-j

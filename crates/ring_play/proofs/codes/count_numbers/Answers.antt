@@ -1,7 +1,7 @@
 -- `ring_play::codes::count_numbers` meets its contract: the same as `count_codes`, if each entry is marked.
-use Rattle.std.proofs.Common.{◌≡◌, ℕ, ◌+◌, ◌-◌, ◌%◌, ◌≤◌, length, get_or, pos, sym, refl, ◌∙◌, arith, length-set, rules}
+use Rattle.std.proofs.Common.{◌≡◌, ◌+◌, ◌%◌, get_or, pos, sym, refl, ◌∙◌, arith, length-set, rules}
 use Rattle.terms.specs.Positions.{eq_z}
-use Rattle.terms.specs.Counting.{Each, bit}
+use Rattle.terms.specs.Counting.{bit}
 use Rattle.ring_play.specs.Inner.Codes.{code_at}
 use Rattle.ring_play.proofs.codes.Codes.{added_bit, code_marked}
 use Rattle.ring_play.proofs.codes.Storing.{each_set, later_set}

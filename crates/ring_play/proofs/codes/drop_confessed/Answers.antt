@@ -1,7 +1,6 @@
 -- `ring_play::codes::drop_confessed` meets its contract: before entry j, the codes below j of links that confessed are gone, and all others are as they were.
-use Rattle.std.proofs.Common.{◌≡◌, ℕ, ◌-◌, ◌≤◌, cond, length, get_or, ℤ, pos, refl, ◌∙◌, arith, length-set, rules, below_more}
+use Rattle.std.proofs.Common.{◌≡◌, ℕ, cond, get_or, ℤ, pos, refl, ◌∙◌, arith, length-set, rules, below_more}
 use Rattle.marks.specs.Marks.{bit_of}
-use Rattle.terms.specs.Counting.{Each}
 use Rattle.ring_play.specs.Inner.Codes.{no_code}
 use Rattle.ring_play.proofs.codes.Storing.{each_set, later_set}
 use Rattle.ring_play.proofs.codes.drop_confessed.Goals as goal

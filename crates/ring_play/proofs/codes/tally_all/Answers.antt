@@ -1,7 +1,7 @@
 -- `ring_play::codes::tally_all` meets its contract: before link k, the counts are those of the lists of the links below k.
-use Rattle.std.proofs.Common.{◌≡◌, ◌-◌, ◌≤◌, length, get_or, pos, sym, ◌∙◌, arith, rules}
-use Rattle.terms.specs.Counting.{Each, sum}
-use Rattle.ring_play.proofs.codes.Lists.{counted, tally_given, tally_skipped}
+use Rattle.std.proofs.Common.{◌≡◌, get_or, pos, sym, ◌∙◌, arith, rules}
+use Rattle.terms.specs.Counting.{sum}
+use Rattle.ring_play.proofs.codes.Lists.{tally_given, tally_skipped}
 use Rattle.ring_play.proofs.codes.tally_all.Goals as goal
 use Rattle.ring_play.proofs.codes.tally_all.Goals.{then-gives_list, else-gives_list}
 

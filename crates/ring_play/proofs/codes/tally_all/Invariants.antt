@@ -1,7 +1,7 @@
 -- `ring_play::codes::tally_all` meets its contract: before link k, the counts are those of the lists of the links below k.
-use Rattle.std.proofs.Common.{◌≡◌, ◌-◌, ◌≤◌, length, get_or, pos, sym, ◌∙◌, arith, rules}
-use Rattle.terms.specs.Counting.{Each, sum}
-use Rattle.ring_play.proofs.codes.Lists.{counted, tally_given, tally_skipped}
+use Rattle.std.proofs.Common.{◌≡◌, ◌-◌, ◌≤◌, length, get_or, pos}
+use Rattle.terms.specs.Counting.{Each}
+use Rattle.ring_play.proofs.codes.Lists.{counted}
 use Rattle.ring_play.proofs.codes.tally_all.Given as goal
 
 abbrev pub invariant-loop-k : goal.invariant-loop-k

@@ -1,6 +1,5 @@
 -- `ring_play::codes::vote` meets its contract: before entry j, each entry below j has been voted at, and the others are as they were.
-use Rattle.std.proofs.Common.{◌≡◌, ℕ, ◌-◌, ◌≤◌, length, get_or, pos, refl, ◌∙◌, arith, length-set, to_z-of_z, rules, w32, to_z, of_z}
-use Rattle.terms.specs.Counting.{Each}
+use Rattle.std.proofs.Common.{◌≡◌, get_or, pos, refl, ◌∙◌, arith, length-set, to_z-of_z, rules, w32, to_z, of_z}
 use Rattle.ring_play.specs.Inner.Votes.{Voted}
 use Rattle.ring_play.proofs.codes.Storing.{each_set_both, later_set}
 use Rattle.ring_play.proofs.codes.Votes.{voted}

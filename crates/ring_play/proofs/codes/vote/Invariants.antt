@@ -1,9 +1,7 @@
 -- `ring_play::codes::vote` meets its contract: before entry j, each entry below j has been voted at, and the others are as they were.
-use Rattle.std.proofs.Common.{◌≡◌, ℕ, ◌-◌, ◌≤◌, length, get_or, pos, refl, ◌∙◌, arith, length-set, to_z-of_z, rules}
+use Rattle.std.proofs.Common.{◌≡◌, ℕ, ◌-◌, ◌≤◌, length, get_or, pos}
 use Rattle.terms.specs.Counting.{Each}
 use Rattle.ring_play.specs.Inner.Votes.{Voted}
-use Rattle.ring_play.proofs.codes.Storing.{each_set_both, later_set}
-use Rattle.ring_play.proofs.codes.Votes.{voted}
 use Rattle.ring_play.proofs.codes.vote.Given as goal
 
 abbrev pub invariant-loop-j : goal.invariant-loop-j

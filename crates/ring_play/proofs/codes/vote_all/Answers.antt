@@ -1,9 +1,8 @@
 -- `ring_play::codes::vote_all` meets its contract: before link k, the lists of the links below k have voted.
-use Rattle.std.proofs.Common.{◌≡◌, ◌-◌, ◌≤◌, length, get_or, pos, sym, refl, ◌∙◌, arith, rules}
-use Rattle.terms.specs.Counting.{Each, sum}
-use Rattle.ring_play.specs.Inner.Votes.{CodeLeads}
+use Rattle.std.proofs.Common.{◌≡◌, sym, refl, ◌∙◌, arith, rules}
+use Rattle.terms.specs.Counting.{sum}
 use Rattle.ring_play.proofs.codes.Votes.{leads_none}
-use Rattle.ring_play.proofs.codes.Lists.{counted, vote_given, vote_skipped}
+use Rattle.ring_play.proofs.codes.Lists.{vote_given, vote_skipped}
 use Rattle.ring_play.proofs.codes.vote_all.Goals as goal
 use Rattle.ring_play.proofs.codes.vote_all.Goals.{then-gives_list, else-gives_list}
 

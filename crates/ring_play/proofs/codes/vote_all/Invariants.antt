@@ -1,9 +1,8 @@
 -- `ring_play::codes::vote_all` meets its contract: before link k, the lists of the links below k have voted.
-use Rattle.std.proofs.Common.{◌≡◌, ◌-◌, ◌≤◌, length, get_or, pos, sym, refl, ◌∙◌, arith, rules}
-use Rattle.terms.specs.Counting.{Each, sum}
+use Rattle.std.proofs.Common.{◌≡◌, ◌-◌, ◌≤◌, length, get_or, pos}
+use Rattle.terms.specs.Counting.{Each}
 use Rattle.ring_play.specs.Inner.Votes.{CodeLeads}
-use Rattle.ring_play.proofs.codes.Votes.{leads_none}
-use Rattle.ring_play.proofs.codes.Lists.{counted, vote_given, vote_skipped}
+use Rattle.ring_play.proofs.codes.Lists.{counted}
 use Rattle.ring_play.proofs.codes.vote_all.Given as goal
 
 abbrev pub invariant-loop-k : goal.invariant-loop-k

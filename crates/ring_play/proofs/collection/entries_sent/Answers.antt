@@ -1,5 +1,5 @@
 -- `ring_play::collection::entries_sent` meets its contract: before head k the marks and the numbers are those of the heads below k.
-use Rattle.std.proofs.Common.{◌≡◌, ◌-◌, ◌<◌, ◌≤◌, sym, refl, ap, ◌∙◌, arith, to_z-of_z, rules, w32}
+use Rattle.std.proofs.Common.{◌≡◌, ◌<◌, sym, refl, ap, ◌∙◌, arith, to_z-of_z, rules, w32}
 use Rattle.entries.specs.Entries.{zeros}
 use Rattle.entries.specs.Tables.{mark, value_of, marks_of, values_of}
 use Rattle.entries.proofs.Tables.{marks_next, marks_fit, numbers_next}

@@ -1,10 +1,9 @@
 -- `ring_play::collection::list_for` meets its contract: before head k, what is planted by the struck heads below k is in the list. A turn adds the mark and stores the
 -- number of one entry.
-use Rattle.std.proofs.Common.{◌<◌, ◌∙◌, arith, length-set, to_z-of_z, rules, w32}
+use Rattle.std.proofs.Common.{◌<◌, ◌∙◌, arith, length-set, to_z-of_z, w32}
 use Rattle.frame_slots.specs.Slots.{planted_in}
 use Rattle.ring_play.specs.Memory.{heads}
-use Rattle.ring_play.proofs.round.Struck.{WalkedTo}
-use Rattle.ring_play.proofs.collection.Lists.{ListTo, list_walked, list_none, list_room, list_next, list_last}
+use Rattle.ring_play.proofs.collection.Lists.{list_walked, list_none, list_room, list_next, list_last}
 use Rattle.ring_play.proofs.collection.list_for.Goals as goal
 
 pub loop-k-init : goal.loop-k-init

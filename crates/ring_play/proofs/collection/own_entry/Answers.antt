@@ -1,6 +1,5 @@
 -- `ring_play::collection::own_entry` meets its contract: each way out is one case of the definition.
-use Rattle.std.proofs.Common.{sym, ap, ◌∙◌, to_z-of_z, rules, w32}
-use Rattle.terms.specs.declared.Entry.{Entry}
+use Rattle.std.proofs.Common.{sym, ◌∙◌}
 use Rattle.ring_play.proofs.collection.own_entry.Goals as goal
 
 pub returns-then-marked : goal.returns-then-marked

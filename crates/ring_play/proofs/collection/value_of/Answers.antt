@@ -1,5 +1,4 @@
 -- `ring_play::collection::value_of` meets its contract: each arm is one case of the definition.
-use Rattle.std.proofs.Common.{to_z-of_z, rules, w32}
 use Rattle.ring_play.proofs.collection.value_of.Goals as goal
 
 pub returns-in-Null : goal.returns-in-Null

@@ -1,7 +1,7 @@
 -- `ring_play::confession::links_of` meets its contract: before head k, the unstruck heads below k are marked, each in one of the two words.
-use Rattle.std.proofs.Common.{◌≡◌, ◌-◌, ◌≤◌, not, sym, refl, ap, ◌∙◌, arith, rules}
+use Rattle.std.proofs.Common.{◌≡◌, not, sym, refl, ap, ◌∙◌, arith, rules}
 use Rattle.ring_play.specs.Memory.{heads}
-use Rattle.ring_play.proofs.confession.Honest.{MarkedTo, marked_none, marked_passed, marked_healed, marked_listed}
+use Rattle.ring_play.proofs.confession.Honest.{marked_none, marked_passed, marked_healed, marked_listed}
 use Rattle.ring_play.proofs.confession.links_of.Goals as goal
 use Rattle.ring_play.proofs.confession.links_of.Goals.{then-not-marked+then-marked, then-not-marked+else-marked, else-not-marked}
 

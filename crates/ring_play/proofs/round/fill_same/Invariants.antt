@@ -1,8 +1,7 @@
 -- `ring_play::round::fill_same` meets its contract: before receiver i, the unstruck ones below i have the position, and all others the one they had.
-use Rattle.std.proofs.Common.{◌≡◌, ◌-◌, ◌≤◌, cond, length, get_or, ℤ, pos, sym, refl, ap, ◌∙◌, ⊎_elim, arith, length-set, to_z-of_z, w32, to_z, rules}
+use Rattle.std.proofs.Common.{◌≡◌, ◌-◌, ◌≤◌, length, get_or, pos}
 use Rattle.ring_play.specs.Memory.{settles}
-use Rattle.ring_play.proofs.round.Filling.{Filled, filled_none, filled_passed, filled_set, filled_all}
-use Rattle.ring_play.proofs.round.Receivers.{end_small, settles_below}
+use Rattle.ring_play.proofs.round.Filling.{Filled}
 use Rattle.ring_play.proofs.round.fill_same.Given as goal
 
 abbrev pub invariant-loop-i : goal.invariant-loop-i

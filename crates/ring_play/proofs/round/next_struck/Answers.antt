@@ -1,5 +1,5 @@
 -- `ring_play::round::next_struck` meets its contract: the lowest bit of what is left of the word after a shift by k.
-use Rattle.std.proofs.Common.{◌/◌, ◌^◌, arith, rules}
+use Rattle.std.proofs.Common.{◌/◌, ◌^◌, arith}
 use lib.Count.{trailing_le}
 use Rattle.ring_play.proofs.round.Struck.{next_found, next_none, next_end}
 use Rattle.ring_play.proofs.round.next_struck.Goals as goal

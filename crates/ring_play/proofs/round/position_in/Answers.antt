@@ -1,5 +1,4 @@
 -- `ring_play::round::position_in` meets its contract: each arm is one case of the definition.
-use Rattle.std.proofs.Common.{to_z-of_z, rules, w32}
 use Rattle.ring_play.proofs.round.position_in.Goals as goal
 
 pub returns-in-Refused : goal.returns-in-Refused

@@ -1,5 +1,5 @@
 -- `ring_play::sides::highest_of` meets its contract: the last place of none is the first, as 0 - 1 is 0.
-use Rattle.std.proofs.Common.{◌≡◌, ℕ, ◌-◌, get_or, pos, ap, ◌∙◌, arith, to_z-of_z, rules, w32, to_z, of_z}
+use Rattle.std.proofs.Common.{◌≡◌, ℕ, ◌-◌, get_or, pos, ap, ◌∙◌, arith, rules, w32, to_z, of_z}
 use Rattle.ring_play.proofs.sides.highest_of.Goals as goal
 
 pub returns-then-order-eq0 : goal.returns-then-order-eq0

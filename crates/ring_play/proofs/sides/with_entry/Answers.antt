@@ -1,7 +1,7 @@
 -- `ring_play::sides::with_entry` meets its contract: each arm is one case of the definition.
-use Rattle.std.proofs.Common.{w32, to_z, of_z, rules}
+use Rattle.std.proofs.Common.{w32, to_z, of_z}
 use lib.Signed.{le_z}
-use Rattle.ring_play.proofs.sides.Counting.{one_more_fits, with_null, with_position}
+use Rattle.ring_play.proofs.sides.Counting.{one_more_fits, with_null}
 use Rattle.ring_play.proofs.sides.with_entry.Goals as goal
 
 pub overflow_add-result-in-Position : goal.overflow_add-result-in-Position
