@@ -74,11 +74,11 @@ again_anew : (K : Family) (n f : ℕ) (R : Ring) → RingReady K n f R → (h : 
 again_anew K n f R A h i (inl l) =
     rw (lt-ltb i 32 (omega (arith, A.size.most)))
     (restarts_anew h K n f i R.phase R.round
-    (restart_accepted K n f i A.size l R.phase R.round A.from_First A.to_last A.round))
+    (restart_accepted K n f i A.size l R.phase R.round A.from_first A.to_last A.round))
 again_anew K n f R A h i (inr e) =
     rw (le-ltb i 32 (listener_large i e))
     (listener_restarts_anew h K n f i R.phase R.round
-    (restart_listener_accepted K n f i A.size e R.phase R.round A.from_First A.to_last A.round))
+    (restart_listener_accepted K n f i A.size e R.phase R.round A.from_first A.to_last A.round))
 
 module _ (K : Family) (n m f : ℕ) (most : n ≤ 32) (few-m : m ≤ 16) (R R' : Ring) (w : DeviceRound) (S : SameSound n m R R')
     (P : RingReady K n f R') where

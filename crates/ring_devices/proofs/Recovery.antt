@@ -134,13 +134,13 @@ module _ (K : Family) (n m f : ℕ) (v : ℕ → ℤ) (memory : ℕ → Head) (w
   plain_since : AnyTwoSince K n m f (length (ends_after K n f v (as_rounds K n m f v memory X.most (w ∷ us)))) (ends_after K n f v all)
   plain_since =
       let y = all_many K n m f v memory X.most X.listeners sized X.range w us X.early X.ends X.few ws in
-      overload_forgotten K n m f v since (as_round K n m f (devices_after K n f v memory us) w) (as_rounds K n m f v memory X.most us) X.most X.size X.range
+      (overload_forgotten K n m f v since (as_round K n m f (devices_after K n f v memory us) w) (as_rounds K n m f v memory X.most us) X.most X.size X.range
       (omega (arith, X.rounds))
       (served_along K n m f v memory X.most X.listeners sized X.range (w ∷ us) X.early
       (omega (arith, X.rounds, length-append ws (w ∷ us)))).1
       (ends_as K n m f v memory X.most X.listeners sized X.range w us X.early X.ends X.few)
       (few_last K n m f v memory X.most X.listeners sized X.range w us X.early X.ends X.few)
-      (later_few K n m f v memory X.most X.listeners sized X.range w us X.early X.ends X.few ws X.later)
+      (later_few K n m f v memory X.most X.listeners sized X.range w us X.early X.ends X.few ws X.later)).converges
 
   recovered : AnyTwoSince K n m f (length (ends_of_devices K n f v memory (w ∷ us))) (ends_of_devices K n f v memory (ws ++ w ∷ us))
   recovered =

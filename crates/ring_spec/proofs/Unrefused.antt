@@ -39,10 +39,10 @@ module _ (K : Family) (n m f : ℕ) (v : ℕ → ℤ) (ws : List Round) (X : Rin
     P = playable K n f v S X.range ws X.few l
 
     pub restarts : Each n (λ i. restart_refusal K n f i R.phase R.round ≡ 0)
-    restarts i k = let A = P.ready in restart_accepted K n f i S k R.phase R.round A.from_First A.to_last A.round
+    restarts i k = let A = P.ready in restart_accepted K n f i S k R.phase R.round A.from_first A.to_last A.round
 
     pub listener_restarts : (i : ℕ) → is_listener i ≡ true → restart_listener_refusal K n f i R.phase R.round ≡ 0
-    listener_restarts i e = let A = P.ready in restart_listener_accepted K n f i S e R.phase R.round A.from_First A.to_last A.round
+    listener_restarts i e = let A = P.ready in restart_listener_accepted K n f i S e R.phase R.round A.from_first A.to_last A.round
 
     module _ (w : Round) where
       -- the same to every receiver

@@ -1,6 +1,5 @@
 -- `ring_play::codes::are_alone` meets its contract: at each entry below j whose link has not confessed, the code that leads leaves the others too few lists.
-use Rattle.std.proofs.Common.{◌≡◌, ◌+◌, ◌-◌, ◌*◌, ◌<◌, ◌≤◌, false, get_or, sym, ◌∙◌, ⊎_elim, true≢false, arith, rules, below_more}
-use borrow.Author.Tests.{not-false}
+use Rattle.std.proofs.Common.{◌≡◌, ◌+◌, ◌-◌, ◌*◌, ◌<◌, ◌≤◌, false, get_or}
 use Rattle.marks.specs.Marks.{bit_of}
 use Rattle.terms.specs.Counting.{Each}
 use Rattle.ring_play.proofs.codes.are_alone.Given as goal

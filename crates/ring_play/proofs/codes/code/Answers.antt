@@ -1,5 +1,5 @@
 -- `ring_play::codes::code` meets its contract, by the mark.
-use Rattle.std.proofs.Common.{to_z-of_z, rules}
+use Rattle.std.proofs.Common.{to_z-of_z}
 use Rattle.ring_play.proofs.codes.code.Goals as goal
 
 pub returns-then-marked : goal.returns-then-marked

@@ -1,9 +1,7 @@
 -- `ring_play::codes::codes_of` meets its contract: before entry j, the codes below j are those of the list.
-use Rattle.std.proofs.Common.{◌≡◌, ◌-◌, ◌≤◌, cond, length, get_or, ℤ, pos, refl, ap, ◌∙◌, arith, length-set, to_z-of_z, rules}
+use Rattle.std.proofs.Common.{◌≡◌, ◌-◌, ◌≤◌, length, get_or, pos}
 use Rattle.terms.specs.Counting.{Each}
-use Rattle.marks.specs.Marks.{bit_of}
-use Rattle.ring_play.specs.Inner.Codes.{no_code, code_at}
-use Rattle.ring_play.proofs.codes.Storing.{each_set}
+use Rattle.ring_play.specs.Inner.Codes.{code_at}
 use Rattle.ring_play.proofs.codes.codes_of.Given as goal
 
 abbrev pub invariant-loop-j : goal.invariant-loop-j

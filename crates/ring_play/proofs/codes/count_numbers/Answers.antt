@@ -1,7 +1,7 @@
 -- `ring_play::codes::count_numbers` meets its contract: the same as `count_codes`, if each entry is marked.
-use Rattle.std.proofs.Common.{◌≡◌, ℕ, ◌+◌, ◌-◌, ◌%◌, ◌≤◌, length, get_or, pos, sym, refl, ◌∙◌, arith, length-set, rules}
+use Rattle.std.proofs.Common.{◌≡◌, ◌+◌, ◌%◌, get_or, pos, sym, refl, ◌∙◌, arith, length-set, rules}
 use Rattle.terms.specs.Positions.{eq_z}
-use Rattle.terms.specs.Counting.{Each, bit}
+use Rattle.terms.specs.Counting.{bit}
 use Rattle.ring_play.specs.Inner.Codes.{code_at}
 use Rattle.ring_play.proofs.codes.Codes.{added_bit, code_marked}
 use Rattle.ring_play.proofs.codes.Storing.{each_set, later_set}
@@ -17,7 +17,7 @@ loop-j-preserved c =
       search rules,
       simp length-set l.invariant.1,
       each_set 0 l.same l.j _ (λ i v. v ≡ (get_or a.same.now i 0 + bit (eq_z (code_at a.marks a.list.now i) (get_or a.codes.now i (pos 0)))) % 4294967296) (omega arith) l.invariant.2
-          (c.wrapping_add_u32.ensures ∙ added_bit (record { sfits = c.wrapping_add_u32-arg-1.given }) (record { sfits = c.wrapping_add_u32-arg-in-loop-j-1.given }) (l.invariant.3 l.j (omega arith))
+          (c.wrapping_add_u32.ensures.value ∙ added_bit (search rules) (search rules) (l.invariant.3 l.j (omega arith))
           (code_marked a.marks a.list.now l.j (c.requires.2 l.j (omega arith)))),
       λ i q. later_set 0 l.same l.j _ i q ∙ l.invariant.3 i (omega arith),
     )

@@ -1,5 +1,4 @@
 -- `ring_play::codes::gives_list` meets its contract: a link that confessed gives no list.
-use Rattle.std.proofs.Common.{rules}
 use Rattle.ring_play.proofs.codes.gives_list.Goals as goal
 
 pub returns-then-marked : goal.returns-then-marked

@@ -1,5 +1,5 @@
 -- `ring_play::codes::lead` meets its contract: no code led; or the code that led is voted for; or another is.
-use Rattle.std.proofs.Common.{rules, eq-eqb, ne_eqb}
+use Rattle.std.proofs.Common.{eq-eqb, ne_eqb}
 use Rattle.ring_play.proofs.codes.Codes.{eq_z_yes, eq_z_no, bits_same, bits_other}
 use Rattle.ring_play.proofs.codes.lead.Goals as goal
 

@@ -1,9 +1,7 @@
 -- `ring_play::codes::pick` meets its contract: before entry j, the codes below j are picked, and if nothing differed they are as they were; the later ones are.
-use Rattle.std.proofs.Common.{◌≡◌, ℕ, ◌-◌, ◌≤◌, Bool, true, cond, leb, length, get_or, ℤ, pos, sym, refl, ◌∙◌, ap₂, ⊎_elim, true≢false, arith, length-set, to_z-of_z, rules}
+use Rattle.std.proofs.Common.{◌≡◌, ℕ, ◌-◌, ◌≤◌, true, length, get_or, pos}
 use Rattle.terms.specs.Counting.{Each}
-use Rattle.ring_play.specs.Inner.Codes.{no_code, code_taken}
-use Rattle.ring_play.proofs.codes.Codes.{bits_same}
-use Rattle.ring_play.proofs.codes.Storing.{each_set, later_set}
+use Rattle.ring_play.specs.Inner.Codes.{code_taken}
 use Rattle.ring_play.proofs.codes.pick.Given as goal
 
 abbrev pub invariant-loop-j : goal.invariant-loop-j

@@ -26,6 +26,6 @@ drop_confessed-requires c = search rules
 pub returns : goal.returns
 returns c e =
     let r = c.args in
-    let o = c.vote_all-count.new.1.1.1 in
-    shares_all r.n r.f r.struck r.links r.lists.now o.0 _ o.1.0 _ c.requires c.lists_needed-need.ensures c.if-need-struck.false
+    let o = c.vote_all-count.new in
+    shares_all r.n r.f r.struck r.links r.lists.now o.codes _ o.leads _ c.requires c.lists_needed-need.ensures c.if-need-struck.false
     c.vote_all-count.ensures.3 (c.are_alone.ensures c.if-not-are_alone.false) c.tally_all.ensures.1 c.drop_confessed.ensures.1

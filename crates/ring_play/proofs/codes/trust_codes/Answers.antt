@@ -1,5 +1,4 @@
 -- `ring_play::codes::trust_codes` meets its contract: an array is a slice of 32.
-use Rattle.std.proofs.Common.{rules}
 use Rattle.ring_play.proofs.codes.trust_codes.Goals as goal
 
 pub returns : goal.returns

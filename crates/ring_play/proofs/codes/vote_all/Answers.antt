@@ -1,10 +1,10 @@
 -- `ring_play::codes::vote_all` meets its contract: before link k, the lists of the links below k have voted.
-use Rattle.std.proofs.Common.{◌≡◌, ◌-◌, ◌≤◌, length, get_or, pos, sym, refl, ◌∙◌, ⊎_elim, arith, rules}
-use Rattle.terms.specs.Counting.{Each, sum}
-use Rattle.ring_play.specs.Inner.Votes.{CodeLeads}
+use Rattle.std.proofs.Common.{◌≡◌, sym, refl, ◌∙◌, arith, rules}
+use Rattle.terms.specs.Counting.{sum}
 use Rattle.ring_play.proofs.codes.Votes.{leads_none}
-use Rattle.ring_play.proofs.codes.Lists.{counted, vote_given, vote_skipped}
+use Rattle.ring_play.proofs.codes.Lists.{vote_given, vote_skipped}
 use Rattle.ring_play.proofs.codes.vote_all.Goals as goal
+use Rattle.ring_play.proofs.codes.vote_all.Goals.{then-gives_list, else-gives_list}
 
 pub loop-k-init : goal.loop-k-init
 unfolding sum
@@ -25,22 +25,21 @@ loop-k-preserved c =
     let l = c.loop-k in
     let a = c.args in
     let e = sym c.gives_list.ensures in
-    ⊎_elim
-    (λ w. (
-      search rules,
-      rw w.9 w.5.ensures.0,
-      rw w.10 w.5.ensures.1,
-      rw w.11 (omega arith),
-      rw (w.9, w.10, w.11) (λ j q. vote_given a.links a.lists.now j l.k (l.invariant.4 j q) (e ∙ w.0.taken) (w.5.ensures.2 j q)),
-    ))
-    (λ w. (
-      search rules,
-      rw w.1 l.invariant.1,
-      rw w.2 l.invariant.2,
-      rw w.3 (omega arith),
-      rw (w.1, w.2, w.3) (λ j q. vote_skipped a.links a.lists.now j l.k (l.invariant.4 j q) (e ∙ w.0.left)),
-    ))
-    c.if-gives_list.branch
+    elim c.if-gives_list.branch [
+      then-gives_list w ↦ (
+        search rules,
+        rw w.codes-is w.vote_for.ensures.0,
+        rw w.leads-is w.vote_for.ensures.1,
+        rw w.count-is (omega arith),
+        rw (w.codes-is, w.leads-is, w.count-is) (λ j q. vote_given a.links a.lists.now j l.k (l.invariant.4 j q) (e ∙ w.if-gives_list.true) (w.vote_for.ensures.2 j q)),
+      )
+      | else-gives_list w ↦ (
+        search rules,
+        rw w.codes-is l.invariant.1,
+        rw w.leads-is l.invariant.2,
+        rw w.count-is (omega arith),
+        rw (w.codes-is, w.leads-is, w.count-is) (λ j q. vote_skipped a.links a.lists.now j l.k (l.invariant.4 j q) (e ∙ w.if-gives_list.false)),
+      ) ]
 
 pub returns : goal.returns
 returns c =

@@ -1,15 +1,14 @@
 -- `ring_play::codes::vote_all` meets its contract: before link k, the lists of the links below k have voted.
-use Rattle.std.proofs.Common.{◌≡◌, ◌-◌, ◌≤◌, length, get_or, pos, sym, refl, ◌∙◌, ⊎_elim, arith, rules}
-use Rattle.terms.specs.Counting.{Each, sum}
+use Rattle.std.proofs.Common.{◌≡◌, ◌-◌, ◌≤◌, length, get_or, pos}
+use Rattle.terms.specs.Counting.{Each}
 use Rattle.ring_play.specs.Inner.Votes.{CodeLeads}
-use Rattle.ring_play.proofs.codes.Votes.{leads_none}
-use Rattle.ring_play.proofs.codes.Lists.{counted, vote_given, vote_skipped}
+use Rattle.ring_play.proofs.codes.Lists.{counted}
 use Rattle.ring_play.proofs.codes.vote_all.Given as goal
 
 abbrev pub invariant-loop-k : goal.invariant-loop-k
 invariant-loop-k l =
     (l.k ≤ l.n) × (length l.codes ≡ 32) × (length l.leads ≡ 32) × (l.count ≤ l.k)
-    × Each l.n (λ j. CodeLeads (counted l.initial.leads l.lists j l.k) l.count (get_or l.codes j (pos 0)) (get_or l.leads j 0))
+    × Each l.n (λ j. CodeLeads (counted l.links l.lists j l.k) l.count (get_or l.codes j (pos 0)) (get_or l.leads j 0))
 
 abbrev pub decreases-loop-k : goal.decreases-loop-k
 decreases-loop-k l = l.n - l.k

@@ -1,5 +1,5 @@
 -- `ring_play::codes::vote_for` meets its contract: the codes of a list vote, which are its numbers if all are marked.
-use Rattle.std.proofs.Common.{◌≡◌, true, sym, ◌∙◌, rules}
+use Rattle.std.proofs.Common.{◌≡◌, true, sym, ◌∙◌}
 use Rattle.marks.specs.Marks.{bit_of}
 use Rattle.marks.proofs.Marks.{all_bits}
 use Rattle.terms.specs.Counting.{Each}

@@ -1,5 +1,5 @@
 -- `ring_play::collection::conclude_quiet` meets its contract: if no head is struck, what is planted is heard by no one.
-use Rattle.std.proofs.Common.{◌≡◌, ℕ, Bool, false, cond, List, get_or, ℤ, pos, sym, refl, ap, ◌∙◌, to_z-of_z, rules}
+use Rattle.std.proofs.Common.{◌≡◌, ℕ, Bool, false, cond, List, get_or, ℤ, pos, sym, refl, ap, ◌∙◌, to_z-of_z, rules, w32}
 use mathlib.Core.Path.{fun_ext}
 use Rattle.terms.specs.declared.Entry.{Entry}
 use Rattle.terms.specs.declared.Table.{Table}
@@ -24,6 +24,6 @@ returns c z S plant i =
     let had = get_or a.positions.now i (pos 0) in
     c.fill_same.ensures i
     ∙ ap (λ (x : ℤ). cond (settles a.s i) x had)
-    (to_z-of_z (record { sfits = c.position_of-position.type_inv }) ∙ c.position_of-position.ensures
+    (to_z-of_z {w = w32} (record { sfits = c.position_of-position.type_inv }) ∙ c.position_of-position.ensures
     ∙ ap (λ (u : Table). position_from a.s (table_at u)) S.is
     ∙ ap (λ (E : ℕ → Entry). position_from a.s (table_at (table_of (heads a.s) E))) (quiet_heard a.s S.entry plant i z))

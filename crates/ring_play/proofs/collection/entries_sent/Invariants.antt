@@ -1,11 +1,7 @@
 -- `ring_play::collection::entries_sent` meets its contract: before head k the marks and the numbers are those of the heads below k.
-use Rattle.std.proofs.Common.{◌≡◌, ◌-◌, ◌<◌, ◌≤◌, sym, refl, ap, ◌∙◌, ⊎_elim, arith, to_z-of_z, rules}
-use borrow.Author.Tests.{not-true, not-false}
-use Rattle.entries.specs.Entries.{zeros}
-use Rattle.entries.specs.Tables.{mark, value_of, marks_of, values_of}
-use Rattle.entries.proofs.Tables.{marks_next, marks_fit, numbers_next}
+use Rattle.std.proofs.Common.{◌≡◌, ◌-◌, ◌≤◌}
+use Rattle.entries.specs.Tables.{marks_of, values_of}
 use Rattle.ring_play.specs.Inner.Collection.{sent_by}
-use Rattle.entries.proofs.Tables.{table_filled}
 use Rattle.ring_play.proofs.collection.entries_sent.Given as goal
 
 abbrev pub invariant-loop-k : goal.invariant-loop-k

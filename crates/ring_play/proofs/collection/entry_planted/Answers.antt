@@ -1,5 +1,5 @@
 -- `ring_play::collection::entry_planted` meets its contract: the entry is what the planted frame says.
-use Rattle.std.proofs.Common.{ℕ, List, ap, ◌∙◌, rules}
+use Rattle.std.proofs.Common.{ℕ, List, ap, ◌∙◌}
 use Rattle.frame_spec.specs.Said.{said}
 use Rattle.head_spec.specs.Record.{heard_entry}
 use Rattle.ring_play.specs.Memory.{heads}

@@ -1,5 +1,5 @@
 -- `ring_play::collection::fill_positions` meets its contract: before receiver i, the unstruck ones below i have their new position, and all others the one they had.
-use Rattle.std.proofs.Common.{◌≡◌, ◌-◌, ◌≤◌, length, get_or, pos, sym, ◌∙◌, ⊎_elim, arith, length-set, to_z-of_z, rules}
+use Rattle.std.proofs.Common.{◌≡◌, ◌-◌, ◌≤◌, length, get_or, pos, sym, ◌∙◌, arith, length-set, to_z-of_z, rules, w32}
 use Rattle.entries.specs.Tables.{table_at, table_of}
 use Rattle.ring_play.specs.Memory.{heads, settles}
 use Rattle.frame_slots.specs.Slots.{planted_in}
@@ -7,6 +7,7 @@ use Rattle.ring_play.specs.Inner.Collection.{heard_with, Shared, position_from}
 use Rattle.ring_play.proofs.round.Filling.{Filled, filled_none, filled_passed, filled_set, filled_all}
 use Rattle.ring_play.proofs.round.Receivers.{end_small, settles_below}
 use Rattle.ring_play.proofs.collection.fill_positions.Goals as goal
+use Rattle.ring_play.proofs.collection.fill_positions.Goals.{then-settles, else-settles}
 
 pub loop-i-init : goal.loop-i-init
 loop-i-init c =
@@ -22,22 +23,21 @@ pub loop-i-preserved : goal.loop-i-preserved
 loop-i-preserved c =
     let l = c.loop-i in
     let b = sym c.settles.ensures in
-    ⊎_elim
-    (λ w. (
-      search rules,
-      l.invariant.1,
-      rw w.2 (simp length-set l.invariant.2),
-      λ S. rw w.2
-          (filled_set _ _ _ l.positions (pos 0) l.i (l.invariant.3 S) (omega arith) (b ∙ w.0.taken)
-          (to_z-of_z (record { sfits = w.1.ok }) ∙ w.1.ensures S)),
-    ))
-    (λ w. (
-      search rules,
-      l.invariant.1,
-      rw w.1 l.invariant.2,
-      λ S. rw w.1 (filled_passed _ _ _ l.i (l.invariant.3 S) (b ∙ w.0.left)),
-    ))
-    c.if-settles.branch
+    elim c.if-settles.branch [
+      then-settles w ↦ (
+        search rules,
+        l.invariant.1,
+        rw w.positions-is (simp length-set l.invariant.2),
+        λ S. rw w.positions-is
+            (filled_set _ _ _ l.positions (pos 0) l.i (l.invariant.3 S) (omega arith) (b ∙ w.if-settles.true)
+            (to_z-of_z {w = w32} (record { sfits = w.position_for-position.type_inv }) ∙ w.position_for-position.ensures S)),
+      )
+      | else-settles w ↦ (
+        search rules,
+        l.invariant.1,
+        rw w.positions-is l.invariant.2,
+        λ S. rw w.positions-is (filled_passed _ _ _ l.i (l.invariant.3 S) (b ∙ w.if-settles.false)),
+      ) ]
 
 pub returns : goal.returns
 returns c S =

@@ -10,10 +10,10 @@ use Rattle.ring_play.proofs.collection.fill_positions.Given as goal
 
 abbrev pub invariant-loop-i : goal.invariant-loop-i
 invariant-loop-i l =
-    (l.i ≤ l.initial.positions) × (l.initial.positions ≤ 48) × (length l.positions ≡ 48)
+    (l.i ≤ l.end) × (l.end ≤ 48) × (length l.positions ≡ 48)
     × ((S : Shared l.s l.sent)
     → Filled (settles l.s) (λ j. position_from l.s (table_at (table_of (heads l.s) (heard_with l.s S.entry (planted_in l.planted l.lengths) j))))
-    (λ j. get_or l.end j (pos 0)) l.i (λ j. get_or l.positions j (pos 0)))
+    (λ j. get_or l.initial.positions j (pos 0)) l.i (λ j. get_or l.positions j (pos 0)))
 
 abbrev pub decreases-loop-i : goal.decreases-loop-i
-decreases-loop-i l = l.initial.positions - l.i
+decreases-loop-i l = l.end - l.i

@@ -1,5 +1,5 @@
 -- `ring_play::collection::is_position_frame` meets its contract: the first field that differs answers no.
-use Rattle.std.proofs.Common.{ℕ, eqb, length, sym, refl, ap, ◌∙◌, rules, eq-eqb, ne_eqb}
+use Rattle.std.proofs.Common.{ℕ, eqb, length, sym, refl, ap, ◌∙◌, eq-eqb, ne_eqb}
 use mathlib.Core.Bool.{and-false}
 use Rattle.fields.specs.Bytes.{at2}
 use Rattle.frame_check.specs.Check.{length_field, sender_field}

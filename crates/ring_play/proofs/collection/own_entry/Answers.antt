@@ -1,10 +1,6 @@
 -- `ring_play::collection::own_entry` meets its contract: each way out is one case of the definition.
-use Rattle.std.proofs.Common.{sym, ap, ◌∙◌, to_z-of_z, rules}
-use Rattle.terms.specs.declared.Entry.{Entry}
+use Rattle.std.proofs.Common.{sym, ◌∙◌}
 use Rattle.ring_play.proofs.collection.own_entry.Goals as goal
 
 pub returns-then-marked : goal.returns-then-marked
 returns-then-marked c = rw (sym c.marked.ensures ∙ c.if-marked.true)
-
-pub returns : goal.returns
-returns c = rw (sym c.marked.ensures ∙ c.if-marked.false) (ap Entry.Position (to_z-of_z (record { sfits = c.result-1.given })))

@@ -1,9 +1,5 @@
 -- `ring_play::collection::value_of` meets its contract: each arm is one case of the definition.
-use Rattle.std.proofs.Common.{to_z-of_z, rules}
 use Rattle.ring_play.proofs.collection.value_of.Goals as goal
 
 pub returns-in-Null : goal.returns-in-Null
 returns-in-Null c = rw c.in-Null.is
-
-pub returns-in-Position : goal.returns-in-Position
-returns-in-Position c = rw c.in-Position.is (to_z-of_z (record { sfits = c.known_told-1.given.0.1 }))

@@ -1,5 +1,5 @@
 -- `ring_play::confession::fill_positions` meets its contract: before receiver i, the unstruck ones below i have their new position, and all others the one they had.
-use Rattle.std.proofs.Common.{◌≡◌, ◌-◌, ◌≤◌, length, get_or, pos, sym, refl, ap, ◌∙◌, ⊎_elim, arith, length-set, to_z-of_z, rules}
+use Rattle.std.proofs.Common.{◌≡◌, ◌-◌, ◌≤◌, length, get_or, pos, sym, refl, ap, ◌∙◌, arith, length-set, to_z-of_z, rules, w32}
 use Rattle.ring_play.specs.Memory.{settles}
 use Rattle.frame_slots.specs.Slots.{planted_in}
 use Rattle.settle_trust.specs.Received.{given_by}
@@ -9,6 +9,7 @@ use Rattle.ring_play.proofs.round.Filling.{Filled, filled_none, filled_passed, f
 use Rattle.ring_play.proofs.round.Receivers.{end_small, settles_below}
 use Rattle.ring_play.proofs.confession.Settling.{untold_kept, planted_kept}
 use Rattle.ring_play.proofs.confession.fill_positions.Goals as goal
+use Rattle.ring_play.proofs.confession.fill_positions.Goals.{then-settles, else-settles}
 
 pub loop-i-init : goal.loop-i-init
 loop-i-init c =
@@ -24,24 +25,24 @@ loop-i-preserved c =
     let l = c.loop-i in
     let b = sym c.settles.ensures in
     let a = c.args in
-    ⊎_elim
-    (λ w.
-    let e = to_z-of_z (record { sfits = w.2.ok }) ∙ w.2.ensures.0
-    ∙ ap (position_settled a.s) (planted_kept a.s a.base a.rows.now l.rows l.invariant.4 (planted_in a.planted.now a.lengths.now) l.i) in (
-      search rules,
-      l.invariant.1,
-      rw w.4 (simp length-set l.invariant.2),
-      rw w.4 (filled_set _ _ _ l.positions (pos 0) l.i l.invariant.3 (omega arith) (b ∙ w.0.taken) e),
-      rw w.3 (record { long = w.2.ensures.1.long; gives = w.2.ensures.1.gives ∙ l.invariant.4.gives }),
-    ))
-    (λ w. (
-      search rules,
-      l.invariant.1,
-      rw w.2 l.invariant.2,
-      rw w.2 (filled_passed _ _ _ l.i l.invariant.3 (b ∙ w.0.left)),
-      rw w.1 l.invariant.4,
-    ))
-    c.if-settles.branch
+    elim c.if-settles.branch [
+      then-settles w ↦
+        let e = to_z-of_z {w = w32} (record { sfits = w.position_for-position.type_inv }) ∙ w.position_for-position.ensures.position
+        ∙ ap (position_settled a.s) (planted_kept a.s a.base a.rows.now l.rows l.invariant.4 (planted_in a.planted.now a.lengths.now) l.i) in
+        let k = w.position_for-position.ensures.kept in (
+          search rules,
+          l.invariant.1,
+          rw w.positions-is (simp length-set l.invariant.2),
+          rw w.positions-is (filled_set _ _ _ l.positions (pos 0) l.i l.invariant.3 (omega arith) (b ∙ w.if-settles.true) e),
+          rw w.rows-is (record { long = k.long; gives = k.gives ∙ l.invariant.4.gives }),
+        )
+      | else-settles w ↦ (
+        search rules,
+        l.invariant.1,
+        rw w.positions-is l.invariant.2,
+        rw w.positions-is (filled_passed _ _ _ l.i l.invariant.3 (b ∙ w.if-settles.false)),
+        rw w.rows-is l.invariant.4,
+      ) ]
 
 pub returns : goal.returns
 returns c =

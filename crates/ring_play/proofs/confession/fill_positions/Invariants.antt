@@ -12,10 +12,10 @@ use Rattle.ring_play.proofs.confession.fill_positions.Given as goal
 
 abbrev pub invariant-loop-i : goal.invariant-loop-i
 invariant-loop-i l =
-    (l.i ≤ l.initial.positions) × (l.initial.positions ≤ 48) × (length l.positions ≡ 48)
-    × Filled (settles l.s) (λ j. position_settled l.s (given_or_planted l.s (given_by l.base l.end) (planted_in l.planted l.lengths) j))
-    (λ j. get_or l.initial.rows j (pos 0)) l.i (λ j. get_or l.positions j (pos 0))
-    × RowsKept l.base l.end l.rows
+    (l.i ≤ l.end) × (l.end ≤ 48) × (length l.positions ≡ 48)
+    × Filled (settles l.s) (λ j. position_settled l.s (given_or_planted l.s (given_by l.base l.initial.rows) (planted_in l.planted l.lengths) j))
+    (λ j. get_or l.initial.positions j (pos 0)) l.i (λ j. get_or l.positions j (pos 0))
+    × RowsKept l.base l.initial.rows l.rows
 
 abbrev pub decreases-loop-i : goal.decreases-loop-i
-decreases-loop-i l = l.initial.positions - l.i
+decreases-loop-i l = l.end - l.i

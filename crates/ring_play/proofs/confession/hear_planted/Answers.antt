@@ -30,8 +30,8 @@ loop-k-preserved c =
     let m = said c.head_count-n.result a.s.phase 1 l.k c.planted-frame.result.now in
     received_walked a.s _ _ _ _ _ _ c.next_struck-k-in-loop-k.ensures (
       received_heard _ _ _ l.links l.rows l.k l.invariant.2.0 m (omega arith) untold b
-          (ap₂ (λ (x : ℕ) (y : List ℕ). given_of (said x a.s.phase 1 l.k y)) h c.planted-frame.ensures) w.ensures.0 w.ensures.1,
-      ap (given_by a.base) w.ensures.1
+          (ap₂ (λ (x : ℕ) (y : List ℕ). given_of (said x a.s.phase 1 l.k y)) h c.planted-frame.ensures) w.ensures.links w.ensures.rows,
+      ap (given_by a.base) w.ensures.rows
           ∙ rows_kept a.base l.rows l.k (ap (λ (G : ℕ → Given). G l.k) l.invariant.2.1 ∙ untold) m
           ∙ l.invariant.2.1,
     )
@@ -41,4 +41,4 @@ unfolding given_or_planted
 returns c =
     let l = c.loop-k in
     let e : l.k ≡ heads c.args.s = omega (arith, c.head_count-n.ensures) in
-    (rw e at l.invariant.2.0, record { long = l.invariant.2.0.rows_long; gives = l.invariant.2.1 })
+    record { given = rw e at l.invariant.2.0; kept = record { long = l.invariant.2.0.rows_long; gives = l.invariant.2.1 } }

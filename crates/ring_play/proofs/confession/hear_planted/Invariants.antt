@@ -14,7 +14,7 @@ use Rattle.ring_play.proofs.confession.hear_planted.Given as goal
 
 abbrev pub invariant-loop-k : goal.invariant-loop-k
 invariant-loop-k l =
-    WalkedTo l.s (ReceivedTo l.s (λ j. given_of (said (heads l.s) l.s.phase 1 j (planted_in l.planted l.lengths j l.i))) (given_by l.initial.links l.n) l.initial.links l.n l.links l.rows) l.k
+    WalkedTo l.s (ReceivedTo l.s (λ j. given_of (said (heads l.s) l.s.phase 1 j (planted_in l.planted l.lengths j l.i))) (given_by l.initial.links l.initial.rows) l.initial.links l.initial.rows l.links l.rows) l.k
 
 abbrev pub decreases-loop-k : goal.decreases-loop-k
-decreases-loop-k l = l.initial.rows - l.k
+decreases-loop-k l = l.count - l.k

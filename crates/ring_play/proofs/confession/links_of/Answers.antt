@@ -1,8 +1,9 @@
 -- `ring_play::confession::links_of` meets its contract: before head k, the unstruck heads below k are marked, each in one of the two words.
-use Rattle.std.proofs.Common.{◌≡◌, ◌-◌, ◌≤◌, not, sym, refl, ap, ◌∙◌, ⊎_elim, arith, rules}
+use Rattle.std.proofs.Common.{◌≡◌, not, sym, refl, ap, ◌∙◌, arith, rules}
 use Rattle.ring_play.specs.Memory.{heads}
-use Rattle.ring_play.proofs.confession.Honest.{MarkedTo, marked_none, marked_passed, marked_healed, marked_listed}
+use Rattle.ring_play.proofs.confession.Honest.{marked_none, marked_passed, marked_healed, marked_listed}
 use Rattle.ring_play.proofs.confession.links_of.Goals as goal
+use Rattle.ring_play.proofs.confession.links_of.Goals.{then-not-marked+then-marked, then-not-marked+else-marked, else-not-marked}
 
 pub loop-k-init : goal.loop-k-init
 loop-k-init c = (search rules, marked_none _)
@@ -12,14 +13,18 @@ loop-k-preserved c =
     let l = c.loop-k in
     let b = ap not (sym c.marked.ensures) in
     let h = c.head_count-n.ensures in
-    ⊎_elim
-    (λ w. (search rules, rw (w.4, w.5) (marked_healed _ l.k l.invariant.1 (omega arith) (b ∙ w.0.taken) (sym w.1.ensures ∙ w.2.taken) w.3.ensures)))
-    (λ v.
-    ⊎_elim
-    (λ w. (search rules, rw (w.4, w.5) (marked_listed _ l.k l.invariant.1 (omega arith) (b ∙ w.0.taken) (sym w.1.ensures ∙ w.2.left) w.3.ensures)))
-    (λ w. (search rules, rw (w.1, w.2) (marked_passed _ l.k l.invariant.1 (b ∙ w.0.left))))
-    v)
-    c.if-not-marked.branch
+    elim c.if-not-marked.branch [
+      then-not-marked+then-marked w ↦ (
+        search rules,
+        rw (w.confessed-is, w.listed-is)
+            (marked_healed _ l.k l.invariant.1 (omega arith) (b ∙ ap not w.if-not-marked.true) (sym w.marked-then-not-marked.ensures ∙ w.if-marked.true) w.with_mark-confessed.ensures),
+      )
+      | then-not-marked+else-marked w ↦ (
+        search rules,
+        rw (w.confessed-is, w.listed-is)
+            (marked_listed _ l.k l.invariant.1 (omega arith) (b ∙ ap not w.if-not-marked.true) (sym w.marked-then-not-marked.ensures ∙ w.if-marked.false) w.with_mark-listed.ensures),
+      )
+      | else-not-marked w ↦ (search rules, rw (w.confessed-is, w.listed-is) (marked_passed _ l.k l.invariant.1 (b ∙ ap not w.if-not-marked.false))) ]
 
 pub returns : goal.returns
 returns c =

@@ -1,7 +1,6 @@
 -- `ring_play::confession::links_of` meets its contract: before head k, the unstruck heads below k are marked, each in one of the two words.
-use Rattle.std.proofs.Common.{◌≡◌, ◌-◌, ◌≤◌, not, sym, refl, ap, ◌∙◌, ⊎_elim, arith, rules}
-use Rattle.ring_play.specs.Memory.{heads}
-use Rattle.ring_play.proofs.confession.Honest.{MarkedTo, marked_none, marked_passed, marked_healed, marked_listed}
+use Rattle.std.proofs.Common.{◌-◌, ◌≤◌}
+use Rattle.ring_play.proofs.confession.Honest.{MarkedTo}
 use Rattle.ring_play.proofs.confession.links_of.Given as goal
 
 abbrev pub invariant-loop-k : goal.invariant-loop-k

@@ -1,5 +1,5 @@
 -- `ring_play::confession::settle_quiet` meets its contract: if no head is struck, what is planted is heard by no one.
-use Rattle.std.proofs.Common.{◌≡◌, ℕ, Bool, false, cond, ◌&&◌, ltb, List, get_or, ℤ, pos, refl, ap, ◌∙◌, to_z-of_z, rules}
+use Rattle.std.proofs.Common.{◌≡◌, ℕ, Bool, false, cond, ◌&&◌, ltb, List, get_or, ℤ, pos, refl, ap, ◌∙◌, to_z-of_z, rules, w32}
 use mathlib.Core.Path.{fun_ext}
 use mathlib.Core.Bool.{and-false}
 use Rattle.marks.specs.Marks.{bit_of}
@@ -25,4 +25,4 @@ returns c z plant i =
     let had = get_or a.positions.now i (pos 0) in
     c.fill_same.ensures i
     ∙ ap (λ (x : ℤ). cond (settles a.s i) x had)
-    (to_z-of_z (record { sfits = c.settled-position.type_inv }) ∙ c.settled-position.ensures ∙ ap (position_settled a.s) (quiet_given a.s G plant i z))
+    (to_z-of_z {w = w32} (record { sfits = c.settled-position.type_inv }) ∙ c.settled-position.ensures ∙ ap (position_settled a.s) (quiet_given a.s G plant i z))

@@ -1,9 +1,10 @@
 -- `ring_play::round::fill_same` meets its contract: before receiver i, the unstruck ones below i have the position, and all others the one they had.
-use Rattle.std.proofs.Common.{◌≡◌, ◌-◌, ◌≤◌, cond, length, get_or, ℤ, pos, sym, refl, ap, ◌∙◌, ⊎_elim, arith, length-set, to_z-of_z, w32, to_z, rules}
+use Rattle.std.proofs.Common.{cond, get_or, ℤ, pos, sym, refl, ap, ◌∙◌, arith, length-set, to_z-of_z, rules}
 use Rattle.ring_play.specs.Memory.{settles}
-use Rattle.ring_play.proofs.round.Filling.{Filled, filled_none, filled_passed, filled_set, filled_all}
+use Rattle.ring_play.proofs.round.Filling.{filled_none, filled_passed, filled_set, filled_all}
 use Rattle.ring_play.proofs.round.Receivers.{end_small, settles_below}
 use Rattle.ring_play.proofs.round.fill_same.Goals as goal
+use Rattle.ring_play.proofs.round.fill_same.Goals.{then-settles, else-settles}
 
 pub loop-i-init : goal.loop-i-init
 loop-i-init c =
@@ -13,20 +14,19 @@ pub loop-i-preserved : goal.loop-i-preserved
 loop-i-preserved c =
     let l = c.loop-i in
     let b = sym c.settles.ensures in
-    ⊎_elim
-    (λ w. (
-      search rules,
-      l.invariant.1,
-      rw w.1 (simp length-set l.invariant.2),
-      rw w.1 (filled_set _ _ _ l.positions (pos 0) l.i l.invariant.3 (omega arith) (b ∙ w.0.taken) refl),
-    ))
-    (λ w. (
-      search rules,
-      l.invariant.1,
-      rw w.1 l.invariant.2,
-      rw w.1 (filled_passed _ _ _ l.i l.invariant.3 (b ∙ w.0.left)),
-    ))
-    c.if-settles.branch
+    elim c.if-settles.branch [
+      then-settles w ↦ (
+        search rules,
+        l.invariant.1,
+        rw w.positions-is (simp length-set l.invariant.2),
+        rw w.positions-is (filled_set _ _ _ l.positions (pos 0) l.i l.invariant.3 (omega arith) (b ∙ w.if-settles.true) refl),
+      )
+      | else-settles w ↦ (
+        search rules,
+        l.invariant.1,
+        rw w.positions-is l.invariant.2,
+        rw w.positions-is (filled_passed _ _ _ l.i l.invariant.3 (b ∙ w.if-settles.false)),
+      ) ]
 
 pub returns : goal.returns
 returns c =

@@ -1,14 +1,13 @@
 -- `ring_play::round::fill_same` meets its contract: before receiver i, the unstruck ones below i have the position, and all others the one they had.
-use Rattle.std.proofs.Common.{◌≡◌, ◌-◌, ◌≤◌, cond, length, get_or, ℤ, pos, sym, refl, ap, ◌∙◌, ⊎_elim, arith, length-set, to_z-of_z, w32, to_z, rules}
+use Rattle.std.proofs.Common.{◌≡◌, ◌-◌, ◌≤◌, length, get_or, pos}
 use Rattle.ring_play.specs.Memory.{settles}
-use Rattle.ring_play.proofs.round.Filling.{Filled, filled_none, filled_passed, filled_set, filled_all}
-use Rattle.ring_play.proofs.round.Receivers.{end_small, settles_below}
+use Rattle.ring_play.proofs.round.Filling.{Filled}
 use Rattle.ring_play.proofs.round.fill_same.Given as goal
 
 abbrev pub invariant-loop-i : goal.invariant-loop-i
 invariant-loop-i l =
-    (l.i ≤ l.initial.positions) × (l.initial.positions ≤ 48) × (length l.positions ≡ 48)
-    × Filled (settles l.s) (λ j. to_z w32 l.position) (λ j. get_or l.end j (pos 0)) l.i (λ j. get_or l.positions j (pos 0))
+    (l.i ≤ l.end) × (l.end ≤ 48) × (length l.positions ≡ 48)
+    × Filled (settles l.s) (λ j. l.position) (λ j. get_or l.initial.positions j (pos 0)) l.i (λ j. get_or l.positions j (pos 0))
 
 abbrev pub decreases-loop-i : goal.decreases-loop-i
-decreases-loop-i l = l.initial.positions - l.i
+decreases-loop-i l = l.end - l.i

@@ -1,11 +1,8 @@
 -- `ring_play::round::next_struck` meets its contract: the lowest bit of what is left of the word after a shift by k.
-use Rattle.std.proofs.Common.{◌/◌, ◌^◌, ◌≤◌, arith, rules}
-use lib.Count.{count_trailing_zeros, trailing_le}
+use Rattle.std.proofs.Common.{◌/◌, ◌^◌, arith}
+use lib.Count.{trailing_le}
 use Rattle.ring_play.proofs.round.Struck.{next_found, next_none, next_end}
 use Rattle.ring_play.proofs.round.next_struck.Goals as goal
-
-few : (c : goal.After-struct_known-1) → let a = c.args in count_trailing_zeros 32 (a.s.struck / 2 ^ a.k) ≤ 32
-few c = let a = c.args in trailing_le 32 (a.s.struck / 2 ^ a.k)
 
 pub returns-then-n-k : goal.returns-then-n-k
 returns-then-n-k c =
@@ -13,11 +10,11 @@ returns-then-n-k c =
 
 pub overflow_cast-j-2 : goal.overflow_cast-j-2
 overflow_cast-j-2 c =
-    record { fits = omega (arith, few c) }
+    record { fits = omega (arith, trailing_le 32 (c.args.s.struck / 2 ^ c.args.k)) }
 
 pub overflow_add-j : goal.overflow_add-j
 overflow_add-j c =
-    record { fits = omega (arith, few c) }
+    record { fits = omega (arith, trailing_le 32 (c.args.s.struck / 2 ^ c.args.k)) }
 
 pub returns-then-j-n : goal.returns-then-j-n
 returns-then-j-n c =

@@ -1,5 +1,5 @@
 -- `ring_play::round::receiver_end` meets its contract: without listeners the heads end it, and else the last listener does.
-use Rattle.std.proofs.Common.{sym, ◌∙◌, arith, rules}
+use Rattle.std.proofs.Common.{sym, ◌∙◌, arith}
 use Rattle.ring_play.proofs.round.Receivers.{end_heads, end_listeners}
 use Rattle.ring_play.proofs.round.receiver_end.Goals as goal
 

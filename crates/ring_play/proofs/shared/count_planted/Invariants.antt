@@ -8,7 +8,7 @@ use Rattle.ring_play.proofs.shared.count_planted.Given as goal
 
 abbrev pub invariant-loop-k : goal.invariant-loop-k
 invariant-loop-k l =
-    WalkedTo l.s (λ j. PlantedTo l.s (planted_in l.planted l.lengths) l.i l.codes l.n j l.same l.confessed) l.k
+    WalkedTo l.s (λ j. PlantedTo l.s (planted_in l.planted l.lengths) l.i l.codes l.initial.same j l.same l.confessed) l.k
 
 abbrev pub decreases-loop-k : goal.decreases-loop-k
-decreases-loop-k l = l.initial.same - l.k
+decreases-loop-k l = l.count - l.k

@@ -14,9 +14,9 @@ use Rattle.ring_play.proofs.shared.fill_positions.Given as goal
 
 abbrev pub invariant-loop-i : goal.invariant-loop-i
 invariant-loop-i l =
-    (l.i ≤ l.initial.positions) × (l.initial.positions ≤ 48) × (length l.positions ≡ 48) × EarlierOf l.s l.earlier l.settled × SettlesBefore l.s l.i l.two.newer × SettlesBefore l.s l.i l.two.older
+    (l.i ≤ l.end) × (l.end ≤ 48) × (length l.positions ≡ 48) × EarlierOf l.s l.earlier l.settled × SettlesBefore l.s l.i l.two.newer × SettlesBefore l.s l.i l.two.older
     × ((S : SharedBy l.s l.need l.codes l.counts) → Alike l.s S.given
-    → Filled (settles l.s) (λ j. position_settled l.s (given_or_planted l.s S.given (planted_in l.planted l.lengths) j)) (λ j. get_or l.end j (pos 0)) l.i (λ j. get_or l.positions j (pos 0)))
+    → Filled (settles l.s) (λ j. position_settled l.s (given_or_planted l.s S.given (planted_in l.planted l.lengths) j)) (λ j. get_or l.initial.positions j (pos 0)) l.i (λ j. get_or l.positions j (pos 0)))
 
 abbrev pub decreases-loop-i : goal.decreases-loop-i
-decreases-loop-i l = l.initial.positions - l.i
+decreases-loop-i l = l.end - l.i

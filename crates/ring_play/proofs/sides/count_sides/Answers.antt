@@ -1,9 +1,7 @@
 -- `ring_play::sides::count_sides` meets its contract: before head k, what is planted by the struck heads below k is counted.
-use Rattle.std.proofs.Common.{◌≡◌, ◌-◌, sym, ◌∙◌, arith, to_z-of_z, w32, to_z, rules}
+use Rattle.std.proofs.Common.{◌≡◌, sym, ◌∙◌, arith, to_z-of_z, w32, to_z, rules, of_z, get_or, pos}
 use Rattle.frame_slots.specs.Slots.{planted_in}
 use Rattle.ring_play.specs.Memory.{heads}
-use Rattle.ring_play.specs.Inner.Sides.{planted_entry, SidesCounted}
-use Rattle.ring_play.proofs.round.Struck.{WalkedTo}
 use Rattle.ring_play.proofs.sides.Counting.{told_some, counts_none, counts_small, counts_more, counts_walked, counts_as}
 use Rattle.ring_play.proofs.sides.count_sides.Goals as goal
 
@@ -31,4 +29,6 @@ pub returns : goal.returns
 returns c =
     let l = c.loop-k in
     let e : l.k ≡ heads c.args.s = omega (arith, c.head_count-n.ensures) in
-    counts_as e (to_z-of_z (record { sfits = c.lowest-1.given })) (to_z-of_z (record { sfits = c.highest_of-highest.type_inv }) ∙ c.highest_of-highest.ensures) l.invariant.2
+    let x = get_or c.args.order.positions 0 (pos 0) in
+    let fits : to_z w32 (of_z w32 x) ≡ x = search rules in
+    counts_as e fits (to_z-of_z {w = w32} (record { sfits = c.highest_of-highest.type_inv }) ∙ c.highest_of-highest.ensures) l.invariant.2

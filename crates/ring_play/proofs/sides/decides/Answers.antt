@@ -1,5 +1,5 @@
 -- `ring_play::sides::decides` meets its contract: a test for each part, and no at the first that fails.
-use Rattle.std.proofs.Common.{◌+◌, ◌*◌, sym, true≢false, arith, rules, leb-true}
+use Rattle.std.proofs.Common.{◌+◌, ◌*◌, sym, true≢false, arith, leb-true}
 use Rattle.ring_play.proofs.sides.decides.Goals as goal
 
 pub returns-then-len-f : goal.returns-then-len-f

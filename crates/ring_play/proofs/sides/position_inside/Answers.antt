@@ -1,5 +1,5 @@
 -- `ring_play::sides::position_inside` meets its contract: half of the sum of the two positions kept.
-use Rattle.std.proofs.Common.{◌-◌, get_or, pos, ◌∙◌, to_z-of_z, rules}
+use Rattle.std.proofs.Common.{◌-◌, get_or, pos, ◌∙◌, to_z-of_z, rules, w32}
 use Rattle.ring_play.proofs.sides.Counting.{half_read}
 use Rattle.ring_play.proofs.sides.position_inside.Goals as goal
 
@@ -7,6 +7,6 @@ pub returns : goal.returns
 returns c =
     let a = c.args in
     let l = a.order.positions in
-    to_z-of_z (record { sfits = c.half_sum.type_inv })
+    to_z-of_z {w = w32} (record { sfits = c.half_sum.type_inv })
     ∙ half_read (get_or l (a.s.f - a.c.low) (pos 0)) (get_or l (a.order.len - 1 - (a.s.f - a.c.high)) (pos 0))
-    (record { sfits = c.low-1.given }) (record { sfits = c.high-1.given }) c.rounds_up.ensures c.half_sum.ensures
+    (search rules) (search rules) c.rounds_up.ensures c.half_sum.ensures

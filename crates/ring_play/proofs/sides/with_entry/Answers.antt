@@ -1,7 +1,7 @@
 -- `ring_play::sides::with_entry` meets its contract: each arm is one case of the definition.
-use Rattle.std.proofs.Common.{w32, to_z, of_z, rules}
+use Rattle.std.proofs.Common.{w32, to_z, of_z}
 use lib.Signed.{le_z}
-use Rattle.ring_play.proofs.sides.Counting.{one_more_fits, with_null, with_position}
+use Rattle.ring_play.proofs.sides.Counting.{one_more_fits, with_null}
 use Rattle.ring_play.proofs.sides.with_entry.Goals as goal
 
 pub overflow_add-result-in-Position : goal.overflow_add-result-in-Position
@@ -14,8 +14,3 @@ overflow_add-result-in-Position-2 c =
 
 pub returns-in-Null : goal.returns-in-Null
 returns-in-Null c = let a = c.args in rw c.in-Null.is (with_null a.lowest a.highest a.c)
-
-pub returns-in-Position : goal.returns-in-Position
-returns-in-Position c =
-    rw c.in-Position.is
-    (with_position c.args.lowest c.args.highest c.args.c (record { sfits = c.known_told-1.given.0.1 }) c.ranges.lowest c.ranges.highest)
