@@ -25,7 +25,7 @@ gathered c =
     }
 
 pub returns-then-have-ge-CARRY : goal.returns-then-have-ge-CARRY
-returns-then-have-ge-CARRY c = (uses_all c.quiet.ensures, λ a L. absurd (overfull L c.if-have-ge-CARRY.true))
+returns-then-have-ge-CARRY c = record { used = uses_all c.quiet.ensures; reads = λ a L. absurd (overfull L c.if-have-ge-CARRY.true) }
 
 pub gather-requires : goal.gather-requires
 gather-requires c =

@@ -13,4 +13,4 @@ pub returns : goal.returns
 returns c =
     let from = c.byte_at-from.ensures in
     let to = c.byte_at-to.ensures in
-    (ap₂ made from to, rw (← from, ← to, ← c.bytes_from-frame.ensures) c.plant.ensures)
+    ?
