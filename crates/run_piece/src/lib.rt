@@ -3,7 +3,7 @@
 #![tactic(auto)]
 
 ghost use Rattle.std.specs.Prelude.{true, ◌++◌, ◌≡◌, ◌+◌, ◌≤◌, min, length, take};
-ghost use Rattle.run_state.specs.Memory.{memory_before, memory_after};
+ghost use Rattle.run_state.specs.Memory.{memory_lent};
 ghost use Rattle.run_state.specs.Changes.{halted, with_pair_planted};
 ghost use Rattle.run_record.specs.Next.{allowed_to};
 ghost use Rattle.run_piece.specs.Steps.{Quiet, Used, Reads, Waits, Passes, plant_size, plant_passed, is_settled, is_calm};
@@ -118,8 +118,8 @@ fn take_part(
     requires { p.fault ≡ 0 }
     ensures used { Used rest.now result }
     ensures reads { Reads p rest.now result
-        carry.old (memory_before positions marks lists planted lengths)
-        carry.new (memory_after positions marks lists planted lengths) }
+        carry.old (memory_lent positions.old marks.old lists.old planted.old lengths.old)
+        carry.new (memory_lent positions.new marks.new lists.new planted.new lengths.new) }
 {
     let have = p.have;
     if CARRY <= have {
@@ -220,8 +220,8 @@ pub fn advance(
 ) -> FeedResult
     ensures used { Used rest.now result }
     ensures reads { Reads p rest.now result
-        carry.old (memory_before positions marks lists planted lengths)
-        carry.new (memory_after positions marks lists planted lengths) }
+        carry.old (memory_lent positions.old marks.old lists.old planted.old lengths.old)
+        carry.new (memory_lent positions.new marks.new lists.new planted.new lengths.new) }
 {
     if p.fault != 0 {
         return quiet(p, rest.len());

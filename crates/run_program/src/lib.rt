@@ -3,7 +3,7 @@
 #![tactic(auto)]
 
 ghost use Rattle.std.specs.Prelude.{List, [], ◌≡◌, ℕ};
-ghost use Rattle.run_state.specs.Memory.{Memory, memory_before, memory_after};
+ghost use Rattle.run_state.specs.Memory.{Memory, memory_lent};
 ghost use Rattle.run_program.specs.Calls.{part, after_read, after_write};
 ghost use Rattle.run_program.specs.Running.{Running, failed, Steps};
 
@@ -117,8 +117,8 @@ pub fn step(
     lengths: &mut PlantedLengths,
 ) -> Stepped
     ensures { Steps program did
-        piece.now page.old carry.old (memory_before positions marks lists planted lengths)
-        result page.new carry.new (memory_after positions marks lists planted lengths) }
+        piece.now page.old carry.old (memory_lent positions.old marks.old lists.old planted.old lengths.old)
+        result page.new carry.new (memory_lent positions.new marks.new lists.new planted.new lengths.new) }
 {
     if !calls::fits(program, did, piece.len()) {
         return Stepped {

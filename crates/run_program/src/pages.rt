@@ -1,6 +1,6 @@
 // What comes of it when the system did what it was asked for: the bytes that it read are played, page by page.
 ghost use Rattle.std.specs.Prelude.{true, List, ◌++◌, ◌≡◌, ℕ, ◌+◌, ◌≤◌, length, take};
-ghost use Rattle.run_state.specs.Memory.{memory_before, memory_after};
+ghost use Rattle.run_state.specs.Memory.{memory_lent};
 ghost use Rattle.run_program.specs.Calls.{part, unwritten, did_fits, stage_after, read_then, written_then};
 ghost use Rattle.run_program.specs.Running.{Running};
 ghost use Rattle.run_program.specs.Inner.{program_at, advanced, Turning};
@@ -61,8 +61,8 @@ fn play_on(
 ) -> Program
     ensures stage_value { result.stage ≡ program.stage }
     ensures by_index { (a out : List ℕ)
-        → Turning a out program piece.now page.old carry.old (memory_before positions marks lists planted lengths)
-        → Running a out result piece.now page.new carry.new (memory_after positions marks lists planted lengths) }
+        → Turning a out program piece.now page.old carry.old (memory_lent positions.old marks.old lists.old planted.old lengths.old)
+        → Running a out result piece.now page.new carry.new (memory_lent positions.new marks.new lists.new planted.new lengths.new) }
 {
     let at = program.at;
     let end = program.end;
@@ -98,8 +98,8 @@ fn go_on_read(
     requires { did_fits (Did.Read k) program (length piece.now) ≡ true }
     ensures stage_value { result.stage ≡ stage_after (Did.Read k) program.stage }
     ensures by_index { (a out : List ℕ)
-        → Running a out program piece.now page.old carry.old (memory_before positions marks lists planted lengths)
-        → Running (a ++ take k piece.now) out result piece.now page.new carry.new (memory_after positions marks lists planted lengths) }
+        → Running a out program piece.now page.old carry.old (memory_lent positions.old marks.old lists.old planted.old lengths.old)
+        → Running (a ++ take k piece.now) out result piece.now page.new carry.new (memory_lent positions.new marks.new lists.new planted.new lengths.new) }
 {
     let player = program.player;
     if k == 0 {
@@ -135,9 +135,9 @@ pub(crate) fn go_on(
     requires { did_fits did program (length piece.now) ≡ true }
     ensures stage_value { result.stage ≡ stage_after did program.stage }
     ensures by_index { (a out : List ℕ)
-        → Running a out program piece.now page.old carry.old (memory_before positions marks lists planted lengths)
+        → Running a out program piece.now page.old carry.old (memory_lent positions.old marks.old lists.old planted.old lengths.old)
         → Running (read_then did a piece.now) (written_then did out (unwritten program page.old)) result
-        piece.now page.new carry.new (memory_after positions marks lists planted lengths) }
+        piece.now page.new carry.new (memory_lent positions.new marks.new lists.new planted.new lengths.new) }
 {
     match did {
         Did::Nothing => {

@@ -4,7 +4,7 @@
 ghost use Rattle.std.specs.Prelude.{true, false, List, ◌≡◌, ℕ, ◌≤◌, ◌<◌, length, get_or, drop, pos};
 ghost use Rattle.run_spec.specs.RunFile.{File, read_file, start, round, plant, listeners, strikes, is_first, is_bare, kind_in, length_in, is_allowed, judged, stopped, sender_in, receiver_in};
 ghost use Rattle.frame_slots.specs.Slots.{with_planted, with_length, PlantedThen, slot_size};
-ghost use Rattle.run_state.specs.Memory.{Memory, memory_before, memory_after, with_positions, with_slots};
+ghost use Rattle.run_state.specs.Memory.{Memory, memory_lent, with_positions, with_slots};
 ghost use Rattle.run_state.specs.Changes.{pair_in};
 ghost use Rattle.run_state.specs.State.{PlayerOf, MemoryOf};
 ghost use Rattle.run_record.specs.Next.{allowed_to, record_taken, Next};
@@ -106,8 +106,8 @@ fn play_waiting(
     lengths: &PlantedLengths,
 ) -> Text
     ensures by_index { (a s : List ℕ) → (read_file a).setup.begun ≡ true → PlayerOf p (read_file a)
-        → MemoryOf (read_file a) (memory_before positions marks lists planted lengths)
-        → PendingPlayed (read_file a) s result (memory_after positions marks lists planted lengths) }
+        → MemoryOf (read_file a) (memory_lent positions.old marks.old lists.old planted.now lengths.now)
+        → PendingPlayed (read_file a) s result (memory_lent positions.new marks.new lists.new planted.now lengths.now) }
     ensures len_bound { result.len ≤ 64 }
 {
     if !p.pending {
@@ -127,8 +127,8 @@ fn take_round(
     lengths: &mut PlantedLengths,
 ) -> RecordResult
     ensures by_index { (a : List ℕ) → (read_file a).setup.begun ≡ true → PlayerOf p (read_file a)
-        → MemoryOf (read_file a) (memory_before positions marks lists planted lengths)
-        → Next (read_file a) (judged round (read_file a) bytes.now) p (memory_before positions marks lists planted lengths) result (memory_after positions marks lists planted lengths) }
+        → MemoryOf (read_file a) (memory_lent positions.old marks.old lists.old planted.now lengths.old)
+        → Next (read_file a) (judged round (read_file a) bytes.now) p (memory_lent positions.old marks.old lists.old planted.now lengths.old) result (memory_lent positions.new marks.new lists.new planted.now lengths.new) }
     ensures len_bound { result.text.len ≤ 64 }
 {
     let family = p.family;
@@ -198,11 +198,11 @@ fn take_allowed(
     lengths: &mut PlantedLengths,
 ) -> RecordResult
     ensures by_index { (a : List ℕ) → PlayerOf p (read_file a)
-        → MemoryOf (read_file a) (memory_before positions marks lists planted lengths)
+        → MemoryOf (read_file a) (memory_lent positions.old marks.old lists.old planted.old lengths.old)
         → is_allowed (kind_in bytes.now) (read_file a) (length_in bytes.now) ≡ true
         → length bytes.now ≡ length_in bytes.now
         → Next (read_file a) (judged (kind_in bytes.now) (read_file a) bytes.now)
-        p (memory_before positions marks lists planted lengths) result (memory_after positions marks lists planted lengths) }
+        p (memory_lent positions.old marks.old lists.old planted.old lengths.old) result (memory_lent positions.new marks.new lists.new planted.new lengths.new) }
     ensures len_bound { result.text.len ≤ 64 }
 {
     match fields::half_at(bytes, 2) {
@@ -251,9 +251,9 @@ pub fn take_record(
     lengths: &mut PlantedLengths,
 ) -> RecordResult
     ensures by_index { (a : List ℕ) → PlayerOf p (read_file a)
-        → MemoryOf (read_file a) (memory_before positions marks lists planted lengths)
+        → MemoryOf (read_file a) (memory_lent positions.old marks.old lists.old planted.old lengths.old)
         → Next (read_file a) (record_taken (read_file a) bytes.now)
-        p (memory_before positions marks lists planted lengths) result (memory_after positions marks lists planted lengths) }
+        p (memory_lent positions.old marks.old lists.old planted.old lengths.old) result (memory_lent positions.new marks.new lists.new planted.new lengths.new) }
     ensures len_bound { result.text.len ≤ 64 }
 {
     if !is_due(p, bytes) {

@@ -6,7 +6,7 @@ ghost use Rattle.ring_spec.specs.Rounds.{receivers, ends_phase};
 ghost use Rattle.run_spec.specs.RunFile.{read_file};
 ghost use Rattle.run_listing.specs.Held.{end_in};
 ghost use Rattle.run_listing.specs.Heights.{LowestHighest};
-ghost use Rattle.run_state.specs.Memory.{Memory, memory_before, memory_after, with_positions};
+ghost use Rattle.run_state.specs.Memory.{Memory, memory_lent, with_positions};
 ghost use Rattle.run_state.specs.State.{agreed_before, PlayerOf, MemoryOf};
 ghost use Rattle.run_round.specs.Played.{Played};
 ghost use Rattle.run_round.specs.Agrees.{HoldsAll, Agrees};
@@ -77,8 +77,8 @@ fn play_ring(
     lengths: &PlantedLengths,
 )
     ensures { (a : List ℕ) → (read_file a).setup.begun ≡ true → (read_file a).rounds.pending ≡ true → PlayerOf p (read_file a)
-        → MemoryOf (read_file a) (memory_before positions marks lists planted lengths) → p.agreed ≡ false
-        → Kept (read_file a) (memory_after positions marks lists planted lengths) }
+        → MemoryOf (read_file a) (memory_lent positions.old marks.old lists.old planted.now lengths.now) → p.agreed ≡ false
+        → Kept (read_file a) (memory_lent positions.new marks.new lists.new planted.now lengths.now) }
 {
     let s = stage_of(p);
     let family = p.family;
@@ -126,8 +126,8 @@ pub fn play_round(
     lengths: &PlantedLengths,
 ) -> Text
     ensures by_index { (a : List ℕ) → (read_file a).setup.begun ≡ true → (read_file a).rounds.pending ≡ true → PlayerOf p (read_file a)
-        → MemoryOf (read_file a) (memory_before positions marks lists planted lengths)
-        → Played (read_file a) result (memory_after positions marks lists planted lengths) }
+        → MemoryOf (read_file a) (memory_lent positions.old marks.old lists.old planted.now lengths.now)
+        → Played (read_file a) result (memory_lent positions.new marks.new lists.new planted.now lengths.now) }
     ensures len_bound { result.len ≤ 64 }
 {
     if !p.agreed {

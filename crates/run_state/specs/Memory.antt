@@ -1,7 +1,5 @@
 -- The memory lent to the player, as one value. The bytes of a record that is cut (the carry) are kept apart: they are scratch.
 use Rattle.std.specs.Prelude.{List, ℕ, ℤ}
-use Rattle.std.specs.Borrow.{Bor}
-use denote.Triple.Both.{Both}
 
 -- of each receiver its position, of each head the list that it filled, by marks and numbers, and what is planted for each link (D12)
 pub record Memory : Type 0 where
@@ -11,31 +9,9 @@ pub record Memory : Type 0 where
   pub planted : List ℕ
   pub lengths : List ℕ
 
--- an array that a function is lent to change: its numbers as the function begins and as it ends
-abbrev pub Lent : Type 0 → Type 0
-Lent X = Both (Bor X) (Bor X)
-
--- what is lent, as the function begins
-abbrev pub memory_before : (positions : Lent (List ℤ)) (marks : Lent (List ℕ)) (lists : Lent (List (List ℤ))) (planted lengths : Lent (List ℕ)) → Memory
-memory_before positions marks lists planted lengths =
-    record {
-      positions = positions.entry.now;
-      marks = marks.entry.now;
-      lists = lists.entry.now;
-      planted = planted.entry.now;
-      lengths = lengths.entry.now;
-    }
-
--- and as it ends
-abbrev pub memory_after : (positions : Lent (List ℤ)) (marks : Lent (List ℕ)) (lists : Lent (List (List ℤ))) (planted lengths : Lent (List ℕ)) → Memory
-memory_after positions marks lists planted lengths =
-    record {
-      positions = positions.exit.now;
-      marks = marks.exit.now;
-      lists = lists.exit.now;
-      planted = planted.exit.now;
-      lengths = lengths.exit.now;
-    }
+-- the memory, of what is lent: the numbers of each array as a function begins, or as it ends
+abbrev pub memory_lent : (positions : List ℤ) (marks : List ℕ) (lists : List (List ℤ)) (planted lengths : List ℕ) → Memory
+memory_lent positions marks lists planted lengths = record { positions = positions; marks = marks; lists = lists; planted = planted; lengths = lengths }
 
 -- the same memory but for the positions
 abbrev pub with_positions : Memory → List ℤ → Memory

@@ -3,7 +3,7 @@
 
 ghost use Rattle.std.specs.Prelude.{true, List, [], ◌++◌, ◌≡◌, ℕ, ◌+◌, ◌≤◌, ◌<◌, length, take};
 ghost use Rattle.texts.specs.Texts.{bytes_of};
-ghost use Rattle.run_state.specs.Memory.{memory_before, memory_after, Memory};
+ghost use Rattle.run_state.specs.Memory.{memory_lent, Memory};
 ghost use Rattle.run_state.specs.Changes.{with_pair_planted};
 ghost use Rattle.run_piece.specs.Advances.{StateAt, AdvancesOnce, Advances};
 ghost use Rattle.run_piece.specs.Steps.{Used, Reads, Waits, Passes};
@@ -102,8 +102,8 @@ fn step(
 ) -> FeedResult
     ensures used { Used bytes.now result }
     ensures reads { Reads p bytes.now result
-        carry.old (memory_before positions marks lists planted lengths)
-        carry.new (memory_after positions marks lists planted lengths) }
+        carry.old (memory_lent positions.old marks.old lists.old planted.old lengths.old)
+        carry.new (memory_lent positions.new marks.new lists.new planted.new lengths.new) }
 {
     let passed = pass_plants(p, bytes, planted, lengths);
     let player = passed.player;
@@ -129,9 +129,9 @@ pub fn feed(
     lengths: &mut PlantedLengths,
 ) -> FeedResult
     ensures used_in_bounds { (result.used ≤ length bytes.now) × (0 < length bytes.now → 0 < result.used) × (result.text.len ≤ 64) }
-    ensures by_index { (a : List ℕ) → StateAt a p carry.old (memory_before positions marks lists planted lengths)
-        → AdvancesOnce a (take result.used bytes.now) p (memory_before positions marks lists planted lengths)
-        result.player (bytes_of result.text) carry.new (memory_after positions marks lists planted lengths) }
+    ensures by_index { (a : List ℕ) → StateAt a p carry.old (memory_lent positions.old marks.old lists.old planted.old lengths.old)
+        → AdvancesOnce a (take result.used bytes.now) p (memory_lent positions.old marks.old lists.old planted.old lengths.old)
+        result.player (bytes_of result.text) carry.new (memory_lent positions.new marks.new lists.new planted.new lengths.new) }
 {
     let mut player = p;
     let mut used: usize = 0;
@@ -181,8 +181,8 @@ pub fn finish(
     lengths: &PlantedLengths,
 ) -> FinishResult
     ensures len_bound { (result.line.len ≤ 64) × (result.verdict.len ≤ 64) }
-    ensures by_index { (a carry : List ℕ) → StateAt a p carry (memory_before positions marks lists planted lengths)
-        → FinishesWith a (memory_before positions marks lists planted lengths) result (memory_after positions marks lists planted lengths) }
+    ensures by_index { (a carry : List ℕ) → StateAt a p carry (memory_lent positions.old marks.old lists.old planted.now lengths.now)
+        → FinishesWith a (memory_lent positions.old marks.old lists.old planted.now lengths.now) result (memory_lent positions.new marks.new lists.new planted.now lengths.now) }
 {
     let number = ending(p);
     let verdict = run_listing::verdict_line(number);
@@ -286,9 +286,9 @@ pub fn fill(
     lengths: &mut PlantedLengths,
 ) -> FillResult
     ensures fills { Fills bytes.now result }
-    ensures by_index { (a : List ℕ) → StateAt a p carry.old (memory_before positions marks lists planted lengths)
-        → Advances a (take result.used bytes.now) p (memory_before positions marks lists planted lengths)
-        result.player (take result.len page.new) carry.new (memory_after positions marks lists planted lengths) }
+    ensures by_index { (a : List ℕ) → StateAt a p carry.old (memory_lent positions.old marks.old lists.old planted.old lengths.old)
+        → Advances a (take result.used bytes.now) p (memory_lent positions.old marks.old lists.old planted.old lengths.old)
+        result.player (take result.len page.new) carry.new (memory_lent positions.new marks.new lists.new planted.new lengths.new) }
 {
     let mut player = p;
     let mut used: usize = 0;
@@ -334,8 +334,8 @@ pub fn last_page(
     lengths: &PlantedLengths,
 ) -> usize
     ensures upper_bound { result ≤ page_size }
-    ensures by_index { (a carry : List ℕ) → StateAt a p carry (memory_before positions marks lists planted lengths)
-        → Finishes a (memory_before positions marks lists planted lengths) (take result page.new) (memory_after positions marks lists planted lengths) }
+    ensures by_index { (a carry : List ℕ) → StateAt a p carry (memory_lent positions.old marks.old lists.old planted.now lengths.now)
+        → Finishes a (memory_lent positions.old marks.old lists.old planted.now lengths.now) (take result page.new) (memory_lent positions.new marks.new lists.new planted.now lengths.now) }
 {
     let end = finish(p, positions, marks, lists, planted, lengths);
     let line = end.line;

@@ -1,14 +1,19 @@
 -- The buffers that a whole file is played into: its listing, and a row of 48 numbers, one for each head and listener, and a mark word for
 -- each phase end.
 use Rattle.std.specs.Prelude.{Bool, cond, ◌&&◌, List, ℕ, ◌+◌, ◌*◌, ◌/◌, min, eqb, leb, length, take, drop, ℤ}
+use Rattle.std.specs.Borrow.{MutBor}
+use denote.Triple.Both.{Both}
 use Rattle.fields.specs.Bytes.{at2}
-use Rattle.run_state.specs.Memory.{Lent}
 use Rattle.ring_spec.specs.Rounds.{receivers}
 
 pub record Buffers : Type 0 where
   pub out : List ℕ
   pub rows : List ℤ
   pub words : List ℕ
+
+-- an array that a function is lent to change: its numbers as the function begins and as it ends
+abbrev pub Lent : Type 0 → Type 0
+Lent X = Both (MutBor X) (MutBor X)
 
 -- what is lent, as the function begins
 abbrev pub lent : Lent (List ℕ) → Lent (List ℤ) → Lent (List ℕ) → Buffers

@@ -4,7 +4,7 @@
 
 ghost use Rattle.std.specs.Prelude.{true, List, ◌≡◌, ℕ, ◌+◌, ◌≤◌, ◌<◌, length};
 ghost use Rattle.std.proofs.Math.Seq.{paste};
-ghost use Rattle.run_state.specs.Memory.{memory_before, memory_after};
+ghost use Rattle.run_state.specs.Memory.{memory_lent};
 ghost use Rattle.run_whole.specs.Buffers.{Buffers, lent, left, ends_by_bytes, most_ends, has_room};
 ghost use Rattle.run_whole.specs.Whole.{Whole, Plays, PlaysInto};
 ghost use Rattle.run_whole.specs.Inner.{Put, sound_number, sound_row, word_at, EndKept, Going};
@@ -175,8 +175,8 @@ fn step(
     requires { at.used < length file.now }
     ensures used_lt_used { (at.used < result.used) × (result.used ≤ length file.now) }
     ensures going { (B : Buffers)
-        → Going file.now at carry.old (memory_before positions marks lists planted lengths) B (lent out rows words)
-        → Going file.now result carry.new (memory_after positions marks lists planted lengths) B (left out rows words) }
+        → Going file.now at carry.old (memory_lent positions.old marks.old lists.old planted.old lengths.old) B (lent out rows words)
+        → Going file.now result carry.new (memory_lent positions.new marks.new lists.new planted.new lengths.new) B (left out rows words) }
 {
     let used = at.used;
     let fed = run_stream::feed(
@@ -223,7 +223,7 @@ fn close(
     lengths: &PlantedLengths,
 ) -> PlayResult
     ensures { (file carry : List ℕ) (B : Buffers) → at.used ≡ length file
-        → Going file at carry (memory_before positions marks lists planted lengths) B (lent out rows words) → Whole file result B (left out rows words) }
+        → Going file at carry (memory_lent positions.old marks.old lists.old planted.now lengths.now) B (lent out rows words) → Whole file result B (left out rows words) }
 {
     let player = at.player;
     let finished = run_stream::finish(player, positions, marks, lists, planted, lengths);

@@ -38,8 +38,3 @@ returns-then-not-begun-2 c = rw (c.in-20.is, c.if-not-begun-2.true-raw) c.is_up_
 
 pub returns-else-not-begun-2 : goal.returns-else-not-begun-2
 returns-else-not-begun-2 c = rw (c.in-20.is, c.if-not-begun-2.false-raw)
-
-pub returns-in_default : goal.returns-in_default
-returns-in_default c =
-    let r = c.in-16.rest in
-    simp (ne_eqb _ _ r.0.0.0.0.0.1, ne_eqb _ _ r.0.0.0.0.1, ne_eqb _ _ r.0.0.0.1, ne_eqb _ _ r.0.0.1, ne_eqb _ _ r.0.1, ne_eqb _ _ r.1)

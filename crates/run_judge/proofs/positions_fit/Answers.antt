@@ -9,12 +9,6 @@ use Rattle.run_spec.specs.RunFile.{positions_fit}
 use Rattle.run_judge.proofs.Positions.{fit_next, misfit}
 use Rattle.run_judge.proofs.positions_fit.Goals as goal
 
--- the next position fits exactly if its word says so
-next : (c : goal.After-is_position_word) →
-    positions_fit c.args.bytes.now (c.loop-j.j + 1) ≡ c.is_position_word.result
-next c =
-    fit_next c.args.bytes.now c.loop-j.j c.loop-j.invariant.1 c.word_at.ensures c.is_position_word.ensures
-
 pub loop-j-init : goal.loop-j-init
 unfolding positions_fit
 loop-j-init c = (search rules, refl)
@@ -22,10 +16,13 @@ loop-j-init c = (search rules, refl)
 pub returns-then-not-is_position_word : goal.returns-then-not-is_position_word
 returns-then-not-is_position_word c =
     let a = c.args in
-    sym (misfit a.bytes.now (c.loop-j.j + 1) a.n (next c ∙ c.if-not-is_position_word.true) (omega arith))
+    let next = fit_next a.bytes.now c.loop-j.j c.loop-j.invariant.1 c.word_at.ensures c.is_position_word.ensures in
+    sym (misfit a.bytes.now (c.loop-j.j + 1) a.n (next ∙ c.if-not-is_position_word.true) (omega arith))
 
 pub loop-j-preserved : goal.loop-j-preserved
-loop-j-preserved c = (search rules, next c ∙ c.if-not-is_position_word.false)
+loop-j-preserved c =
+    let next = fit_next c.args.bytes.now c.loop-j.j c.loop-j.invariant.1 c.word_at.ensures c.is_position_word.ensures in
+    (search rules, next ∙ c.if-not-is_position_word.false)
 
 pub returns : goal.returns
 returns c =

@@ -4,7 +4,7 @@ use mathlib.Core.Path.{◌≡◌, sym, ◌∙◌}
 use mathlib.Core.List.{List}
 use Prim.Native.Nat.{ℕ, ◌+◌, ◌*◌}
 use lib.Dec.{eqb}
-use lib.ListN.{length}
+use lib.ListN.{length, get_or}
 use borrow.Author.Rules.{rules}
 use borrow.Author.Tests.{eq-eqb, ne_eqb, not-true, not-false}
 use Rattle.terms.specs.Refusals as refusal
@@ -22,31 +22,28 @@ row K s n f =
     (check_size K n f
     (check (positions_fit s n) refusal.position_out_of_range 0))
 
-at_tests : (c : goal.After-byte_at-f)
-    → let a = c.args in
-    let s = a.bytes.now in
-    start_fault a.family s ≡ row a.family s c.byte_at-n.result c.byte_at-f.result
-at_tests c = rw (c.byte_at-n.ensures, c.byte_at-f.ensures)
+at_tests : (K : Family) (s : List ℕ) {n f : ℕ} → n ≡ get_or s 4 0 → f ≡ get_or s 5 0 → start_fault K s ≡ row K s n f
+at_tests K s p q = rw (p, q)
 
 pub returns-then-bytes-n : goal.returns-then-bytes-n
-returns-then-bytes-n c = rw (at_tests c.before, ne_eqb _ _ c.if-bytes-n.true)
+returns-then-bytes-n c = rw (at_tests c.args.family c.args.bytes.now c.byte_at-n.ensures c.byte_at-f.ensures, ne_eqb _ _ c.if-bytes-n.true)
 
 pub returns-then-size-ne0 : goal.returns-then-size-ne0
 returns-then-size-ne0 c =
     let a = c.args in
     let n = c.byte_at-n.result in
     let e = c.size_refusal-size.ensures in
-    rw (at_tests c.before.before.before, eq-eqb _ _ c.if-bytes-n.false)
+    rw (at_tests c.args.family c.args.bytes.now c.byte_at-n.ensures c.byte_at-f.ensures, eq-eqb _ _ c.if-bytes-n.false)
     (e ∙ size_refused a.family n c.byte_at-f.result (check (positions_fit a.bytes.now n) refusal.position_out_of_range 0) (λ q. c.if-size-ne0.true (e ∙ q)))
 
 pub returns-then-not-positions_fit : goal.returns-then-not-positions_fit
 returns-then-not-positions_fit c =
     let z = sym c.size_refusal-size.ensures ∙ c.if-size-ne0.false in
     let m = sym c.positions_fit.ensures ∙ c.if-not-positions_fit.true in
-    rw (at_tests c.before.before.before.before.before, eq-eqb _ _ c.if-bytes-n.false, size_taken _ _ _ _ z, m)
+    rw (at_tests c.args.family c.args.bytes.now c.byte_at-n.ensures c.byte_at-f.ensures, eq-eqb _ _ c.if-bytes-n.false, size_taken _ _ _ _ z, m)
 
 pub returns : goal.returns
 returns c =
     let z = sym c.size_refusal-size.ensures ∙ c.if-size-ne0.false in
     let m = sym c.positions_fit.ensures ∙ c.if-not-positions_fit.false in
-    rw (at_tests c.before.before.before.before.before, eq-eqb _ _ c.if-bytes-n.false, size_taken _ _ _ _ z, m)
+    rw (at_tests c.args.family c.args.bytes.now c.byte_at-n.ensures c.byte_at-f.ensures, eq-eqb _ _ c.if-bytes-n.false, size_taken _ _ _ _ z, m)

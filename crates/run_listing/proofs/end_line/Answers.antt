@@ -29,8 +29,9 @@ returns c =
     put_fits 9 (le_of_eq (hex_length 8 c.heads_of.result 32)) (omega (arith, p.room, low.room, high.room, wide.room)) c.put_hex_at-at.ensures in
     let confess =
     put_fits 9 (le_of_eq (hex_length 8 c.heads_of-2.result 10)) (omega (arith, p.room, low.room, high.room, wide.room, collect.room))
-    c.put_hex_at-len.ensures in (
-      from_empty refl (longer_then p (longer_then low (longer_then high (longer_then wide (longer_then collect confess)))))
-          ∙ fields_are a.phase a.collect a.confess a.extremes.low a.extremes.high c.spread_of.ensures c.heads_of.ensures c.heads_of-2.ensures,
-      omega (arith, p.room, low.room, high.room, wide.room, collect.room, confess.room),
-    )
+    c.put_hex_at-len.ensures in
+    record {
+      result_value = from_empty refl (longer_then p (longer_then low (longer_then high (longer_then wide (longer_then collect confess)))))
+          ∙ fields_are a.phase a.collect a.confess a.extremes.low a.extremes.high c.spread_of.ensures c.heads_of.ensures c.heads_of-2.ensures;
+      len_bound = omega (arith, p.room, low.room, high.room, wide.room, collect.room, confess.room);
+    }

@@ -10,6 +10,7 @@ use Rattle.ring_spec.specs.Rounds.{receivers}
 use Rattle.run_listing.specs.Held.{end_in}
 use Rattle.run_listing.specs.Heights.{first_sound}
 use Rattle.run_listing.proofs.Lowest.{first_none, first_struck, first_sound_lem}
+use mir.Syntax.{w32}
 use Rattle.run_listing.proofs.first_sound.Goals as goal
 
 pub loop-first-init : goal.loop-first-init
@@ -18,7 +19,7 @@ loop-first-init c = (omega arith, first_none _)
 pub returns-then-is_sound : goal.returns-then-is_sound
 returns-then-is_sound c =
     let a = c.args in
-    let v = to_z-of_z (record { sfits = c.position_at.type_inv }) ∙ c.position_at.ensures in
+    let v = to_z-of_z {w = w32} (record { sfits = c.position_at.type_inv }) ∙ c.position_at.ensures in
     first_sound_lem a.n a.m a.struck a.positions.now _ c.loop-first.invariant.1 c.loop-first-test.true (not-true _ (sym c.is_sound.ensures ∙ c.if-is_sound.true)) v
 
 pub loop-first-preserved : goal.loop-first-preserved

@@ -1,16 +1,17 @@
 -- `run_listing::height` meets its contract: a word from 2^31 up is that of a number below zero.
-use mathlib.Core.Path.{◌≡◌, ap, ◌∙◌}
+use mathlib.Core.Path.{ap, ◌∙◌}
 use mir.Facts.{to_z-of_z}
 use borrow.Author.Rules.{rules}
 use Rattle.fields.specs.Bytes.{word_of}
 use Rattle.run_listing.proofs.Heights.{low_word, high_word}
 use Rattle.run_listing.proofs.height.Goals as goal
 
-word : (c : goal.After-unsigned-w) → c.unsigned-w.result ≡ word_of c.args.v
-word c = c.unsigned-w.ensures ∙ ap word_of (to_z-of_z c.ranges.v)
-
 pub returns-then-w-lt2147483648 : goal.returns-then-w-lt2147483648
-returns-then-w-lt2147483648 c = rw (word c.before) (low_word _ c.ranges.v (rw (word c.before) at c.if-w-lt2147483648.true))
+returns-then-w-lt2147483648 c =
+    let word = c.unsigned-w.ensures ∙ ap word_of (to_z-of_z c.ranges.v) in
+    rw word (low_word _ c.ranges.v (rw word at c.if-w-lt2147483648.true))
 
 pub returns-else-w-lt2147483648 : goal.returns-else-w-lt2147483648
-returns-else-w-lt2147483648 c = rw (word c.before) (high_word _ c.ranges.v (rw (word c.before) at c.if-w-lt2147483648.false))
+returns-else-w-lt2147483648 c =
+    let word = c.unsigned-w.ensures ∙ ap word_of (to_z-of_z c.ranges.v) in
+    rw word (high_word _ c.ranges.v (rw word at c.if-w-lt2147483648.false))

@@ -16,5 +16,5 @@ returns-in-Null c = rw c.in-Null.is (put_fits 12 (omega arith) (omega arith) c.p
 
 pub returns-in-Position : goal.returns-in-Position
 returns-in-Position c =
-    let v : SFits w32 c.in-Position.v = record { sfits = c.known_told-1.given.0.1 } in
+    let v : SFits w32 c.in-Position.v = search rules in
     rw c.in-Position.is (longer_as (ap (λ (z : ℤ). whole z ++ (32 ∷ [])) (to_z-of_z v)) (omega arith) c.put_position.ensures)

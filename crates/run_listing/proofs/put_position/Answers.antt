@@ -27,12 +27,9 @@ unfolding height_of
 whole_above (pos n) {h} e l = let k : h - 2147483648 ≡ n = omega arith in ap decimal k
 whole_above (negsuc n) e l = absurd (omega arith)
 
-is : (c : goal.After-height-h) → c.height-h.result ≡ height_of c.args.v
-is c = height_read c.ranges.v c.height-h.ensures
-
 pub returns-then-h-lt2147483648 : goal.returns-then-h-lt2147483648
 returns-then-h-lt2147483648 c =
-    let e = whole_below _ c.ranges.v (is c.before.before.before.before.before.before.before) c.if-h-lt2147483648.true in
+    let e = whole_below _ c.ranges.v (height_read c.ranges.v c.height-h.ensures) c.if-h-lt2147483648.true in
     let x = 2147483648 - c.height-h.result in
     let sign = put_fits 1 (omega arith) (omega arith) c.put_at-to.ensures in
     let number = put_fits 11 (decimal_short x 32) (omega (arith, sign.room)) c.put_number_at.ensures in
@@ -40,6 +37,6 @@ returns-then-h-lt2147483648 c =
 
 pub returns-else-h-lt2147483648 : goal.returns-else-h-lt2147483648
 returns-else-h-lt2147483648 c =
-    let e = whole_above _ (is c.before.before.before) c.if-h-lt2147483648.false in
+    let e = whole_above _ (height_read c.ranges.v c.height-h.ensures) c.if-h-lt2147483648.false in
     let number = put_fits 11 (decimal_short (c.height-h.result - 2147483648) 32) (omega arith) c.put_number_at-else-h-lt2147483648.ensures in
     longer_as (ap (λ (l : List ℕ). l ++ (32 ∷ [])) e) (omega arith) number

@@ -10,4 +10,4 @@ unfolding title
 returns c =
     let o = c.empty.ensures in
     let line = put_fits 38 (omega arith) (omega (arith, o)) c.put.ensures in
-    (from_empty o line, omega (arith, o, line.room))
+    record { result_value = from_empty o line; len_bound = omega (arith, o, line.room) }

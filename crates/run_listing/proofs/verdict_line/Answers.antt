@@ -11,7 +11,7 @@ pub returns-then-number-eq0 : goal.returns-then-number-eq0
 returns-then-number-eq0 c =
     let o = c.empty.ensures in
     let line = put_fits 4 (omega arith) (omega (arith, o)) c.put.ensures in
-    (rw c.if-number-eq0.true (from_empty o line), omega (arith, o, line.room))
+    record { result_value = rw c.if-number-eq0.true (from_empty o line); len_bound = omega (arith, o, line.room) }
 
 pub returns-else-number-eq0 : goal.returns-else-number-eq0
 returns-else-number-eq0 c =
@@ -20,4 +20,4 @@ returns-else-number-eq0 c =
     let e : n ≡ suc (n - 1) = omega (arith, c.if-number-eq0.false) in
     let word = put_fits 8 (omega arith) (omega (arith, o)) c.put-else-number-eq0.ensures in
     let number = put_fits 11 (decimal_short n 10) (omega (arith, o, word.room)) c.put_number.ensures in
-    (rw e (rw e at (from_empty o (longer_then word number))), omega (arith, o, word.room, number.room))
+    record { result_value = rw e (rw e at (from_empty o (longer_then word number))); len_bound = omega (arith, o, word.room, number.room) }

@@ -5,7 +5,7 @@ use Rattle.run_piece.proofs.Feeding.{uses_all, uses_one, rests, whole_there}
 use Rattle.run_piece.proofs.advance.Goals as goal
 
 pub returns-then-p-ne0 : goal.returns-then-p-ne0
-returns-then-p-ne0 c = (uses_all c.quiet.ensures, λ a L. rests L c.if-p-ne0.true c.quiet.ensures)
+returns-then-p-ne0 c = record { used = uses_all c.quiet.ensures; reads = λ a L. rests L c.if-p-ne0.true c.quiet.ensures }
 
 pub front-whole-requires : goal.front-whole-requires
 front-whole-requires c =
@@ -18,4 +18,7 @@ returns-then-is_whole c =
     let ok = c.if-p-ne0.false in
     let t = c.take_record-t.ensures in
     let T = c.taken.ensures in
-    (uses_one W c.half_at-used.ensures T t.1, λ a L. whole_there L _ ok T t.0 W c.half_at-used.ensures c.front-whole.ensures)
+    record {
+      used = uses_one W c.half_at-used.ensures T t.len_bound;
+      reads = λ a L. whole_there L _ ok T t.by_index W c.half_at-used.ensures c.front-whole.ensures;
+    }

@@ -6,23 +6,20 @@ use borrow.Author.Tests.{eq-eqb, ne_eqb, le-leb, lt-leb, not-true, not-false}
 use Rattle.run_piece.specs.Steps.{is_settled}
 use Rattle.run_piece.proofs.is_calm.Goals as goal
 
-settled : (e : goal.Else-not-is_settled) → is_settled e.args.p ≡ true
-settled e = sym e.is_settled.ensures ∙ e.if-not-is_settled.false
-
 pub returns-then-not-is_settled : goal.returns-then-not-is_settled
 returns-then-not-is_settled c = rw (sym c.is_settled.ensures ∙ c.if-not-is_settled.true)
 
 pub returns-then-bytes-lt8 : goal.returns-then-bytes-lt8
-returns-then-bytes-lt8 c = rw (settled c.before, lt-leb _ _ c.if-bytes-lt8.true)
+returns-then-bytes-lt8 c = rw (sym c.is_settled.ensures ∙ c.if-not-is_settled.false, lt-leb _ _ c.if-bytes-lt8.true)
 
 pub returns-then-half_at-ne8 : goal.returns-then-half_at-ne8
 returns-then-half_at-ne8 c =
-    rw (settled c.before.before.before, le-leb _ _ c.if-bytes-lt8.false, ← c.half_at.ensures, ne_eqb _ _ c.if-half_at-ne8.true)
+    rw (sym c.is_settled.ensures ∙ c.if-not-is_settled.false, le-leb _ _ c.if-bytes-lt8.false, ← c.half_at.ensures, ne_eqb _ _ c.if-half_at-ne8.true)
 
 pub returns-then-half_at-ne-ROUND : goal.returns-then-half_at-ne-ROUND
 returns-then-half_at-ne-ROUND c =
-    rw (settled c.before.before.before.before.before, le-leb _ _ c.if-bytes-lt8.false, ← c.half_at.ensures, eq-eqb _ _ c.if-half_at-ne8.false, ← c.half_at-2.ensures, ne_eqb _ _ c.if-half_at-ne-ROUND.true)
+    rw (sym c.is_settled.ensures ∙ c.if-not-is_settled.false, le-leb _ _ c.if-bytes-lt8.false, ← c.half_at.ensures, eq-eqb _ _ c.if-half_at-ne8.false, ← c.half_at-2.ensures, ne_eqb _ _ c.if-half_at-ne-ROUND.true)
 
 pub returns : goal.returns
 returns c =
-    rw (settled c.before.before.before.before.before.before, le-leb _ _ c.if-bytes-lt8.false, ← c.half_at.ensures, eq-eqb _ _ c.if-half_at-ne8.false, ← c.half_at-2.ensures, eq-eqb _ _ c.if-half_at-ne-ROUND.false, ← c.round_fault.ensures)
+    rw (sym c.is_settled.ensures ∙ c.if-not-is_settled.false, le-leb _ _ c.if-bytes-lt8.false, ← c.half_at.ensures, eq-eqb _ _ c.if-half_at-ne8.false, ← c.half_at-2.ensures, eq-eqb _ _ c.if-half_at-ne-ROUND.false, ← c.round_fault.ensures)

@@ -2,27 +2,30 @@
 use mathlib.Core.Path.{sym, ◌∙◌}
 use borrow.Author.Rules.{rules}
 use borrow.Author.Tests.{eq-eqb, ne_eqb}
-use Rattle.run_piece.proofs.Planting.{Plants, size_plants, passed_none, none_passed, plant_there}
+use Rattle.run_piece.proofs.Planting.{size_plants, passed_none, none_passed, plant_there}
 use Rattle.run_piece.proofs.pass_plant.Goals as goal
-
-there : (e : goal.Else-used-eq0) → Plants e.args.rest.now e.plant_size-used.result
-there e = size_plants e.args.rest.now e.plant_size-used.ensures e.if-used-eq0.false
 
 pub returns-then-used-eq0 : goal.returns-then-used-eq0
 returns-then-used-eq0 c =
     let a = c.args in
-    (passed_none a.n a.m a.struck a.previous a.rest.now (sym c.if-used-eq0.true ∙ c.plant_size-used.ensures), λ p W a carry M L. none_passed L W)
+    record {
+      used_value = passed_none a.n a.m a.struck a.previous a.rest.now (sym c.if-used-eq0.true ∙ c.plant_size-used.ensures);
+      passes = λ p W a carry M L. none_passed L W;
+    }
 
 pub returns-then-plant_fault-ne0 : goal.returns-then-plant_fault-ne0
-returns-then-plant_fault-ne0 c = (rw (← c.plant_fault.ensures, ne_eqb _ _ c.if-plant_fault-ne0.true), λ p W a carry M L. none_passed L W)
+returns-then-plant_fault-ne0 c =
+    record { used_value = rw (← c.plant_fault.ensures, ne_eqb _ _ c.if-plant_fault-ne0.true); passes = λ p W a carry M L. none_passed L W }
 
 pub front-requires : goal.front-requires
-front-requires c = (there c.before.before).within
+front-requires c = (size_plants c.args.rest.now c.plant_size-used.ensures c.if-used-eq0.false).within
 
 pub returns : goal.returns
 returns c =
     let sound = sym c.plant_fault.ensures ∙ c.if-plant_fault-ne0.false in
-    let (pair, (_, (_, reads))) = c.plant_in-next.ensures in (
-      rw (← c.plant_fault.ensures, eq-eqb _ _ c.if-plant_fault-ne0.false) c.plant_size-used.ensures,
-      λ p W a carry M L. plant_there L W _ (there c.before.before.before.before.before.before) c.front.ensures sound pair reads,
-    )
+    let there = size_plants c.args.rest.now c.plant_size-used.ensures c.if-used-eq0.false in
+    let e = c.plant_in-next.ensures in
+    record {
+      used_value = rw (← c.plant_fault.ensures, eq-eqb _ _ c.if-plant_fault-ne0.false) c.plant_size-used.ensures;
+      passes = λ p W a carry M L. plant_there L W _ there c.front.ensures sound e.pair e.reads;
+    }

@@ -7,7 +7,7 @@ use Rattle.run_program.proofs.step.Goals as goal
 
 pub returns-then-not-fits : goal.returns-then-not-fits
 returns-then-not-fits c =
-    let no = sym c.fits2.ensures ∙ c.if-not-fits.true in
+    let no = sym c.fits.ensures ∙ c.if-not-fits.true in
     rw c.failed.ensures
     record {
       asks = refl;
@@ -18,10 +18,10 @@ returns-then-not-fits c =
 
 pub go_on-next-requires : goal.go_on-next-requires
 go_on-next-requires c =
-    sym c.fits2.ensures ∙ c.if-not-fits.false
+    sym c.fits.ensures ∙ c.if-not-fits.false
 
 pub returns : goal.returns
 returns c =
-    let fit = sym c.fits2.ensures ∙ c.if-not-fits.false in
-    let (stage, runs) = c.go_on-next.ensures in
-    record { asks = c.ask_of.ensures; stage = rw fit stage; runs = λ e a out R. runs a out R; fails = λ e. absurd (true≢false (sym fit ∙ e)) }
+    let fit = sym c.fits.ensures ∙ c.if-not-fits.false in
+    let e = c.go_on-next.ensures in
+    record { asks = c.ask_of.ensures; stage = rw fit e.stage_value; runs = λ u a out R. e.by_index a out R; fails = λ u. absurd (true≢false (sym fit ∙ u)) }

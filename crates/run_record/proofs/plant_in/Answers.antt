@@ -13,4 +13,10 @@ pub returns : goal.returns
 returns c =
     let from = c.byte_at-from.ensures in
     let to = c.byte_at-to.ensures in
-    (ap₂ made from to, rw (← from, ← to, ← c.bytes_from-frame.ensures) c.plant.ensures)
+    let frame = c.bytes_from-frame.ensures in
+    record {
+      pair = ap₂ made from to;
+      bytes = rw (← from, ← to, ← frame) c.plant.ensures.bytes;
+      lengths = rw (← from, ← to, ← frame) c.plant.ensures.lengths;
+      reads = rw (← from, ← to, ← frame) c.plant.ensures.reads;
+    }

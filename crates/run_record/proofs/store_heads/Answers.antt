@@ -9,6 +9,7 @@ use lib.Seq.{get_or-set_same, get_or-set_other}
 use lib.IntN.{ℤ, pos}
 use borrow.Author.Rules.{rules}
 use mir.Facts.{to_z-of_z}
+use mir.Syntax.{w32}
 use Rattle.run_record.proofs.store_heads.Goals as goal
 
 -- one more of the numbers v
@@ -26,7 +27,7 @@ loop-j-init c = (omega arith, λ i l. absurd (omega arith), refl)
 pub loop-j-preserved : goal.loop-j-preserved
 loop-j-preserved c =
     let l = c.loop-j in
-    (search rules, stored_more l.positions c.args.first.now l.j (search rules) (to_z-of_z (record { sfits = c.positions-1.given })) l.invariant.1, simp length-set l.invariant.2)
+    (search rules, stored_more l.positions c.args.first.now l.j (search rules) (to_z-of_z {w = w32} (search rules)) l.invariant.1, simp length-set l.invariant.2)
 
 pub returns : goal.returns
 returns c = λ j l. c.loop-j.invariant.1 j (omega arith)

@@ -11,70 +11,74 @@ use Rattle.terms.specs.declared.Family.TheVariants.{TwoRounds, OneRound}
 use Rattle.run_spec.specs.RunFile.{read_file, start, round, plant, listeners, strikes, other, record_kind, kind_in, length_in, is_allowed}
 use Rattle.terms.proofs.Booleans.{and_both}
 use Rattle.run_spec.proofs.Whole.{plant_long}
-use Rattle.run_state.specs.Memory.{Memory}
+use Rattle.run_state.specs.Memory.{memory_lent}
 use Rattle.run_record.proofs.Records.{start_place, round_place, listeners_place, strikes_place}
 use Rattle.run_record.proofs.take_allowed.Goals as goal
 
--- the memory as it was lent
-abbrev lent : tie.After-half-at → Memory
-lent h =
-    let a = h.before.before.args in
-    record {
-      positions = a.positions.now;
-      marks = a.marks.now;
-      lists = a.lists.now;
-      planted = a.planted.now;
-      lengths = a.lengths.now;
-    }
-
 pub returns-in-16 : goal.returns-in-16
 returns-in-16 c =
-    let s = c.args.bytes.now in
+    let x = c.args in
+    let s = x.bytes.now in
     let kind : kind_in s ≡ start TwoRounds = ap record_kind (sym c.half_at.ensures ∙ c.in-16.is) in
-    let (next, room) = c.take_start.ensures in
-    (λ a T H may whole. rw kind (next (read_file a) (lent c) (start_place (read_file a) (length_in s) TwoRounds (rw kind at may)) T H), room)
+    record {
+      by_index = λ a T H may whole. rw kind (c.take_start.ensures.next (read_file a) (memory_lent x.positions.now x.marks.now x.lists.now x.planted.now x.lengths.now) (start_place (read_file a) (length_in s) TwoRounds (rw kind at may)) T H);
+      len_bound = c.take_start.ensures.len_bound;
+    }
 
 pub returns-in-17 : goal.returns-in-17
 returns-in-17 c =
     let s = c.args.bytes.now in
     let kind : kind_in s ≡ round = ap record_kind (sym c.half_at.ensures ∙ c.in-17.is) in
-    let (next, room) = c.take_round.ensures in
-    (λ a T H may whole. rw kind (next a (round_place (read_file a) (length_in s) (rw kind at may)) T H), room)
+    record {
+      by_index = λ a T H may whole. rw kind (c.take_round.ensures.by_index a (round_place (read_file a) (length_in s) (rw kind at may)) T H);
+      len_bound = c.take_round.ensures.len_bound;
+    }
 
 pub returns-in-18 : goal.returns-in-18
 returns-in-18 c =
-    let s = c.args.bytes.now in
+    let x = c.args in
+    let s = x.bytes.now in
     let kind : kind_in s ≡ plant = ap record_kind (sym c.half_at.ensures ∙ c.in-18.is) in
-    let (next, room) = c.take_plant.ensures in
     let short : (a : List ℕ) → is_allowed plant (read_file a) (length_in s) ≡ true → length s ≡ length_in s → length (drop 6 s) ≤ 140 =
     λ a may whole. omega (arith, length-drop 6 s, plant_long (length_in s) (and_both (read_file a).rounds.pending _ may).1) in
-    (λ a T H may whole. rw kind (next (read_file a) (lent c) (short a (rw kind at may) whole) T H), room)
+    record {
+      by_index = λ a T H may whole. rw kind (c.take_plant.ensures.next (read_file a) (memory_lent x.positions.now x.marks.now x.lists.now x.planted.now x.lengths.now) (short a (rw kind at may) whole) T H);
+      len_bound = c.take_plant.ensures.len_bound;
+    }
 
 pub returns-in-21 : goal.returns-in-21
 returns-in-21 c =
     let s = c.args.bytes.now in
     let kind : kind_in s ≡ listeners = ap record_kind (sym c.half_at.ensures ∙ c.in-21.is) in
-    let (next, room) = c.take_listeners.ensures in
-    (λ a T H may whole. rw kind (next (read_file a) _ (listeners_place (read_file a) (length_in s) (rw kind at may)) T H), room)
+    record {
+      by_index = λ a T H may whole. rw kind (c.take_listeners.ensures.next (read_file a) _ (listeners_place (read_file a) (length_in s) (rw kind at may)) T H);
+      len_bound = c.take_listeners.ensures.len_bound;
+    }
 
 pub returns-in-19 : goal.returns-in-19
 returns-in-19 c =
     let s = c.args.bytes.now in
     let kind : kind_in s ≡ strikes = ap record_kind (sym c.half_at.ensures ∙ c.in-19.is) in
-    let (next, room) = c.take_strikes.ensures in
-    (λ a T H may whole. rw kind (next a _ (strikes_place (read_file a) (length_in s) (rw kind at may)) T H), room)
+    record {
+      by_index = λ a T H may whole. rw kind (c.take_strikes.ensures.by_index a _ (strikes_place (read_file a) (length_in s) (rw kind at may)) T H);
+      len_bound = c.take_strikes.ensures.len_bound;
+    }
 
 pub returns-in-20 : goal.returns-in-20
 returns-in-20 c =
-    let s = c.args.bytes.now in
+    let x = c.args in
+    let s = x.bytes.now in
     let kind : kind_in s ≡ start OneRound = ap record_kind (sym c.half_at.ensures ∙ c.in-20.is) in
-    let (next, room) = c.take_start-in-20.ensures in
-    (λ a T H may whole. rw kind (next (read_file a) (lent c) (start_place (read_file a) (length_in s) OneRound (rw kind at may)) T H), room)
+    record {
+      by_index = λ a T H may whole. rw kind (c.take_start-in-20.ensures.next (read_file a) (memory_lent x.positions.now x.marks.now x.lists.now x.planted.now x.lengths.now) (start_place (read_file a) (length_in s) OneRound (rw kind at may)) T H);
+      len_bound = c.take_start-in-20.ensures.len_bound;
+    }
 
 pub returns-in_default : goal.returns-in_default
 returns-in_default c =
     let s = c.args.bytes.now in
-    let r = c.in-16.rest in
-    let kind : kind_in s ≡ other =
-    ap record_kind (sym c.half_at.ensures) ∙ simp (ne_eqb _ _ r.0.0.0.0.0.1, ne_eqb _ _ r.0.0.0.0.1, ne_eqb _ _ r.0.0.0.1, ne_eqb _ _ r.0.0.1, ne_eqb _ _ r.0.1, ne_eqb _ _ r.1) in
-    (λ a T H may whole. absurd (true≢false (sym (rw kind at may))), c.refuse.ensures.1)
+    let kind : kind_in s ≡ other = ap record_kind (sym c.half_at.ensures) ∙ search rules in
+    record {
+      by_index = λ a T H may whole. absurd (true≢false (sym (rw kind at may)));
+      len_bound = c.refuse.ensures.len_bound;
+    }

@@ -9,17 +9,18 @@ use Rattle.run_record.proofs.take_listeners.Goals as goal
 
 pub returns-then-fault-ne0 : goal.returns-then-fault-ne0
 returns-then-fault-ne0 c =
-    let (next, room) = c.refuse.ensures in (
-      λ F M may T H. rw (judged_stopped listeners F _ _ c.listeners_fault-fault.ensures c.if-fault-ne0.true) (next F M T H),
-      room,
-    )
+    record {
+      next = λ F M may T H. rw (judged_stopped listeners F _ _ c.listeners_fault-fault.ensures c.if-fault-ne0.true) (c.refuse.ensures.next F M T H);
+      len_bound = c.refuse.ensures.len_bound;
+    }
 
 pub returns : goal.returns
 returns c =
     let x = c.args in
-    let s = x.bytes.now in (
-      λ F M may T H.
+    let s = x.bytes.now in
+    record {
+      next = λ F M may T H.
           rw (judged_taken listeners F s c.listeners_fault-fault.ensures c.if-fault-ne0.false)
-          (listeners_next s may H T (c.given_listeners.ensures ∙ ap (with_listeners_given x.p) c.byte_at.ensures) c.empty.ensures),
-      omega (arith, c.empty.ensures),
-    )
+          (listeners_next s may H T (c.given_listeners.ensures ∙ ap (with_listeners_given x.p) c.byte_at.ensures) c.empty.ensures);
+      len_bound = omega (arith, c.empty.ensures);
+    }

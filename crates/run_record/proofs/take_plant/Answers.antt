@@ -19,16 +19,19 @@ fault T s e = e ∙ sym (plant_fault_as T s)
 pub returns-then-fault-ne0 : goal.returns-then-fault-ne0
 returns-then-fault-ne0 c =
     let s = c.args.bytes.now in
-    let (next, room) = c.refuse.ensures in
-    (λ F M few T H. rw (judged_stopped plant F s _ (fault T s c.plant_fault-fault.ensures) c.if-fault-ne0.true) (next F _ T H), room)
+    record {
+      next = λ F M few T H. rw (judged_stopped plant F s _ (fault T s c.plant_fault-fault.ensures) c.if-fault-ne0.true) (c.refuse.ensures.next F _ T H);
+      len_bound = c.refuse.ensures.len_bound;
+    }
 
 pub returns : goal.returns
 returns c =
     let a = c.args in
     let s = a.bytes.now in
-    let (pair, (_, (_, reads))) = c.plant_in-pair.ensures in (
-      λ F M few T H.
+    let e = c.plant_in-pair.ensures in
+    record {
+      next = λ F M few T H.
           rw (judged_taken plant F s (fault T s c.plant_fault-fault.ensures) c.if-fault-ne0.false)
-          (plant_next s H few reads T (c.planted_pair.ensures ∙ ap (with_pair_planted a.p) pair) c.empty.ensures),
-      omega (arith, c.empty.ensures),
-    )
+          (plant_next s H few e.reads T (c.planted_pair.ensures ∙ ap (with_pair_planted a.p) e.pair) c.empty.ensures);
+      len_bound = omega (arith, c.empty.ensures);
+    }

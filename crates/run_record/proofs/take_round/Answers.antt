@@ -12,23 +12,24 @@ use Rattle.run_record.proofs.take_round.Goals as goal
 pub returns-then-fault-ne0 : goal.returns-then-fault-ne0
 returns-then-fault-ne0 c =
     let s = c.args.bytes.now in
-    let (next, room) = c.refuse.ensures in (
-      λ a begun T H.
+    record {
+      by_index = λ a begun T H.
           rw (judged_stopped round (read_file a) s _ (c.round_fault-fault.ensures ∙ sym (round_fault_as T s)) c.if-fault-ne0.true)
-          (next (read_file a) _ T H),
-      room,
-    )
+          (c.refuse.ensures.next (read_file a) _ T H);
+      len_bound = c.refuse.ensures.len_bound;
+    }
 
 pub returns : goal.returns
 returns c =
     let x = c.args in
     let s = x.bytes.now in
-    let (turned, room) = c.play_waiting-text.ensures in
-    let is = c.given_round.ensures ∙ ap (λ (w : ℕ). with_round_given x.p w c.agree-agreed.result) c.word_at.ensures in (
-      λ a begun T H.
+    let room = c.play_waiting-text.ensures.len_bound in
+    let is = c.given_round.ensures ∙ ap (λ (w : ℕ). with_round_given x.p w c.agree-agreed.result) c.word_at.ensures in
+    record {
+      by_index = λ a begun T H.
           let e = c.round_fault-fault.ensures ∙ sym (round_fault_as T s) in
-          let P = turned a s begun T H in
+          let P = c.play_waiting-text.ensures.by_index a s begun T H in
           rw (judged_taken round (read_file a) s e c.if-fault-ne0.false)
-          (round_next s P.shows (c.agree-agreed.ensures a record { positions = []; marks = _; lists = _; planted = _; lengths = _ } begun T P.holds) room (c.clear.ensures _) T (round_room (read_file a) s (sym e ∙ c.if-fault-ne0.false)) is),
-      room,
-    )
+          (round_next s P.shows (c.agree-agreed.ensures a record { positions = []; marks = _; lists = _; planted = _; lengths = _ } begun T P.holds) room (c.clear.ensures _) T (round_room (read_file a) s (sym e ∙ c.if-fault-ne0.false)) is);
+      len_bound = room;
+    }

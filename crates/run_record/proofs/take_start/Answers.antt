@@ -12,23 +12,25 @@ use Rattle.run_record.proofs.take_start.Goals as goal
 
 pub returns-then-number-ne0 : goal.returns-then-number-ne0
 returns-then-number-ne0 c =
-    let (next, room) = c.refuse.ensures in (
-      λ F M begun T H.
-          rw (judged_stopped (start c.args.family) F _ _ c.start_fault-number.ensures c.if-number-ne0.true) (next F _ T H),
-      room,
-    )
+    record {
+      next = λ F M begun T H.
+          rw (judged_stopped (start c.args.family) F _ _ c.start_fault-number.ensures c.if-number-ne0.true) (c.refuse.ensures.next F _ T H);
+      len_bound = c.refuse.ensures.len_bound;
+    }
 
 pub returns : goal.returns
 returns c =
     let K = c.args.family in
     let s = c.args.bytes.now in
-    let (text, room) = c.end_line.ensures in (
-      λ F M begun T H.
+    let text = c.end_line.ensures.result_value in
+    let room = c.end_line.ensures.len_bound in
+    record {
+      next = λ F M begun T H.
           let e = c.start_fault-number.ensures in
           rw (judged_taken (start K) F s e c.if-number-ne0.false)
           (start_next s K begun (sym e ∙ c.if-number-ne0.false) (λ j b. c.store_heads.ensures j b ∙ c.first_positions-first.ensures j b)
           (c.fresh.ensures ∙ ap₂ (fresh_player true K) c.byte_at-n.ensures c.byte_at.ensures)
-          (text ∙ found_line c.byte_at-n.result 0 0 0 0 0 c.store_heads.new.1.0 c.extremes_of.ensures ∙ ap (λ (m : ℕ). end_line m 0 0 c.store_heads.new.1.0 0 0 0) c.byte_at-n.ensures)
-          room),
-      room,
-    )
+          (text ∙ found_line c.byte_at-n.result 0 0 0 0 0 c.store_heads.new.positions c.extremes_of.ensures ∙ ap (λ (m : ℕ). end_line m 0 0 c.store_heads.new.positions 0 0 0) c.byte_at-n.ensures)
+          room);
+      len_bound = room;
+    }

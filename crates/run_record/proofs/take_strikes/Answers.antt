@@ -13,21 +13,22 @@ use Rattle.run_record.proofs.take_strikes.Goals as goal
 pub returns-then-fault-ne0 : goal.returns-then-fault-ne0
 returns-then-fault-ne0 c =
     let s = c.args.bytes.now in
-    let (next, room) = c.refuse.ensures in (
-      λ a M may T H.
+    record {
+      by_index = λ a M may T H.
           rw (judged_stopped strikes (read_file a) s _ (c.strikes_fault-fault.ensures ∙ sym (strikes_fault_as T s)) c.if-fault-ne0.true)
-          (next (read_file a) M T H),
-      room,
-    )
+          (c.refuse.ensures.next (read_file a) M T H);
+      len_bound = c.refuse.ensures.len_bound;
+    }
 
 pub returns : goal.returns
 returns c =
     let x = c.args in
-    let s = x.bytes.now in (
-      λ a M may T H.
+    let s = x.bytes.now in
+    record {
+      by_index = λ a M may T H.
           let (pending, untold, none) = bare_pending (read_file a).rounds may in
           let small = ((taken a ((cost a).begun pending)).waiting pending).untold untold in
           rw (judged_taken strikes (read_file a) s (c.strikes_fault-fault.ensures ∙ sym (strikes_fault_as T s)) c.if-fault-ne0.false)
-          (strikes_next s small H T (c.given_strikes.ensures ∙ ap (with_strikes_given x.p) c.half_at.ensures) c.empty.ensures),
-      omega (arith, c.empty.ensures),
-    )
+          (strikes_next s small H T (c.given_strikes.ensures ∙ ap (with_strikes_given x.p) c.half_at.ensures) c.empty.ensures);
+      len_bound = omega (arith, c.empty.ensures);
+    }

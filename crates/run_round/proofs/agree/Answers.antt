@@ -19,5 +19,4 @@ returns-then-not-ends_phase c =
 pub returns : goal.returns
 returns c =
     let ends = sym c.ends_phase.ensures ∙ c.if-not-ends_phase.false in
-    let (is, becomes) = c.level.ensures in
-    λ a M begun T H. at_end a M begun T H c.if-p.false (not-false _ c.if-not-p.false) ends c.level.new.1.1.1.0 is becomes
+    λ a M begun T H. at_end a M begun T H c.if-p.false (not-false _ c.if-not-p.false) ends c.level.new.positions c.level.ensures.is c.level.ensures.becomes

@@ -9,10 +9,9 @@ use Rattle.run_round.proofs.line_of.Goals as goal
 pub returns-then-not-ends_phase : goal.returns-then-not-ends_phase
 returns-then-not-ends_phase c =
     let opens = sym c.ends_phase.ensures ∙ c.if-not-ends_phase.true in
-    (rw opens (empty_text _ c.empty.ensures), omega (arith, c.empty.ensures))
+    record { result_value = rw opens (empty_text _ c.empty.ensures); len_bound = omega (arith, c.empty.ensures) }
 
 pub returns : goal.returns
 returns c =
     let ends = sym c.ends_phase.ensures ∙ c.if-not-ends_phase.false in
-    let (text, room) = c.line_with.ensures in
-    (text _ ends c.extremes_of.ensures, room)
+    record { result_value = c.line_with.ensures.result_value _ ends c.extremes_of.ensures; len_bound = c.line_with.ensures.len_bound }

@@ -23,19 +23,21 @@ agreed_position (Position u) e f = f u refl
 pub returns-then-not-ends_phase : goal.returns-then-not-ends_phase
 returns-then-not-ends_phase c =
     let opens = sym c.ends_phase.ensures ∙ c.if-not-ends_phase.true in
-    let room : c.empty.result.len ≤ 64 = omega (arith, c.empty.ensures) in (
-      λ a M begun pending T agreed H.
-          kept_played (taken a begun) begun pending T H refl (agreed_kept (taken a begun) begun pending T H refl agreed) (rw opens (empty_text _ c.empty.ensures)) room,
-      room,
-    )
+    let room : c.empty.result.len ≤ 64 = omega (arith, c.empty.ensures) in
+    record {
+      by_index = λ a M begun pending T agreed H.
+          kept_played (taken a begun) begun pending T H refl (agreed_kept (taken a begun) begun pending T H refl agreed) (rw opens (empty_text _ c.empty.ensures)) room;
+      len_bound = room;
+    }
 
 pub returns : goal.returns
 returns c =
     let x = c.args in
     let ends = sym c.ends_phase.ensures ∙ c.if-not-ends_phase.false in
-    let (text, room) = c.line_with.ensures in (
-      λ a M begun pending T agreed H.
+    let line = c.line_with.ensures in
+    record {
+      by_index = λ a M begun pending T agreed H.
           let found = agreed_position _ (T.agreed ∙ agreed) (λ u is. found_first x.p.n x.p.listeners x.p.struck x.positions.now (H.level begun u is) c.first_sound-held.ensures) in
-          kept_played (taken a begun) begun pending T H refl (agreed_kept (taken a begun) begun pending T H refl agreed) (text _ ends found) room,
-      room,
-    )
+          kept_played (taken a begun) begun pending T H refl (agreed_kept (taken a begun) begun pending T H refl agreed) (line.result_value _ ends found) line.len_bound;
+      len_bound = line.len_bound;
+    }

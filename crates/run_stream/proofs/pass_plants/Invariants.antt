@@ -19,7 +19,7 @@ use Rattle.run_stream.proofs.pass_plants.Given as goal
 abbrev pub invariant-loop-used : goal.invariant-loop-used
 invariant-loop-used l =
     (l.used ≤ length l.bytes)
-    × ((carry : List ℕ) (M : Memory) → Still l.bytes l.p carry (with_slots M l.n l.m) (with_pair_planted l.p l.pair) carry (with_slots M l.planted l.lengths) l.used)
+    × ((carry : List ℕ) (M : Memory) → Still l.bytes l.p carry (with_slots M l.initial.planted l.initial.lengths) (with_pair_planted l.p l.pair) carry (with_slots M l.planted l.lengths) l.used)
 
 abbrev pub decreases-loop-used : goal.decreases-loop-used
 decreases-loop-used l = length l.bytes - l.used

@@ -13,50 +13,43 @@ use Rattle.run_stream.specs.Inner.{Follows}
 use Rattle.run_stream.proofs.Pieces.{rest, moved_within, follows_first, follows_more}
 use Rattle.run_stream.proofs.pass_rounds.Goals as goal
 
--- a record that is taken
-module _ (e : tie.Else2 invariant_loop decreases_loop) where
-  abbrev here : tie.At-loop invariant_loop decreases_loop
-  here = e.before.before.before.before.before
-
-  abbrev start : tie.Start invariant_loop decreases_loop
-  start = here.before.before
-
-  calm : Calm here.loop.player (rest here.loop.used start.args.bytes.now)
-  calm = calm_as _ _ (sym e.before.is-calm.ensures ∙ not-false _ e.if2.left)
-
-  moves : here.loop.used + 8 ≤ length start.args.bytes.now
-  moves = moved_within here.loop.used 8 start.args.bytes.now here.loop.inv.0 calm.within
-
 pub loop-used-init : goal.loop-used-init
 loop-used-init c = (omega arith, search rules, follows_first)
 
 pub returns-then-not-is_calm : goal.returns-then-not-is_calm
-returns-then-not-is_calm c = let l = c.loop-used in ((l.invariant.0, l.invariant.1), l.invariant.2)
+returns-then-not-is_calm c = let l = c.loop-used in record { used_in_bounds = (l.invariant.0, l.invariant.1); follows = l.invariant.2 }
 
 pub put-to-requires : goal.put-to-requires
 put-to-requires c =
-    let room = c.play_agreed.ensures.1 in
-    (omega (arith, leb-true, c.put-arg-1.given.0.1, room), room)
+    let room = c.play_agreed.ensures.len_bound in
+    (omega (arith, leb-true, room), room)
 
 pub overflow_add-used : goal.overflow_add-used
 overflow_add-used c =
-    omega (arith, moves c, (start c).well-formed.1.0.0)
+    let calm = calm_as c.loop-used.player (rest c.loop-used.used c.args.bytes.now) (sym c.is_calm.ensures ∙ c.if-not-is_calm.false) in
+    let m = moved_within c.loop-used.used 8 c.args.bytes.now c.loop-used.invariant.0 calm.within in
+    omega (arith, m, c.well_formed.1.0.0)
 
 pub loop-used-smaller : goal.loop-used-smaller
-loop-used-smaller c = omega (arith, moves c)
+loop-used-smaller c =
+    let calm = calm_as c.loop-used.player (rest c.loop-used.used c.args.bytes.now) (sym c.is_calm.ensures ∙ c.if-not-is_calm.false) in
+    let m = moved_within c.loop-used.used 8 c.args.bytes.now c.loop-used.invariant.0 calm.within in
+    omega (arith, m)
 
 pub loop-used-preserved : goal.loop-used-preserved
 loop-used-preserved c =
-    let l = (here c).loop in
-    let (played, room) = c.play_agreed.ensures in
+    let l = c.loop-used in
+    let calm = calm_as c.loop-used.player (rest c.loop-used.used c.args.bytes.now) (sym c.is_calm.ensures ∙ c.if-not-is_calm.false) in
+    let m = moved_within c.loop-used.used 8 c.args.bytes.now c.loop-used.invariant.0 calm.within in
+    let room = c.play_agreed.ensures.len_bound in
     let is = c.given_round-player.ensures ∙ ap (λ (w : ℕ). with_round_given l.player w true) c.word_at.ensures in (
-      moves c,
+      m,
       omega (arith, leb-true, c.put-to.ensures.0, room),
-      follows_more 8 l.invariant.2 (λ a carry M L. calm_there (calm c) is room (λ b begun pending T H. played b M begun pending T (calm c).agreed H) L) c.put-to.ensures.1,
+      follows_more 8 l.invariant.2 (λ a carry M L. calm_there calm is room (λ b begun pending T H. c.play_agreed.ensures.by_index b M begun pending T calm.agreed H) L) c.put-to.ensures.1,
     )
 
 pub returns-else-to-le-FULL : goal.returns-else-to-le-FULL
-returns-else-to-le-FULL c = let l = c.loop-used in ((l.invariant.0, l.invariant.1), l.invariant.2)
+returns-else-to-le-FULL c = let l = c.loop-used in record { used_in_bounds = (l.invariant.0, l.invariant.1); follows = l.invariant.2 }
 
 pub returns-after-loop-used : goal.returns-after-loop-used
-returns-after-loop-used c = let l = c.loop-used in ((l.invariant.0, l.invariant.1), l.invariant.2)
+returns-after-loop-used c = let l = c.loop-used in record { used_in_bounds = (l.invariant.0, l.invariant.1); follows = l.invariant.2 }

@@ -15,7 +15,7 @@ use Rattle.run_stream.proofs.pass_rounds.Given as goal
 
 abbrev pub invariant-loop-used : goal.invariant-loop-used
 invariant-loop-used l =
-    (l.used ≤ length l.bytes) × (l.to ≤ page_size) × Follows l.initial.player l.bytes l.initial.page (take l.positions l.from) l.player l.used (take l.to l.page)
+    (l.used ≤ length l.bytes) × (l.to ≤ page_size) × Follows l.initial.player l.bytes l.positions (take l.from l.initial.page) l.player l.used (take l.to l.page)
 
 abbrev pub decreases-loop-used : goal.decreases-loop-used
 decreases-loop-used l = length l.bytes - l.used

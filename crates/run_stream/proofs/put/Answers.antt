@@ -8,18 +8,15 @@ use Rattle.texts.specs.Texts.{bytes_of}
 use Rattle.texts.proofs.Writing.{full, text_long, copied_behind}
 use Rattle.run_stream.proofs.put.Goals as goal
 
-long : (s : goal.Start) → length (bytes_of s.args.t) ≡ s.args.t.len
-long s = text_long s.args.t s.well_formed.1.1.0 s.requires.1
-
 pub slice_bounds-bytes-end : goal.slice_bounds-bytes-end
 slice_bounds-bytes-end c =
     omega (arith, full c.args.t c.well_formed.1.1.0, c.requires.1)
 
 pub slice_bounds-put_bytes-end : goal.slice_bounds-put_bytes-end
-slice_bounds-put_bytes-end c = sym (long c.before.before.before.before)
+slice_bounds-put_bytes-end c = sym (text_long c.args.t c.well_formed.1.1.0 c.requires.1)
 
 pub returns : goal.returns
 returns c =
     let a = c.args in
-    let n = long c.before.before.before.before.before.before.before in
+    let n = text_long a.t c.well_formed.1.1.0 c.requires.1 in
     (refl, ap (take (a.len + a.t.len)) c.put_bytes.ensures ∙ rw n at (copied_behind a.page.now (bytes_of a.t) a.len (omega (arith, c.requires.0))))

@@ -6,6 +6,6 @@ use Rattle.run_whole.proofs.close.Goals as goal
 
 pub returns : goal.returns
 returns c =
-    let (rooms, rows) = c.finish-finished.ensures in
+    let e = c.finish-finished.ensures in
     λ file carry B all G.
-    closes G all (rows _ carry G.state) rooms.0 rooms.1 c.put-len.ensures refl c.keep-count.ensures c.put.ensures
+    closes G all (e.by_index _ carry G.state) e.len_bound.0 e.len_bound.1 c.put-len.ensures refl c.keep-count.ensures c.put.ensures

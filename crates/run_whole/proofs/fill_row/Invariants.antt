@@ -16,7 +16,7 @@ use Rattle.run_whole.proofs.Rows.{row_long, row_at}
 use Rattle.run_whole.proofs.fill_row.Given as goal
 
 abbrev pub invariant-loop-i : goal.invariant-loop-i
-invariant-loop-i l = (l.i ≤ 48) × (l.rows ≡ paste l.base l.positions (sound_row l.m l.word l.initial.rows l.n 48) l.i) × (length l.rows ≡ length l.base)
+invariant-loop-i l = (l.i ≤ 48) × (l.rows ≡ paste l.initial.rows l.base (sound_row l.n l.m l.word l.positions 48) l.i) × (length l.rows ≡ length l.initial.rows)
 
 abbrev pub decreases-loop-i : goal.decreases-loop-i
 decreases-loop-i l = 48 - l.i

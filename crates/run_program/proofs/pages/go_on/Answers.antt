@@ -23,7 +23,7 @@ returns-in-Nothing c =
     let told = c.in-Nothing.is in
     let (room, text) = c.first_page-len.ensures in
     rw (told, c.placed.ensures)
-    (refl, λ a out R. opens _ _ _ (opening c.args.program c.args.piece.now c.args.page.now (rw told at c.requires) R) room text)
+    record { stage_value = refl; by_index = λ a out R. opens _ _ _ (opening c.args.program c.args.piece.now c.args.page.now (rw told at c.requires) R) room text }
 
 pub returns-in-Read : goal.returns-in-Read
 returns-in-Read c = rw c.in-Read.is c.go_on_read.ensures
@@ -32,11 +32,12 @@ pub returns-in-Wrote : goal.returns-in-Wrote
 returns-in-Wrote c =
     let told = c.in-Wrote.is in
     let (some, left) = write_fits c.args.program _ (length c.args.piece.now) (rw told at c.requires) in
-    let (stage, runs) = c.play_on.ensures in
-    rw told (
-      stage ∙ ap (λ (p : Program). p.stage) c.advanced.ensures,
-      λ a out R. runs _ _ (rw c.advanced.ensures (page_written c.args.program _ some left a out _ _ _ _ R)),
-    )
+    let e = c.play_on.ensures in
+    rw told
+    record {
+      stage_value = e.stage_value ∙ ap (λ (p : Program). p.stage) c.advanced.ensures;
+      by_index = λ a out R. e.by_index _ _ (rw c.advanced.ensures (page_written c.args.program _ some left a out _ _ _ _ R));
+    }
 
 pub returns-in-Failed : goal.returns-in-Failed
 returns-in-Failed c = absurd (true≢false (sym (rw c.in-Failed.is at c.requires)))

@@ -14,4 +14,4 @@ slice_bounds-result-end c =
     sym (length-take-le c.gap-len.result c.bytes_from-rest.result.now (omega (arith, c.if-rest-len.false)))
 
 pub returns : goal.returns
-returns c = let g = c in rw (← g.gap.ensures, ← g.before.bytes-from.ensures) refl
+returns c = rw (← c.gap-len.ensures, ← c.bytes_from-rest.ensures) refl
