@@ -1,7 +1,7 @@
 -- `entries::all_fit` meets its contract. The loop's invariant: the flag says whether the first i entries fit, for every mark word that marks all n.
 use mathlib.Core.Path.{◌≡◌, refl, ap, ◌∙◌}
 use mathlib.Core.Bool.{true}
-use Prim.Native.Nat.{ℕ, ◌-◌, ◌≤◌}
+use Prim.Native.Nat.{ℕ}
 use native.Mathlib.Omega.{arith}
 use borrow.Author.Rules.{rules}
 use Rattle.marks.specs.Marks.{all_marked, bit_of}
@@ -22,7 +22,7 @@ loop-i-preserved c =
       search rules,
       λ m e.
           elim c.if-not-is_position_word.branch [
-            then-not-is_position_word t ↦ t.fit-is ∙ full_misfit m a.s.now c.loop-i.i (bits m e) c.word_within.ensures c.is_position_word.ensures t.if-not-is_position_word.true
+            | then-not-is_position_word t ↦ t.fit-is ∙ full_misfit m a.s.now c.loop-i.i (bits m e) c.word_within.ensures c.is_position_word.ensures t.if-not-is_position_word.true
             | else-not-is_position_word t ↦ t.fit-is ∙ full_next m a.s.now c.loop-i.i (bits m e) c.word_within.ensures c.is_position_word.ensures (c.loop-i.invariant.1 m e) t.if-not-is_position_word.false
           ],
     )

@@ -5,7 +5,6 @@ use native.Mathlib.Omega.{arith}
 use lib.Dec.{eqb}
 use lib.Pow.{pow_mono}
 use borrow.Author.Tests.{ne_eqb}
-use borrow.Author.Rules.{rules}
 use Rattle.marks.specs.Marks.{all_marked}
 use Rattle.marks.proofs.Marks.{power_is}
 use Rattle.marks.proofs.all_marked.Goals as goal

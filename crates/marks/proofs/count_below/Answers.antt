@@ -5,7 +5,6 @@ use native.Mathlib.Omega.{arith}
 use native.Mathlib.Nat.{mod-lt}
 use lib.Count.{ones, ones-le}
 use lib.Pow.{pow_pos, pow_mono}
-use borrow.Author.Rules.{rules}
 use Rattle.marks.proofs.Ones.{ones_marked, ones_rest}
 use Rattle.marks.proofs.count_below.Goals as goal
 

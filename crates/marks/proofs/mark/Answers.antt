@@ -1,5 +1,4 @@
 -- `marks::mark` meets its contract: a shift of 1 by less than 32 loses nothing.
-use borrow.Author.Rules.{rules}
 use Rattle.marks.proofs.Marks.{mark_is}
 use Rattle.marks.proofs.mark.Goals as goal
 

@@ -1,6 +1,5 @@
 -- `marks::marked_wide` meets its contract: the shift and the remainder are the definition, and a word below 2^64 has no bit at 64 or above.
 use mathlib.Core.Path.{refl, sym}
-use borrow.Author.Rules.{rules}
 use Rattle.marks.specs.Marks.{bit_of}
 use Rattle.marks.proofs.Marks.{bit_above}
 use Rattle.marks.proofs.marked_wide.Goals as goal

@@ -4,7 +4,6 @@ use Prim.Native.Nat.{◌^◌, ◌≤◌}
 use native.Mathlib.Omega.{arith}
 use lib.Pow.{pow_mono}
 use borrow.Author.Tests.{lt-ltb}
-use borrow.Author.Rules.{rules}
 use Rattle.marks.specs.Marks.{marks_below}
 use Rattle.marks.proofs.Marks.{shift_none}
 use Rattle.marks.proofs.marks_below.Goals as goal

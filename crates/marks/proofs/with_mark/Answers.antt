@@ -1,7 +1,6 @@
 -- `marks::with_mark` meets its contract: a bit that is not there, that is set already, and that is added.
 use mathlib.Core.Path.{sym, ap, ◌∙◌}
 use Prim.Native.Nat.{ℕ, ◌+◌}
-use borrow.Author.Rules.{rules}
 use Rattle.marks.proofs.Marks.{bit_below, with_past, with_old, with_new}
 use Rattle.marks.proofs.with_mark.Goals as goal
 

@@ -1,5 +1,4 @@
 -- `terms::half_sum` meets its contract: the sum is taken and halved in 64 bits, where it fits, and the half fits 32.
-use borrow.Author.Rules.{rules}
 use Rattle.terms.proofs.Machine.{wide_fits, wide_sum_fits, to_halve_fits, shifted_fits, half_sum_is}
 use Rattle.terms.proofs.half_sum.Goals as goal
 

@@ -1,5 +1,4 @@
 -- `terms::is_limit` meets its contract: arm by arm, each the definition's test.
-use borrow.Author.Rules.{rules}
 use Rattle.terms.specs.Sizes.{is_limit}
 use Rattle.terms.proofs.is_limit.Goals as goal
 

@@ -1,5 +1,4 @@
 -- `terms::limit_number` meets its contract: arm by arm.
-use borrow.Author.Rules.{rules}
 use Rattle.terms.proofs.limit_number.Goals as goal
 
 pub returns-in-TwoRounds : goal.returns-in-TwoRounds

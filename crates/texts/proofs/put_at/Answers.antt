@@ -1,6 +1,5 @@
 -- `texts::put_at` meets its contract: the bytes are put where there is room for them.
 use lib.ListN.{length}
-use borrow.Author.Rules.{rules}
 use Rattle.texts.proofs.Writing.{some_room, no_room, puts_all, puts_none}
 use Rattle.texts.proofs.put_at.Goals as goal
 

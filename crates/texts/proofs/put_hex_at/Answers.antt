@@ -1,6 +1,5 @@
 -- `texts::put_hex_at` meets its contract: the digits in base 16 are the hexadecimal digits.
 use native.Mathlib.Omega.{arith}
-use borrow.Author.Rules.{rules}
 use Rattle.texts.proofs.Digits.{spelled_hex}
 use Rattle.texts.proofs.Writing.{some_room, no_room, digits_put, digits_none}
 use Rattle.texts.proofs.put_hex_at.Goals as goal

@@ -1,7 +1,6 @@
 -- `texts::put_number_at` meets its contract: as many digits as the number has are its decimal digits.
 use Prim.Native.Nat.{◌+◌}
 use native.Mathlib.Omega.{arith}
-use borrow.Author.Rules.{rules}
 use Rattle.texts.proofs.Digits.{spelled_decimal}
 use Rattle.texts.proofs.Writing.{some_room, no_room, digits_put, digits_none}
 use Rattle.texts.proofs.put_number_at.Goals as goal
