@@ -4,21 +4,20 @@
 use mathlib.Core.Path.{◌≡◌, refl, ap, sym, subst, ◌∙◌}
 use mathlib.Core.Bool.{true}
 use mathlib.Core.List.{List, [], ◌∷◌, ◌++◌}
-use Prim.Native.Nat.{ℕ, suc, ◌+◌, ◌≤◌, ◌<◌}
+use Prim.Native.Nat.{ℕ, ◌+◌, ◌≤◌, ◌<◌}
 use native.Mathlib.Omega.{arith}
-use lib.ListN.{length, get_or, length-append}
+use lib.ListN.{length, length-append}
 use lib.IntN.{ℤ}
 use Rattle.terms.specs.Positions.{is_position}
 use Rattle.terms.specs.declared.Family.{Family}
 use Rattle.marks.specs.Marks.{bit_of}
 use Rattle.terms.specs.Counting.{Each, AtMost}
-use Rattle.convergence.specs.Demand3.{Demand3, Halves}
 use Rattle.convergence.proofs.Same.{demand3_same}
 use Rattle.convergence.proofs.Demand3.{size_large}
 use Rattle.head_spec.specs.declared.Head.{Head}
 use Rattle.head_spec.proofs.Proper.{Sized}
-use Rattle.ring_spec.specs.Rounds.{Round, Ring, most_rounds, ends_phase, PhaseEnd, receivers, as_end, ring_after, ends_after}
-use Rattle.ring_spec.specs.Converges.{FewStruckIn, no_end}
+use Rattle.ring_spec.specs.Rounds.{Round, Ring, most_rounds, ends_phase, PhaseEnd, ring_after, ends_after}
+use Rattle.ring_spec.specs.Converges.{FewStruckIn}
 use Rattle.ring_spec.specs.Recovery.{EachEnds}
 use Rattle.ring_spec.proofs.OneRound.{RingReady}
 use Rattle.ring_spec.proofs.Demand3.{Playable}

@@ -2,14 +2,13 @@
 -- who ends a phase holds a position. From an end with at most f struck on, each phase is one of `convergence`, as after the start (`stands_from`).
 use mathlib.Core.Path.{◌≡◌, refl, ap, ap₂, sym, subst, ◌∙◌}
 use mathlib.Core.Bool.{Bool, true, false, cond, true≢false}
-use mathlib.Core.Logic.{◌≢◌, inl, inr}
+use mathlib.Core.Logic.{◌≢◌, inl}
 use mathlib.Core.List.{List, [], ◌∷◌, ◌++◌}
 use Prim.Native.Nat.{ℕ, zero, suc, ◌+◌, ◌-◌, ◌*◌, ◌%◌, ◌≤◌, ◌<◌}
 use native.Mathlib.Omega.{arith}
 use lib.ListN.{length, get_or, drop, length-drop, length-append, drop_of_length-le}
 use lib.Seq.{drop-cons, drop-append-le}
-use borrow.Author.Tests.{eqb-true, eq-eqb, leb-true}
-use lib.Dec.{leb}
+use borrow.Author.Tests.{eqb-true, eq-eqb}
 use lib.IntN.{ℤ, pos, negsuc}
 use lib.Signed.{◌≤ℤ◌}
 use Rattle.terms.specs.Refusals.{run_has_ended, too_few_trusted}
@@ -21,7 +20,6 @@ use Rattle.terms.specs.declared.Family.TheVariants.{TwoRounds, OneRound}
 use Rattle.terms.specs.Sizes.{rounds_of, ends_with, is_listener}
 use Rattle.terms.specs.Counting.{Each, sum, bit, AtMost}
 use Rattle.terms.proofs.Sums.{sum_same, sum_one}
-use Rattle.terms.proofs.Booleans.{and_both}
 use Rattle.marks.specs.Marks.{bit_of}
 use Rattle.marks.proofs.Marks.{bit_none}
 use Rattle.terms.proofs.Whole.{position_within}
@@ -49,11 +47,11 @@ use Rattle.head_spec.proofs.RoundEnd as end
 use Rattle.head_spec.proofs.RoundEnd.{enough_trusted, settled_by, ends_collection, ends_phase_lem}
 use Rattle.ring_spec.specs.Rounds.{Round, planted, Ring, opened_at, carried, most_rounds, ends_phase, round_then, after_round, PhaseEnd, receivers, is_out, as_end, ring_after, ends_after}
 use Rattle.ring_spec.specs.Converges.{FewStruckIn, no_end, HoldsBetween, OneFocus}
-use Rattle.ring_spec.specs.Recovery.{IsClosed, EachEnds, OverloadForgotten, LaterEnd, CountsAnyway, HeardBetween, OfferBetween, OffersBetween, NoHead, QuietEnds, no_strike, heard_unstruck, LateIn, LastUnstruck, LostStaysLost, RingWithinOneStep}
+use Rattle.ring_spec.specs.Recovery.{IsClosed, EachEnds, OverloadForgotten, LaterEnd, CountsAnyway, HeardBetween, OfferBetween, OffersBetween, QuietEnds, no_strike, heard_unstruck, LateIn, LastUnstruck, LostStaysLost, RingWithinOneStep}
 use Rattle.ring_spec.proofs.Receivers.{Hears, head_out, few_out, hears}
 use Rattle.ring_spec.proofs.HeadsAlone.{links_same}
 use Rattle.ring_spec.proofs.OneRound.{RingReady, heard_at, heard_at_lem}
-use Rattle.ring_spec.proofs.Closings.{after_confession, collection_next, confession_next, confession_settles}
+use Rattle.ring_spec.proofs.Closings.{collection_next, confession_next, confession_settles}
 use Rattle.ring_spec.proofs.OnePhase.{faults_in, faults_in_one, end_at, marked_end, entries_two, second, keeps_as, phase_same, entries_one, keeps_one, round_same}
 use Rattle.ring_spec.proofs.Counts.{Counted, counted, phase_more, next_ends}
 use Rattle.ring_spec.proofs.Demand3.{no_round, round_at, no_head, few_in, few_earlier, Playable, single_playable, first_playable, playable_next, marks_at, IsEnd, started_ring, back, EndOf, ends_are, faults_of, kept_same, refines}

@@ -64,12 +64,11 @@ module _ (E : ℕ → Entry) (lowest highest : ℤ) where
 
   module _ (k : ℕ) {c : Counts} (h : SidesCounted k E lowest highest c) where
     pub counts_small : (c.all ≤ k) × (c.low ≤ k) × (c.high ≤ k)
-    counts_small =
-        (
-          rw h.all (sum_tested_le k (λ u. true) E),
-          rw h.low (sum_tested_le k (λ u. le_z u lowest) E),
-          rw h.high (sum_tested_le k (λ u. le_z highest u) E),
-        )
+    counts_small = (
+      rw h.all (sum_tested_le k (λ u. true) E),
+      rw h.low (sum_tested_le k (λ u. le_z u lowest) E),
+      rw h.high (sum_tested_le k (λ u. le_z highest u) E),
+    )
 
     pub counts_more : {e : Entry} → E k ≡ e → SidesCounted (k + 1) E lowest highest (counts_with lowest highest e c)
     counts_more q =

@@ -21,8 +21,9 @@ pub loop-j-preserved : goal.loop-j-preserved
 loop-j-preserved c =
     let l = c.loop-j in
     elim c.if-not-marked.branch [
-      then-not-marked+else-leads-j w ↦ (search rules, below_more _ l.j l.invariant.1 (λ e. omega arith))
-      | else-not-marked w ↦ (search rules, below_more _ l.j l.invariant.1 (λ e. absurd (true≢false (sym w.if-not-marked.false ∙ c.marked.ensures ∙ e)))) ]
+      | then-not-marked+else-leads-j w ↦ (search rules, below_more _ l.j l.invariant.1 (λ e. omega arith))
+      | else-not-marked w ↦ (search rules, below_more _ l.j l.invariant.1 (λ e. absurd (true≢false (sym w.if-not-marked.false ∙ c.marked.ensures ∙ e))))
+    ]
 
 pub returns : goal.returns
 returns c e j l = c.loop-j.invariant.1 j (omega arith)

@@ -15,7 +15,7 @@ loop-j-preserved c =
     let a = c.args in
     let P : ℕ → ℤ → Type 0 = λ i v. v ≡ cond (bit_of a.confessed i) no_code (get_or a.codes.now i (pos 0)) in
     elim c.if-marked.branch [
-      then-marked w ↦ (
+      | then-marked w ↦ (
         search rules,
         rw w.codes-is (simp length-set l.invariant.1),
         rw w.codes-is (each_set (pos 0) l.codes l.j _ P (omega arith) l.invariant.2 (rw (← c.marked.ensures, w.if-marked.true))),
@@ -26,7 +26,8 @@ loop-j-preserved c =
         rw w.codes-is l.invariant.1,
         rw w.codes-is (below_more (λ i. P i (get_or l.codes i (pos 0))) l.j l.invariant.2 (rw (← c.marked.ensures, w.if-marked.false) (l.invariant.3 l.j (omega arith)))),
         rw w.codes-is (λ i q. l.invariant.3 i (omega arith)),
-      ) ]
+      )
+    ]
 
 pub returns : goal.returns
 returns c = let l = c.loop-j in (l.invariant.1, λ j q. l.invariant.2 j (omega arith))

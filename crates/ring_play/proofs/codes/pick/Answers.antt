@@ -24,9 +24,10 @@ loop-j-preserved c =
           fits-x),
       λ i q. later_set (pos 0) l.taken l.j _ i q ∙ l.invariant.3 i (omega arith),
       elim c.if-taken-j.branch [
-        then-taken-j w ↦ λ e. absurd (true≢false (sym e ∙ w.alike-is))
+        | then-taken-j w ↦ λ e. absurd (true≢false (sym e ∙ w.alike-is))
         | else-taken-j w ↦ λ e. each_set (pos 0) l.taken l.j _ (λ i v. v ≡ get_or a.taken.now i (pos 0)) (omega arith) (l.invariant.4 (sym w.alike-is ∙ e))
-            (fits ∙ sym (bits_same (search rules) (record { sfits = c.picked-v.type_inv }) w.if-taken-j.false) ∙ l.invariant.3 l.j (omega arith)) ],
+            (fits ∙ sym (bits_same (search rules) (record { sfits = c.picked-v.type_inv }) w.if-taken-j.false) ∙ l.invariant.3 l.j (omega arith))
+      ],
     )
 
 pub returns : goal.returns

@@ -1,7 +1,6 @@
 -- `ring_play::codes::share` meets its contract: the vote, the count and the check make what the shared lists show.
 use Rattle.std.proofs.Common.{sym, true≢false, arith, rules}
 use lib.ListN.{get_or-replicate}
-use borrow.Author.Tests.{not-false}
 use Rattle.ring_play.proofs.codes.Sharing.{shares_all}
 use Rattle.ring_play.proofs.codes.share.Goals as goal
 

@@ -18,7 +18,7 @@ loop-k-preserved c =
     let a = c.args in
     let e = sym c.gives_list.ensures in
     elim c.if-gives_list.branch [
-      then-gives_list w ↦ (
+      | then-gives_list w ↦ (
         search rules,
         rw w.same-is (w.tally.ensures.long ∙ l.invariant.1),
         rw w.same-is
@@ -28,7 +28,8 @@ loop-k-preserved c =
         search rules,
         rw w.same-is l.invariant.1,
         rw w.same-is (λ j q. tally_skipped a.links a.lists.now j l.k (get_or a.codes.now j (pos 0)) (l.invariant.2 j q) (e ∙ w.if-gives_list.false)),
-      ) ]
+      )
+    ]
 
 pub returns : goal.returns
 returns c =

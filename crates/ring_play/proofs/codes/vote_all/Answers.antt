@@ -26,7 +26,7 @@ loop-k-preserved c =
     let a = c.args in
     let e = sym c.gives_list.ensures in
     elim c.if-gives_list.branch [
-      then-gives_list w ↦ (
+      | then-gives_list w ↦ (
         search rules,
         rw w.codes-is w.vote_for.ensures.0,
         rw w.leads-is w.vote_for.ensures.1,
@@ -39,7 +39,8 @@ loop-k-preserved c =
         rw w.leads-is l.invariant.2,
         rw w.count-is (omega arith),
         rw (w.codes-is, w.leads-is, w.count-is) (λ j q. vote_skipped a.links a.lists.now j l.k (l.invariant.4 j q) (e ∙ w.if-gives_list.false)),
-      ) ]
+      )
+    ]
 
 pub returns : goal.returns
 returns c =

@@ -1,5 +1,5 @@
 -- `ring_play::collection::conclude_quiet` meets its contract: if no head is struck, what is planted is heard by no one.
-use Rattle.std.proofs.Common.{◌≡◌, ℕ, Bool, false, cond, List, get_or, ℤ, pos, sym, refl, ap, ◌∙◌, to_z-of_z, rules, w32}
+use Rattle.std.proofs.Common.{◌≡◌, ℕ, Bool, false, cond, List, get_or, ℤ, pos, refl, ap, ◌∙◌, to_z-of_z, w32}
 use mathlib.Core.Path.{fun_ext}
 use Rattle.terms.specs.declared.Entry.{Entry}
 use Rattle.terms.specs.declared.Table.{Table}

@@ -19,9 +19,10 @@ overflow_add-marks c =
     let a = c.args in
     let m = sym c.marked.ensures in
     let e : c.if-not-marked.e ≡ sent_by a.s a.positions.now l.k =
-        elim c.if-not-marked.branch [
-          then-not-marked w ↦ rw (m ∙ w.if-not-marked.true) (w.e-is ∙ w.own_entry-e.ensures)
-          | else-not-marked w ↦ rw (m ∙ w.if-not-marked.false) w.e-is ] in
+    elim c.if-not-marked.branch [
+      | then-not-marked w ↦ rw (m ∙ w.if-not-marked.true) (w.e-is ∙ w.own_entry-e.ensures)
+      | else-not-marked w ↦ rw (m ∙ w.if-not-marked.false) w.e-is
+    ] in
     record { fits = marks_fit _ l.k (omega (arith, c.head_count-n.ensures)) l.invariant.1 (c.mark_of.ensures ∙ ap mark e) }
 
 pub loop-k-preserved : goal.loop-k-preserved
@@ -31,9 +32,10 @@ loop-k-preserved c =
     let a = c.args in
     let m = sym c.marked.ensures in
     let e : c.if-not-marked.e ≡ sent_by a.s a.positions.now l.k =
-        elim c.if-not-marked.branch [
-          then-not-marked w ↦ rw (m ∙ w.if-not-marked.true) (w.e-is ∙ w.own_entry-e.ensures)
-          | else-not-marked w ↦ rw (m ∙ w.if-not-marked.false) w.e-is ] in
+    elim c.if-not-marked.branch [
+      | then-not-marked w ↦ rw (m ∙ w.if-not-marked.true) (w.e-is ∙ w.own_entry-e.ensures)
+      | else-not-marked w ↦ rw (m ∙ w.if-not-marked.false) w.e-is
+    ] in
     let below : l.k < 32 = omega (arith, c.head_count-n.ensures) in (
       search rules,
       marks_next _ l.k below l.invariant.1 (c.mark_of.ensures ∙ ap mark e),

@@ -37,7 +37,7 @@ loop-i-preserved c =
     let l = c.loop-i in
     let b = ap not (sym c.marked.ensures) in
     elim c.if-not-marked.branch [
-      then-not-marked w ↦ (
+      | then-not-marked w ↦ (
         search rules,
         rw w.marks-is (simp length-set l.invariant.1),
         rw w.lists-is (simp length-set l.invariant.2),
@@ -51,7 +51,8 @@ loop-i-preserved c =
         rw w.marks-is l.invariant.1,
         rw w.lists-is l.invariant.2,
         λ S. rw (w.marks-is, w.lists-is) (filled_passed _ _ _ l.i (l.invariant.3 S) (b ∙ ap not w.if-not-marked.false)),
-      ) ]
+      )
+    ]
 
 pub returns : goal.returns
 returns c S =

@@ -1,10 +1,6 @@
 -- `ring_play::collection::fill_positions` meets its contract: before receiver i, the unstruck ones below i have their new position, and all others the one they had.
-use Rattle.std.proofs.Common.{◌≡◌, ◌-◌, ◌≤◌, length, get_or, pos, sym, ◌∙◌, arith, length-set, to_z-of_z, rules, w32}
-use Rattle.entries.specs.Tables.{table_at, table_of}
-use Rattle.ring_play.specs.Memory.{heads, settles}
-use Rattle.frame_slots.specs.Slots.{planted_in}
-use Rattle.ring_play.specs.Inner.Collection.{heard_with, Shared, position_from}
-use Rattle.ring_play.proofs.round.Filling.{Filled, filled_none, filled_passed, filled_set, filled_all}
+use Rattle.std.proofs.Common.{pos, sym, ◌∙◌, arith, length-set, to_z-of_z, rules, w32}
+use Rattle.ring_play.proofs.round.Filling.{filled_none, filled_passed, filled_set, filled_all}
 use Rattle.ring_play.proofs.round.Receivers.{end_small, settles_below}
 use Rattle.ring_play.proofs.collection.fill_positions.Goals as goal
 use Rattle.ring_play.proofs.collection.fill_positions.Goals.{then-settles, else-settles}
@@ -24,7 +20,7 @@ loop-i-preserved c =
     let l = c.loop-i in
     let b = sym c.settles.ensures in
     elim c.if-settles.branch [
-      then-settles w ↦ (
+      | then-settles w ↦ (
         search rules,
         l.invariant.1,
         rw w.positions-is (simp length-set l.invariant.2),
@@ -37,7 +33,8 @@ loop-i-preserved c =
         l.invariant.1,
         rw w.positions-is l.invariant.2,
         λ S. rw w.positions-is (filled_passed _ _ _ l.i (l.invariant.3 S) (b ∙ w.if-settles.false)),
-      ) ]
+      )
+    ]
 
 pub returns : goal.returns
 returns c S =

@@ -1,11 +1,10 @@
 -- `ring_play::collection::fill_positions` meets its contract: before receiver i, the unstruck ones below i have their new position, and all others the one they had.
-use Rattle.std.proofs.Common.{◌≡◌, ◌-◌, ◌≤◌, length, get_or, pos, sym, ◌∙◌, ⊎_elim, arith, length-set, to_z-of_z, rules}
+use Rattle.std.proofs.Common.{◌≡◌, ◌-◌, ◌≤◌, length, get_or, pos}
 use Rattle.entries.specs.Tables.{table_at, table_of}
 use Rattle.ring_play.specs.Memory.{heads, settles}
 use Rattle.frame_slots.specs.Slots.{planted_in}
 use Rattle.ring_play.specs.Inner.Collection.{heard_with, Shared, position_from}
-use Rattle.ring_play.proofs.round.Filling.{Filled, filled_none, filled_passed, filled_set, filled_all}
-use Rattle.ring_play.proofs.round.Receivers.{end_small, settles_below}
+use Rattle.ring_play.proofs.round.Filling.{Filled}
 use Rattle.ring_play.proofs.collection.fill_positions.Given as goal
 
 abbrev pub invariant-loop-i : goal.invariant-loop-i

@@ -1,5 +1,5 @@
 -- `ring_play::collection::position_of` meets its contract: a refusal leaves 0, and a settling its position.
-use Rattle.std.proofs.Common.{◌∙◌, to_z-of_z, rules, w32}
+use Rattle.std.proofs.Common.{◌∙◌, to_z-of_z, w32}
 use Rattle.ring_play.proofs.collection.Lists.{position_settled_lem}
 use Rattle.ring_play.proofs.collection.position_of.Goals as goal
 

@@ -1,11 +1,8 @@
 -- `ring_play::confession::fill_positions` meets its contract: before receiver i, the unstruck ones below i have their new position, and all others the one they had.
-use Rattle.std.proofs.Common.{◌≡◌, ◌-◌, ◌≤◌, length, get_or, pos, sym, refl, ap, ◌∙◌, arith, length-set, to_z-of_z, rules, w32}
-use Rattle.ring_play.specs.Memory.{settles}
+use Rattle.std.proofs.Common.{pos, sym, refl, ap, ◌∙◌, arith, length-set, to_z-of_z, rules, w32}
 use Rattle.frame_slots.specs.Slots.{planted_in}
-use Rattle.settle_trust.specs.Received.{given_by}
-use Rattle.ring_play.specs.Inner.Planted.{given_or_planted, position_settled}
-use Rattle.ring_play.specs.Inner.Confession.{RowsKept}
-use Rattle.ring_play.proofs.round.Filling.{Filled, filled_none, filled_passed, filled_set, filled_all}
+use Rattle.ring_play.specs.Inner.Planted.{position_settled}
+use Rattle.ring_play.proofs.round.Filling.{filled_none, filled_passed, filled_set, filled_all}
 use Rattle.ring_play.proofs.round.Receivers.{end_small, settles_below}
 use Rattle.ring_play.proofs.confession.Settling.{untold_kept, planted_kept}
 use Rattle.ring_play.proofs.confession.fill_positions.Goals as goal
@@ -26,23 +23,24 @@ loop-i-preserved c =
     let b = sym c.settles.ensures in
     let a = c.args in
     elim c.if-settles.branch [
-      then-settles w ↦
-        let e = to_z-of_z {w = w32} (record { sfits = w.position_for-position.type_inv }) ∙ w.position_for-position.ensures.position
-        ∙ ap (position_settled a.s) (planted_kept a.s a.base a.rows.now l.rows l.invariant.4 (planted_in a.planted.now a.lengths.now) l.i) in
-        let k = w.position_for-position.ensures.kept in (
-          search rules,
-          l.invariant.1,
-          rw w.positions-is (simp length-set l.invariant.2),
-          rw w.positions-is (filled_set _ _ _ l.positions (pos 0) l.i l.invariant.3 (omega arith) (b ∙ w.if-settles.true) e),
-          rw w.rows-is (record { long = k.long; gives = k.gives ∙ l.invariant.4.gives }),
-        )
+      | then-settles w ↦
+          let e = to_z-of_z {w = w32} (record { sfits = w.position_for-position.type_inv }) ∙ w.position_for-position.ensures.position
+          ∙ ap (position_settled a.s) (planted_kept a.s a.base a.rows.now l.rows l.invariant.4 (planted_in a.planted.now a.lengths.now) l.i) in
+          let k = w.position_for-position.ensures.kept in (
+            search rules,
+            l.invariant.1,
+            rw w.positions-is (simp length-set l.invariant.2),
+            rw w.positions-is (filled_set _ _ _ l.positions (pos 0) l.i l.invariant.3 (omega arith) (b ∙ w.if-settles.true) e),
+            rw w.rows-is (record { long = k.long; gives = k.gives ∙ l.invariant.4.gives }),
+          )
       | else-settles w ↦ (
         search rules,
         l.invariant.1,
         rw w.positions-is l.invariant.2,
         rw w.positions-is (filled_passed _ _ _ l.i l.invariant.3 (b ∙ w.if-settles.false)),
         rw w.rows-is l.invariant.4,
-      ) ]
+      )
+    ]
 
 pub returns : goal.returns
 returns c =

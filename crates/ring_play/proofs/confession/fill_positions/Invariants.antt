@@ -1,13 +1,11 @@
 -- `ring_play::confession::fill_positions` meets its contract: before receiver i, the unstruck ones below i have their new position, and all others the one they had.
-use Rattle.std.proofs.Common.{◌≡◌, ◌-◌, ◌≤◌, length, get_or, pos, sym, refl, ap, ◌∙◌, ⊎_elim, arith, length-set, to_z-of_z, rules}
+use Rattle.std.proofs.Common.{◌≡◌, ◌-◌, ◌≤◌, length, get_or, pos}
 use Rattle.ring_play.specs.Memory.{settles}
 use Rattle.frame_slots.specs.Slots.{planted_in}
 use Rattle.settle_trust.specs.Received.{given_by}
 use Rattle.ring_play.specs.Inner.Planted.{given_or_planted, position_settled}
 use Rattle.ring_play.specs.Inner.Confession.{RowsKept}
-use Rattle.ring_play.proofs.round.Filling.{Filled, filled_none, filled_passed, filled_set, filled_all}
-use Rattle.ring_play.proofs.round.Receivers.{end_small, settles_below}
-use Rattle.ring_play.proofs.confession.Settling.{untold_kept, planted_kept}
+use Rattle.ring_play.proofs.round.Filling.{Filled}
 use Rattle.ring_play.proofs.confession.fill_positions.Given as goal
 
 abbrev pub invariant-loop-i : goal.invariant-loop-i

@@ -1,5 +1,5 @@
 -- `ring_play::confession::hear` meets its contract: what the frame said is what was read with the table beside it, and that is stored.
-use Rattle.std.proofs.Common.{refl, rules}
+use Rattle.std.proofs.Common.{refl}
 use Rattle.ring_play.proofs.round.Frames.{said_read}
 use Rattle.ring_play.proofs.confession.Received.{nothing_stored}
 use Rattle.ring_play.proofs.confession.hear.Goals as goal

@@ -1,15 +1,13 @@
 -- `ring_play::confession::hear_planted` meets its contract: before head k, the struck heads below k gave what is planted, and all others what they had given; a struck
 -- head had given nothing.
-use Rattle.std.proofs.Common.{◌≡◌, ℕ, ◌-◌, ◌<◌, List, refl, ap, ◌∙◌, ap₂, arith, rules, lt-ltb}
+use Rattle.std.proofs.Common.{◌≡◌, ℕ, ◌<◌, List, refl, ap, ◌∙◌, ap₂, arith, lt-ltb}
 use Rattle.convergence.specs.Trust.{Given, nothing}
 use Rattle.frame_spec.specs.Said.{said}
 use Rattle.settle_trust.specs.Received.{given_by}
 use Rattle.head_spec.specs.Record.{given_of}
 use Rattle.ring_play.specs.Memory.{heads}
-use Rattle.frame_slots.specs.Slots.{planted_in}
 use Rattle.ring_play.specs.Inner.Planted.{given_or_planted}
-use Rattle.ring_play.proofs.round.Struck.{WalkedTo}
-use Rattle.ring_play.proofs.confession.Received.{rows_kept, received_start, received_heard, ReceivedTo, received_walked}
+use Rattle.ring_play.proofs.confession.Received.{rows_kept, received_start, received_heard, received_walked}
 use Rattle.ring_play.proofs.confession.hear_planted.Goals as goal
 
 pub loop-k-init : goal.loop-k-init

@@ -14,7 +14,7 @@ loop-k-preserved c =
     let b = ap not (sym c.marked.ensures) in
     let h = c.head_count-n.ensures in
     elim c.if-not-marked.branch [
-      then-not-marked+then-marked w ↦ (
+      | then-not-marked+then-marked w ↦ (
         search rules,
         rw (w.confessed-is, w.listed-is)
             (marked_healed _ l.k l.invariant.1 (omega arith) (b ∙ ap not w.if-not-marked.true) (sym w.marked-then-not-marked.ensures ∙ w.if-marked.true) w.with_mark-confessed.ensures),
@@ -24,7 +24,8 @@ loop-k-preserved c =
         rw (w.confessed-is, w.listed-is)
             (marked_listed _ l.k l.invariant.1 (omega arith) (b ∙ ap not w.if-not-marked.true) (sym w.marked-then-not-marked.ensures ∙ w.if-marked.false) w.with_mark-listed.ensures),
       )
-      | else-not-marked w ↦ (search rules, rw (w.confessed-is, w.listed-is) (marked_passed _ l.k l.invariant.1 (b ∙ ap not w.if-not-marked.false))) ]
+      | else-not-marked w ↦ (search rules, rw (w.confessed-is, w.listed-is) (marked_passed _ l.k l.invariant.1 (b ∙ ap not w.if-not-marked.false)))
+    ]
 
 pub returns : goal.returns
 returns c =

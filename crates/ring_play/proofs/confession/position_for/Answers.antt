@@ -1,5 +1,5 @@
 -- `ring_play::confession::position_for` meets its contract: the receiver settles from what it hears.
-use Rattle.std.proofs.Common.{◌∙◌, to_z-of_z, rules, w32}
+use Rattle.std.proofs.Common.{◌∙◌, to_z-of_z, w32}
 use Rattle.frame_slots.specs.Slots.{planted_in}
 use Rattle.settle_trust.specs.Received.{given_by}
 use Rattle.ring_play.specs.Inner.Planted.{given_or_planted}

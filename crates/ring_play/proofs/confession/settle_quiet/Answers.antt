@@ -1,5 +1,5 @@
 -- `ring_play::confession::settle_quiet` meets its contract: if no head is struck, what is planted is heard by no one.
-use Rattle.std.proofs.Common.{◌≡◌, ℕ, Bool, false, cond, ◌&&◌, ltb, List, get_or, ℤ, pos, refl, ap, ◌∙◌, to_z-of_z, rules, w32}
+use Rattle.std.proofs.Common.{◌≡◌, ℕ, Bool, false, cond, ◌&&◌, ltb, List, get_or, ℤ, pos, refl, ap, ◌∙◌, to_z-of_z, w32}
 use mathlib.Core.Path.{fun_ext}
 use mathlib.Core.Bool.{and-false}
 use Rattle.marks.specs.Marks.{bit_of}

@@ -1,5 +1,5 @@
 -- `ring_play::confession::settled` meets its contract: a refusal leaves 0, and a settling its position.
-use Rattle.std.proofs.Common.{◌∙◌, to_z-of_z, rules, w32}
+use Rattle.std.proofs.Common.{◌∙◌, to_z-of_z, w32}
 use Rattle.settle_trust.specs.Received.{given_by}
 use Rattle.ring_play.proofs.confession.Settling.{settled_is}
 use Rattle.ring_play.proofs.confession.settled.Goals as goal

@@ -15,7 +15,7 @@ loop-i-preserved c =
     let l = c.loop-i in
     let b = sym c.settles.ensures in
     elim c.if-settles.branch [
-      then-settles w ↦ (
+      | then-settles w ↦ (
         search rules,
         l.invariant.1,
         rw w.positions-is (simp length-set l.invariant.2),
@@ -26,7 +26,8 @@ loop-i-preserved c =
         l.invariant.1,
         rw w.positions-is l.invariant.2,
         rw w.positions-is (filled_passed _ _ _ l.i l.invariant.3 (b ∙ w.if-settles.false)),
-      ) ]
+      )
+    ]
 
 pub returns : goal.returns
 returns c =

@@ -1,8 +1,7 @@
 -- `ring_play::round::is_same_planted` meets its contract: before head k, the struck heads below k have the same planted to both.
-use Rattle.std.proofs.Common.{◌-◌, sym, refl, ◌∙◌, true≢false, arith, rules, below_more}
-use borrow.Author.Tests.{not-true, not-false}
+use Rattle.std.proofs.Common.{◌-◌}
 use Rattle.frame_slots.specs.Slots.{planted_in}
-use Rattle.ring_play.proofs.round.Struck.{WalkedTo, SameTo, same_walked}
+use Rattle.ring_play.proofs.round.Struck.{WalkedTo, SameTo}
 use Rattle.ring_play.proofs.round.is_same_planted.Given as goal
 
 abbrev pub invariant-loop-k : goal.invariant-loop-k

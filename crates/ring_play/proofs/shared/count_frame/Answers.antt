@@ -1,5 +1,5 @@
 -- `ring_play::shared::count_frame` meets its contract: what the frame said is what was read with the table beside it, and that is counted.
-use Rattle.std.proofs.Common.{refl, rules}
+use Rattle.std.proofs.Common.{refl}
 use Rattle.ring_play.proofs.round.Frames.{said_read}
 use Rattle.ring_play.proofs.shared.Counting.{counted_nothing, counted_confession, counted_list}
 use Rattle.ring_play.proofs.shared.count_frame.Goals as goal

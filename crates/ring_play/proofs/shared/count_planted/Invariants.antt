@@ -1,9 +1,8 @@
 -- `ring_play::shared::count_planted` meets its contract: before head k, the struck heads below k gave what is planted.
-use Rattle.std.proofs.Common.{◌≡◌, ◌-◌, arith, rules}
+use Rattle.std.proofs.Common.{◌-◌}
 use Rattle.frame_slots.specs.Slots.{planted_in}
-use Rattle.ring_play.specs.Memory.{heads}
 use Rattle.ring_play.proofs.round.Struck.{WalkedTo}
-use Rattle.ring_play.proofs.shared.Counting.{counted_planted, PlantedTo, told_none, told_walked, told_heard}
+use Rattle.ring_play.proofs.shared.Counting.{PlantedTo}
 use Rattle.ring_play.proofs.shared.count_planted.Given as goal
 
 abbrev pub invariant-loop-k : goal.invariant-loop-k

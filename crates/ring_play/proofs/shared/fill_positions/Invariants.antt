@@ -1,15 +1,11 @@
 -- `ring_play::shared::fill_positions` meets its contract: before receiver i, each unstruck one below i has its new position, and `earlier` was settled from `settled`.
-use Rattle.std.proofs.Common.{◌≡◌, ℕ, ◌-◌, ◌≤◌, List, length, get_or, pos, sym, ◌∙◌, ⊎_elim, arith, length-set, to_z-of_z, rules}
+use Rattle.std.proofs.Common.{◌≡◌, ◌-◌, ◌≤◌, length, get_or, pos}
 use Rattle.frame_slots.specs.Slots.{planted_in}
 use Rattle.ring_play.specs.Memory.{settles}
-use Rattle.ring_play.specs.Inner.Before.{SettlesBefore, AsBefore}
-use Rattle.ring_play.specs.declared.round.Before.TheVariants.{As}
-use Rattle.ring_play.proofs.round.Filling.{Filled, filled_none, filled_passed, filled_set, filled_had, filled_all}
-use Rattle.ring_play.proofs.round.Receivers.{end_small, settles_below, settles_more}
+use Rattle.ring_play.specs.Inner.Before.{SettlesBefore}
+use Rattle.ring_play.proofs.round.Filling.{Filled}
 use Rattle.ring_play.specs.Inner.Planted.{given_or_planted, position_settled, Alike}
 use Rattle.ring_play.specs.Inner.Told.{SharedBy, EarlierOf}
-use Rattle.ring_play.proofs.shared.Settling.{told_settled}
-use Rattle.ring_play.proofs.shared.Told.{settled_here}
 use Rattle.ring_play.proofs.shared.fill_positions.Given as goal
 
 abbrev pub invariant-loop-i : goal.invariant-loop-i
