@@ -1,15 +1,9 @@
 -- `entries::all_fit` meets its contract. The loop's invariant: the flag says whether the first i entries fit, for every mark word that marks all n.
-use mathlib.Core.Path.{◌≡◌, refl, ap, ◌∙◌}
-use mathlib.Core.Logic.{⊎_elim}
+use mathlib.Core.Path.{◌≡◌}
 use mathlib.Core.Bool.{true}
 use Prim.Native.Nat.{ℕ, ◌-◌, ◌≤◌}
-use native.Mathlib.Omega.{arith}
-use borrow.Author.Rules.{rules}
-use borrow.Author.Tests.{not-true, not-false}
-use Rattle.marks.specs.Marks.{all_marked, bit_of}
-use Rattle.marks.proofs.Marks.{all_bits}
+use Rattle.marks.specs.Marks.{all_marked}
 use Rattle.entries.specs.Entries.{entries_fit}
-use Rattle.entries.proofs.Entries.{full_next, full_misfit}
 use Rattle.entries.proofs.all_fit.Given as goal
 
 abbrev pub invariant-loop-i : goal.invariant-loop-i

@@ -1,12 +1,8 @@
 -- `entries::each_fits` meets its contract. The loop's invariant: the first j entries fit. Where the next does not, no longer list fits either.
-use mathlib.Core.Path.{◌≡◌, refl, sym, ◌∙◌}
+use mathlib.Core.Path.{◌≡◌}
 use mathlib.Core.Bool.{true}
-use Prim.Native.Nat.{◌+◌, ◌-◌, ◌≤◌}
-use native.Mathlib.Omega.{arith}
-use borrow.Author.Rules.{rules}
-use borrow.Author.Tests.{leb-true, not-true, not-false}
+use Prim.Native.Nat.{◌-◌, ◌≤◌}
 use Rattle.entries.specs.Entries.{entries_fit}
-use Rattle.entries.proofs.Entries.{fits_next, misfit}
 use Rattle.entries.proofs.each_fits.Given as goal
 
 abbrev pub invariant-loop-j : goal.invariant-loop-j

@@ -1,6 +1,5 @@
 -- `entries::entries_fit` meets its contract: the loop for a list without nulls is taken only if all are marked.
 use mathlib.Core.Path.{sym, ◌∙◌}
-use borrow.Author.Rules.{rules}
 use Rattle.entries.proofs.entries_fit.Goals as goal
 
 pub returns-then-all_marked : goal.returns-then-all_marked

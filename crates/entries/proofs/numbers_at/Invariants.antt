@@ -1,13 +1,7 @@
 -- `entries::numbers_at` meets its contract. The loop's invariant: the array has the first k numbers, and it is filled up to n, or to 32, where it ends.
-use mathlib.Core.Path.{◌≡◌, refl, ap, ◌∙◌}
+use mathlib.Core.Path.{◌≡◌}
 use Prim.Native.Nat.{◌≤◌, ◌-◌}
-use native.Mathlib.Omega.{arith}
-use mir.Facts.{to_z-of_z}
-use borrow.Author.Rules.{rules}
-use borrow.Author.Tests.{leb-true}
-use Rattle.fields.specs.Bytes.{signed_of}
-use Rattle.entries.specs.Entries.{zeros, numbers}
-use Rattle.entries.proofs.Entries.{numbers_next, numbers_first_32}
+use Rattle.entries.specs.Entries.{numbers}
 use Rattle.entries.proofs.numbers_at.Given as goal
 
 abbrev pub invariant-loop-k : goal.invariant-loop-k

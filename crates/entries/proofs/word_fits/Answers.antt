@@ -1,7 +1,6 @@
 -- `entries::word_fits` meets its contract, case by case of the mark.
 use mathlib.Core.Path.{ap, sym, ◌∙◌}
 use mathlib.Core.Bool.{Bool}
-use borrow.Author.Rules.{rules}
 use Rattle.fields.specs.Bytes.{signed_of}
 use Rattle.entries.specs.Entries.{fits}
 use Rattle.entries.proofs.Entries.{zero_word}

@@ -1,5 +1,4 @@
 -- `entries::word_in` meets its contract: both ways read the same four bytes.
-use borrow.Author.Rules.{rules}
 use Rattle.entries.proofs.word_in.Goals as goal
 
 pub word_within-requires : goal.word_within-requires

@@ -4,7 +4,6 @@ use native.Mathlib.Nat.{le_refl, le_of_lt}
 use Prim.Native.Nat.{◌-◌}
 use lib.ListN.{length, drop, length-drop, drop_of_length-le}
 use lib.Seq.{take_all}
-use borrow.Author.Rules.{rules}
 use Rattle.fields.proofs.bytes_from.Goals as goal
 
 pub returns-then-s-at : goal.returns-then-s-at

@@ -1,7 +1,6 @@
 -- `fields::copy_eight` meets its contract: eight stores are a copy of eight bytes.
 use native.Mathlib.Omega.{arith}
 use lib.ListN.{length-set}
-use borrow.Author.Rules.{rules}
 use Rattle.fields.proofs.Copying.{eight_pasted}
 use Rattle.fields.proofs.copy_eight.Goals as goal
 

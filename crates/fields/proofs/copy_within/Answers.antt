@@ -1,10 +1,10 @@
 -- `fields::copy_within` meets its contract: before each step the first j bytes are pasted, and as many are left over by eight of those to come as of all.
 use mathlib.Core.Path.{◌≡◌, refl, ◌∙◌, ap}
-use Prim.Native.Nat.{ℕ, ◌+◌, ◌-◌, ◌≤◌, ◌<◌, ◌%◌}
+use Prim.Native.Nat.{ℕ, ◌+◌, ◌-◌, ◌<◌, ◌%◌}
 use native.Mathlib.Nat.{mod-eq_of_lt, add-mod_right}
 use native.Mathlib.Omega.{arith}
 use lib.ListN.{length}
-use lib.Seq.{paste, paste-zero, length-paste}
+use lib.Seq.{paste, paste-zero}
 use borrow.Author.Rules.{rules}
 use Rattle.fields.proofs.Copying.{pasted_on}
 use Rattle.fields.proofs.copy_within.Goals as goal

@@ -1,7 +1,6 @@
 -- `fields::half_at` meets its contract: if no byte is left at the place, both read as 0.
 use native.Mathlib.Omega.{arith}
 use lib.ListN.{get_or-eq_default}
-use borrow.Author.Rules.{rules}
 use Rattle.fields.proofs.Bytes.{reads_past}
 use Rattle.fields.proofs.half_at.Goals as goal
 

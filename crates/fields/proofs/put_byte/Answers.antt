@@ -1,7 +1,6 @@
 -- `fields::put_byte` meets its contract: past the end `set` changes nothing.
 use mathlib.Core.Path.{sym}
 use lib.Seq.{set_out}
-use borrow.Author.Rules.{rules}
 use Rattle.fields.proofs.put_byte.Goals as goal
 
 pub returns-else-at-s : goal.returns-else-at-s

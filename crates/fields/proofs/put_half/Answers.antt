@@ -2,7 +2,6 @@
 use mathlib.Core.Path.{sym, ◌∙◌}
 use mathlib.Core.List.{[]}
 use lib.ListN.{length-set}
-use borrow.Author.Rules.{rules}
 use Rattle.fields.specs.Bytes.{put2, over}
 use Rattle.fields.proofs.Bytes.{writes_past}
 use Rattle.fields.proofs.put_half.Goals as goal

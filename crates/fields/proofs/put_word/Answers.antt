@@ -3,7 +3,6 @@ use mathlib.Core.Path.{refl, sym, ◌∙◌}
 use mathlib.Core.List.{[]}
 use native.Mathlib.Omega.{arith}
 use lib.ListN.{length-set}
-use borrow.Author.Rules.{rules}
 use Rattle.fields.specs.Bytes.{put4}
 use Rattle.fields.proofs.Bytes.{writes_past, one_by_one}
 use Rattle.fields.proofs.put_word.Goals as goal

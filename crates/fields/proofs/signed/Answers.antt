@@ -1,5 +1,4 @@
 -- `fields::signed` meets its contract: a cast reads the word's bits, and from 2^31 up -1 - (2^32 - 1 - x) is the number.
-use borrow.Author.Rules.{rules}
 use Rattle.fields.proofs.Bytes.{to_z_signed}
 use Rattle.fields.proofs.Signs.{high_fits, high_read}
 use Rattle.fields.proofs.signed.Goals as goal

@@ -1,10 +1,9 @@
 -- `settle_trust::searched` meets its contract: after k turns `found` is what was found among the first k cells. Where the loop ends, the cells that are left are too few
 -- to change it.
 use mathlib.Core.Path.{sym, ◌∙◌}
-use Prim.Native.Nat.{◌-◌, ◌≤◌, ◌<◌}
 use native.Mathlib.Omega.{arith}
 use borrow.Author.Rules.{rules}
-use Rattle.settle_trust.proofs.Search.{Looked, none_looked, turn_finds, turn_finds_second, turn_passes, search_ends}
+use Rattle.settle_trust.proofs.Search.{none_looked, turn_finds, turn_finds_second, turn_passes, search_ends}
 use Rattle.settle_trust.proofs.searched.Goals as goal
 use Rattle.settle_trust.proofs.searched.Goals.{then-is_another+else-found-ne0, else-is_another}
 

@@ -5,7 +5,6 @@ use lib.IntN.{ℤ}
 use mir.Syntax.{w64}
 use mir.Val.{SFits}
 use mir.Facts.{to_z-of_z, Fits-of_z, sfits_to_z}
-use borrow.Author.Rules.{rules}
 use Rattle.terms.specs.Positions.{floor_div}
 use Rattle.terms.proofs.Machine.{read}
 use Rattle.steps.proofs.Machine.{minus_fits, quotient_fits, negative_floor_fits, negative_floor_is, natural_floor_fits, natural_floor_is}

@@ -1,6 +1,5 @@
 -- `steps::nanometres_of` meets its contract: steps times numerator fits 64 bits by far.
 use mathlib.Core.Path.{◌≡◌, ◌∙◌, ap, ap₂}
-use borrow.Author.Rules.{rules}
 use lib.IntN.{ℤ, pos, ◌*ℤ◌}
 use mir.Syntax.{w32, w64}
 use mir.Val.{to_z, SFits}

@@ -1,7 +1,6 @@
 -- `steps::step_near` meets its contract: no other number of steps than the candidate reads so, and it is asked for its own reading if it is in range.
 use mathlib.Core.Path.{◌≡◌, sym, ◌∙◌, ap}
 use mathlib.Core.Bool.{true}
-use borrow.Author.Rules.{rules}
 use Prim.Native.Nat.{ℕ}
 use lib.IntN.{ℤ}
 use mir.Syntax.{w32, w64}

@@ -1,5 +1,4 @@
 -- `texts::digit` meets its contract: its test is the definition's.
-use borrow.Author.Rules.{rules}
 use borrow.Author.Tests.{lt-ltb, le-ltb}
 use Rattle.texts.proofs.digit.Goals as goal
 

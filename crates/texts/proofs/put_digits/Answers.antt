@@ -4,7 +4,7 @@ use native.Mathlib.Omega.{arith}
 use native.Mathlib.Nat.{mod-lt}
 use lib.ListN.{length-set}
 use borrow.Author.Rules.{rules}
-use Rattle.texts.proofs.Writing.{Spelt, spelt_none, spelt_more, spelt_all}
+use Rattle.texts.proofs.Writing.{spelt_none, spelt_more, spelt_all}
 use Rattle.texts.proofs.put_digits.Goals as goal
 
 pub loop-i-init : goal.loop-i-init

@@ -1,5 +1,4 @@
 -- `texts::put_hex` meets its contract: it is what is put behind the text's own bytes.
-use borrow.Author.Rules.{rules}
 use Rattle.texts.proofs.put_hex.Goals as goal
 
 pub returns : goal.returns

@@ -1,7 +1,6 @@
 -- `texts::put_number_at` meets its contract: as many digits as the number has are its decimal digits.
 use Prim.Native.Nat.{◌+◌}
 use native.Mathlib.Omega.{arith}
-use borrow.Author.Rules.{rules}
 use Rattle.texts.proofs.Digits.{spelled_decimal}
 use Rattle.texts.proofs.Writing.{some_room, no_room, digits_put, digits_none}
 use Rattle.texts.proofs.put_number_at.Goals as goal
@@ -10,7 +9,7 @@ pub put_digits-requires : goal.put_digits-requires
 put_digits-requires c =
     let k = c.size_of-k.result in
     let room = some_room c.args.at (k + 1) c.has_room.ensures c.if-has_room.true in
-    (c.put_digits-arg-1.given.0.1, omega arith, omega arith, omega (arith, room))
+    (c.told-line, omega arith, omega arith, omega (arith, room))
 
 pub returns-then-has_room : goal.returns-then-has_room
 returns-then-has_room c =

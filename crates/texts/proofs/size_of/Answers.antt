@@ -1,6 +1,6 @@
 -- `texts::size_of` meets its contract: k - 1 digits are counted, and what is left of x is counted as the definition counts.
 use mathlib.Core.Path.{◌≡◌}
-use Prim.Native.Nat.{suc, ◌+◌, ◌-◌, ◌/◌, ◌≤◌}
+use Prim.Native.Nat.{suc, ◌+◌, ◌-◌, ◌/◌}
 use native.Mathlib.Omega.{arith}
 use borrow.Author.Rules.{rules}
 use Rattle.texts.specs.Numbers.{size}

@@ -1,10 +1,7 @@
 -- `texts::size_of` meets its contract: k - 1 digits are counted, and what is left of x is counted as the definition counts.
 use mathlib.Core.Path.{◌≡◌}
-use Prim.Native.Nat.{suc, ◌+◌, ◌-◌, ◌/◌, ◌≤◌}
-use native.Mathlib.Omega.{arith}
-use borrow.Author.Rules.{rules}
+use Prim.Native.Nat.{◌+◌, ◌-◌, ◌≤◌}
 use Rattle.texts.specs.Numbers.{size}
-use Rattle.texts.proofs.Digits.{size_small, size_more}
 use Rattle.texts.proofs.size_of.Given as goal
 
 abbrev pub invariant-loop-k : goal.invariant-loop-k
