@@ -22,7 +22,7 @@ loop-i-preserved c =
       search rules,
       λ m e.
           elim c.if-not-is_position_word.branch [
-            then-not-is_position_word t ↦ t.fit-is ∙ full_misfit m a.s.now c.loop-i.i (bits m e) c.word_within.ensures c.is_position_word.ensures t.if-not-is_position_word.true
+            | then-not-is_position_word t ↦ t.fit-is ∙ full_misfit m a.s.now c.loop-i.i (bits m e) c.word_within.ensures c.is_position_word.ensures t.if-not-is_position_word.true
             | else-not-is_position_word t ↦ t.fit-is ∙ full_next m a.s.now c.loop-i.i (bits m e) c.word_within.ensures c.is_position_word.ensures (c.loop-i.invariant.1 m e) t.if-not-is_position_word.false
           ],
     )

@@ -35,7 +35,7 @@ loop-k-preserved c =
       search rules,
       elim c.if-marks-k.branch [ then-marks-k w ↦ rw w.same-is w.add_same.ensures.0 | else-marks-k w ↦ rw w.same-is l.invariant.1 ],
       elim c.if-marks-k.branch [
-        then-marks-k w ↦ rw w.same-is (compares_alike l.invariant.2 c.is_apart.ensures w.if-marks-k.true w.add_same.ensures.1)
+        | then-marks-k w ↦ rw w.same-is (compares_alike l.invariant.2 c.is_apart.ensures w.if-marks-k.true w.add_same.ensures.1)
         | else-marks-k w ↦ rw w.same-is (compares_other l.invariant.2 c.is_apart.ensures w.if-marks-k.false)
       ],
     )

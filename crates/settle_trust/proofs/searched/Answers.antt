@@ -32,7 +32,7 @@ loop-k-preserved c =
     let e = sym c.is_another.ensures in (
       omega arith,
       elim c.if-is_another.branch [
-        then-is_another+else-found-ne0 w ↦ rw w.found-is (turn_finds _ _ _ _ _ L (e ∙ w.if-is_another.true) w.if-found-ne0.false)
+        | then-is_another+else-found-ne0 w ↦ rw w.found-is (turn_finds _ _ _ _ _ L (e ∙ w.if-is_another.true) w.if-found-ne0.false)
         | else-is_another w ↦ rw w.found-is (turn_passes _ _ _ _ _ L (e ∙ w.if-is_another.false))
       ],
     )
