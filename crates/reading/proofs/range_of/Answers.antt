@@ -17,12 +17,6 @@ three x y z = record { lowest = x; highest = y; midpoint = z }
 abbrev made : Float → Float → KeptRange
 made x y = three x y (mul binary32 (add binary32 x y) (of_bits binary32 0x3f00_0000))
 
-pub float_of-low-requires : goal.float_of-low-requires
-float_of-low-requires c = search rules
-
-pub float_of-high-requires : goal.float_of-high-requires
-float_of-high-requires c = search rules
-
 pub returns : goal.returns
 unfolding range_of
 returns c =
