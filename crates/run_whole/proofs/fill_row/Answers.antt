@@ -27,7 +27,7 @@ loop-i-preserved c =
     let s = sound_row a.n a.m a.word a.positions.now 48 in
     let i : l.i < 48 = c.loop-i-test.true in
     let v : to_z w32 (of_z w32 c.number_at-v.result) ≡ get_or s l.i (pos 0) =
-    to_z-of_z (record { sfits = c.number_at-v.type_inv }) ∙ c.number_at-v.ensures ∙ sym (row_at a.n a.m a.word a.positions.now 48 l.i i) in (
+    to_z-of_z {w = w32} (record { sfits = c.number_at-v.type_inv }) ∙ c.number_at-v.ensures ∙ sym (row_at a.n a.m a.word a.positions.now 48 l.i i) in (
       omega arith,
       rw (add-one l.i)
           (ap (set l.rows (a.base + l.i)) v ∙ ap (λ (x : List ℤ). set x (a.base + l.i) (get_or s l.i (pos 0))) l.invariant.1
