@@ -1,6 +1,5 @@
 -- `run_stream::ending` meets its contract: it asks what the definition asks, in its order.
 use mathlib.Core.Path.{sym, ◌∙◌}
-use borrow.Author.Rules.{rules}
 use borrow.Author.Tests.{eq-eqb, ne_eqb}
 use Rattle.run_stream.specs.Inner.{ending_of}
 use Rattle.run_stream.proofs.ending.Goals.{else-p-via-then-p+then-p-eq0+else-ends_phase, else-p-via-then-p+else-p-eq0, else-p-via-else-p}

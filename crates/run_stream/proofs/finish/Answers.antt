@@ -1,6 +1,5 @@
 -- `run_stream::finish` meets its contract: the pending round is played if the file ends well, and no other.
 use native.Mathlib.Omega.{arith}
-use borrow.Author.Rules.{rules}
 use Rattle.run_stream.proofs.Finishing.{ends_played_lem, ends_unplayed}
 use Rattle.run_stream.proofs.finish.Goals.{else-number-eq0-via-then-number-eq0+else-p, else-number-eq0-via-else-number-eq0}
 use Rattle.run_stream.proofs.finish.Goals as goal

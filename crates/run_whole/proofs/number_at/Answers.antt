@@ -4,8 +4,6 @@ use mathlib.Core.Bool.{Bool, true, cond}
 use lib.ListN.{get_or}
 use lib.IntN.{pos}
 use Rattle.run_whole.specs.Whole.{is_sound}
-use borrow.Author.Rules.{rules}
-use borrow.Author.Tests.{not-true, not-false}
 use mir.Syntax.{w32}
 use mir.Facts.{to_z-of_z}
 use Rattle.run_whole.proofs.number_at.Goals as goal
