@@ -1,6 +1,4 @@
 -- `run_judge::is_allowed` meets its contract: an arm for each known kind asks what the definition asks of it, and a kind that is none of these is not allowed.
-use borrow.Author.Rules.{rules}
-use borrow.Author.Tests.{ne_eqb}
 use Rattle.run_judge.proofs.is_allowed.Goals as goal
 
 pub returns-then-not-begun : goal.returns-then-not-begun
