@@ -33,8 +33,8 @@ loop-i-smaller c =
 pub loop-i-preserved : goal.loop-i-preserved
 loop-i-preserved c =
     let a = c.args.answers.now in
-    (omega arith, rw c.lapsed-left.ensures (next a c.loop-i.i c.loop-i.false c.loop-i-test.true ∙ c.loop-i.invariant.1))
+    (omega arith, rw c.lapsed-left.ensures (next a c.loop-i.i c.loop-i.left c.loop-i-test.true ∙ c.loop-i.invariant.1))
 
 pub returns : goal.returns
 returns c =
-    sym (over c.args.answers.now c.loop-i.i c.loop-i.false c.loop-i-test.false) ∙ c.loop-i.invariant.1
+    sym (over c.args.answers.now c.loop-i.i c.loop-i.left c.loop-i-test.false) ∙ c.loop-i.invariant.1

@@ -4,6 +4,7 @@ use mathlib.Core.Logic.{◌≢◌}
 use mathlib.Core.List.{List}
 use Prim.Native.Nat.{ℕ}
 use lib.IntN.{ℤ}
+use mir.Syntax.{w32}
 use mir.Facts.{to_z-of_z}
 use borrow.Author.Rules.{rules}
 use borrow.Author.Tests.{ne_eqb}
@@ -35,7 +36,7 @@ pub returns-then-call-eq0 : goal.returns-then-call-eq0
 returns-then-call-eq0 c =
     c.start.ensures
     ∙ is_start _ _ c.word_at-n.ensures c.word_at-f.ensures c.word_at-number.ensures
-    c.word_at-fourth.ensures c.word_at-fifth.ensures c.family_at-family.ensures c.if-call-eq0.true (to_z-of_z (record { sfits = c.signed.type_inv }) ∙ c.signed.ensures)
+    c.word_at-fourth.ensures c.word_at-fifth.ensures c.family_at-family.ensures c.if-call-eq0.true (to_z-of_z {w = w32} (record { sfits = c.signed.type_inv }) ∙ c.signed.ensures)
 
 pub returns-then-call-eq1 : goal.returns-then-call-eq1
 returns-then-call-eq1 c =

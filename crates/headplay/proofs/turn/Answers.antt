@@ -60,10 +60,10 @@ returns-then-call-eq4 c =
     ∙ is_hearing c.args.s.now _ _ (sym c.byte_at-call.ensures ∙ c.if-call-eq4.true) c.word_at.ensures c.bytes_from.ensures c.hear.ensures
 
 pub slice_bounds-space-end : goal.slice_bounds-space-end
-slice_bounds-space-end c = let q = c in roomy _ q.buffer.result q.before.byte-at2.type-inv q.buffer.ensures
+slice_bounds-space-end c = roomy _ c.buffer-space.result c.byte_at-room.type_inv c.buffer-space.ensures
 
 pub slice_bounds-batched-end : goal.slice_bounds-batched-end
-slice_bounds-batched-end c = let q = c in sym (length-take-le _ _ (roomy _ q.buffer.result q.before.byte-at2.type-inv q.buffer.ensures))
+slice_bounds-batched-end c = sym (length-take-le _ _ (roomy _ c.buffer-space.result c.byte_at-room.type_inv c.buffer-space.ensures))
 
 pub returns-then-call-eq5 : goal.returns-then-call-eq5
 returns-then-call-eq5 c =
@@ -72,10 +72,10 @@ returns-then-call-eq5 c =
     (length-take-le _ _ (roomy _ c.buffer-space.result c.byte_at-room.type_inv c.buffer-space.ensures) ∙ c.byte_at-room.ensures)
 
 pub slice_bounds-space-end-then-call-eq6 : goal.slice_bounds-space-end-then-call-eq6
-slice_bounds-space-end-then-call-eq6 c = let q = c in roomy _ q.buffer.result q.before.byte-at2.type-inv q.buffer.ensures
+slice_bounds-space-end-then-call-eq6 c = roomy _ c.buffer-space.result c.byte_at-room.type_inv c.buffer-space.ensures
 
 pub slice_bounds-written-end : goal.slice_bounds-written-end
-slice_bounds-written-end c = let q = c in sym (length-take-le _ _ (roomy _ q.buffer.result q.before.byte-at2.type-inv q.buffer.ensures))
+slice_bounds-written-end c = sym (length-take-le _ _ (roomy _ c.buffer-space.result c.byte_at-room.type_inv c.buffer-space.ensures))
 
 pub returns-then-call-eq6 : goal.returns-then-call-eq6
 returns-then-call-eq6 c =
