@@ -6,7 +6,6 @@ use Rattle.terms.specs.declared.Table.{Table}
 use Rattle.frame_spec.specs.Written.{list_frame}
 use Rattle.frame_spec.proofs.Listing.{list_length}
 use Rattle.frame_spec.proofs.Fronts.{over_list, too_short, fits_front}
-use borrow.Author.Rules.{rules}
 use Rattle.frame_codec.proofs.write_list.Goals as goal
 
 pub returns-then-buffer-size : goal.returns-then-buffer-size

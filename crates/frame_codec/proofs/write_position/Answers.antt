@@ -4,7 +4,6 @@ use mir.Facts.{to_z-of_z}
 use Rattle.fields.specs.Bytes.{word_of}
 use Rattle.frame_spec.specs.Written.{position_frame}
 use Rattle.frame_spec.proofs.Fronts.{over_position, too_short, fits_front}
-use borrow.Author.Rules.{rules}
 use Rattle.frame_codec.proofs.write_position.Goals as goal
 
 pub returns-then-buffer-lt11 : goal.returns-then-buffer-lt11

@@ -2,7 +2,6 @@
 use mathlib.Core.Path.{sym, ap, ◌∙◌}
 use mathlib.Core.List.{[]}
 use native.Mathlib.Omega.{arith}
-use borrow.Author.Rules.{rules}
 use Rattle.texts.specs.Numbers.{decimal, spaced}
 use Rattle.texts.specs.Texts.{Longer}
 use Rattle.texts.proofs.Digits.{decimal_short}

@@ -1,7 +1,6 @@
 -- `hostpage::page` meets its contract: each of its tests is one of the definition's, in the same order.
 use Prim.Native.Nat.{◌≤◌}
 use native.Mathlib.Nat.{pos_of_ne-zero}
-use borrow.Author.Rules.{rules}
 use Rattle.hostpage.proofs.Pages.{no_heads, many_heads, short, fits}
 use Rattle.hostpage.proofs.page.Goals as goal
 

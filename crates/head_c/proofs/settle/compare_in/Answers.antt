@@ -1,7 +1,7 @@
 -- After k turns the lists compared are the first k.
 use mathlib.Core.Path.{◌≡◌, refl, ap, ◌∙◌}
 use mathlib.Core.Bool.{Bool}
-use Prim.Native.Nat.{◌+◌, ◌-◌, ◌≤◌}
+use Prim.Native.Nat.{◌+◌}
 use native.Mathlib.Omega.{arith}
 use borrow.Author.Rules.{rules}
 use lib.Dec.{eqb}
@@ -9,9 +9,7 @@ use lib.ListN.{length, get_or}
 use Rattle.terms.specs.Counting.{bit}
 use Rattle.terms.proofs.Sums.{bit_le}
 use Rattle.marks.proofs.Counts.{byte_bit}
-use Rattle.settle_position.specs.Reference.{Compares}
 use Rattle.settle_position.proofs.Reference.{compares_none, compares_few, compares_alike, compares_other}
-use Rattle.head_c.specs.Steps.{rows_in}
 use Rattle.head_c.proofs.Rows.{row_long, same_number_lem}
 use Rattle.head_c.proofs.settle.compare_in.Goals as goal
 use Rattle.head_c.proofs.settle.compare_in.Goals.{then-marks-k, else-marks-k}
