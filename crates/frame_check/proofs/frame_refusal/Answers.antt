@@ -34,10 +34,20 @@ length_of-requires c = sym c.is_known.ensures ∙ c.if-not-is_known.false
 
 pub returns-then-len-length_of : goal.returns-then-len-length_of
 returns-then-len-length_of c =
-    rw (left _ c.if-len-lt4.false c.half_at.ensures c.if-half_at-len.false c.half_at-kind.ensures, sym c.is_known.ensures ∙ c.if-not-is_known.false,
-    ← c.byte_at.ensures, ← c.length_of.ensures, ne_eqb _ _ c.if-len-length_of.true)
+    rw (
+      left _ c.if-len-lt4.false c.half_at.ensures c.if-half_at-len.false c.half_at-kind.ensures,
+      sym c.is_known.ensures ∙ c.if-not-is_known.false,
+      ← c.byte_at.ensures,
+      ← c.length_of.ensures,
+      ne_eqb _ _ c.if-len-length_of.true,
+    )
 
 pub returns : goal.returns
 returns c =
-    rw (left _ c.if-len-lt4.false c.half_at.ensures c.if-half_at-len.false c.half_at-kind.ensures, sym c.is_known.ensures ∙ c.if-not-is_known.false,
-    ← c.byte_at.ensures, ← c.length_of.ensures, eq-eqb _ _ c.if-len-length_of.false)
+    rw (
+      left _ c.if-len-lt4.false c.half_at.ensures c.if-half_at-len.false c.half_at-kind.ensures,
+      sym c.is_known.ensures ∙ c.if-not-is_known.false,
+      ← c.byte_at.ensures,
+      ← c.length_of.ensures,
+      eq-eqb _ _ c.if-len-length_of.false,
+    )

@@ -17,6 +17,6 @@ returns c =
     let a = c.args in
     let word = c.unsigned.ensures ∙ ap word_of (to_z-of_z c.ranges.v) in
     let w =
-        fits_front (position_frame a.sender a.phase a.v) a.buffer.now refl c.if-buffer-lt11.false
-        (over_position a.sender a.phase a.v a.buffer.now c.if-buffer-lt11.false c.put_header.ensures word c.put_word.ensures) in
+    fits_front (position_frame a.sender a.phase a.v) a.buffer.now refl c.if-buffer-lt11.false
+    (over_position a.sender a.phase a.v a.buffer.now c.if-buffer-lt11.false c.put_header.ensures word c.put_word.ensures) in
     record { answer = w.0; bytes = w.1 }

@@ -27,8 +27,8 @@ pub loop-j-preserved : goal.loop-j-preserved
 loop-j-preserved c =
     let l = c.loop-j in
     elim c.if-a-j.branch [
-    | then-a-j w ↦ (search rules, λ e. absurd (true≢false (sym e ∙ w.same-is)), λ e. absurd (w.if-a-j.true (ap (λ (x : List ℕ). get_or x l.j 0) e)))
-    | else-a-j w ↦ (search rules, λ e. below_more _ l.j (l.invariant.1 (sym w.same-is ∙ e)) w.if-a-j.false, λ e. w.same-is ∙ l.invariant.2 e)
+      | then-a-j w ↦ (search rules, λ e. absurd (true≢false (sym e ∙ w.same-is)), λ e. absurd (w.if-a-j.true (ap (λ (x : List ℕ). get_or x l.j 0) e)))
+      | else-a-j w ↦ (search rules, λ e. below_more _ l.j (l.invariant.1 (sym w.same-is ∙ e)) w.if-a-j.false, λ e. w.same-is ∙ l.invariant.2 e)
     ]
 
 pub returns : goal.returns

@@ -28,5 +28,5 @@ returns c =
     let a = c.args in
     let l : 1 ≤ a.n = pos_of_ne-zero c.if-n-eq0.false in
     let w =
-        fits a.n a.readings a.buffer.now l c.if-n-gt32.false (rw c.page_length-len.ensures at c.if-buffer-len.false) c.page_length-len.ensures c.put_page.ensures in
+    fits a.n a.readings a.buffer.now l c.if-n-gt32.false (rw c.page_length-len.ensures at c.if-buffer-len.false) c.page_length-len.ensures c.put_page.ensures in
     record { value = w.0; buffer_after = w.1 }

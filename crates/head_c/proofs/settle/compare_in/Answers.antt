@@ -43,14 +43,14 @@ loop-k-preserved c =
     let l = c.loop-k in
     let a = c.args in
     elim c.if-marks-k.branch [
-    | then-marks-k x ↦ (
+      | then-marks-k x ↦ (
         omega arith,
         rw x.same-is x.add_same.ensures.0,
         rw x.same-is (compares_alike l.invariant.2 c.is_apart.ensures x.if-marks-k.true (λ j i. x.add_same.ensures.1 j i
-        ∙ ap (λ (b : Bool). get_or l.same j 0 + bit b)
-        (same_number_lem a.h.now l.k a.reference j (omega arith) c.requires.2 i x.row_in.ensures c.row_in-row.ensures))),
+            ∙ ap (λ (b : Bool). get_or l.same j 0 + bit b)
+            (same_number_lem a.h.now l.k a.reference j (omega arith) c.requires.2 i x.row_in.ensures c.row_in-row.ensures))),
       )
-    | else-marks-k x ↦ (omega arith, rw x.same-is l.invariant.1, rw x.same-is (compares_other l.invariant.2 c.is_apart.ensures x.if-marks-k.false))
+      | else-marks-k x ↦ (omega arith, rw x.same-is l.invariant.1, rw x.same-is (compares_other l.invariant.2 c.is_apart.ensures x.if-marks-k.false))
     ]
 
 pub returns : goal.returns

@@ -43,9 +43,9 @@ slice_bounds-middle_in-end c =
     let E = trusted a.n a.f (given_by a.links L) in
     let past = trusted_past a.links L g a.n a.f in
     let held : OrderAfter c.loop-j.j E c.loop-j.len c.loop-j.positions =
-        c.loop-j.invariant.2 E
-        (prepared E L _ _ c.compare_in-compared.result _ c.compare_in-compared.ensures refl refl refl
-        (λ j. decided_marked a.links L g a.n a.f j few c.lists_needed.ensures c.all_marks-marks.ensures) past (omega (arith, few))) in
+    c.loop-j.invariant.2 E
+    (prepared E L _ _ c.compare_in-compared.result _ c.compare_in-compared.ensures refl refl refl
+    (λ j. decided_marked a.links L g a.n a.f j few c.lists_needed.ensures c.all_marks-marks.ensures) past (omega (arith, few))) in
     sym (order_long E (omega (arith, few)) held)
 
 pub returns : goal.returns
@@ -57,7 +57,7 @@ returns c =
     let E = trusted a.n a.f (given_by a.links L) in
     let past = trusted_past a.links L g a.n a.f in
     let held : OrderAfter c.loop-j.j E c.loop-j.len c.loop-j.positions =
-        c.loop-j.invariant.2 E
-        (prepared E L _ _ c.compare_in-compared.result _ c.compare_in-compared.ensures refl refl refl
-        (λ j. decided_marked a.links L g a.n a.f j few c.lists_needed.ensures c.all_marks-marks.ensures) past (omega (arith, few))) in
+    c.loop-j.invariant.2 E
+    (prepared E L _ _ c.compare_in-compared.result _ c.compare_in-compared.ensures refl refl refl
+    (λ j. decided_marked a.links L g a.n a.f j few c.lists_needed.ensures c.all_marks-marks.ensures) past (omega (arith, few))) in
     c.middle_in.ensures ∙ settling_after _ _ _ _ (order_all E past a.n (omega (arith, few)) held)
