@@ -2,7 +2,6 @@
 use mathlib.Core.Path.{◌≡◌, ap, ◌∙◌}
 use lib.Ieee.{Float, binary32, add, mul, of_bits}
 use mir.Facts.{to_z-of_z}
-use borrow.Author.Rules.{rules}
 use Rattle.reading.specs.declared.KeptRange.{KeptRange}
 use Rattle.reading.specs.Exact.{exact}
 use Rattle.reading.specs.Readings.{range_of}

@@ -1,8 +1,7 @@
 -- Number after number: after j turns the first j words are there.
 use mathlib.Core.Path.{◌≡◌, refl, ap, sym, ◌∙◌}
-use Prim.Native.Nat.{◌-◌, ◌≤◌}
 use native.Mathlib.Omega.{arith}
-use lib.ListN.{length, length-set, get_or}
+use lib.ListN.{length-set, get_or}
 use lib.IntN.{pos}
 use lib.Seq.{paste, paste-zero}
 use mir.Syntax.{w32}
