@@ -12,7 +12,7 @@ returns-then-fault-ne0 c = rw (ne_eqb _ _ c.if-fault-ne0.true)
 pub returns-then-ends_phase : goal.returns-then-ends_phase
 unfolding ending_of
 returns-then-ends_phase c =
-    rw (eq-eqb _ _ c.if-fault-ne0.false, c.if-p.true, c.if-p-eq0.true-raw, sym c.ends_phase.ensures ∙ c.if-ends_phase.true)
+    rw (eq-eqb _ _ c.if-fault-ne0.false, c.if-p.true, eq-eqb _ _ c.if-p-eq0.true, sym c.ends_phase.ensures ∙ c.if-ends_phase.true)
 
 pub returns : goal.returns
 unfolding ending_of
