@@ -19,10 +19,10 @@ loop-j-preserved c =
     let l = c.loop-j in
     let s = sym c.is_sound.ensures in
     elim c.if-is_sound.branch [
-      then-is_sound w ↦
-        let v = to_z-of_z {w = w32} (record { sfits = w.position_at-v.type_inv }) ∙ w.position_at-v.ensures in
-        (search rules, found_sound a.n a.m a.struck a.positions.now l.invariant.1 (not-true _ (s ∙ w.if-is_sound.true)) v (w.low-is ∙ w.outer-low.ensures) (w.high-is ∙ w.outer-high.ensures))
-    | else-is_sound w ↦ (search rules, rw (w.low-is, w.high-is) (found_struck a.n a.m a.struck a.positions.now l.invariant.1 (not-false _ (s ∙ w.if-is_sound.false))))
+      | then-is_sound w ↦
+          let v = to_z-of_z {w = w32} (record { sfits = w.position_at-v.type_inv }) ∙ w.position_at-v.ensures in
+          (search rules, found_sound a.n a.m a.struck a.positions.now l.invariant.1 (not-true _ (s ∙ w.if-is_sound.true)) v (w.low-is ∙ w.outer-low.ensures) (w.high-is ∙ w.outer-high.ensures))
+      | else-is_sound w ↦ (search rules, rw (w.low-is, w.high-is) (found_struck a.n a.m a.struck a.positions.now l.invariant.1 (not-false _ (s ∙ w.if-is_sound.false))))
     ]
 
 pub returns : goal.returns

@@ -22,8 +22,8 @@ loop-j-preserved c =
     let l = c.loop-j in
     let marked = c.marked_wide.ensures in
     elim c.if-marked_wide.branch [
-      then-marked_wide w ↦ (omega arith, w.out-is ∙ rw (add-one l.j, ← marked, w.if-marked_wide.true, l.invariant.1))
-    | else-marked_wide w ↦ (omega arith, w.out-is ∙ rw (add-one l.j, ← marked, w.if-marked_wide.false, l.invariant.1))
+      | then-marked_wide w ↦ (omega arith, w.out-is ∙ rw (add-one l.j, ← marked, w.if-marked_wide.true, l.invariant.1))
+      | else-marked_wide w ↦ (omega arith, w.out-is ∙ rw (add-one l.j, ← marked, w.if-marked_wide.false, l.invariant.1))
     ]
 
 pub returns : goal.returns

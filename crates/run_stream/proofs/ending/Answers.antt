@@ -18,7 +18,7 @@ pub returns : goal.returns
 unfolding ending_of
 returns c =
     rw (eq-eqb _ _ c.if-fault-ne0.false) (elim c.else-p.branch [
-      else-p-via-then-p+then-p-eq0+else-ends_phase w ↦ rw (w.if-p.true, eq-eqb _ _ w.if-p-eq0.true, sym w.ends_phase.ensures ∙ w.if-ends_phase.false)
-    | else-p-via-then-p+else-p-eq0 w ↦ rw (w.if-p.true, ne_eqb _ _ w.if-p-eq0.false)
-    | else-p-via-else-p w ↦ rw w.if-p.false
+      | else-p-via-then-p+then-p-eq0+else-ends_phase w ↦ rw (w.if-p.true, eq-eqb _ _ w.if-p-eq0.true, sym w.ends_phase.ensures ∙ w.if-ends_phase.false)
+      | else-p-via-then-p+else-p-eq0 w ↦ rw (w.if-p.true, ne_eqb _ _ w.if-p-eq0.false)
+      | else-p-via-else-p w ↦ rw w.if-p.false
     ])

@@ -19,8 +19,8 @@ returns c = record {
   len_bound = (omega (arith, c.empty.ensures), c.verdict_line-verdict.ensures.len_bound);
   by_index = λ a carry L.
       ends_unplayed L c.ending-number.ensures (λ z. elim c.else-number-eq0.branch [
-        else-number-eq0-via-then-number-eq0+else-p w ↦ w.if-p.false
-      | else-number-eq0-via-else-number-eq0 w ↦ absurd (w.if-number-eq0.false z)
+        | else-number-eq0-via-then-number-eq0+else-p w ↦ w.if-p.false
+        | else-number-eq0-via-else-number-eq0 w ↦ absurd (w.if-number-eq0.false z)
       ])
       c.verdict_line-verdict.ensures.result_value c.empty.ensures;
 }
