@@ -1,6 +1,5 @@
 -- Only starting, restarting and adopting touch the count of phase ends, and it is the number of adoptions, up to 255.
 use mathlib.Core.Path.{◌≡◌, refl, ap, ◌∙◌}
-use mathlib.Core.List.{List}
 use Prim.Native.Nat.{ℕ, zero, suc, ◌+◌, min}
 use native.Mathlib.Omega.{arith}
 use Rattle.settle_midpoint.specs.declared.Kept.{Kept}
@@ -9,8 +8,8 @@ use Rattle.head_spec.specs.declared.Head.{Head}
 use Rattle.head_spec.specs.declared.Closed.{Closed}
 use Rattle.head_spec.specs.declared.Offer.{Offer}
 use Rattle.head_spec.specs.Seats.{most_counted}
-use Rattle.head_spec.specs.Calls.{started, restarted, started_listener, answer, hear, closed_collection, closed_phase, close, adopt_refusal, adopted, adopt}
-use Rattle.head_spec.specs.Since.{CountStays, Counted, starts, restarts, listens, listens_again, hears, closes, adopts, CountHolds}
+use Rattle.head_spec.specs.Calls.{started, restarted, started_listener, answer, closed_collection, closed_phase, close, adopt_refusal, adopted, adopt}
+use Rattle.head_spec.specs.Since.{CountStays, starts, restarts, listens, listens_again, hears, closes, adopts, CountHolds}
 use Rattle.head_spec.proofs.Taking.{hear_keeps}
 use Rattle.head_spec.proofs.RoundClose as round
 use Rattle.head_spec.proofs.RoundClose.{Closes}

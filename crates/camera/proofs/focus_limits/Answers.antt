@@ -1,7 +1,6 @@
 -- `camera::focus_limits` meets its contract: it passes on what `limits` promises, case by case.
 use mathlib.Core.Path.{refl}
 use native.Mathlib.Omega.{arith}
-use borrow.Author.Rules.{rules}
 use Rattle.camera.proofs.Lent.{range_lent, pair_stored}
 use Rattle.camera.proofs.focus_limits.Goals as goal
 

@@ -1,6 +1,5 @@
 -- `camera::focus_one_round_midpoint_kept` meets its contract: it passes on what `midpoint` promises.
 use mathlib.Core.Path.{refl}
-use borrow.Author.Rules.{rules}
 use Rattle.terms.proofs.Refusals.{given_out}
 use Rattle.settle_midpoint.specs.Answers.{settled_number}
 use Rattle.camera.specs.Out.{kept_or}

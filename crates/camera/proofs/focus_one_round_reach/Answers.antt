@@ -1,5 +1,4 @@
 -- `camera::focus_one_round_reach` meets its contract: it passes on what `reach` promises.
-use borrow.Author.Rules.{rules}
 use Rattle.camera.proofs.Lent.{position_lent}
 use Rattle.camera.proofs.focus_one_round_reach.Goals as goal
 

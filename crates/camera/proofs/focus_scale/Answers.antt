@@ -6,7 +6,6 @@ use mir.Syntax.{w32, w64}
 use mir.Val.{SFits}
 use mir.Facts.{to_z-of_z}
 use native.Mathlib.Omega.{arith}
-use borrow.Author.Rules.{rules}
 use Rattle.terms.proofs.Machine.{read}
 use Rattle.steps.specs.Scale.{scaled}
 use Rattle.steps.specs.declared.Scaled.{Scaled}

@@ -3,7 +3,6 @@ use mathlib.Core.Path.{refl}
 use mir.Syntax.{w32}
 use mir.Facts.{to_z-of_z}
 use native.Mathlib.Omega.{arith}
-use borrow.Author.Rules.{rules}
 use Rattle.settle_midpoint.specs.Answers.{settled_number}
 use Rattle.camera.specs.Out.{settled_or}
 use Rattle.terms.proofs.Refusals.{given_out}

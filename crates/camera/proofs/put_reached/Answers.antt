@@ -3,7 +3,6 @@ use mathlib.Core.Path.{refl}
 use mir.Syntax.{w32}
 use mir.Facts.{to_z-of_z}
 use native.Mathlib.Omega.{arith}
-use borrow.Author.Rules.{rules}
 use Rattle.camera.specs.Out.{reached_number, reached_or}
 use Rattle.terms.proofs.Refusals.{given_out}
 use Rattle.camera.proofs.put_reached.Goals as goal

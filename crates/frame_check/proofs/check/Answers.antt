@@ -6,7 +6,6 @@ use native.Mathlib.Nat.{le_refl}
 use native.Mathlib.Omega.{arith}
 use lib.ListN.{length, take, drop, length-drop}
 use lib.Seq.{take_all}
-use borrow.Author.Rules.{rules}
 use Rattle.frame_check.proofs.Laws.{accepted_long, accepted_rest, refused_rest}
 use Rattle.frame_check.proofs.check.Goals as goal
 

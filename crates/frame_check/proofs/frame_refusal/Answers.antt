@@ -1,12 +1,10 @@
 -- Each test reads what the definition's next check asks. At each return the tests before it held and, but at the last, the one that leads there failed.
 use mathlib.Core.Path.{◌≡◌, sym, ◌∙◌}
-use mathlib.Core.Bool.{true}
 use mathlib.Core.List.{List}
 use Prim.Native.Nat.{ℕ, ◌≤◌}
 use lib.Dec.{eqb}
 use lib.ListN.{length}
-use borrow.Author.Rules.{rules}
-use borrow.Author.Tests.{le-leb, lt-leb, eq-eqb, ne_eqb, not-true, not-false}
+use borrow.Author.Tests.{le-leb, lt-leb, eq-eqb, ne_eqb}
 use Rattle.terms.specs.Refusals as refusal
 use Rattle.terms.specs.Refusals.{check}
 use Rattle.fields.specs.Bytes.{at2}
@@ -36,10 +34,20 @@ length_of-requires c = sym c.is_known.ensures ∙ c.if-not-is_known.false
 
 pub returns-then-len-length_of : goal.returns-then-len-length_of
 returns-then-len-length_of c =
-    rw (left _ c.if-len-lt4.false c.half_at.ensures c.if-half_at-len.false c.half_at-kind.ensures, sym c.is_known.ensures ∙ c.if-not-is_known.false,
-    ← c.byte_at.ensures, ← c.length_of.ensures, ne_eqb _ _ c.if-len-length_of.true)
+    rw (
+      left _ c.if-len-lt4.false c.half_at.ensures c.if-half_at-len.false c.half_at-kind.ensures,
+      sym c.is_known.ensures ∙ c.if-not-is_known.false,
+      ← c.byte_at.ensures,
+      ← c.length_of.ensures,
+      ne_eqb _ _ c.if-len-length_of.true,
+    )
 
 pub returns : goal.returns
 returns c =
-    rw (left _ c.if-len-lt4.false c.half_at.ensures c.if-half_at-len.false c.half_at-kind.ensures, sym c.is_known.ensures ∙ c.if-not-is_known.false,
-    ← c.byte_at.ensures, ← c.length_of.ensures, eq-eqb _ _ c.if-len-length_of.false)
+    rw (
+      left _ c.if-len-lt4.false c.half_at.ensures c.if-half_at-len.false c.half_at-kind.ensures,
+      sym c.is_known.ensures ∙ c.if-not-is_known.false,
+      ← c.byte_at.ensures,
+      ← c.length_of.ensures,
+      eq-eqb _ _ c.if-len-length_of.false,
+    )

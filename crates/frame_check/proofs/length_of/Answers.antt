@@ -4,7 +4,6 @@ use mathlib.Core.Bool.{true, true≢false}
 use mathlib.Core.Logic.{◌≢◌}
 use Prim.Native.Nat.{ℕ, zero, suc}
 use native.Mathlib.Omega.{arith}
-use borrow.Author.Rules.{rules}
 use borrow.Author.Tests.{ne_eqb}
 use Rattle.frame_check.specs.Check.{kind_of, is_known, length_of}
 use Rattle.frame_check.proofs.length_of.Goals as goal

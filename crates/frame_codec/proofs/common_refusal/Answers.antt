@@ -1,6 +1,5 @@
 -- The round of the kind decides first, then the sender, then the phase; if all are right there is no refusal.
 use borrow.Author.Tests.{eq-eqb, ne_eqb}
-use borrow.Author.Rules.{rules}
 use Rattle.frame_codec.specs.Steps.{common_refusal}
 use Rattle.frame_codec.proofs.common_refusal.Goals as goal
 

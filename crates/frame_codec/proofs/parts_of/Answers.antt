@@ -1,5 +1,4 @@
 -- Each arm is one case of the definition.
-use borrow.Author.Rules.{rules}
 use Rattle.frame_codec.proofs.parts_of.Goals as goal
 
 pub returns-in-Refused : goal.returns-in-Refused

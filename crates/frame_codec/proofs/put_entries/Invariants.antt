@@ -1,12 +1,9 @@
 -- The loop's invariant: the first j entries are written, and the buffer is as long as it was. A turn writes the next entry just behind them.
-use mathlib.Core.Path.{◌≡◌, refl, ◌∙◌}
+use mathlib.Core.Path.{◌≡◌}
 use Prim.Native.Nat.{◌-◌, ◌≤◌}
-use native.Mathlib.Omega.{arith}
 use lib.ListN.{length}
-use borrow.Author.Rules.{rules}
 use Rattle.fields.specs.Bytes.{over}
 use Rattle.frame_spec.specs.Written.{entry_bytes}
-use Rattle.frame_spec.proofs.Fronts.{over_entry}
 use Rattle.frame_codec.proofs.put_entries.Given as goal
 
 abbrev pub invariant-loop-j : goal.invariant-loop-j

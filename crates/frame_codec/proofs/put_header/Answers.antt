@@ -2,7 +2,6 @@
 use mathlib.Core.Path.{◌∙◌}
 use lib.ListN.{length-set}
 use Rattle.frame_spec.proofs.Fronts.{over_header}
-use borrow.Author.Rules.{rules}
 use Rattle.frame_codec.proofs.put_header.Goals as goal
 
 pub shape_of-buffer : goal.shape_of-buffer

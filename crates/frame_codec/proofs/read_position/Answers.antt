@@ -5,7 +5,6 @@ use mir.Syntax.{w32}
 use mir.Facts.{to_z-of_z}
 use Rattle.terms.specs.declared.Entry.{Entry}
 use Rattle.frame_spec.specs.declared.Said.{Said}
-use borrow.Author.Rules.{rules}
 use Rattle.frame_codec.proofs.read_position.Goals as goal
 
 pub returns-then-is_position_word : goal.returns-then-is_position_word

@@ -1,6 +1,4 @@
 -- An arm for each known kind; a kind that is none of these is unknown, passes both checks and means refusal 7.
-use borrow.Author.Tests.{ne_eqb}
-use borrow.Author.Rules.{rules}
 use Rattle.frame_codec.proofs.read_rest.Goals as goal
 
 pub returns-in-1 : goal.returns-in-1

@@ -1,6 +1,5 @@
 -- The marks and the numbers are read of the fields that the definition names.
 use Rattle.frame_spec.specs.Said.{table_in}
-use borrow.Author.Rules.{rules}
 use Rattle.frame_codec.proofs.table_in.Goals as goal
 
 pub returns : goal.returns

@@ -10,7 +10,7 @@ use borrow.Author.Rules.{rules}
 use Rattle.frame_codec.proofs.write.Goals as goal
 
 pub returns-in-Refused : goal.returns-in-Refused
-returns-in-Refused c = 
+returns-in-Refused c =
     let w = fits_front [] c.args.buffer.now refl (omega arith) refl in
     rw c.in-Refused.is (record { answer = w.0; bytes = w.1 })
 

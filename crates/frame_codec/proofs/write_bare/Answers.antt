@@ -3,7 +3,6 @@ use mathlib.Core.Path.{refl}
 use mathlib.Core.List.{[]}
 use Rattle.frame_spec.specs.Written.{header}
 use Rattle.frame_spec.proofs.Fronts.{too_short, fits_front}
-use borrow.Author.Rules.{rules}
 use Rattle.frame_codec.proofs.write_bare.Goals as goal
 
 pub returns-then-buffer-lt7 : goal.returns-then-buffer-lt7

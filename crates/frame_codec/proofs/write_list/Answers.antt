@@ -6,7 +6,6 @@ use Rattle.terms.specs.declared.Table.{Table}
 use Rattle.frame_spec.specs.Written.{list_frame}
 use Rattle.frame_spec.proofs.Listing.{list_length}
 use Rattle.frame_spec.proofs.Fronts.{over_list, too_short, fits_front}
-use borrow.Author.Rules.{rules}
 use Rattle.frame_codec.proofs.write_list.Goals as goal
 
 pub returns-then-buffer-size : goal.returns-then-buffer-size
@@ -25,6 +24,6 @@ returns c =
     let a = c.args in
     let t : Table = record { marks = a.marks; entries = a.entries.now } in
     let w =
-        fits_front (list_frame a.n a.sender a.phase t) a.buffer.now (list_length a.n a.sender a.phase t) c.if-buffer-size.false
-        (over_list a.n a.sender a.phase t a.buffer.now c.if-buffer-size.false c.put_header.ensures c.put_word.ensures c.put_entries.ensures) in
+    fits_front (list_frame a.n a.sender a.phase t) a.buffer.now (list_length a.n a.sender a.phase t) c.if-buffer-size.false
+    (over_list a.n a.sender a.phase t a.buffer.now c.if-buffer-size.false c.put_header.ensures c.put_word.ensures c.put_entries.ensures) in
     record { answer = w.0; bytes = w.1 }

@@ -4,7 +4,6 @@ use mir.Facts.{to_z-of_z}
 use Rattle.fields.specs.Bytes.{word_of}
 use Rattle.frame_spec.specs.Written.{position_frame}
 use Rattle.frame_spec.proofs.Fronts.{over_position, too_short, fits_front}
-use borrow.Author.Rules.{rules}
 use Rattle.frame_codec.proofs.write_position.Goals as goal
 
 pub returns-then-buffer-lt11 : goal.returns-then-buffer-lt11
@@ -18,6 +17,6 @@ returns c =
     let a = c.args in
     let word = c.unsigned.ensures ∙ ap word_of (to_z-of_z c.ranges.v) in
     let w =
-        fits_front (position_frame a.sender a.phase a.v) a.buffer.now refl c.if-buffer-lt11.false
-        (over_position a.sender a.phase a.v a.buffer.now c.if-buffer-lt11.false c.put_header.ensures word c.put_word.ensures) in
+    fits_front (position_frame a.sender a.phase a.v) a.buffer.now refl c.if-buffer-lt11.false
+    (over_position a.sender a.phase a.v a.buffer.now c.if-buffer-lt11.false c.put_header.ensures word c.put_word.ensures) in
     record { answer = w.0; bytes = w.1 }

@@ -1,7 +1,6 @@
 -- `frame_slots::clear` meets its contract: of a slot whose length is 0 nothing is planted.
 use Prim.Native.Nat.{◌+◌, ◌*◌}
 use native.Mathlib.Omega.{arith}
-use borrow.Author.Rules.{rules}
 use Rattle.frame_slots.proofs.Parts.{planted_none}
 use Rattle.frame_slots.proofs.clear.Goals as goal
 

@@ -1,6 +1,5 @@
 -- `frame_slots::is_alike` meets its contract: it compares the bytes of the two slots.
 use mathlib.Core.Path.{sym, ◌∙◌}
-use borrow.Author.Rules.{rules}
 use Rattle.frame_slots.proofs.is_alike.Goals as goal
 
 pub returns : goal.returns

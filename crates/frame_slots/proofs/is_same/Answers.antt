@@ -1,9 +1,8 @@
 -- `frame_slots::is_same` meets its contract: nothing differs before place j just if the bytes below j are the same.
-use mathlib.Core.Path.{◌≡◌, refl, ap, sym, ◌∙◌}
-use mathlib.Core.Logic.{⊎_elim}
-use mathlib.Core.Bool.{true, true≢false}
+use mathlib.Core.Path.{refl, ap, sym, ◌∙◌}
+use mathlib.Core.Bool.{true≢false}
 use mathlib.Core.List.{List}
-use Prim.Native.Nat.{ℕ, ◌-◌, ◌≤◌, ◌<◌}
+use Prim.Native.Nat.{ℕ}
 use native.Mathlib.Omega.{arith}
 use lib.ListN.{length, get_or}
 use lib.Seq.{ext_get_or}
@@ -28,8 +27,8 @@ pub loop-j-preserved : goal.loop-j-preserved
 loop-j-preserved c =
     let l = c.loop-j in
     elim c.if-a-j.branch [
-    | then-a-j w ↦ (search rules, λ e. absurd (true≢false (sym e ∙ w.same-is)), λ e. absurd (w.if-a-j.true (ap (λ (x : List ℕ). get_or x l.j 0) e)))
-    | else-a-j w ↦ (search rules, λ e. below_more _ l.j (l.invariant.1 (sym w.same-is ∙ e)) w.if-a-j.false, λ e. w.same-is ∙ l.invariant.2 e)
+      | then-a-j w ↦ (search rules, λ e. absurd (true≢false (sym e ∙ w.same-is)), λ e. absurd (w.if-a-j.true (ap (λ (x : List ℕ). get_or x l.j 0) e)))
+      | else-a-j w ↦ (search rules, λ e. below_more _ l.j (l.invariant.1 (sym w.same-is ∙ e)) w.if-a-j.false, λ e. w.same-is ∙ l.invariant.2 e)
     ]
 
 pub returns : goal.returns

@@ -1,9 +1,5 @@
 -- `frame_slots::wipe` meets its contract: before index s the first s lengths are 0.
-use mathlib.Core.Path.{◌≡◌}
-use mathlib.Core.List.{◌++◌}
-use Prim.Native.Nat.{◌-◌, ◌≤◌}
 use native.Mathlib.Omega.{arith}
-use lib.ListN.{length, drop, replicate}
 use borrow.Author.Fill.{fill_more}
 use borrow.Author.Rules.{rules}
 use Rattle.frame_slots.proofs.Slots.{wiped}

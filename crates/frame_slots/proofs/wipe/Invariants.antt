@@ -2,11 +2,7 @@
 use mathlib.Core.Path.{◌≡◌}
 use mathlib.Core.List.{◌++◌}
 use Prim.Native.Nat.{◌-◌, ◌≤◌}
-use native.Mathlib.Omega.{arith}
 use lib.ListN.{length, drop, replicate}
-use borrow.Author.Fill.{fill_more}
-use borrow.Author.Rules.{rules}
-use Rattle.frame_slots.proofs.Slots.{wiped}
 use Rattle.frame_slots.proofs.wipe.Given as goal
 
 abbrev pub invariant-loop-s : goal.invariant-loop-s

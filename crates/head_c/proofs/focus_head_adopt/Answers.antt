@@ -18,7 +18,6 @@ use Rattle.head_window.specs.Window.{adopted_registers}
 use Rattle.head_c.specs.Blocks.{head_of, registers_of, with_registers, with_head, with_answer, offer_of, without_offer}
 use Rattle.head_c.specs.Events.{adopts, block_after}
 use Rattle.head_c.proofs.Refused.{refused_leaves}
-use borrow.Author.Rules.{rules}
 use Rattle.head_c.proofs.focus_head_adopt.Goals as goal
 
 -- refused: the number is c, and the block is as it was

@@ -4,7 +4,6 @@ use Rattle.head_lent.specs.Answers.{closed_number}
 use Rattle.head_window.specs.Window.{closed_registers}
 use Rattle.head_c.specs.Blocks.{with_registers}
 use Rattle.head_c.specs.Events.{block_after}
-use borrow.Author.Rules.{rules}
 use Rattle.head_c.proofs.focus_head_close.Goals as goal
 
 pub returns : goal.returns

@@ -1,6 +1,5 @@
 -- A start in a ring of two rounds.
 use mir.Facts.{to_z-of_z}
-use borrow.Author.Rules.{rules}
 use Rattle.head_c.proofs.focus_head_start.Goals as goal
 
 pub returns : goal.returns

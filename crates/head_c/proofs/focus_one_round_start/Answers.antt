@@ -1,6 +1,5 @@
 -- A start in a ring of one round.
 use mir.Facts.{to_z-of_z}
-use borrow.Author.Rules.{rules}
 use Rattle.head_c.proofs.focus_one_round_start.Goals as goal
 
 pub returns : goal.returns

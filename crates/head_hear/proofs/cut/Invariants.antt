@@ -1,17 +1,10 @@
 -- Entry after entry: those so far and those of the bytes that remain are all, and what remains is a batch if all is one. It ends where an entry is not
 -- whole, or where nothing remains.
-use mathlib.Core.Path.{◌≡◌, refl, ap, sym, ◌∙◌}
-use mathlib.Core.Logic.{◌≢◌}
-use mathlib.Core.Bool.{true, false}
-use mathlib.Core.List.{List, []}
-use Prim.Native.Nat.{ℕ, ◌+◌, ◌-◌, ◌≤◌, ◌<◌}
-use native.Mathlib.Omega.{arith}
-use lib.ListN.{length, drop, length-drop, drop_of_length-le}
-use borrow.Author.Rules.{rules}
-use borrow.Author.Tests.{le-leb, lt-leb}
-use Rattle.terms.specs.Refusals as refusal
-use Rattle.head_spec.specs.Batch.{entry_size, deliveries_of, is_batch, batch_refusal, cut_into, is_cut_into}
-use Rattle.head_spec.proofs.Batches.{some_whole, none_torn, none_cut, torn_told, fits_here, cut_here, told_here}
+use mathlib.Core.Path.{◌≡◌}
+use mathlib.Core.List.{List}
+use Prim.Native.Nat.{ℕ, ◌+◌, ◌-◌, ◌≤◌}
+use lib.ListN.{length, drop}
+use Rattle.head_spec.specs.Batch.{deliveries_of, is_batch}
 use Rattle.head_hear.proofs.cut.Given as goal
 
 pub record Cutting (s : List ℕ) (at i : ℕ) : Type 0 where

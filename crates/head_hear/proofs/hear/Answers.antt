@@ -6,7 +6,6 @@ use lib.ListN.{length}
 use lib.Seq.{set_out}
 use mir.Val.{Val}
 use denote.Laws.{Is}
-use borrow.Author.Rules.{rules}
 use borrow.Author.Tests.{not-true, not-false}
 use Rattle.frame_spec.specs.Said.{table_in, rest_field}
 use Rattle.head_spec.specs.declared.Row.{Row}

@@ -1,6 +1,5 @@
 -- If the batch is cut with no refusal, its frames are heard and answered, and their number is left. If not, nothing is touched.
-use mathlib.Core.Path.{◌≡◌, ap, sym, ◌∙◌}
-use borrow.Author.Rules.{rules}
+use mathlib.Core.Path.{ap, sym, ◌∙◌}
 use Rattle.head_spec.proofs.Batches.{taken_told, batch_heard, batch_refused}
 use Rattle.head_hear.specs.declared.Cuts.{Cuts}
 use Rattle.head_hear.proofs.hear_batch.Goals as goal

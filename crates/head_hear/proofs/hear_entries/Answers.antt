@@ -1,9 +1,6 @@
 -- Frame after frame, each heard as it is heard alone.
-use Prim.Native.Nat.{◌+◌, ◌-◌, ◌≤◌, ◌<◌}
 use native.Mathlib.Omega.{arith}
-use lib.ListN.{length}
-use borrow.Author.Rules.{rules}
-use Rattle.head_spec.proofs.BatchLoop.{Hearing, begins, ends, fits, goes_on}
+use Rattle.head_spec.proofs.BatchLoop.{begins, ends, fits, goes_on}
 use Rattle.head_hear.proofs.hear_entries.Goals as goal
 
 pub loop-at-init : goal.loop-at-init

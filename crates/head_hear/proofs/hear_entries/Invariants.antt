@@ -1,9 +1,7 @@
 -- Frame after frame, each heard as it is heard alone.
-use Prim.Native.Nat.{◌+◌, ◌-◌, ◌≤◌, ◌<◌}
-use native.Mathlib.Omega.{arith}
+use Prim.Native.Nat.{◌-◌}
 use lib.ListN.{length}
-use borrow.Author.Rules.{rules}
-use Rattle.head_spec.proofs.BatchLoop.{Hearing, begins, ends, fits, goes_on}
+use Rattle.head_spec.proofs.BatchLoop.{Hearing}
 use Rattle.head_hear.proofs.hear_entries.Given as goal
 
 abbrev pub invariant-loop-at : goal.invariant-loop-at

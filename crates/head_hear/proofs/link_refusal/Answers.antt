@@ -1,7 +1,6 @@
 -- Each test that is taken is one of the definition's that fails, and those before it hold.
 use mathlib.Core.Path.{sym, ◌∙◌}
 use native.Mathlib.Omega.{arith}
-use borrow.Author.Rules.{rules}
 use borrow.Author.Tests.{lt-ltb, le-ltb}
 use Rattle.head_hear.proofs.link_refusal.Goals as goal
 

@@ -1,7 +1,6 @@
 -- An adoption that is refused leaves both.
 use mathlib.Core.Path.{sym, ◌∙◌}
 use Rattle.terms.proofs.Refusals.{unchanged, changed}
-use borrow.Author.Rules.{rules}
 use Rattle.head_window.proofs.after_adopt.Goals as goal
 
 pub returns-then-number-ne0 : goal.returns-then-number-ne0

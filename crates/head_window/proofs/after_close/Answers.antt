@@ -1,5 +1,4 @@
 -- Arm by arm.
-use borrow.Author.Rules.{rules}
 use borrow.Author.Tests.{eq-eqb, ne_eqb}
 use Rattle.head_window.proofs.after_close.Goals as goal
 

@@ -1,7 +1,6 @@
 -- A restart that is refused leaves both.
 use mathlib.Core.Path.{sym, ◌∙◌}
 use Rattle.terms.proofs.Refusals.{unchanged, changed}
-use borrow.Author.Rules.{rules}
 use Rattle.head_window.proofs.after_restart.Goals as goal
 
 pub returns-then-number-ne0 : goal.returns-then-number-ne0

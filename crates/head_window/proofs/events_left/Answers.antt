@@ -1,5 +1,4 @@
 -- Bit by bit.
-use borrow.Author.Rules.{rules}
 use Rattle.head_window.proofs.events_left.Goals as goal
 
 pub returns : goal.returns

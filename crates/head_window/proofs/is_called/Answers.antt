@@ -1,7 +1,6 @@
 -- An event that is not pending is not called, and of one that is the mask says it.
 use mathlib.Core.Path.{sym, ◌∙◌}
 use Rattle.head_window.proofs.Bits.{both, first_not}
-use borrow.Author.Rules.{rules}
 use Rattle.head_window.proofs.is_called.Goals as goal
 
 pub returns-then-marked : goal.returns-then-marked

@@ -2,7 +2,6 @@
 use mathlib.Core.Path.{sym, ◌∙◌}
 use Rattle.marks.specs.Marks.{bit_of}
 use Rattle.head_window.proofs.Bits.{cleared, kept}
-use borrow.Author.Rules.{rules}
 use Rattle.head_window.proofs.is_left.Goals as goal
 
 pub returns-then-marked : goal.returns-then-marked

@@ -1,6 +1,5 @@
 -- Bit by bit.
 use Rattle.head_window.specs.Window.{is_line_up}
-use borrow.Author.Rules.{rules}
 use Rattle.head_window.proofs.is_line_up.Goals as goal
 
 pub returns : goal.returns

@@ -1,5 +1,4 @@
 -- Bit by bit.
-use borrow.Author.Rules.{rules}
 use Rattle.head_window.proofs.low_bits.Goals as goal
 
 pub returns : goal.returns

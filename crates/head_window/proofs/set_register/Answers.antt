@@ -1,5 +1,4 @@
 -- The test says which of the two bytes is written, if one is.
-use borrow.Author.Rules.{rules}
 use borrow.Author.Tests.{eq-eqb, ne_eqb}
 use Rattle.head_window.proofs.set_register.Goals as goal
 

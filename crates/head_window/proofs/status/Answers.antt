@@ -3,7 +3,6 @@ use mathlib.Core.Path.{refl, ◌∙◌}
 use mathlib.Core.Bool.{not}
 use lib.Dec.{eqb}
 use Rattle.head_window.proofs.Bits.{cleared, kept, same_three}
-use borrow.Author.Rules.{rules}
 use Rattle.head_window.proofs.status.Goals as goal
 
 pub returns-then-s : goal.returns-then-s

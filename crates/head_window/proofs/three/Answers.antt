@@ -2,7 +2,6 @@
 use native.Mathlib.Omega.{arith}
 use Rattle.terms.proofs.Sums.{bit_le}
 use Rattle.marks.proofs.Counts.{byte_bit}
-use borrow.Author.Rules.{rules}
 use Rattle.head_window.proofs.three.Goals as goal
 
 pub overflow_mul-result : goal.overflow_mul-result

@@ -1,6 +1,5 @@
 -- Byte by byte.
 use Rattle.head_window.specs.Window.{window}
-use borrow.Author.Rules.{rules}
 use Rattle.head_window.proofs.window.Goals as goal
 
 pub returns : goal.returns

@@ -1,5 +1,4 @@
 -- The events with their bit set, beside the mask as it was.
-use borrow.Author.Rules.{rules}
 use Rattle.head_window.proofs.with_event.Goals as goal
 
 pub returns : goal.returns

@@ -1,7 +1,6 @@
 -- `hostpage::page` meets its contract: each of its tests is one of the definition's, in the same order.
 use Prim.Native.Nat.{◌≤◌}
 use native.Mathlib.Nat.{pos_of_ne-zero}
-use borrow.Author.Rules.{rules}
 use Rattle.hostpage.proofs.Pages.{no_heads, many_heads, short, fits}
 use Rattle.hostpage.proofs.page.Goals as goal
 
@@ -29,5 +28,5 @@ returns c =
     let a = c.args in
     let l : 1 ≤ a.n = pos_of_ne-zero c.if-n-eq0.false in
     let w =
-        fits a.n a.readings a.buffer.now l c.if-n-gt32.false (rw c.page_length-len.ensures at c.if-buffer-len.false) c.page_length-len.ensures c.put_page.ensures in
+    fits a.n a.readings a.buffer.now l c.if-n-gt32.false (rw c.page_length-len.ensures at c.if-buffer-len.false) c.page_length-len.ensures c.put_page.ensures in
     record { value = w.0; buffer_after = w.1 }

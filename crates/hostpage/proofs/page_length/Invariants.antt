@@ -1,13 +1,8 @@
 -- `hostpage::page_length` meets its contract: before head k the total is the length of the page of the heads below k.
-use mathlib.Core.Path.{◌≡◌, sym, ap, ◌∙◌}
-use Prim.Native.Nat.{ℕ, ◌-◌, ◌*◌, ◌≤◌}
-use native.Mathlib.Omega.{arith}
-use lib.ListN.{length, get_or}
-use borrow.Author.Rules.{rules}
-use Rattle.reading.specs.declared.Reading.{Reading}
-use Rattle.texts.proofs.Writing.{text_long}
-use Rattle.hostpage.specs.Page.{reading_line, page_of}
-use Rattle.hostpage.proofs.Pages.{page_none, next_length}
+use mathlib.Core.Path.{◌≡◌}
+use Prim.Native.Nat.{◌-◌, ◌*◌, ◌≤◌}
+use lib.ListN.{length}
+use Rattle.hostpage.specs.Page.{page_of}
 use Rattle.hostpage.proofs.page_length.Given as goal
 
 abbrev pub invariant-loop-k : goal.invariant-loop-k

@@ -2,7 +2,6 @@
 use mathlib.Core.Path.{ap, sym}
 use Prim.Native.Nat.{ℕ, ◌+◌}
 use native.Mathlib.Omega.{arith}
-use borrow.Author.Rules.{rules}
 use Rattle.texts.proofs.Writing.{full, text_long}
 use Rattle.hostpage.proofs.put_line.Goals as goal
 

@@ -1,12 +1,11 @@
 -- `hostpage::put_page` meets its contract: before head k the page of the heads below k stands at the front of the buffer, and the rest is as it was.
 use mathlib.Core.Path.{◌≡◌, sym, ap, ◌∙◌}
 use mathlib.Core.List.{List}
-use Prim.Native.Nat.{ℕ, ◌+◌, ◌-◌, ◌≤◌, ◌<◌}
+use Prim.Native.Nat.{ℕ, ◌+◌, ◌≤◌, ◌<◌}
 use native.Mathlib.Omega.{arith}
 use lib.ListN.{length, get_or}
 use borrow.Author.Rules.{rules}
 use Rattle.reading.specs.declared.Reading.{Reading}
-use Rattle.texts.specs.Texts.{bytes_of}
 use Rattle.hostpage.specs.Page.{reading_line, page_of}
 use Rattle.hostpage.proofs.Pages.{page_none, next_length, page_grows, front, front_none, front_next, front_is}
 use Rattle.hostpage.proofs.put_page.Goals as goal

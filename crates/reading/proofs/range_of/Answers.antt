@@ -2,7 +2,6 @@
 use mathlib.Core.Path.{◌≡◌, ap, ◌∙◌}
 use lib.Ieee.{Float, binary32, add, mul, of_bits}
 use mir.Facts.{to_z-of_z}
-use borrow.Author.Rules.{rules}
 use Rattle.reading.specs.declared.KeptRange.{KeptRange}
 use Rattle.reading.specs.Exact.{exact}
 use Rattle.reading.specs.Readings.{range_of}
@@ -16,12 +15,6 @@ three x y z = record { lowest = x; highest = y; midpoint = z }
 -- what the code does with two floats
 abbrev made : Float → Float → KeptRange
 made x y = three x y (mul binary32 (add binary32 x y) (of_bits binary32 0x3f00_0000))
-
-pub float_of-low-requires : goal.float_of-low-requires
-float_of-low-requires c = search rules
-
-pub float_of-high-requires : goal.float_of-high-requires
-float_of-high-requires c = search rules
 
 pub returns : goal.returns
 unfolding range_of

@@ -1,7 +1,6 @@
 -- `run_judge::few_marks` meets its contract: its two tests are those of the definition.
 use mathlib.Core.Path.{sym, ◌∙◌}
-use borrow.Author.Rules.{rules}
-use borrow.Author.Tests.{not-true, not-false, ltb-true}
+use borrow.Author.Tests.{ltb-true}
 use Rattle.marks.specs.Marks.{marks_below}
 use Rattle.run_spec.specs.RunFile.{few_marks}
 use Rattle.marks.proofs.Ones.{ones_marked}

@@ -2,7 +2,6 @@
 use mathlib.Core.Path.{◌∙◌}
 use native.Mathlib.Omega.{arith}
 use lib.ListN.{drop}
-use borrow.Author.Rules.{rules}
 use Rattle.entries.proofs.Entries.{numbers_read}
 use Rattle.run_judge.proofs.Positions.{position_dropped}
 use Rattle.run_judge.proofs.first_positions.Goals as goal

@@ -1,5 +1,4 @@
 -- `run_judge::is_receiver` meets its contract: its tests are those of the definition, in the same order.
-use borrow.Author.Rules.{rules}
 use borrow.Author.Tests.{lt-ltb, le-ltb, le-leb, lt-leb}
 use Rattle.run_judge.proofs.is_receiver.Goals as goal
 

@@ -1,5 +1,4 @@
 -- `run_judge::listeners_fault` meets its contract: its two tests are those of the definition, asked of the byte read.
-use borrow.Author.Rules.{rules}
 use borrow.Author.Tests.{le-leb, lt-leb}
 use Rattle.run_judge.proofs.listeners_fault.Goals as goal
 

@@ -1,7 +1,6 @@
 -- `run_judge::pair_fits` meets its contract: its tests are those of the definition, in the same order.
 use mathlib.Core.Path.{sym, ◌∙◌}
-use borrow.Author.Rules.{rules}
-use borrow.Author.Tests.{lt-ltb, le-ltb, not-true, not-false}
+use borrow.Author.Tests.{lt-ltb, le-ltb}
 use Rattle.run_spec.specs.RunFile.{pair_fits}
 use Rattle.run_judge.proofs.pair_fits.Goals as goal
 

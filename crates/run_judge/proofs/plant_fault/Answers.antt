@@ -1,6 +1,5 @@
 -- `run_judge::plant_fault` meets its contract: what `pair_fits` says of the two bytes read is the definition's one test.
 use mathlib.Core.Path.{sym, ◌∙◌}
-use borrow.Author.Rules.{rules}
 use Rattle.run_judge.proofs.plant_fault.Goals as goal
 
 pub returns-then-pair_fits : goal.returns-then-pair_fits

@@ -1,10 +1,9 @@
 -- `run_judge::positions_fit` meets its contract. The loop's invariant: the first j positions fit. Where the next does not, no longer row fits either.
 use mathlib.Core.Path.{◌≡◌, refl, sym, ◌∙◌}
 use mathlib.Core.Bool.{true}
-use Prim.Native.Nat.{◌+◌, ◌-◌, ◌≤◌}
+use Prim.Native.Nat.{◌+◌}
 use native.Mathlib.Omega.{arith}
 use borrow.Author.Rules.{rules}
-use borrow.Author.Tests.{not-true, not-false}
 use Rattle.run_spec.specs.RunFile.{positions_fit}
 use Rattle.run_judge.proofs.Positions.{fit_next, misfit}
 use Rattle.run_judge.proofs.positions_fit.Goals as goal

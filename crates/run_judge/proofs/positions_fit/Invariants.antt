@@ -1,12 +1,8 @@
 -- `run_judge::positions_fit` meets its contract. The loop's invariant: the first j positions fit. Where the next does not, no longer row fits either.
-use mathlib.Core.Path.{◌≡◌, refl, sym, ◌∙◌}
+use mathlib.Core.Path.{◌≡◌}
 use mathlib.Core.Bool.{true}
-use Prim.Native.Nat.{◌+◌, ◌-◌, ◌≤◌}
-use native.Mathlib.Omega.{arith}
-use borrow.Author.Rules.{rules}
-use borrow.Author.Tests.{not-true, not-false}
+use Prim.Native.Nat.{◌-◌, ◌≤◌}
 use Rattle.run_spec.specs.RunFile.{positions_fit}
-use Rattle.run_judge.proofs.Positions.{fit_next, misfit}
 use Rattle.run_judge.proofs.positions_fit.Given as goal
 
 abbrev pub invariant-loop-j : goal.invariant-loop-j

@@ -3,7 +3,6 @@ use mathlib.Core.Path.{◌≡◌, sym, ◌∙◌}
 use mathlib.Core.Bool.{Bool}
 use mathlib.Core.List.{List}
 use Prim.Native.Nat.{ℕ}
-use borrow.Author.Rules.{rules}
 use Rattle.marks.specs.Marks.{marks_below}
 use Rattle.run_spec.specs.RunFile.{listeners_in}
 use Rattle.run_judge.proofs.strikes_fault.Goals as goal

@@ -2,7 +2,6 @@
 use mathlib.Core.Path.{refl, ◌∙◌}
 use native.Mathlib.Omega.{arith}
 use native.Mathlib.Nat.{le_of_eq}
-use borrow.Author.Rules.{rules}
 use Rattle.texts.proofs.Digits.{decimal_short, hex_length}
 use Rattle.texts.proofs.Writing.{from_empty, longer_then, put_fits}
 use Rattle.run_listing.proofs.Lines.{fields_are}

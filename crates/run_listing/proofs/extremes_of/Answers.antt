@@ -1,13 +1,10 @@
 -- `run_listing::extremes_of` meets its contract: before receiver j the two entries are the lowest and the highest of those below j, and past the last turn there
 -- is no receiver.
 use mathlib.Core.Path.{◌≡◌, sym, ◌∙◌}
-use Prim.Native.Nat.{◌-◌, ◌≤◌}
 use native.Mathlib.Omega.{arith}
 use mir.Facts.{to_z-of_z}
 use borrow.Author.Tests.{not-true, not-false}
 use borrow.Author.Rules.{rules}
-use Rattle.run_listing.specs.Held.{end_in}
-use Rattle.run_listing.specs.Heights.{LowestHighest}
 use Rattle.run_listing.proofs.Lowest.{found_none, found_struck, found_sound, found_all}
 use Rattle.run_listing.proofs.extremes_of.Goals.{then-is_sound, else-is_sound}
 use mir.Syntax.{w32}

@@ -1,15 +1,10 @@
 -- `run_listing::first_sound` meets its contract: before receiver j none is sound.
-use mathlib.Core.Path.{◌≡◌, sym, ◌∙◌}
+use mathlib.Core.Path.{◌≡◌}
 use Prim.Native.Nat.{◌-◌, ◌≤◌}
-use native.Mathlib.Omega.{arith}
-use mir.Facts.{to_z-of_z}
-use borrow.Author.Tests.{not-true, not-false}
-use borrow.Author.Rules.{rules}
 use Rattle.terms.specs.declared.Entry.TheVariants.{Null}
 use Rattle.ring_spec.specs.Rounds.{receivers}
 use Rattle.run_listing.specs.Held.{end_in}
 use Rattle.run_listing.specs.Heights.{first_sound}
-use Rattle.run_listing.proofs.Lowest.{first_none, first_struck, first_sound_lem}
 use Rattle.run_listing.proofs.first_sound.Given as goal
 
 abbrev pub invariant-loop-first : goal.invariant-loop-first

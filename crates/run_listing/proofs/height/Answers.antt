@@ -1,7 +1,6 @@
 -- `run_listing::height` meets its contract: a word from 2^31 up is that of a number below zero.
 use mathlib.Core.Path.{ap, ◌∙◌}
 use mir.Facts.{to_z-of_z}
-use borrow.Author.Rules.{rules}
 use Rattle.fields.specs.Bytes.{word_of}
 use Rattle.run_listing.proofs.Heights.{low_word, high_word}
 use Rattle.run_listing.proofs.height.Goals as goal

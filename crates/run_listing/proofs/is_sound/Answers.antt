@@ -1,6 +1,5 @@
 -- `run_listing::is_sound` meets its contract: its two tests are those of the definition.
 use mathlib.Core.Path.{sym, ◌∙◌}
-use borrow.Author.Rules.{rules}
 use Rattle.run_listing.proofs.is_sound.Goals as goal
 
 pub returns-then-is_receiver : goal.returns-then-is_receiver

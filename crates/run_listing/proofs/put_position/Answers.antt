@@ -6,7 +6,6 @@ use native.Mathlib.Omega.{arith}
 use lib.IntN.{ℤ, pos, negsuc}
 use mir.Syntax.{w32}
 use mir.Val.{SFits}
-use borrow.Author.Rules.{rules}
 use Rattle.texts.specs.Numbers.{decimal, whole}
 use Rattle.run_listing.specs.Heights.{height_of}
 use Rattle.run_listing.proofs.Heights.{height_read}

@@ -1,10 +1,7 @@
 -- `run_listing::spread_of` meets its contract: the gap of two heights is that of the numbers, and the same either way.
-use mathlib.Core.Path.{◌≡◌}
-use Prim.Native.Nat.{◌-◌, ◌≤◌}
 use mir.Syntax.{w32}
 use mir.Val.{SFits}
 use borrow.Author.Rules.{rules}
-use Rattle.convergence.specs.Phases.{apart}
 use Rattle.run_listing.proofs.Heights.{gap_heights}
 use native.Mathlib.Omega.{arith}
 use Rattle.run_listing.proofs.spread_of.Goals as goal

@@ -1,6 +1,5 @@
 -- `run_listing::title_line` meets its contract: the text is the definition's, byte for byte.
 use native.Mathlib.Omega.{arith}
-use borrow.Author.Rules.{rules}
 use Rattle.run_spec.specs.Listing.{title}
 use Rattle.texts.proofs.Writing.{from_empty, put_fits}
 use Rattle.run_listing.proofs.title_line.Goals as goal

@@ -2,7 +2,6 @@
 use mathlib.Core.Path.{◌≡◌}
 use Prim.Native.Nat.{suc, ◌-◌}
 use native.Mathlib.Omega.{arith}
-use borrow.Author.Rules.{rules}
 use Rattle.texts.proofs.Digits.{decimal_short}
 use Rattle.texts.proofs.Writing.{from_empty, longer_then, put_fits}
 use Rattle.run_listing.proofs.verdict_line.Goals as goal

@@ -1,6 +1,5 @@
 -- `run_piece::advance` meets its contract: after a fault nothing is read, a whole record is taken where it is, and what is cut is gathered.
 use native.Mathlib.Omega.{arith}
-use borrow.Author.Rules.{rules}
 use Rattle.run_piece.proofs.Feeding.{uses_all, uses_one, rests, whole_there}
 use Rattle.run_piece.proofs.advance.Goals as goal
 

@@ -1,7 +1,6 @@
 -- `run_piece::front` meets its contract: that many bytes are there.
 use mathlib.Core.Path.{sym}
 use lib.Seq.{length-take-le}
-use borrow.Author.Rules.{rules}
 use Rattle.run_piece.proofs.front.Goals as goal
 
 pub slice_bounds-result-end : goal.slice_bounds-result-end

@@ -2,7 +2,6 @@
 use mathlib.Core.Path.{ap, ◌∙◌}
 use Prim.Native.Nat.{◌+◌}
 use lib.ListN.{length, take}
-use borrow.Author.Rules.{rules}
 use Rattle.texts.proofs.Writing.{copied_behind}
 use Rattle.run_piece.proofs.gather.Goals as goal
 

@@ -1,6 +1,5 @@
 -- `run_piece::headed` meets its contract: the header of a record that is allowed is kept, another stops the file.
 use mathlib.Core.Path.{sym, ◌∙◌}
-use borrow.Author.Rules.{rules}
 use Rattle.run_piece.proofs.headed.Goals as goal
 
 pub returns-then-stands : goal.returns-then-stands

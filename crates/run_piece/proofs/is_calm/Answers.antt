@@ -1,8 +1,7 @@
 -- `run_piece::is_calm` meets its contract: its tests are those of the definition, in the same order.
-use mathlib.Core.Path.{◌≡◌, sym, ◌∙◌}
+use mathlib.Core.Path.{sym, ◌∙◌}
 use mathlib.Core.Bool.{true}
-use borrow.Author.Rules.{rules}
-use borrow.Author.Tests.{eq-eqb, ne_eqb, le-leb, lt-leb, not-true, not-false}
+use borrow.Author.Tests.{eq-eqb, ne_eqb, le-leb, lt-leb}
 use Rattle.run_piece.specs.Steps.{is_settled}
 use Rattle.run_piece.proofs.is_calm.Goals as goal
 

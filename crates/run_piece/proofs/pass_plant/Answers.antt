@@ -1,6 +1,5 @@
 -- `run_piece::pass_plant` meets its contract: a planted record without a fault is taken where it is, and anything else is left.
 use mathlib.Core.Path.{sym, ◌∙◌}
-use borrow.Author.Rules.{rules}
 use borrow.Author.Tests.{eq-eqb, ne_eqb}
 use Rattle.run_piece.proofs.Planting.{size_plants, passed_none, none_passed, plant_there}
 use Rattle.run_piece.proofs.pass_plant.Goals as goal

@@ -1,8 +1,7 @@
 -- `run_piece::plant_size` meets its contract: its tests are those of the definition, in the same order.
 use mathlib.Core.Path.{◌≡◌, sym, ◌∙◌}
 use mathlib.Core.Bool.{true, false}
-use borrow.Author.Rules.{rules}
-use borrow.Author.Tests.{eq-eqb, ne_eqb, le-leb, lt-leb, not-true, not-false}
+use borrow.Author.Tests.{eq-eqb, ne_eqb, le-leb, lt-leb}
 use Rattle.run_spec.specs.RunFile.{is_plant_length}
 use Rattle.run_piece.proofs.Planting.{size_short}
 use Rattle.run_piece.proofs.plant_size.Goals as goal

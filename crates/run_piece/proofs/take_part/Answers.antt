@@ -5,7 +5,6 @@ use mathlib.Core.Path.{◌≡◌, ap}
 use mathlib.Core.List.{List, ◌++◌}
 use Prim.Native.Nat.{ℕ, ◌+◌, ◌-◌, ◌<◌, min}
 use lib.ListN.{length, take, length-take}
-use borrow.Author.Rules.{rules}
 use Rattle.run_piece.specs.Inner.{Missing}
 use Rattle.run_piece.proofs.Feeding.{Gathered, put_all, uses, uses_all, has_room, judges, overfull, grows, heads, ends}
 use Rattle.run_piece.proofs.take_part.Goals as goal

@@ -1,6 +1,5 @@
 -- `run_program::begin` meets its contract: nothing was read or written.
 use mathlib.Core.Path.{refl}
-use borrow.Author.Rules.{rules}
 use Rattle.run_program.proofs.begin.Goals as goal
 
 pub returns : goal.returns

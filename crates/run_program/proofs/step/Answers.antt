@@ -1,8 +1,6 @@
 -- `run_program::step` meets its contract: the program goes on if the system did what it was asked for, and stops if not.
 use mathlib.Core.Path.{refl, sym, ◌∙◌}
 use mathlib.Core.Bool.{true≢false}
-use borrow.Author.Rules.{rules}
-use borrow.Author.Tests.{not-true, not-false}
 use Rattle.run_program.proofs.step.Goals as goal
 
 pub returns-then-not-fits : goal.returns-then-not-fits

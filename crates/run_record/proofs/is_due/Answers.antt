@@ -1,7 +1,6 @@
 -- `run_record::is_due` meets its contract: it asks what the definition asks, in its order.
 use mathlib.Core.Path.{sym, ◌∙◌}
 use lib.ListN.{length}
-use borrow.Author.Rules.{rules}
 use borrow.Author.Tests.{eq-eqb, ne_eqb}
 use Rattle.run_spec.specs.RunFile.{length_in}
 use Rattle.run_record.proofs.is_due.Goals as goal

@@ -2,7 +2,6 @@
 use mathlib.Core.Bool.{true}
 use mathlib.Core.Path.{ap₂}
 use Prim.Native.Nat.{ℕ}
-use borrow.Author.Rules.{rules}
 use Rattle.run_spec.specs.declared.Pair.{Pair}
 use Rattle.run_record.proofs.plant_in.Goals as goal
 

@@ -1,7 +1,6 @@
 -- `run_record::play_waiting` meets its contract: what the player tells says whether a round is pending.
 use mathlib.Core.Path.{◌∙◌}
 use native.Mathlib.Omega.{arith}
-use borrow.Author.Rules.{rules}
 use borrow.Author.Tests.{not-true, not-false}
 use Rattle.run_record.proofs.Records.{played_turns, none_turns}
 use Rattle.run_record.proofs.play_waiting.Goals as goal

@@ -1,6 +1,5 @@
 -- `run_record::refuse` meets its contract: all but the fault is as it was.
 use native.Mathlib.Omega.{arith}
-use borrow.Author.Rules.{rules}
 use Rattle.run_record.proofs.Records.{stopped_next}
 use Rattle.run_record.proofs.refuse.Goals as goal
 

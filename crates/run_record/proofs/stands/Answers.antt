@@ -1,5 +1,4 @@
 -- `run_record::stands` meets its contract, which is that of `run_judge::is_allowed`.
-use borrow.Author.Rules.{rules}
 use Rattle.run_record.proofs.stands.Goals as goal
 
 pub returns : goal.returns

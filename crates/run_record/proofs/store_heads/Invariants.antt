@@ -1,14 +1,8 @@
 -- `run_record::store_heads` meets its contract: before head j the positions of the heads below it are stored.
-use mathlib.Core.Path.{◌≡◌, refl, ◌∙◌}
-use Prim.Native.Nat.{ℕ, ◌+◌, ◌-◌, ◌≤◌, ◌<◌}
-use native.Mathlib.Omega.{arith}
-use native.Mathlib.Decide.{dec_lt}
-use mathlib.Core.List.{List}
-use lib.ListN.{length, get_or, set, length-set}
-use lib.Seq.{get_or-set_same, get_or-set_other}
-use lib.IntN.{ℤ, pos}
-use borrow.Author.Rules.{rules}
-use mir.Facts.{to_z-of_z}
+use mathlib.Core.Path.{◌≡◌}
+use Prim.Native.Nat.{ℕ, ◌-◌, ◌≤◌, ◌<◌}
+use lib.ListN.{length, get_or}
+use lib.IntN.{pos}
 use Rattle.run_record.proofs.store_heads.Given as goal
 
 abbrev pub invariant-loop-j : goal.invariant-loop-j

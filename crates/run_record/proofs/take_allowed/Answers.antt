@@ -6,7 +6,6 @@ use Prim.Native.Nat.{ℕ, ◌≤◌}
 use lib.ListN.{length, drop, length-drop}
 use native.Mathlib.Omega.{arith}
 use borrow.Author.Rules.{rules}
-use borrow.Author.Tests.{ne_eqb}
 use Rattle.terms.specs.declared.Family.TheVariants.{TwoRounds, OneRound}
 use Rattle.run_spec.specs.RunFile.{read_file, start, round, plant, listeners, strikes, other, record_kind, kind_in, length_in, is_allowed}
 use Rattle.terms.proofs.Booleans.{and_both}

@@ -1,7 +1,6 @@
 -- `run_record::take_listeners` meets its contract: a fault stops the file, and else the player has the number.
 use mathlib.Core.Path.{ap, ◌∙◌}
 use native.Mathlib.Omega.{arith}
-use borrow.Author.Rules.{rules}
 use Rattle.run_spec.specs.RunFile.{listeners}
 use Rattle.run_state.specs.Changes.{with_listeners_given}
 use Rattle.run_record.proofs.Records.{judged_stopped, judged_taken, listeners_next}

@@ -3,7 +3,6 @@ use mathlib.Core.Path.{◌≡◌, ap, sym, ◌∙◌}
 use mathlib.Core.List.{List}
 use Prim.Native.Nat.{ℕ}
 use native.Mathlib.Omega.{arith}
-use borrow.Author.Rules.{rules}
 use Rattle.run_spec.specs.RunFile.{File, plant, plant_fault, record_fault}
 use Rattle.run_state.specs.declared.Player.{Player}
 use Rattle.run_state.specs.Changes.{with_pair_planted}

@@ -1,7 +1,5 @@
 -- `run_record::take_record` meets its contract: a whole record that is allowed is taken by its kind, and other bytes stop the file.
 use mathlib.Core.Path.{sym, ◌∙◌}
-use borrow.Author.Rules.{rules}
-use borrow.Author.Tests.{not-true, not-false}
 use Rattle.run_spec.specs.RunFile.{read_file}
 use Rattle.run_record.proofs.Records.{taken_allowed, due_whole, not_due}
 use Rattle.run_record.proofs.take_record.Goals as goal

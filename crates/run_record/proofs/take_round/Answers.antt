@@ -2,7 +2,6 @@
 use mathlib.Core.Path.{ap, sym, ◌∙◌}
 use mathlib.Core.List.{[]}
 use Prim.Native.Nat.{ℕ}
-use borrow.Author.Rules.{rules}
 use Rattle.run_spec.specs.RunFile.{round, read_file}
 use Rattle.run_state.specs.Changes.{with_round_given}
 use Rattle.run_state.proofs.Told.{round_fault_as}

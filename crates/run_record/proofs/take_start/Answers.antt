@@ -2,7 +2,6 @@
 use mathlib.Core.Path.{ap, ap₂, sym, ◌∙◌}
 use mathlib.Core.Bool.{true}
 use Prim.Native.Nat.{ℕ}
-use borrow.Author.Rules.{rules}
 use Rattle.run_spec.specs.RunFile.{start}
 use Rattle.run_listing.specs.Texts.{end_line}
 use Rattle.run_listing.proofs.Lines.{found_line}

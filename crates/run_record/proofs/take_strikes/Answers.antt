@@ -1,7 +1,6 @@
 -- `run_record::take_strikes` meets its contract: a fault stops the file, and else the player has the marks. Until now the round had none of listeners.
 use mathlib.Core.Path.{ap, sym, ◌∙◌}
 use native.Mathlib.Omega.{arith}
-use borrow.Author.Rules.{rules}
 use Rattle.run_spec.specs.RunFile.{read_file, strikes}
 use Rattle.run_spec.proofs.Bytes.{cost, bare_pending}
 use Rattle.run_spec.proofs.Reached.{taken}

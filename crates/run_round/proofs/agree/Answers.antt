@@ -1,6 +1,5 @@
 -- `run_round::agree` meets its contract: by what the player tells of the pending round, and at a phase end by the positions.
 use mathlib.Core.Path.{sym, ◌∙◌}
-use borrow.Author.Rules.{rules}
 use borrow.Author.Tests.{not-true, not-false}
 use Rattle.run_round.proofs.Agreement.{still_agreed, none_pending, none_ended, at_end}
 use Rattle.run_round.proofs.agree.Goals as goal

@@ -1,8 +1,6 @@
 -- `run_round::line_of` meets its contract: nothing in a round that does not end its phase, else the line of the lowest and the highest.
 use mathlib.Core.Path.{sym, ◌∙◌}
 use native.Mathlib.Omega.{arith}
-use borrow.Author.Rules.{rules}
-use borrow.Author.Tests.{not-true, not-false}
 use Rattle.texts.proofs.Writing.{empty_text}
 use Rattle.run_round.proofs.line_of.Goals as goal
 

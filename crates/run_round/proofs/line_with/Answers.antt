@@ -1,6 +1,5 @@
 -- `run_round::line_with` meets its contract: the family says how its phases go, and which columns they show.
 use mathlib.Core.Path.{◌∙◌}
-use borrow.Author.Rules.{rules}
 use Rattle.run_listing.proofs.Lines.{found_line}
 use Rattle.run_round.proofs.line_with.Goals as goal
 

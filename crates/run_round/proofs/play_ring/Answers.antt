@@ -1,8 +1,6 @@
 -- `run_round::play_ring` meets its contract: the stage is that of the pending round; the family says how its phases go, and in a phase of two rounds its number
 -- says which of them it is.
 use mathlib.Core.Path.{refl, sym, ◌∙◌}
-use borrow.Author.Rules.{rules}
-use borrow.Author.Tests.{not-true, not-false}
 use Rattle.run_spec.proofs.Reached.{taken}
 use Rattle.run_round.proofs.Rounds.{collection_kept, confession_kept, conclusion_kept}
 use Rattle.run_round.proofs.play_ring.Goals as goal

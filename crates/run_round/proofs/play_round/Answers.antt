@@ -1,7 +1,6 @@
 -- `run_round::play_round` meets its contract: any ring that has not agreed is played, and its line is made.
 use mathlib.Core.Path.{refl}
 use mathlib.Core.List.{[]}
-use borrow.Author.Rules.{rules}
 use borrow.Author.Tests.{not-true, not-false}
 use Rattle.run_spec.proofs.Reached.{taken}
 use Rattle.run_round.proofs.Rounds.{kept_played}

@@ -1,5 +1,4 @@
 -- `run_round::stage_of` meets its contract: the phase is the one field that is computed.
-use borrow.Author.Rules.{rules}
 use Rattle.run_round.proofs.stage_of.Goals as goal
 
 pub returns : goal.returns

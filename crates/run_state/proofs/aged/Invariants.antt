@@ -1,9 +1,6 @@
 -- `run_state::aged` meets its contract: after j turns the first j are a phase end older.
-use mathlib.Core.Path.{◌≡◌, refl}
+use mathlib.Core.Path.{◌≡◌}
 use Prim.Native.Nat.{◌-◌, ◌≤◌}
-use native.Mathlib.Omega.{arith}
-use native.Mathlib.Numerals.{add-one}
-use borrow.Author.Rules.{rules}
 use Rattle.run_state.specs.Counts.{aged}
 use Rattle.run_state.proofs.aged.Given as goal
 

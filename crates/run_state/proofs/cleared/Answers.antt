@@ -1,9 +1,7 @@
 -- `run_state::cleared` meets its contract: after j turns those of the first j that are marked begin anew.
 use mathlib.Core.Path.{◌≡◌, refl, sym, ◌∙◌}
-use Prim.Native.Nat.{◌-◌, ◌≤◌}
 use native.Mathlib.Omega.{arith}
 use native.Mathlib.Numerals.{add-one}
-use borrow.Author.Rules.{rules}
 use Rattle.run_state.specs.Counts.{cleared}
 use Rattle.run_state.proofs.Counts.{cleared_rest}
 use Rattle.run_state.proofs.cleared.Goals.{then-marked_wide, else-marked_wide}

@@ -1,6 +1,5 @@
 -- `run_state::counts_played` meets its contract, by whether a round is pending and ends a phase.
 use mathlib.Core.Path.{sym, ◌∙◌}
-use borrow.Author.Rules.{rules}
 use borrow.Author.Tests.{not-true, not-false}
 use Rattle.run_state.proofs.counts_played.Goals as goal
 

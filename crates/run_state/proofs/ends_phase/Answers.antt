@@ -1,5 +1,4 @@
 -- `run_state::ends_phase` meets its contract: arm by arm.
-use borrow.Author.Rules.{rules}
 use Rattle.run_state.proofs.ends_phase.Goals as goal
 
 pub returns-in-TwoRounds : goal.returns-in-TwoRounds

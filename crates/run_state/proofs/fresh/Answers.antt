@@ -1,5 +1,4 @@
 -- `run_state::fresh` meets its contract: it makes the record that its definition makes.
-use borrow.Author.Rules.{rules}
 use Rattle.run_state.proofs.fresh.Goals as goal
 
 pub returns : goal.returns

@@ -1,5 +1,4 @@
 -- `run_state::given_strikes` meets its contract: it makes the record that its definition makes.
-use borrow.Author.Rules.{rules}
 use Rattle.run_state.proofs.given_strikes.Goals as goal
 
 pub returns : goal.returns

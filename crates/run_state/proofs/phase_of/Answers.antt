@@ -2,7 +2,6 @@
 use mathlib.Core.Path.{◌≡◌, ap}
 use Prim.Native.Nat.{ℕ, ◌+◌, ◌/◌, ◌%◌}
 use native.Mathlib.Omega.{arith}
-use borrow.Author.Rules.{rules}
 use Rattle.terms.specs.declared.Family.TheVariants.{TwoRounds}
 use Rattle.ring_spec.specs.Rounds.{phase_of}
 use Rattle.run_state.proofs.phase_of.Goals as goal

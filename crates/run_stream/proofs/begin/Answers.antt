@@ -1,7 +1,6 @@
 -- `run_stream::begin` meets its contract: before the first byte no start was accepted and no round is pending, so the memory has nothing to hold.
 use mathlib.Core.Path.{refl, sym}
 use mathlib.Core.Bool.{true≢false}
-use borrow.Author.Rules.{rules}
 use Rattle.run_spec.specs.RunFile.{unread, feed}
 use Rattle.run_state.proofs.Told.{unread_tells}
 use Rattle.run_stream.proofs.begin.Goals as goal

@@ -1,6 +1,5 @@
 -- `run_stream::feed` meets its contract: at the head of the loop the bytes before `used` have shown nothing, and the state is that after them.
 use native.Mathlib.Omega.{arith}
-use borrow.Author.Rules.{rules}
 use Rattle.texts.proofs.Writing.{empty_text}
 use Rattle.run_stream.proofs.Pieces.{moved, still_first, last_step, still_more, at_last}
 use Rattle.run_stream.proofs.feed.Goals as goal

@@ -1,10 +1,7 @@
 -- `run_stream::feed` meets its contract: at the head of the loop the bytes before `used` have shown nothing, and the state is that after them.
-use Prim.Native.Nat.{◌+◌, ◌-◌, ◌≤◌, ◌<◌}
-use native.Mathlib.Omega.{arith}
+use Prim.Native.Nat.{◌-◌}
 use lib.ListN.{length}
-use borrow.Author.Rules.{rules}
-use Rattle.texts.proofs.Writing.{empty_text}
-use Rattle.run_stream.proofs.Pieces.{Still, moved, still_first, last_step, still_more, at_last}
+use Rattle.run_stream.proofs.Pieces.{Still}
 use Rattle.run_stream.proofs.feed.Given as goal
 
 abbrev pub invariant-loop-used : goal.invariant-loop-used

@@ -1,11 +1,8 @@
 -- `run_stream::fill` meets its contract: at the head of the loop the page holds the text that the bytes before `used` show, and the state is that after them.
-use Prim.Native.Nat.{◌+◌, ◌-◌, ◌≤◌, ◌<◌}
-use native.Mathlib.Omega.{arith}
+use Prim.Native.Nat.{◌-◌, ◌≤◌, ◌<◌}
 use lib.ListN.{length, take}
-use borrow.Author.Rules.{rules}
-use borrow.Author.Tests.{leb-true, leb-false}
 use Rattle.run_stream.specs.Pages.{page_size}
-use Rattle.run_stream.proofs.Pieces.{Reached, at_first, moved, moved_within, one_more, more_then, text_as}
+use Rattle.run_stream.proofs.Pieces.{Reached}
 use Rattle.run_stream.proofs.fill.Given as goal
 
 abbrev pub invariant-loop-used : goal.invariant-loop-used

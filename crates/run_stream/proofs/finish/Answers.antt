@@ -1,7 +1,7 @@
 -- `run_stream::finish` meets its contract: the pending round is played if the file ends well, and no other.
 use native.Mathlib.Omega.{arith}
-use borrow.Author.Rules.{rules}
 use Rattle.run_stream.proofs.Finishing.{ends_played_lem, ends_unplayed}
+use Rattle.run_stream.proofs.finish.Goals.{else-number-eq0-via-then-number-eq0+else-p, else-number-eq0-via-else-number-eq0}
 use Rattle.run_stream.proofs.finish.Goals as goal
 
 pub returns-then-p : goal.returns-then-p
@@ -18,6 +18,9 @@ pub returns : goal.returns
 returns c = record {
   len_bound = (omega (arith, c.empty.ensures), c.verdict_line-verdict.ensures.len_bound);
   by_index = λ a carry L.
-      ends_unplayed L c.ending-number.ensures (λ z. let h = c.if-number-eq0 in ?)
+      ends_unplayed L c.ending-number.ensures (λ z. elim c.else-number-eq0.branch [
+        else-number-eq0-via-then-number-eq0+else-p w ↦ w.if-p.false
+      | else-number-eq0-via-else-number-eq0 w ↦ absurd (w.if-number-eq0.false z)
+      ])
       c.verdict_line-verdict.ensures.result_value c.empty.ensures;
 }

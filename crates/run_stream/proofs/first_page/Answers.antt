@@ -1,7 +1,6 @@
 -- `run_stream::first_page` meets its contract: the title is put at the front of the page.
 use mathlib.Core.Path.{◌∙◌}
 use native.Mathlib.Omega.{arith}
-use borrow.Author.Rules.{rules}
 use Rattle.run_stream.proofs.first_page.Goals as goal
 
 pub returns : goal.returns

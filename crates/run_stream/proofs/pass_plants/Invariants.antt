@@ -1,19 +1,10 @@
 -- `run_stream::pass_plants` meets its contract: at the head of the loop the bytes before `used` have shown nothing, and the state is that after them.
-use mathlib.Core.Path.{◌≡◌, refl}
 use mathlib.Core.List.{List}
-use Prim.Native.Nat.{ℕ, ◌+◌, ◌-◌, ◌≤◌}
-use native.Mathlib.Omega.{arith}
+use Prim.Native.Nat.{ℕ, ◌-◌, ◌≤◌}
 use lib.ListN.{length}
-use borrow.Author.Rules.{rules}
-use borrow.Author.Tests.{not-false}
-use Rattle.run_spec.specs.declared.Pair.{Pair}
-use Rattle.run_state.specs.declared.Player.{Player}
 use Rattle.run_state.specs.Memory.{Memory, with_slots}
 use Rattle.run_state.specs.Changes.{with_pair_planted}
-use Rattle.run_piece.specs.Steps.{Waits}
-use Rattle.run_piece.proofs.Feeding.{none_there, used_as}
-use Rattle.run_piece.proofs.Planting.{waits_as, passed_within}
-use Rattle.run_stream.proofs.Pieces.{rest, Still, moved_within, still_first, last_step, still_more, steps_here}
+use Rattle.run_stream.proofs.Pieces.{Still}
 use Rattle.run_stream.proofs.pass_plants.Given as goal
 
 abbrev pub invariant-loop-used : goal.invariant-loop-used

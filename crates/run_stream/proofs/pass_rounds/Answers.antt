@@ -1,15 +1,12 @@
 -- `run_stream::pass_rounds` meets its contract: at the head of the loop the page holds what was shown before and the lines of the bytes before `used`.
 use mathlib.Core.Path.{ap, sym, ◌∙◌}
 use mathlib.Core.Bool.{true}
-use Prim.Native.Nat.{ℕ, ◌+◌, ◌-◌, ◌≤◌}
+use Prim.Native.Nat.{ℕ}
 use native.Mathlib.Omega.{arith}
-use lib.ListN.{length, take}
 use borrow.Author.Rules.{rules}
-use borrow.Author.Tests.{not-false, leb-true}
-use Rattle.run_stream.specs.Pages.{page_size}
+use borrow.Author.Tests.{leb-true}
 use Rattle.run_state.specs.Changes.{with_round_given}
-use Rattle.run_piece.proofs.Calm.{Calm, calm_as, calm_there}
-use Rattle.run_stream.specs.Inner.{Follows}
+use Rattle.run_piece.proofs.Calm.{calm_as, calm_there}
 use Rattle.run_stream.proofs.Pieces.{rest, moved_within, follows_first, follows_more}
 use Rattle.run_stream.proofs.pass_rounds.Goals as goal
 

@@ -1,5 +1,4 @@
 -- The player of `planted_pair`.
-use borrow.Author.Rules.{rules}
 use Rattle.run_stream.proofs.passed.Goals as goal
 
 pub returns : goal.returns

@@ -1,9 +1,8 @@
 -- `run_stream::put` meets its contract: the bytes of the text are copied in behind those that are there, where the page has room for them.
-use mathlib.Core.Path.{◌≡◌, refl, ap, sym, ◌∙◌}
+use mathlib.Core.Path.{refl, ap, sym, ◌∙◌}
 use Prim.Native.Nat.{◌+◌}
 use native.Mathlib.Omega.{arith}
-use lib.ListN.{length, take}
-use borrow.Author.Rules.{rules}
+use lib.ListN.{take}
 use Rattle.texts.specs.Texts.{bytes_of}
 use Rattle.texts.proofs.Writing.{full, text_long, copied_behind}
 use Rattle.run_stream.proofs.put.Goals as goal

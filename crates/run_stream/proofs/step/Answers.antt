@@ -1,6 +1,5 @@
 -- `run_stream::step` meets its contract: planted records show nothing; if there are none, the state is as it was.
 use native.Mathlib.Omega.{arith}
-use borrow.Author.Rules.{rules}
 use Rattle.texts.proofs.Writing.{empty_text}
 use Rattle.run_state.specs.Memory.{memory_lent}
 use Rattle.run_piece.proofs.Feeding.{used_as}

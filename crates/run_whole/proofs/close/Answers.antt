@@ -1,6 +1,5 @@
 -- `run_whole::close` meets its contract: what the end of the file shows is put and kept, and the last line put.
 use mathlib.Core.Path.{refl}
-use borrow.Author.Rules.{rules}
 use Rattle.run_whole.proofs.Going.{closes}
 use Rattle.run_whole.proofs.close.Goals as goal
 

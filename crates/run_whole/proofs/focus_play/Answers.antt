@@ -1,7 +1,5 @@
 -- `run_whole::focus_play` meets its contract: without room nothing is done, and else the counts are those of `play`.
 use mathlib.Core.Path.{refl, sym, ◌∙◌}
-use borrow.Author.Rules.{rules}
-use borrow.Author.Tests.{not-true, not-false}
 use Rattle.run_whole.proofs.focus_play.Goals as goal
 
 pub returns-then-not-has_room : goal.returns-then-not-has_room

@@ -4,8 +4,6 @@ use Prim.Native.Nat.{ℕ, ◌*◌}
 use lib.ListN.{set}
 use lib.Seq.{paste}
 use native.Mathlib.Omega.{arith}
-use borrow.Author.Rules.{rules}
-use borrow.Author.Tests.{not-true, not-false}
 use Rattle.run_whole.specs.Inner.{sound_row}
 use Rattle.run_whole.proofs.keep.Goals as goal
 

@@ -1,6 +1,5 @@
 -- `run_whole::most_ends` meets its contract: of the two numbers it answers the lower.
 use native.Mathlib.Omega.{arith}
-use borrow.Author.Rules.{rules}
 use Rattle.run_whole.proofs.most_ends.Goals as goal
 
 pub returns-then-most-gt-ALL_ENDS : goal.returns-then-most-gt-ALL_ENDS

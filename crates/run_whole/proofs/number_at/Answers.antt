@@ -4,8 +4,7 @@ use mathlib.Core.Bool.{Bool, true, cond}
 use lib.ListN.{get_or}
 use lib.IntN.{pos}
 use Rattle.run_whole.specs.Whole.{is_sound}
-use borrow.Author.Rules.{rules}
-use borrow.Author.Tests.{not-true, not-false}
+use mir.Syntax.{w32}
 use mir.Facts.{to_z-of_z}
 use Rattle.run_whole.proofs.number_at.Goals as goal
 
@@ -21,5 +20,5 @@ returns c =
     let a = c.args in
     let sound : is_sound a.n a.m a.word a.i ≡ true =
     rw (sym c.is_receiver.ensures ∙ c.if-not-is_receiver.false, sym c.marked_wide.ensures ∙ c.if-marked_wide.false) in
-    to_z-of_z (record { sfits = c.position_at.type_inv }) ∙ c.position_at.ensures
+    to_z-of_z {w = w32} (record { sfits = c.position_at.type_inv }) ∙ c.position_at.ensures
     ∙ sym (ap (λ (b : Bool). cond b (get_or a.positions.now a.i (pos 0)) (pos 0)) sound)

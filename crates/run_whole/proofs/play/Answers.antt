@@ -1,7 +1,5 @@
 -- `run_whole::play` meets its contract: without room nothing is done, and else the file is played with memory of its own.
 use mathlib.Core.Path.{refl, sym, ◌∙◌}
-use borrow.Author.Rules.{rules}
-use borrow.Author.Tests.{not-true, not-false}
 use Rattle.run_whole.proofs.play.Goals as goal
 
 pub returns-then-not-has_room : goal.returns-then-not-has_room

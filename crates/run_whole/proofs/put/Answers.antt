@@ -1,10 +1,7 @@
 -- `run_whole::put` meets its contract: the bytes of the text are copied in behind those that are there, if the buffer has room for them.
-use mathlib.Core.Path.{◌≡◌, refl, ap, sym, ◌∙◌}
-use Prim.Native.Nat.{◌≤◌}
+use mathlib.Core.Path.{refl, ap, sym, ◌∙◌}
 use native.Mathlib.Omega.{arith}
-use lib.ListN.{length}
 use lib.Seq.{paste}
-use borrow.Author.Rules.{rules}
 use Rattle.fields.proofs.Copying.{copied_fits}
 use Rattle.texts.specs.Texts.{bytes_of}
 use Rattle.texts.proofs.Writing.{full, text_long}

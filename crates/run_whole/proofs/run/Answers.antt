@@ -1,11 +1,8 @@
 -- `run_whole::run` meets its contract: the place that the loop reaches is one that the first leads to, and at its end all bytes are taken.
-use mathlib.Core.Path.{◌≡◌, refl}
-use Prim.Native.Nat.{◌-◌, ◌≤◌}
+use mathlib.Core.Path.{refl}
 use native.Mathlib.Omega.{arith}
-use lib.ListN.{length}
 use borrow.Author.Rules.{rules}
 use Rattle.run_whole.specs.Buffers.{Buffers}
-use Rattle.run_whole.specs.Inner.{Going}
 use Rattle.run_whole.proofs.Going.{going_first}
 use Rattle.run_whole.proofs.run.Goals as goal
 

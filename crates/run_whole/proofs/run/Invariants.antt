@@ -1,12 +1,9 @@
 -- `run_whole::run` meets its contract: the place that the loop reaches is one that the first leads to, and at its end all bytes are taken.
-use mathlib.Core.Path.{◌≡◌, refl}
+use mathlib.Core.Path.{◌≡◌}
 use Prim.Native.Nat.{◌-◌, ◌≤◌}
-use native.Mathlib.Omega.{arith}
 use lib.ListN.{length}
-use borrow.Author.Rules.{rules}
 use Rattle.run_whole.specs.Buffers.{Buffers}
 use Rattle.run_whole.specs.Inner.{Going}
-use Rattle.run_whole.proofs.Going.{going_first}
 use Rattle.run_whole.proofs.run.Given as goal
 
 abbrev pub invariant-loop-at : goal.invariant-loop-at

@@ -1,7 +1,6 @@
 -- `run_whole::step` meets its contract: the piece that is fed is the next one, and what it shows is put and kept.
 use mathlib.Core.Path.{refl}
 use native.Mathlib.Omega.{arith}
-use borrow.Author.Rules.{rules}
 use Rattle.run_stream.proofs.Pieces.{moved}
 use Rattle.run_whole.proofs.Going.{going_on}
 use Rattle.run_whole.proofs.step.Goals as goal

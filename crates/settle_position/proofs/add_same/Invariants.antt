@@ -1,10 +1,7 @@
 -- `settle_position::add_same` meets its contract: before entry j, the counts below j have one more if the two numbers are the same, and the others are as they were.
 use Prim.Native.Nat.{◌-◌}
-use native.Mathlib.Omega.{arith}
-use borrow.Author.Rules.{rules}
 use Rattle.settle_position.specs.Reference.{same_number}
-use Rattle.settle_trust.proofs.Cells.{same_bits}
-use Rattle.settle_position.proofs.Counting.{AddedTo, added_none, added_small, added_next, added_all}
+use Rattle.settle_position.proofs.Counting.{AddedTo}
 use Rattle.settle_position.proofs.add_same.Given as goal
 
 abbrev pub invariant-loop-j : goal.invariant-loop-j

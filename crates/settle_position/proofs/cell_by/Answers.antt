@@ -1,7 +1,6 @@
 -- `settle_position::cell_by` meets its contract: link j confessed; or the reference's list decides; or the column is searched.
 use mathlib.Core.Path.{sym, ◌∙◌}
 use native.Mathlib.Nat.{min-eq_left}
-use borrow.Author.Rules.{rules}
 use Rattle.settle_trust.proofs.Cells.{holds_null, holds_same}
 use Rattle.settle_position.proofs.cell_by.Goals as goal
 

@@ -1,13 +1,11 @@
 -- `settle_position::compare` meets its contract: after k turns the lists compared are the first k.
 use mathlib.Core.Path.{◌≡◌, refl}
-use Prim.Native.Nat.{◌-◌, ◌≤◌}
 use native.Mathlib.Omega.{arith}
 use borrow.Author.Rules.{rules}
 use lib.Dec.{eqb}
-use lib.ListN.{length, get_or}
+use lib.ListN.{get_or}
 use Rattle.terms.proofs.Sums.{bit_le}
 use Rattle.marks.proofs.Counts.{byte_bit}
-use Rattle.settle_position.specs.Reference.{Compares}
 use Rattle.settle_position.proofs.Reference.{compares_none, compares_few, compares_alike, compares_other}
 use Rattle.settle_position.proofs.compare.Goals as goal
 use Rattle.settle_position.proofs.compare.Goals.{then-marks-k, else-marks-k}
@@ -37,7 +35,7 @@ loop-k-preserved c =
       search rules,
       elim c.if-marks-k.branch [ then-marks-k w ↦ rw w.same-is w.add_same.ensures.0 | else-marks-k w ↦ rw w.same-is l.invariant.1 ],
       elim c.if-marks-k.branch [
-        then-marks-k w ↦ rw w.same-is (compares_alike l.invariant.2 c.is_apart.ensures w.if-marks-k.true w.add_same.ensures.1)
+        | then-marks-k w ↦ rw w.same-is (compares_alike l.invariant.2 c.is_apart.ensures w.if-marks-k.true w.add_same.ensures.1)
         | else-marks-k w ↦ rw w.same-is (compares_other l.invariant.2 c.is_apart.ensures w.if-marks-k.false)
       ],
     )

@@ -1,15 +1,8 @@
 -- `settle_position::compare` meets its contract: after k turns the lists compared are the first k.
-use mathlib.Core.Path.{◌≡◌, refl}
-use mathlib.Core.Logic.{⊎_elim}
+use mathlib.Core.Path.{◌≡◌}
 use Prim.Native.Nat.{◌-◌, ◌≤◌}
-use native.Mathlib.Omega.{arith}
-use borrow.Author.Rules.{rules}
-use lib.Dec.{eqb}
-use lib.ListN.{length, get_or}
-use Rattle.terms.proofs.Sums.{bit_le}
-use Rattle.marks.proofs.Counts.{byte_bit}
+use lib.ListN.{length}
 use Rattle.settle_position.specs.Reference.{Compares}
-use Rattle.settle_position.proofs.Reference.{compares_none, compares_few, compares_alike, compares_other}
 use Rattle.settle_position.proofs.compare.Given as goal
 
 abbrev pub invariant-loop-k : goal.invariant-loop-k

@@ -1,6 +1,5 @@
 -- `settle_position::decide_entry` meets its contract: no entry from 32 on is a position, and a lower one goes to its place.
 use mathlib.Core.Path.{sym, ◌∙◌}
-use borrow.Author.Rules.{rules}
 use Rattle.settle_midpoint.proofs.Ordering.{order_past, order_next}
 use Rattle.settle_position.proofs.decide_entry.Goals as goal
 

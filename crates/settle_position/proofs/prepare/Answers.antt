@@ -1,7 +1,6 @@
 -- `settle_position::prepare` meets its contract: what the lists and their marks decide is the trusted entries, and the lists are compared with the reference's.
 use mathlib.Core.Path.{refl}
 use native.Mathlib.Omega.{arith}
-use borrow.Author.Rules.{rules}
 use Rattle.settle_trust.proofs.Received.{words}
 use Rattle.settle_trust.proofs.Trusted.{decided_marked, trusted_past}
 use Rattle.settle_position.proofs.Reference.{prepared}

@@ -1,5 +1,4 @@
 -- `settle_position::settle_by` meets its contract: what is prepared decides the trusted entries, and from these it settles.
-use borrow.Author.Rules.{rules}
 use Rattle.settle_position.proofs.settle_by.Goals as goal
 
 pub returns : goal.returns

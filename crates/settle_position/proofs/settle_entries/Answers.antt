@@ -1,14 +1,10 @@
 -- `settle_position::settle_entries` meets its contract: before entry j the order holds the positions among the entries below j. After the last entry
 -- these are all that settling asks of the entries.
 use mathlib.Core.Path.{◌∙◌}
-use Prim.Native.Nat.{ℕ, ◌-◌, ◌≤◌}
 use native.Mathlib.Omega.{arith}
 use borrow.Author.Rules.{rules}
-use Rattle.terms.specs.declared.Entry.{Entry}
-use Rattle.settle_midpoint.specs.Orders.{OrderAfter}
 use Rattle.settle_midpoint.proofs.Ordering.{order_none, order_all}
 use Rattle.settle_midpoint.proofs.Middle.{settling_after}
-use Rattle.settle_position.specs.Deciding.{Prepared}
 use Rattle.settle_position.proofs.settle_entries.Goals as goal
 
 pub loop-j-init : goal.loop-j-init

@@ -1,6 +1,5 @@
 -- `settle_trust::after_cell` meets its contract: its cases are those of a vote.
 use native.Mathlib.Omega.{arith}
-use borrow.Author.Rules.{rules}
 use Rattle.settle_trust.proofs.Voting.{passes, leads, joins, takes}
 use Rattle.settle_trust.proofs.after_cell.Goals as goal
 

@@ -1,5 +1,4 @@
 -- `settle_trust::agreed_cell` meets its contract: every number reaches 0, so that none does alone; or the search.
-use borrow.Author.Rules.{rules}
 use Rattle.settle_trust.proofs.Search.{none_needed}
 use Rattle.settle_trust.proofs.agreed_cell.Goals as goal
 

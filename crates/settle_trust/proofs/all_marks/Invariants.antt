@@ -1,13 +1,7 @@
 -- `settle_trust::all_marks` meets its contract: after k turns the words are those of the first k links. A turn stores one.
-use mathlib.Core.Path.{◌≡◌, refl, ap, ap₂, ◌∙◌}
-use mathlib.Core.Bool.{Bool}
-use mathlib.Core.List.{List}
-use Prim.Native.Nat.{ℕ, ◌-◌, ◌≤◌, min}
-use native.Mathlib.Omega.{arith}
-use native.Mathlib.Numerals.{add-one}
-use borrow.Author.Rules.{rules}
-use lib.ListN.{get_or, set}
-use Rattle.settle_trust.specs.Cells.{marks_given, marks_to}
+use mathlib.Core.Path.{◌≡◌}
+use Prim.Native.Nat.{◌-◌, ◌≤◌}
+use Rattle.settle_trust.specs.Cells.{marks_to}
 use Rattle.settle_trust.proofs.all_marks.Given as goal
 
 abbrev pub invariant-loop-k : goal.invariant-loop-k

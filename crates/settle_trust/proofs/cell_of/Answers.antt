@@ -3,7 +3,6 @@ use mathlib.Core.Path.{ap, ◌∙◌}
 use Prim.Native.Nat.{suc}
 use native.Mathlib.Numerals.{one-add}
 use mir.Facts.{to_z-of_z}
-use borrow.Author.Rules.{rules}
 use Rattle.fields.specs.Bytes.{word_of}
 use Rattle.settle_trust.proofs.cell_of.Goals as goal
 

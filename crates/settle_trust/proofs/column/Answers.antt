@@ -1,10 +1,9 @@
 -- `settle_trust::column` meets its contract: after k turns the first k cells hold what the first k lists say of head j. A turn stores one cell and leaves
 -- the others.
-use Prim.Native.Nat.{◌-◌, ◌≤◌}
 use native.Mathlib.Omega.{arith}
 use borrow.Author.Rules.{rules}
-use lib.ListN.{length, length-set}
-use Rattle.settle_trust.specs.Cells.{CellOf, HoldsEach, column_of}
+use lib.ListN.{length-set}
+use Rattle.settle_trust.specs.Cells.{CellOf, column_of}
 use Rattle.settle_trust.proofs.Cells.{each_stored}
 use Rattle.settle_trust.proofs.column.Goals as goal
 

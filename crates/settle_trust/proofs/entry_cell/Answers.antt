@@ -1,7 +1,9 @@
 -- `settle_trust::entry_cell` meets its contract: an entry that is marked is read from the list, and one that is not marked is null. No entry from 32 on is
 -- marked, since a word has no such bit.
 use mathlib.Core.Path.{sym, ◌∙◌}
-use borrow.Author.Rules.{rules}
+use native.Mathlib.Omega.{arith}
+use lib.IntN.{pos}
+use lib.ListN.{get_or}
 use Rattle.marks.proofs.Marks.{bit_above}
 use Rattle.settle_trust.proofs.Cells.{holds_position, holds_null, holds_same, entry_marked, entry_unmarked}
 use Rattle.settle_trust.proofs.entry_cell.Goals as goal
@@ -9,7 +11,7 @@ use Rattle.settle_trust.proofs.entry_cell.Goals as goal
 pub returns-then-j-lt-HEADS : goal.returns-then-j-lt-HEADS
 returns-then-j-lt-HEADS c =
     let a = c.args in
-    holds_same (holds_position (record { sfits = c.cell_of-arg-1.given }) c.cell_of.ensures)
+    holds_same (holds_position {v = get_or a.list.now a.j (pos 0)} (record { sfits = omega arith }) c.cell_of.ensures)
     (sym (entry_marked a.marks a.list.now a.j (sym c.marked.ensures ∙ c.if-marked.true)))
 
 pub returns-else-j-lt-HEADS : goal.returns-else-j-lt-HEADS

@@ -2,7 +2,6 @@
 use mathlib.Core.Path.{ap, sym, ◌∙◌}
 use mir.Syntax.{w32}
 use mir.Facts.{to_z-of_z}
-use borrow.Author.Rules.{rules}
 use Rattle.terms.specs.declared.Entry.TheVariants.{Position}
 use Rattle.settle_trust.specs.Cells.{cell_entry}
 use Rattle.settle_trust.proofs.Cells.{cell_position}

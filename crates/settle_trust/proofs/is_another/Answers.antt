@@ -1,6 +1,5 @@
 -- `settle_trust::is_another` meets its contract: its three tests, one after the other.
 use mathlib.Core.Bool.{and-false}
-use borrow.Author.Rules.{rules}
 use borrow.Author.Tests.{eq-eqb, ne_eqb}
 use Rattle.settle_trust.proofs.is_another.Goals as goal
 

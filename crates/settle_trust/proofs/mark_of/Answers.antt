@@ -1,5 +1,4 @@
 -- `settle_trust::mark_of` meets its contract: a cell that is not 0 holds a position.
-use borrow.Author.Rules.{rules}
 use Rattle.settle_trust.proofs.Cells.{cell_mark}
 use Rattle.settle_trust.proofs.mark_of.Goals as goal
 

@@ -1,6 +1,5 @@
 -- `settle_trust::only` meets its contract: the search, or the leader of the vote.
 use native.Mathlib.Omega.{arith}
-use borrow.Author.Rules.{rules}
 use Rattle.settle_trust.proofs.Voting.{elected, not_elected}
 use Rattle.settle_trust.proofs.only.Goals as goal
 

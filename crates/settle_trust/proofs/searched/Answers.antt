@@ -1,10 +1,9 @@
 -- `settle_trust::searched` meets its contract: after k turns `found` is what was found among the first k cells. Where the loop ends, the cells that are left are too few
 -- to change it.
 use mathlib.Core.Path.{sym, ◌∙◌}
-use Prim.Native.Nat.{◌-◌, ◌≤◌, ◌<◌}
 use native.Mathlib.Omega.{arith}
 use borrow.Author.Rules.{rules}
-use Rattle.settle_trust.proofs.Search.{Looked, none_looked, turn_finds, turn_finds_second, turn_passes, search_ends}
+use Rattle.settle_trust.proofs.Search.{none_looked, turn_finds, turn_finds_second, turn_passes, search_ends}
 use Rattle.settle_trust.proofs.searched.Goals as goal
 use Rattle.settle_trust.proofs.searched.Goals.{then-is_another+else-found-ne0, else-is_another}
 
@@ -33,7 +32,7 @@ loop-k-preserved c =
     let e = sym c.is_another.ensures in (
       omega arith,
       elim c.if-is_another.branch [
-        then-is_another+else-found-ne0 w ↦ rw w.found-is (turn_finds _ _ _ _ _ L (e ∙ w.if-is_another.true) w.if-found-ne0.false)
+        | then-is_another+else-found-ne0 w ↦ rw w.found-is (turn_finds _ _ _ _ _ L (e ∙ w.if-is_another.true) w.if-found-ne0.false)
         | else-is_another w ↦ rw w.found-is (turn_passes _ _ _ _ _ L (e ∙ w.if-is_another.false))
       ],
     )

@@ -1,11 +1,7 @@
 -- `settle_trust::searched` meets its contract: after k turns `found` is what was found among the first k cells. Where the loop ends, the cells that are left are too few
 -- to change it.
-use mathlib.Core.Path.{sym, ◌∙◌}
-use mathlib.Core.Logic.{⊎_elim}
-use Prim.Native.Nat.{◌-◌, ◌≤◌, ◌<◌}
-use native.Mathlib.Omega.{arith}
-use borrow.Author.Rules.{rules}
-use Rattle.settle_trust.proofs.Search.{Looked, none_looked, turn_finds, turn_finds_second, turn_passes, search_ends}
+use Prim.Native.Nat.{◌-◌, ◌≤◌}
+use Rattle.settle_trust.proofs.Search.{Looked}
 use Rattle.settle_trust.proofs.searched.Given as goal
 
 abbrev pub invariant-loop-k : goal.invariant-loop-k

@@ -1,7 +1,6 @@
 -- `settle_trust::trusted_cell` meets its contract: link j confessed, or the lists decide.
 use mathlib.Core.Path.{sym, ◌∙◌}
 use Prim.Native.Nat.{min}
-use borrow.Author.Rules.{rules}
 use Rattle.settle_trust.specs.Cells.{column_of}
 use Rattle.settle_trust.proofs.Cells.{holds_null, holds_same}
 use Rattle.settle_trust.proofs.Search.{agreed_decided}

@@ -1,7 +1,6 @@
 -- `settle_trust::trusted_entry` meets its contract: the cell that was decided holds the trusted entry.
 use mathlib.Core.Path.{◌∙◌}
 use native.Mathlib.Omega.{arith}
-use borrow.Author.Rules.{rules}
 use Rattle.settle_trust.proofs.Received.{words}
 use Rattle.settle_trust.proofs.Trusted.{decided_marked}
 use Rattle.settle_trust.proofs.trusted_entry.Goals as goal

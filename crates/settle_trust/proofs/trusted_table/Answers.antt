@@ -1,7 +1,7 @@
 -- `settle_trust::trusted_table` meets its contract: before head j the marks and the numbers are those of the trusted entries below j. A turn adds the mark and
 -- stores the number of the cell that was decided. The entries from 32 on are null.
 use mathlib.Core.Path.{◌≡◌, refl, ap, ◌∙◌}
-use Prim.Native.Nat.{ℕ, ◌-◌, ◌≤◌, min}
+use Prim.Native.Nat.{ℕ, min}
 use native.Mathlib.Omega.{arith}
 use mir.Syntax.{w32}
 use mir.Facts.{to_z-of_z}

@@ -1,19 +1,10 @@
 -- `settle_trust::trusted_table` meets its contract: before head j the marks and the numbers are those of the trusted entries below j. A turn adds the mark and
 -- stores the number of the cell that was decided. The entries from 32 on are null.
-use mathlib.Core.Path.{◌≡◌, refl, ap, ◌∙◌}
-use Prim.Native.Nat.{ℕ, ◌-◌, ◌≤◌, min}
-use native.Mathlib.Omega.{arith}
-use mir.Facts.{to_z-of_z}
-use borrow.Author.Rules.{rules}
-use Rattle.terms.specs.declared.Entry.{Entry}
-use Rattle.entries.specs.Entries.{zeros}
-use Rattle.entries.specs.Tables.{mark, value_of, marks_of, values_of}
+use mathlib.Core.Path.{◌≡◌}
+use Prim.Native.Nat.{◌-◌, ◌≤◌}
+use Rattle.entries.specs.Tables.{marks_of, values_of}
 use Rattle.convergence.specs.Trust.{trusted}
 use Rattle.settle_trust.specs.Received.{given_by}
-use Rattle.settle_trust.specs.Cells.{cell_entry}
-use Rattle.settle_trust.proofs.Received.{words}
-use Rattle.settle_trust.proofs.Trusted.{decided_marked, trusted_past}
-use Rattle.entries.proofs.Tables.{marks_next, marks_fit, numbers_next, table_first_32}
 use Rattle.settle_trust.proofs.trusted_table.Given as goal
 
 abbrev pub invariant-loop-j : goal.invariant-loop-j

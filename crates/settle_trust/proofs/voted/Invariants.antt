@@ -1,10 +1,6 @@
 -- `settle_trust::voted` meets its contract: after k turns the vote is that among the first k cells.
-use mathlib.Core.Path.{◌≡◌, refl}
 use Prim.Native.Nat.{◌-◌, ◌≤◌}
-use native.Mathlib.Omega.{arith}
-use borrow.Author.Rules.{rules}
 use Rattle.settle_trust.specs.Voting.{Leads}
-use Rattle.settle_trust.proofs.Voting.{none_leads}
 use Rattle.settle_trust.proofs.voted.Given as goal
 
 abbrev pub invariant-loop-k : goal.invariant-loop-k

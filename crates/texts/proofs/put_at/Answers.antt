@@ -6,7 +6,7 @@ use Rattle.texts.proofs.put_at.Goals as goal
 pub put_within-requires : goal.put_within-requires
 put_within-requires c =
     let a = c.args in
-    (c.put_within-arg-1.given.0.1, some_room a.at (length a.s.now) c.has_room.ensures c.if-has_room.true)
+    (c.told-line, some_room a.at (length a.s.now) c.has_room.ensures c.if-has_room.true)
 
 pub returns-then-has_room : goal.returns-then-has_room
 returns-then-has_room c =

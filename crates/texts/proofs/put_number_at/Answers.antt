@@ -9,7 +9,7 @@ pub put_digits-requires : goal.put_digits-requires
 put_digits-requires c =
     let k = c.size_of-k.result in
     let room = some_room c.args.at (k + 1) c.has_room.ensures c.if-has_room.true in
-    (c.put_digits-arg-1.given.0.1, omega arith, omega arith, omega (arith, room))
+    (c.told-line, omega arith, omega arith, omega (arith, room))
 
 pub returns-then-has_room : goal.returns-then-has_room
 returns-then-has_room c =

@@ -2,7 +2,6 @@
 use mathlib.Core.Path.{ap₂, ◌∙◌}
 use Rattle.head_spec.specs.Record.{opened}
 use Rattle.head_c.specs.Blocks.{head_of}
-use borrow.Author.Rules.{rules}
 use Rattle.head_c.proofs.block.bare_in.Goals as goal
 
 pub returns : goal.returns

@@ -1,13 +1,10 @@
 -- Word after word: after j turns the first j words are 0.
 use mathlib.Core.Path.{◌≡◌, refl, ap, sym, ◌∙◌}
-use mathlib.Core.List.{List}
-use Prim.Native.Nat.{ℕ, ◌-◌, ◌≤◌}
+use Prim.Native.Nat.{ℕ}
 use native.Mathlib.Omega.{arith}
-use lib.ListN.{length, get_or, length-set}
+use lib.ListN.{get_or, length-set}
 use lib.Seq.{paste, paste-zero}
-use Rattle.head_c.specs.Blocks.{up_to}
 use Rattle.head_c.proofs.Copying.{up_to_long, up_to_at, copied}
-use borrow.Author.Rules.{rules}
 use Rattle.head_c.proofs.block.clear_links.Invariants.{blank}
 use Rattle.head_c.proofs.block.clear_links.Goals as goal
 

@@ -1,7 +1,6 @@
 -- A number that is 0 ends the offer.
 use mathlib.Core.Path.{sym}
 use Rattle.terms.proofs.Refusals.{unchanged, changed}
-use borrow.Author.Rules.{rules}
 use Rattle.head_c.proofs.block.end_offer.Goals as goal
 
 pub returns-then-number-eq0 : goal.returns-then-number-eq0

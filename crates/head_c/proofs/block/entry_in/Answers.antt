@@ -6,7 +6,6 @@ use mir.Syntax.{w32}
 use mir.Facts.{to_z-of_z}
 use Rattle.terms.specs.declared.Entry.{Entry}
 use Rattle.head_c.specs.Blocks.{held_entry}
-use borrow.Author.Rules.{rules}
 use Rattle.head_c.proofs.block.entry_in.Goals as goal
 
 held : (b : ℕ) (v : ℤ) → (b ≡ 0 → ⊥) → Entry.Position v ≡ held_entry b v

@@ -3,7 +3,6 @@ use mathlib.Core.Path.{◌≡◌, refl}
 use Prim.Native.Nat.{ℕ, zero, suc}
 use Rattle.terms.specs.declared.Family.TheVariants.{OneRound}
 use Rattle.head_spec.specs.Seats.{family_in}
-use borrow.Author.Rules.{rules}
 use Rattle.head_c.proofs.block.family_in.Goals as goal
 
 one : (b : ℕ) → (b ≡ 0 → ⊥) → OneRound ≡ family_in b

@@ -1,5 +1,4 @@
 -- Case by case.
-use borrow.Author.Rules.{rules}
 use Rattle.head_c.proofs.block.kept_of.Goals as goal
 
 pub returns-in-Nothing : goal.returns-in-Nothing

@@ -1,11 +1,8 @@
 -- Word after word: after k turns the first k mark words are there.
 use mathlib.Core.Path.{refl, sym}
-use Prim.Native.Nat.{◌+◌, ◌-◌, ◌≤◌}
 use native.Mathlib.Omega.{arith}
-use lib.ListN.{get_or}
-use Rattle.head_c.specs.Blocks.{up_to, head_of}
-use Rattle.head_c.proofs.Copying.{up_to_long, up_to_at, Filled, filled_none, filled_more, filled_all}
-use borrow.Author.Rules.{rules}
+use Rattle.head_c.specs.Blocks.{head_of}
+use Rattle.head_c.proofs.Copying.{up_to_long, up_to_at, filled_none, filled_more, filled_all}
 use Rattle.head_c.proofs.block.links_in.Goals as goal
 
 pub loop-k-init : goal.loop-k-init

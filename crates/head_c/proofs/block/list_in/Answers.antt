@@ -1,6 +1,5 @@
 -- The marks, and the numbers.
 use Rattle.head_c.specs.Blocks.{head_of}
-use borrow.Author.Rules.{rules}
 use Rattle.head_c.proofs.block.list_in.Goals as goal
 
 pub returns : goal.returns

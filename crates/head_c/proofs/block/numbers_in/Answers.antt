@@ -1,14 +1,11 @@
 -- Number after number: after j turns the first j numbers are there.
 use mathlib.Core.Path.{refl, sym, ◌∙◌}
-use Prim.Native.Nat.{◌-◌, ◌≤◌}
 use native.Mathlib.Omega.{arith}
 use lib.IntN.{pos}
 use mir.Syntax.{w32}
 use mir.Facts.{to_z-of_z}
-use Rattle.head_c.specs.Blocks.{numbers_at}
-use Rattle.head_c.proofs.Copying.{Filled, filled_none, filled_more, filled_all}
+use Rattle.head_c.proofs.Copying.{filled_none, filled_more, filled_all}
 use Rattle.head_c.proofs.Reading.{numbers_long, number_at}
-use borrow.Author.Rules.{rules}
 use Rattle.head_c.proofs.block.numbers_in.Goals as goal
 
 pub loop-j-init : goal.loop-j-init

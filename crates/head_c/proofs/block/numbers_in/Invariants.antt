@@ -1,13 +1,7 @@
 -- Number after number: after j turns the first j numbers are there.
-use mathlib.Core.Path.{refl, sym, ◌∙◌}
 use Prim.Native.Nat.{◌-◌, ◌≤◌}
-use native.Mathlib.Omega.{arith}
-use lib.IntN.{pos}
-use mir.Facts.{to_z-of_z}
 use Rattle.head_c.specs.Blocks.{numbers_at}
-use Rattle.head_c.proofs.Copying.{Filled, filled_none, filled_more, filled_all}
-use Rattle.head_c.proofs.Reading.{numbers_long, number_at}
-use borrow.Author.Rules.{rules}
+use Rattle.head_c.proofs.Copying.{Filled}
 use Rattle.head_c.proofs.block.numbers_in.Given as goal
 
 abbrev pub invariant-loop-j : goal.invariant-loop-j

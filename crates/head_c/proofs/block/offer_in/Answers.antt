@@ -7,7 +7,6 @@ use mir.Facts.{to_z-of_z}
 use Rattle.head_spec.specs.declared.Offer.{Offer}
 use Rattle.head_c.specs.Blocks.{offer_in, offer_of}
 use Rattle.head_c.proofs.Offers.{no_offer}
-use borrow.Author.Rules.{rules}
 use Rattle.head_c.proofs.block.offer_in.Goals as goal
 
 stands : (b : ℕ) {low high position low' high' position' : ℤ} (trim : ℕ) → (b ≡ 0 → ⊥) → low ≡ low' → high ≡ high' → position ≡ position'

@@ -1,7 +1,6 @@
 -- The record, then what stands beside it, and then the end of an offer.
 use mathlib.Core.Path.{ap, ◌∙◌}
 use Rattle.head_c.specs.Blocks.{with_registers, without_offer}
-use borrow.Author.Rules.{rules}
 use Rattle.head_c.proofs.block.put_fresh.Goals as goal
 
 pub returns : goal.returns

@@ -4,7 +4,6 @@ use native.Mathlib.Omega.{arith}
 use lib.ListN.{length-set}
 use Rattle.head_c.specs.Blocks.{words_of}
 use Rattle.head_c.proofs.Putting.{set_paste}
-use borrow.Author.Rules.{rules}
 use Rattle.head_c.proofs.block.put_list.Goals as goal
 
 pub put_numbers-requires : goal.put_numbers-requires

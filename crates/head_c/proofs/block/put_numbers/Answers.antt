@@ -1,8 +1,8 @@
 -- Number after number: after j turns the first j words are there.
 use mathlib.Core.Path.{◌≡◌, refl, ap, sym, ◌∙◌}
-use Prim.Native.Nat.{◌-◌, ◌≤◌}
 use native.Mathlib.Omega.{arith}
-use lib.ListN.{length, length-set}
+use lib.ListN.{length-set, get_or}
+use lib.IntN.{pos}
 use lib.Seq.{paste, paste-zero}
 use mir.Syntax.{w32}
 use mir.Facts.{to_z-of_z}
@@ -21,7 +21,7 @@ loop-j-preserved c =
     let l = c.loop-j in
     let a = c.args in
     let E = a.numbers.now in
-    let v = c.unsigned.ensures ∙ ap word_of (to_z-of_z {w = w32} (record { sfits = c.unsigned-arg-1.given })) ∙ sym (word_at E l.j (omega arith)) in
+    let v = c.unsigned.ensures ∙ ap word_of (to_z-of_z {w = w32} {z = get_or E l.j (pos 0)} (record { sfits = search rules })) ∙ sym (word_at E l.j (omega arith)) in
     (omega arith, simp length-set l.invariant.1, copied a.h.now (words_of E) a.from 0 l.invariant.2 v (omega arith) (omega (arith, words_long E)))
 
 pub returns : goal.returns

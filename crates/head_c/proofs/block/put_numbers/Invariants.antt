@@ -1,15 +1,9 @@
 -- Number after number: after j turns the first j words are there.
-use mathlib.Core.Path.{◌≡◌, refl, ap, sym, ◌∙◌}
+use mathlib.Core.Path.{◌≡◌}
 use Prim.Native.Nat.{◌-◌, ◌≤◌}
-use native.Mathlib.Omega.{arith}
-use lib.ListN.{length, length-set}
-use lib.Seq.{paste, paste-zero}
-use mir.Facts.{to_z-of_z}
-use Rattle.fields.specs.Bytes.{word_of}
+use lib.ListN.{length}
+use lib.Seq.{paste}
 use Rattle.head_c.specs.Blocks.{words_of}
-use Rattle.head_c.proofs.Copying.{copied}
-use Rattle.head_c.proofs.Putting.{words_long, word_at}
-use borrow.Author.Rules.{rules}
 use Rattle.head_c.proofs.block.put_numbers.Given as goal
 
 abbrev pub invariant-loop-j : goal.invariant-loop-j

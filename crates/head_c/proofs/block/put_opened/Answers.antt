@@ -1,9 +1,7 @@
 -- Part by part, from the front on. Each part leaves the block as long as it was.
-use mathlib.Core.Path.{sym, ◌∙◌}
+use mathlib.Core.Path.{◌∙◌}
 use lib.ListN.{length-set}
-use Rattle.head_c.specs.Blocks.{IsBlock}
 use Rattle.head_c.proofs.Putting.{put_record}
-use borrow.Author.Rules.{rules}
 use Rattle.head_c.proofs.block.put_opened.Goals as goal
 
 pub put_list-requires : goal.put_list-requires

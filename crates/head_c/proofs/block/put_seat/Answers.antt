@@ -1,7 +1,6 @@
 -- Word by word.
 use mathlib.Core.Path.{◌≡◌, ap, ◌∙◌}
 use Prim.Native.Nat.{ℕ}
-use native.Mathlib.Omega.{arith}
 use lib.ListN.{length-set}
 use lib.IntN.{ℤ}
 use mir.Syntax.{w32}

@@ -4,7 +4,6 @@ use Rattle.terms.specs.declared.Table.{Table}
 use Rattle.terms.proofs.Refusals.{unchanged, changed}
 use Rattle.head_spec.specs.Record.{opened}
 use Rattle.head_c.specs.Blocks.{with_head}
-use borrow.Author.Rules.{rules}
 use Rattle.head_c.proofs.block.put_seated.Goals as goal
 
 pub returns-then-number-eq0 : goal.returns-then-number-eq0

@@ -6,7 +6,6 @@ use mir.Syntax.{w32}
 use mir.Facts.{to_z-of_z}
 use Rattle.head_spec.specs.declared.LastKept.{LastKept}
 use Rattle.head_c.specs.Blocks.{range_in}
-use borrow.Author.Rules.{rules}
 use Rattle.head_c.proofs.block.range_in.Goals as goal
 
 held : (b : ℕ) {low high position low' high' position' : ℤ} (trim : ℕ) → (b ≡ 0 → ⊥) → low ≡ low' → high ≡ high' → position ≡ position'

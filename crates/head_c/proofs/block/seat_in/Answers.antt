@@ -1,6 +1,5 @@
 -- Word by word.
 use Rattle.head_c.specs.Blocks.{seat_of}
-use borrow.Author.Rules.{rules}
 use Rattle.head_c.proofs.block.seat_in.Goals as goal
 
 pub returns : goal.returns

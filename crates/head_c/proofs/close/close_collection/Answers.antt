@@ -21,5 +21,5 @@ unfolding closed_collection head_of
 returns c =
     let w = c.args.h.now in
     let s = c.confession_seat.ensures ∙ ap confession_seat c.seat_in-seat.ensures in
-    put_round (confession_seat (head_of w).seat) w c.requires (λ i. (c.slice_known-1.given i).fits)
+    put_round (confession_seat (head_of w).seat) w c.requires (λ i. search rules)
     (c.put_seat.ensures ∙ ap (λ (x : Seat). paste w 0 (seat_words x) 16) s) c.clear_links.ensures

@@ -1,13 +1,12 @@
 -- Refusal 26 comes first; then the round decides.
 use lib.ListN.{get_or}
-use borrow.Author.Tests.{eq-eqb, ne_eqb, not-true, not-false}
+use borrow.Author.Tests.{eq-eqb, ne_eqb}
 use mathlib.Core.Path.{◌≡◌, ap, sym, ◌∙◌}
 use mathlib.Core.Bool.{Bool, not}
 use Rattle.head_spec.specs.declared.Seat.{Seat}
 use Rattle.head_spec.specs.Calls.{is_last_round}
 use Rattle.head_c.specs.Blocks.{head_of, seat_of}
 use Rattle.head_c.proofs.Closing.{ended_stays, lists, ends}
-use borrow.Author.Rules.{rules}
 use Rattle.head_c.proofs.close.close_in.Goals as goal
 
 -- b: whether the round of the seat s, which is x, is the last

@@ -2,7 +2,6 @@
 use mathlib.Core.Path.{sym, ◌∙◌}
 use Rattle.head_c.specs.Blocks.{head_of}
 use Rattle.head_c.proofs.Closing.{refuses, offers}
-use borrow.Author.Rules.{rules}
 use Rattle.head_c.proofs.close.close_last.Goals as goal
 
 pub returns-in-Refused : goal.returns-in-Refused

@@ -21,7 +21,6 @@ use Rattle.head_spec.proofs.RoundEnd.{settles_by}
 use Rattle.head_c.specs.Blocks.{head_of}
 use Rattle.head_c.specs.Steps.{rows_in}
 use Rattle.head_c.proofs.Rows.{given_rows}
-use borrow.Author.Rules.{rules}
 use Rattle.head_c.proofs.close.settled_in.Goals as goal
 
 module _ (h : Head) {s : Seat} {r : ℕ} {a : Settled} (p : s ≡ h.seat) (e : r ≡ rounding s.phase) where

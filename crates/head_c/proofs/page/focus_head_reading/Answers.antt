@@ -1,6 +1,5 @@
 -- The reading of the seat, case by case.
 use mathlib.Core.Path.{refl}
-use borrow.Author.Rules.{rules}
 use Rattle.head_c.proofs.Pages.{reads, shown}
 use Rattle.head_c.proofs.page.focus_head_reading.Goals as goal
 

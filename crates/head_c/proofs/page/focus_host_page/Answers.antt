@@ -1,6 +1,5 @@
 -- The page of the readings, with its answer as a number and a length.
 use mathlib.Core.Path.{refl}
-use borrow.Author.Rules.{rules}
 use Rattle.head_c.specs.Pages.{readings_of}
 use Rattle.head_c.proofs.Pages.{paged, too_many}
 use Rattle.head_c.proofs.page.focus_host_page.Goals as goal

@@ -1,12 +1,8 @@
 -- Reading after reading: after k turns the first k are there.
-use mathlib.Core.Path.{refl, sym, ◌∙◌}
 use Prim.Native.Nat.{◌-◌, ◌≤◌}
-use native.Mathlib.Omega.{arith}
-use borrow.Author.Rules.{rules}
-use Rattle.reading.specs.declared.Reading.{Reading}
 use Rattle.head_c.specs.Blocks.{up_to}
-use Rattle.head_c.specs.Pages.{reading_at, readings_of}
-use Rattle.head_c.proofs.Copying.{up_to_long, up_to_at, Filled, filled_none, filled_more, filled_all}
+use Rattle.head_c.specs.Pages.{reading_at}
+use Rattle.head_c.proofs.Copying.{Filled}
 use Rattle.head_c.proofs.page.readings_in.Given as goal
 
 abbrev pub invariant-loop-k : goal.invariant-loop-k

@@ -1,13 +1,6 @@
 -- Before entry j, the counts below j have one more if the two words are the same, and the others are as they were.
-use mathlib.Core.Bool.{Bool}
-use mathlib.Core.List.{List}
-use Prim.Native.Nat.{ℕ, ◌-◌}
 use native.Mathlib.Omega.{arith}
-use borrow.Author.Rules.{rules}
-use lib.ListN.{get_or}
-use Rattle.terms.specs.Positions.{eq_z}
-use Rattle.fields.specs.Bytes.{signed_of}
-use Rattle.settle_position.proofs.Counting.{AddedTo, added_none, added_small, added_next, added_all}
+use Rattle.settle_position.proofs.Counting.{added_none, added_small, added_next, added_all}
 use Rattle.head_c.proofs.Rows.{same_word}
 use Rattle.head_c.proofs.settle.add_same.Goals as goal
 

@@ -2,13 +2,10 @@
 use mathlib.Core.Bool.{Bool}
 use mathlib.Core.List.{List}
 use Prim.Native.Nat.{ℕ, ◌-◌}
-use native.Mathlib.Omega.{arith}
-use borrow.Author.Rules.{rules}
 use lib.ListN.{get_or}
 use Rattle.terms.specs.Positions.{eq_z}
 use Rattle.fields.specs.Bytes.{signed_of}
-use Rattle.settle_position.proofs.Counting.{AddedTo, added_none, added_small, added_next, added_all}
-use Rattle.head_c.proofs.Rows.{same_word}
+use Rattle.settle_position.proofs.Counting.{AddedTo}
 use Rattle.head_c.proofs.settle.add_same.Given as goal
 
 abbrev pub same_at : List ℕ → List ℕ → ℕ → Bool

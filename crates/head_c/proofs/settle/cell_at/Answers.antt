@@ -3,7 +3,6 @@ use mathlib.Core.Path.{ap, sym, ◌∙◌}
 use Prim.Native.Nat.{◌+◌, ◌*◌, ◌<◌}
 use native.Mathlib.Omega.{arith}
 use lib.ListN.{get_or}
-use borrow.Author.Rules.{rules}
 use Rattle.terms.specs.declared.Entry.{Entry}
 use Rattle.settle_trust.proofs.Cells.{holds_null, holds_same, entry_marked, entry_unmarked}
 use Rattle.head_c.proofs.Rows.{row_number, word_cell}

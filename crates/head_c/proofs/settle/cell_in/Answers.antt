@@ -1,6 +1,5 @@
 -- Link j confessed; or the list of the reference decides; or the column is searched.
 use mathlib.Core.Path.{sym, ◌∙◌}
-use borrow.Author.Rules.{rules}
 use Rattle.settle_trust.proofs.Cells.{holds_null, holds_same}
 use Rattle.head_c.proofs.settle.cell_in.Goals as goal
 

@@ -1,11 +1,8 @@
 -- After k turns the first k cells hold what the first k lists say of head j.
 use mathlib.Core.Path.{◌≡◌}
 use Prim.Native.Nat.{◌-◌, ◌≤◌}
-use native.Mathlib.Omega.{arith}
-use borrow.Author.Rules.{rules}
-use lib.ListN.{length, length-set}
-use Rattle.settle_trust.specs.Cells.{CellOf, HoldsEach, column_of}
-use Rattle.settle_trust.proofs.Cells.{each_stored}
+use lib.ListN.{length}
+use Rattle.settle_trust.specs.Cells.{HoldsEach, column_of}
 use Rattle.head_c.specs.Steps.{rows_in}
 use Rattle.head_c.proofs.settle.column_in.Given as goal
 

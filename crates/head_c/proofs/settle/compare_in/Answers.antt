@@ -1,7 +1,7 @@
 -- After k turns the lists compared are the first k.
 use mathlib.Core.Path.{◌≡◌, refl, ap, ◌∙◌}
 use mathlib.Core.Bool.{Bool}
-use Prim.Native.Nat.{◌+◌, ◌-◌, ◌≤◌}
+use Prim.Native.Nat.{◌+◌}
 use native.Mathlib.Omega.{arith}
 use borrow.Author.Rules.{rules}
 use lib.Dec.{eqb}
@@ -9,9 +9,7 @@ use lib.ListN.{length, get_or}
 use Rattle.terms.specs.Counting.{bit}
 use Rattle.terms.proofs.Sums.{bit_le}
 use Rattle.marks.proofs.Counts.{byte_bit}
-use Rattle.settle_position.specs.Reference.{Compares}
 use Rattle.settle_position.proofs.Reference.{compares_none, compares_few, compares_alike, compares_other}
-use Rattle.head_c.specs.Steps.{rows_in}
 use Rattle.head_c.proofs.Rows.{row_long, same_number_lem}
 use Rattle.head_c.proofs.settle.compare_in.Goals as goal
 use Rattle.head_c.proofs.settle.compare_in.Goals.{then-marks-k, else-marks-k}
@@ -45,14 +43,14 @@ loop-k-preserved c =
     let l = c.loop-k in
     let a = c.args in
     elim c.if-marks-k.branch [
-    | then-marks-k x ↦ (
+      | then-marks-k x ↦ (
         omega arith,
         rw x.same-is x.add_same.ensures.0,
         rw x.same-is (compares_alike l.invariant.2 c.is_apart.ensures x.if-marks-k.true (λ j i. x.add_same.ensures.1 j i
-        ∙ ap (λ (b : Bool). get_or l.same j 0 + bit b)
-        (same_number_lem a.h.now l.k a.reference j (omega arith) c.requires.2 i x.row_in.ensures c.row_in-row.ensures))),
+            ∙ ap (λ (b : Bool). get_or l.same j 0 + bit b)
+            (same_number_lem a.h.now l.k a.reference j (omega arith) c.requires.2 i x.row_in.ensures c.row_in-row.ensures))),
       )
-    | else-marks-k x ↦ (omega arith, rw x.same-is l.invariant.1, rw x.same-is (compares_other l.invariant.2 c.is_apart.ensures x.if-marks-k.false))
+      | else-marks-k x ↦ (omega arith, rw x.same-is l.invariant.1, rw x.same-is (compares_other l.invariant.2 c.is_apart.ensures x.if-marks-k.false))
     ]
 
 pub returns : goal.returns

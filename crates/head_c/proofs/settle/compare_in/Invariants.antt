@@ -1,19 +1,9 @@
 -- After k turns the lists compared are the first k.
-use mathlib.Core.Path.{◌≡◌, refl, ap, ◌∙◌}
-use mathlib.Core.Logic.{⊎_elim}
-use mathlib.Core.Bool.{Bool}
-use Prim.Native.Nat.{◌+◌, ◌-◌, ◌≤◌}
-use native.Mathlib.Omega.{arith}
-use borrow.Author.Rules.{rules}
-use lib.Dec.{eqb}
-use lib.ListN.{length, get_or}
-use Rattle.terms.specs.Counting.{bit}
-use Rattle.terms.proofs.Sums.{bit_le}
-use Rattle.marks.proofs.Counts.{byte_bit}
+use mathlib.Core.Path.{◌≡◌}
+use Prim.Native.Nat.{◌-◌, ◌≤◌}
+use lib.ListN.{length}
 use Rattle.settle_position.specs.Reference.{Compares}
-use Rattle.settle_position.proofs.Reference.{compares_none, compares_few, compares_alike, compares_other}
 use Rattle.head_c.specs.Steps.{rows_in}
-use Rattle.head_c.proofs.Rows.{row_long, same_number_lem}
 use Rattle.head_c.proofs.settle.compare_in.Given as goal
 
 abbrev pub invariant-loop-k : goal.invariant-loop-k

@@ -1,6 +1,5 @@
 -- The column is laid out, and decides.
 use native.Mathlib.Nat.{min-eq_left}
-use borrow.Author.Rules.{rules}
 use Rattle.settle_trust.specs.Cells.{column_of}
 use Rattle.settle_trust.proofs.Search.{agreed_decided}
 use Rattle.head_c.specs.Steps.{rows_in}

@@ -1,11 +1,6 @@
 -- Before entry j the order holds the positions among the trusted entries below j. After the last entry these are all that settling asks of the entries.
-use mathlib.Core.Path.{◌≡◌, refl, sym, ◌∙◌}
-use mathlib.Core.List.{[]}
-use Prim.Native.Nat.{ℕ, ◌-◌, ◌≤◌}
+use mathlib.Core.Path.{refl, sym, ◌∙◌}
 use native.Mathlib.Omega.{arith}
-use lib.ListN.{length, get_or}
-use borrow.Author.Rules.{rules}
-use Rattle.terms.specs.declared.Entry.{Entry}
 use Rattle.convergence.specs.Trust.{trusted}
 use Rattle.settle_trust.specs.Received.{given_by}
 use Rattle.settle_trust.proofs.Received.{words}
@@ -13,7 +8,6 @@ use Rattle.settle_trust.proofs.Trusted.{decided_marked, trusted_past}
 use Rattle.settle_midpoint.specs.Orders.{OrderAfter}
 use Rattle.settle_midpoint.proofs.Ordering.{order_long, order_none, order_next, order_all}
 use Rattle.settle_midpoint.proofs.Middle.{settling_after}
-use Rattle.settle_position.specs.Deciding.{Prepared}
 use Rattle.settle_position.proofs.Reference.{prepared}
 use Rattle.head_c.specs.Steps.{rows_in}
 use Rattle.head_c.proofs.settle.settle_lists.Goals as goal
@@ -49,9 +43,9 @@ slice_bounds-middle_in-end c =
     let E = trusted a.n a.f (given_by a.links L) in
     let past = trusted_past a.links L g a.n a.f in
     let held : OrderAfter c.loop-j.j E c.loop-j.len c.loop-j.positions =
-        c.loop-j.invariant.2 E
-        (prepared E L _ _ c.compare_in-compared.result _ c.compare_in-compared.ensures refl refl refl
-        (λ j. decided_marked a.links L g a.n a.f j few c.lists_needed.ensures c.all_marks-marks.ensures) past (omega (arith, few))) in
+    c.loop-j.invariant.2 E
+    (prepared E L _ _ c.compare_in-compared.result _ c.compare_in-compared.ensures refl refl refl
+    (λ j. decided_marked a.links L g a.n a.f j few c.lists_needed.ensures c.all_marks-marks.ensures) past (omega (arith, few))) in
     sym (order_long E (omega (arith, few)) held)
 
 pub returns : goal.returns
@@ -63,7 +57,7 @@ returns c =
     let E = trusted a.n a.f (given_by a.links L) in
     let past = trusted_past a.links L g a.n a.f in
     let held : OrderAfter c.loop-j.j E c.loop-j.len c.loop-j.positions =
-        c.loop-j.invariant.2 E
-        (prepared E L _ _ c.compare_in-compared.result _ c.compare_in-compared.ensures refl refl refl
-        (λ j. decided_marked a.links L g a.n a.f j few c.lists_needed.ensures c.all_marks-marks.ensures) past (omega (arith, few))) in
+    c.loop-j.invariant.2 E
+    (prepared E L _ _ c.compare_in-compared.result _ c.compare_in-compared.ensures refl refl refl
+    (λ j. decided_marked a.links L g a.n a.f j few c.lists_needed.ensures c.all_marks-marks.ensures) past (omega (arith, few))) in
     c.middle_in.ensures ∙ settling_after _ _ _ _ (order_all E past a.n (omega (arith, few)) held)

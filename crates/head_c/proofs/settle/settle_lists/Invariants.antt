@@ -1,20 +1,11 @@
 -- Before entry j the order holds the positions among the trusted entries below j. After the last entry these are all that settling asks of the entries.
-use mathlib.Core.Path.{◌≡◌, refl, sym, ◌∙◌}
+use mathlib.Core.Path.{◌≡◌}
 use mathlib.Core.List.{[]}
 use Prim.Native.Nat.{ℕ, ◌-◌, ◌≤◌}
-use native.Mathlib.Omega.{arith}
 use lib.ListN.{length, get_or}
-use borrow.Author.Rules.{rules}
 use Rattle.terms.specs.declared.Entry.{Entry}
-use Rattle.convergence.specs.Trust.{trusted}
-use Rattle.settle_trust.specs.Received.{given_by}
-use Rattle.settle_trust.proofs.Received.{words}
-use Rattle.settle_trust.proofs.Trusted.{decided_marked, trusted_past}
 use Rattle.settle_midpoint.specs.Orders.{OrderAfter}
-use Rattle.settle_midpoint.proofs.Ordering.{order_long, order_none, order_next, order_all}
-use Rattle.settle_midpoint.proofs.Middle.{settling_after}
 use Rattle.settle_position.specs.Deciding.{Prepared}
-use Rattle.settle_position.proofs.Reference.{prepared}
 use Rattle.head_c.specs.Steps.{rows_in}
 use Rattle.head_c.proofs.settle.settle_lists.Given as goal
 

@@ -11,7 +11,6 @@ use Rattle.head_window.specs.Window.{restarted_registers}
 use Rattle.head_c.specs.Blocks.{head_of, registers_of}
 use Rattle.head_c.specs.Events.{block_after}
 use Rattle.head_c.proofs.After.{restart_seat, fresh_left}
-use borrow.Author.Rules.{rules}
 use Rattle.head_c.proofs.start.restart_listener_in.Goals as goal
 
 pub returns : goal.returns

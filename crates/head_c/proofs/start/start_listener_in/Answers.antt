@@ -9,7 +9,6 @@ use Rattle.head_window.specs.Window.{started_registers}
 use Rattle.head_c.specs.Blocks.{head_of, registers_of}
 use Rattle.head_c.specs.Events.{block_after}
 use Rattle.head_c.proofs.After.{first_seat_lem, fresh_left}
-use borrow.Author.Rules.{rules}
 use Rattle.head_c.proofs.start.start_listener_in.Goals as goal
 
 pub returns : goal.returns

@@ -1,16 +1,14 @@
 -- Frame after frame: the record that the block is hears and answers them, and the block takes what hearing them changes.
 use mathlib.Core.Path.{◌≡◌, refl, ap, sym, ◌∙◌}
 use mathlib.Core.List.{List, [], ◌∷◌}
-use Prim.Native.Nat.{ℕ, ◌+◌, ◌-◌, ◌≤◌, ◌<◌}
+use Prim.Native.Nat.{ℕ, ◌+◌, ◌-◌}
 use native.Mathlib.Omega.{arith}
-use lib.ListN.{length, get_or, take, drop, drop_of_length-le}
-use borrow.Author.Rules.{rules}
+use lib.ListN.{get_or, take, drop, drop_of_length-le}
 use Rattle.terms.specs.Refusals.{leaves}
 use Rattle.head_spec.specs.Calls.{said_to, hear, Delivery}
 use Rattle.head_spec.specs.Batch.{deliveries_of, cut_into}
-use Rattle.head_spec.proofs.BatchLoop.{Hearing, begins, ends, cut, fits, goes_on}
-use Rattle.head_c.specs.Blocks.{IsBlock, head_of, heard_in, Hears, heard_each}
-use Rattle.head_c.proofs.take.hear_entries.Invariants.{Changing}
+use Rattle.head_spec.proofs.BatchLoop.{begins, ends, cut, fits, goes_on}
+use Rattle.head_c.specs.Blocks.{head_of, heard_in, Hears, heard_each}
 use Rattle.head_c.proofs.take.hear_entries.Goals as goal
 
 -- one frame more

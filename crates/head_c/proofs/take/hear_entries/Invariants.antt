@@ -1,15 +1,11 @@
 -- Frame after frame: the record that the block is hears and answers them, and the block takes what hearing them changes.
-use mathlib.Core.Path.{◌≡◌, refl, ap, sym, ◌∙◌}
-use mathlib.Core.List.{List, [], ◌∷◌}
-use Prim.Native.Nat.{ℕ, ◌+◌, ◌-◌, ◌≤◌, ◌<◌}
-use native.Mathlib.Omega.{arith}
-use lib.ListN.{length, get_or, take, drop, drop_of_length-le}
-use borrow.Author.Rules.{rules}
-use Rattle.terms.specs.Refusals.{leaves}
-use Rattle.head_spec.specs.Calls.{said_to, hear, Delivery}
-use Rattle.head_spec.specs.Batch.{deliveries_of, cut_into}
-use Rattle.head_spec.proofs.BatchLoop.{Hearing, begins, ends, cut, fits, goes_on}
-use Rattle.head_c.specs.Blocks.{IsBlock, head_of, heard_in, Hears, heard_each}
+use mathlib.Core.Path.{◌≡◌}
+use mathlib.Core.List.{List}
+use Prim.Native.Nat.{ℕ, ◌-◌}
+use lib.ListN.{length, drop}
+use Rattle.head_spec.specs.Batch.{deliveries_of}
+use Rattle.head_spec.proofs.BatchLoop.{Hearing}
+use Rattle.head_c.specs.Blocks.{IsBlock, head_of, heard_each}
 use Rattle.head_c.proofs.take.hear_entries.Given as goal
 
 -- the block so far, and what remains to be heard in it

@@ -1,7 +1,6 @@
 -- The word with its bit set is stored where it was.
 use mathlib.Core.Path.{ap}
 use lib.ListN.{set}
-use borrow.Author.Rules.{rules}
 use Rattle.head_c.proofs.take.put_mark.Goals as goal
 
 pub returns : goal.returns

@@ -2,7 +2,6 @@
 use mathlib.Core.Path.{ap, sym, ◌∙◌}
 use Rattle.head_c.specs.Blocks.{marked}
 use Rattle.head_c.proofs.Hearing.{heard_below, heard_past}
-use borrow.Author.Rules.{rules}
 use Rattle.head_c.proofs.take.take_confession.Goals as goal
 
 pub returns-then-k-ge-HEADS : goal.returns-then-k-ge-HEADS

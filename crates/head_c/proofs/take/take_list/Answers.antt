@@ -7,7 +7,6 @@ use lib.ListN.{set, length-set}
 use lib.Seq.{paste}
 use Rattle.head_c.specs.Blocks.{words_of, marked}
 use Rattle.head_c.proofs.Hearing.{heard_below, heard_past}
-use borrow.Author.Rules.{rules}
 use Rattle.head_c.proofs.take.take_list.Goals as goal
 
 pub returns-then-k-ge-HEADS : goal.returns-then-k-ge-HEADS

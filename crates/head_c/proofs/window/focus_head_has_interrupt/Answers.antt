@@ -3,7 +3,6 @@ use mathlib.Core.Path.{ap, ◌∙◌}
 use Rattle.terms.specs.Counting.{bit}
 use Rattle.marks.proofs.Counts.{byte_bit}
 use Rattle.head_window.specs.Window.{is_line_up}
-use borrow.Author.Rules.{rules}
 use Rattle.head_c.proofs.window.focus_head_has_interrupt.Goals as goal
 
 pub returns : goal.returns

@@ -9,7 +9,6 @@ use lib.ListN.{get_or}
 use borrow.Author.Tests.{le-ltb}
 use Rattle.terms.proofs.Refusals.{unchanged, changed}
 use Rattle.head_window.specs.Window.{read_refusal}
-use borrow.Author.Rules.{rules}
 use Rattle.head_c.proofs.window.focus_head_register.Goals as goal
 
 -- an address that is not refused is one of the sixteen

@@ -4,7 +4,6 @@ use Rattle.head_window.specs.declared.Registers.{Registers}
 use Rattle.head_window.specs.Window.{set_registers}
 use Rattle.head_c.specs.Blocks.{with_registers}
 use Rattle.head_c.specs.Events.{block_after}
-use borrow.Author.Rules.{rules}
 use Rattle.head_c.proofs.window.focus_head_set_register.Goals as goal
 
 pub returns : goal.returns

@@ -2,7 +2,6 @@
 use mathlib.Core.Path.{ap, ◌∙◌}
 use mathlib.Core.List.{List}
 use Prim.Native.Nat.{ℕ}
-use borrow.Author.Rules.{rules}
 use Rattle.head_c.specs.Events.{sets, block_after}
 use Rattle.head_c.proofs.window.focus_head_window_reset.Goals as goal
 

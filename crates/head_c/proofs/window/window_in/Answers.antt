@@ -1,6 +1,5 @@
 -- The window of the seat and of what stands beside it.
 use Rattle.head_c.specs.Blocks.{head_of}
-use borrow.Author.Rules.{rules}
 use Rattle.head_c.proofs.window.window_in.Goals as goal
 
 pub returns : goal.returns

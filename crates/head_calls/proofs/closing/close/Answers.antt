@@ -1,7 +1,5 @@
 -- Refusal 26 comes first; then the round decides.
 use mathlib.Core.Path.{sym, ◌∙◌}
-use borrow.Author.Rules.{rules}
-use borrow.Author.Tests.{not-true, not-false}
 use Rattle.head_spec.proofs.Stops.{ended_closes}
 use Rattle.head_spec.proofs.RoundClose.{closes_collection, closes_last}
 use Rattle.head_calls.proofs.closing.close.Goals as goal

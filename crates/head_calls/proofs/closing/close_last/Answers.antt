@@ -1,5 +1,4 @@
 -- What is settled is offered.
-use borrow.Author.Rules.{rules}
 use Rattle.head_calls.proofs.closing.close_last.Goals as goal
 
 pub returns-in-Refused : goal.returns-in-Refused

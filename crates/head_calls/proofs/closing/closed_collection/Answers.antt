@@ -1,5 +1,4 @@
 -- The record is opened with the seat and the list that the definition gives.
-use borrow.Author.Rules.{rules}
 use Rattle.head_spec.specs.Calls.{closed_collection}
 use Rattle.head_calls.proofs.closing.closed_collection.Goals as goal
 

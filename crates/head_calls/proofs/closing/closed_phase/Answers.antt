@@ -1,5 +1,4 @@
 -- The record is opened with the seat that the definition gives, and no entries.
-use borrow.Author.Rules.{rules}
 use Rattle.head_spec.specs.Calls.{closed_phase}
 use Rattle.head_calls.proofs.closing.closed_phase.Goals as goal
 

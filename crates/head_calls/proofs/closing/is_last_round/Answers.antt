@@ -6,7 +6,6 @@ use native.Mathlib.Omega.{arith}
 use lib.Dec.{eqb}
 use borrow.Author.Tests.{ne_eqb}
 use Rattle.terms.specs.declared.Family.TheVariants.{TwoRounds}
-use borrow.Author.Rules.{rules}
 use Rattle.terms.specs.Sizes.{ends_with}
 use Rattle.head_calls.proofs.closing.is_last_round.Goals as goal
 

@@ -1,16 +1,9 @@
 -- Row after row: after k turns the first k rows are the entries of the first k lists.
-use mathlib.Core.Path.{◌≡◌, refl, sym, ◌∙◌}
-use mathlib.Core.List.{List, []}
-use mathlib.Core.Logic.{by_cases}
-use Prim.Native.Nat.{ℕ, ◌+◌, ◌-◌, ◌≤◌, ◌<◌}
-use native.Mathlib.Omega.{arith}
-use native.Mathlib.Decide.{ℕ_discrete}
-use lib.ListN.{length, get_or, set, length-set, length-map, get_or-map}
-use lib.Seq.{get_or-set_same, get_or-set_other, ext_get_or}
-use lib.IntN.{ℤ}
-use Rattle.head_spec.specs.declared.Row.{Row}
+use mathlib.Core.Path.{◌≡◌}
+use mathlib.Core.List.{[]}
+use Prim.Native.Nat.{ℕ, ◌-◌, ◌≤◌, ◌<◌}
+use lib.ListN.{length, get_or}
 use Rattle.head_spec.specs.Record.{rows}
-use borrow.Author.Rules.{rules}
 use Rattle.head_calls.proofs.closing.laid_out.Given as goal
 
 abbrev pub invariant-loop-k : goal.invariant-loop-k

@@ -1,6 +1,5 @@
 -- Refusal 27 comes first, then 26; else the phase ends with what was offered.
 use mathlib.Core.Path.{ap, sym, ◌∙◌}
-use borrow.Author.Rules.{rules}
 use Rattle.head_spec.specs.Calls.{adopt}
 use Rattle.head_spec.proofs.Stops.{takes, adopts_nothing, adopts_offer, ended_adopts}
 use Rattle.head_calls.proofs.offers.adopt.Goals as goal

@@ -1,5 +1,4 @@
 -- Arm by arm.
-use borrow.Author.Rules.{rules}
 use Rattle.head_calls.proofs.offers.offered.Goals as goal
 
 pub returns-in-Settled : goal.returns-in-Settled

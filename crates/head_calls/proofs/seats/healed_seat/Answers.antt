@@ -1,5 +1,4 @@
 -- A first seat, in another phase and round, and healed.
-use borrow.Author.Rules.{rules}
 use Rattle.head_calls.proofs.seats.healed_seat.Goals as goal
 
 pub returns : goal.returns

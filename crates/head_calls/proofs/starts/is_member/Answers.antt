@@ -1,5 +1,4 @@
 -- The test is the definition's, by whether it is a listener.
-use borrow.Author.Rules.{rules}
 use Rattle.head_calls.proofs.starts.is_member.Goals as goal
 
 pub returns-then-listens : goal.returns-then-listens

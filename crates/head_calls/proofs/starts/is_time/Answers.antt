@@ -1,7 +1,5 @@
 -- Each test that fails is one of the two that have to hold.
 use mathlib.Core.Path.{sym, ◌∙◌}
-use borrow.Author.Rules.{rules}
-use borrow.Author.Tests.{not-true, not-false}
 use Rattle.head_calls.proofs.starts.is_time.Goals as goal
 
 pub returns-then-not-is_phase : goal.returns-then-not-is_phase

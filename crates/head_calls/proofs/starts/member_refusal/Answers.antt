@@ -1,7 +1,6 @@
 -- A refusal of the size stands whatever is checked after it; if the size is taken, the checks that follow decide.
 use mathlib.Core.Path.{sym, ◌∙◌}
 use Rattle.terms.proofs.Sizes.{size_refused, size_taken}
-use borrow.Author.Rules.{rules}
 use Rattle.terms.specs.Refusals as refusal
 use Rattle.terms.specs.Refusals.{check}
 use Rattle.head_calls.specs.Steps.{is_member}

@@ -1,7 +1,6 @@
 -- A restart of a head.
 use Rattle.head_spec.specs.Calls.{restart_refusal, restart}
 use Rattle.head_calls.specs.Steps.{restart_as}
-use borrow.Author.Rules.{rules}
 use Rattle.head_calls.proofs.starts.restart.Goals as goal
 
 pub returns : goal.returns

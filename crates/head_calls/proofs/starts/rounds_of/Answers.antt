@@ -1,5 +1,4 @@
 -- Arm by arm.
-use borrow.Author.Rules.{rules}
 use Rattle.head_calls.proofs.starts.rounds_of.Goals as goal
 
 pub returns-in-TwoRounds : goal.returns-in-TwoRounds

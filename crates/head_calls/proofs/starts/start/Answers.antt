@@ -1,7 +1,6 @@
 -- A start that holds the position, which is checked last, under a head's number.
 use mathlib.Core.Path.{ap, ◌∙◌}
 use mir.Facts.{to_z-of_z}
-use borrow.Author.Rules.{rules}
 use Rattle.terms.specs.Positions.{is_position}
 use Rattle.head_spec.specs.Calls.{start_refusal, started, start}
 use Rattle.head_calls.specs.Steps.{start_as}

@@ -1,11 +1,9 @@
 -- The checks are the definition's, each before the next. Where they pass, n, f and the number are bytes, and the record is opened with them.
-use mathlib.Core.Path.{◌≡◌, sym, ◌∙◌}
+use mathlib.Core.Path.{sym, ◌∙◌}
 use native.Mathlib.Omega.{arith}
-use borrow.Author.Rules.{rules}
 use Rattle.convergence.proofs.Demand3.{size_large}
-use Rattle.head_spec.proofs.Proper.{Sized}
 use Rattle.head_spec.proofs.Stops.{answer_taken}
-use Rattle.head_calls.specs.Steps.{check_member, start_as}
+use Rattle.head_calls.specs.Steps.{start_as}
 use Rattle.head_calls.proofs.Answers.{refuses, member_sized, member_small}
 use Rattle.head_calls.proofs.starts.start_as.Goals as goal
 

@@ -1,5 +1,4 @@
 -- `run_program::calls::ask_of` meets its contract: it asks what the definition asks.
-use borrow.Author.Rules.{rules}
 use borrow.Author.Tests.{lt-ltb, le-ltb}
 use Rattle.run_program.proofs.calls.ask_of.Goals as goal
 

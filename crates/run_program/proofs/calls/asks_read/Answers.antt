@@ -1,5 +1,4 @@
 -- `run_program::calls::asks_read` meets its contract: it looks at what is asked for.
-use borrow.Author.Rules.{rules}
 use Rattle.run_program.proofs.calls.asks_read.Goals as goal
 
 pub returns-in-Read : goal.returns-in-Read

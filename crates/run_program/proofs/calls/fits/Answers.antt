@@ -1,6 +1,5 @@
 -- `run_program::calls::fits` meets its contract: it asks what the definition asks, in its order.
 use borrow.Author.Tests.{le-leb, lt-leb}
-use borrow.Author.Rules.{rules}
 use Rattle.run_program.proofs.calls.fits.Goals as goal
 
 pub returns-in-Nothing : goal.returns-in-Nothing

@@ -1,5 +1,4 @@
 -- `run_program::calls::is_title` meets its contract, stage by stage.
-use borrow.Author.Rules.{rules}
 use Rattle.run_program.proofs.calls.is_title.Goals as goal
 
 pub returns-in-Title : goal.returns-in-Title

@@ -1,5 +1,4 @@
 -- `run_program::calls::left_of` meets its contract: it looks at what is asked for.
-use borrow.Author.Rules.{rules}
 use Rattle.run_program.proofs.calls.left_of.Goals as goal
 
 pub returns-in-Read : goal.returns-in-Read

@@ -3,7 +3,6 @@ use mathlib.Core.Path.{refl, ap, sym, ◌∙◌}
 use mathlib.Core.Bool.{true≢false}
 use native.Mathlib.Omega.{arith}
 use lib.ListN.{length}
-use borrow.Author.Rules.{rules}
 use Rattle.run_program.specs.declared.Program.{Program}
 use Rattle.run_program.proofs.Running.{opens, opening, within_page, page_written, write_fits}
 use Rattle.run_program.proofs.pages.go_on.Goals as goal

@@ -1,7 +1,6 @@
 -- `run_program::pages::go_on_read` meets its contract: the bytes that came are played after those before, and at the end the last page is filled.
 use mathlib.Core.Path.{refl, ap, sym, ◌∙◌}
 use lib.ListN.{length}
-use borrow.Author.Rules.{rules}
 use Rattle.run_program.specs.declared.Program.{Program}
 use Rattle.run_program.specs.Inner.{within_input}
 use Rattle.run_program.proofs.Running.{playing, bytes_came, bytes_stage, input_ended, read_fits}

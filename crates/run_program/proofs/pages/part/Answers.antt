@@ -2,7 +2,6 @@
 use mathlib.Core.Path.{refl, sym}
 use native.Mathlib.Omega.{arith}
 use lib.Seq.{take_all, length-take-le}
-use borrow.Author.Rules.{rules}
 use Rattle.run_program.proofs.pages.part.Goals as goal
 
 pub returns-then-rest-len : goal.returns-then-rest-len

@@ -1,10 +1,8 @@
 -- `run_program::pages::play_on` meets its contract: the next page is filled, if all of this one is written and some of the piece is not yet played.
-use mathlib.Core.Path.{◌≡◌, refl, sym, ◌∙◌}
+use mathlib.Core.Path.{refl, sym, ◌∙◌}
 use mathlib.Core.Bool.{true}
 use native.Mathlib.Omega.{arith}
-use borrow.Author.Rules.{rules}
-use borrow.Author.Tests.{not-true, not-false}
-use Rattle.run_program.specs.Calls.{ask_of, asks_read}
+use Rattle.run_program.specs.Calls.{asks_read}
 use Rattle.run_program.proofs.Running.{within_part, reading, page_kept, none_left, page_filled}
 use Rattle.run_program.proofs.pages.play_on.Goals as goal
 
