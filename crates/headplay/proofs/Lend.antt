@@ -7,8 +7,8 @@ use mathlib.Core.Path.{◌≡◌, refl, sym, ap, subst}
 use Prim.Native.Nat.{ℕ, zero, suc}
 use mathlib.Core.List.{List, [], ◌∷◌}
 use seplogic.Ra.Ura.{Ura}
-use seplogic.Ra.TreeShare.{full_share}
-use mir.Syntax.{Name, Ty, ty_ref, named, erased, mut, place, copy, rv_opd, addr_of, aggregate, seq, assign, call, return, local, value_local, memory_slot, Fn}
+use base.Fraction.{full_share}
+use mir.Syntax.{Callee, Ty, ty_ref, named, erased, mut, place, copy, rv_opd, addr_of, aggregate, seq, assign, call, return, local, value_local, memory_slot, Fn}
 use mir.Val.{Val, vptr, vstruct, of_list}
 use base.Logic.{SProp, ent, sep, ex, emp}
 use base.Fml.{GName, fsep, fat, flft, flent, fres}
@@ -73,10 +73,12 @@ module _ (L : Lent) where
 
   -- the function's MIR, from its own head f, the function g that it calls and the types of its parameters. After those come the record, the answer, the reference
   -- and a copy of the record
-  abbrev pub lender : Fn → Name → List Ty → Fn
+  abbrev pub lender : Fn → Callee → List Ty → Fn
   lender f g τs = record {
     lifetimes = f.lifetimes;
     outlives = f.outlives;
+    ty_params = f.ty_params;
+    givens = f.givens;
     params = f.params;
     locals = local τS value_local ∷ local τR value_local ∷ locals_of τs
         (local τR memory_slot ∷ local L.τ value_local ∷ local (ty_ref erased mut (pointee R.written)) value_local ∷ local τR value_local ∷ []);
@@ -110,7 +112,7 @@ abbrev pub lent : {D : Type 0} → D → ℕ → GName → MutBor D
 lent h b γ = record { ref_ptr = (b, 0); ghost_name = γ; now = h }
 
 module _ {M : Type 1} {𝓤 : Ura M} (𝓛 : Logic 𝓤) (L : Lent) (C : Calls 𝓤 𝓛.H) (Λ : Loops 𝓤 𝓛.H)
-    (fm : FmC 𝓤 𝓛.H 𝓛.laws C) (f : Fn) (g : Name) (c : Contract 𝓤) (known : Triple 𝓤 (C g) c)
+    (fm : FmC 𝓤 𝓛.H 𝓛.laws C) (f : Fn) (g : Callee) (c : Contract 𝓤) (known : Triple 𝓤 (C g) c)
     (τs : List Ty) (Rs : List RattleType) (a : Denots Rs) (vss : Valss Rs) (ty : Typed τs (flat Rs vss)) (copied : Copies 𝓛 Rs)
     (h : L.T.D) (was : Is (R L) h (held L h ∷ [])) (toks : SProp 𝓤)
     (x : ℕ → ℕ → GName → c.Ghost) (passed : (ν b : ℕ) (γ : GName) → c.args (x ν b γ) ≡ vptr b 0 ∷ flat Rs vss)

@@ -3,8 +3,8 @@ use mathlib.Core.Path.{◌≡◌, subst}
 use Prim.Native.Nat.{ℕ}
 use mathlib.Core.List.{List, [], ◌∷◌}
 use seplogic.Ra.Ura.{Ura}
-use seplogic.Ra.TreeShare.{full_share}
-use mir.Syntax.{Name, Ty, Fn, named}
+use base.Fraction.{full_share}
+use mir.Syntax.{Callee, Ty, Fn, named}
 use mir.Val.{Val, vptr}
 use base.Logic.{SProp, ent, sep, ex, emp, via, fst∗, id⊢}
 use base.Fml.{GName, Fml, ftrue, fsep, flft, fres}
@@ -67,7 +67,7 @@ module _ (L : Lent) (n : ℕ) (ss : List (Slot n)) where
 -- d says the function's contract and c that of the call. x is what the call's triple binds: how it is passed, what it asks, what it answers and says of its answer and
 -- of the record that it leaves, and that what it says shows what the function ensures
 module _ {M : Type 1} {𝓤 : Ura M} (𝓛 : Logic 𝓤) (L : Lent) (n : ℕ) (ss : List (Slot n))
-    (cs : Kinds ss) (d : Clauses 𝓤 (lending L n ss)) (f : Fn) (g : Name) (c : Contract 𝓤) where
+    (cs : Kinds ss) (d : Clauses 𝓤 (lending L n ss)) (f : Fn) (g : Callee) (c : Contract 𝓤) where
   open 𝓛 use {H}
 
   abbrev Its : Lfts n → Type 0
@@ -140,7 +140,7 @@ module _ {M : Type 1} {𝓤 : Ura M} (𝓛 : Logic 𝓤) (L : Lent) (n : ℕ) (s
           (Z κs a) (last κs a) (Left κs a) (back κs a) (Told κs a) (answers κs qs a) (Says κs a) (says κs a) _ (ends κs qs a ghost))))
 
       -- the same of the function's routine
-      pub lends : (env : Names) (#f : Name) (𝓜 : Model 𝓤 H) (𝓡 : Running 𝓤 H 𝓜)
+      pub lends : (env : Names) (#f : Callee) (𝓜 : Model 𝓤 H) (𝓡 : Running 𝓤 H 𝓜)
           → Closed 𝓤 H (tables 𝓤 H 𝓜 𝓡 env).C (tables 𝓤 H 𝓜 𝓡 env).Λ #f (lender L f g τs)
           → (r : Routine) → env g ≡ r → Triple 𝓤 (𝓡.run r) c
           → Meets 𝓛 (lending L n ss).signature ((tables 𝓤 H 𝓜 𝓡 env).C #f) (closing 𝓛 (lending L n ss) d)
