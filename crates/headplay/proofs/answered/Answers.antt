@@ -1,6 +1,5 @@
 -- The offer lapses if nothing was refused.
 use mathlib.Core.Path.{ap}
-use borrow.Author.Rules.{rules}
 use Rattle.head_spec.specs.declared.Offer.{Offer}
 use Rattle.headplay.proofs.answered.Goals as goal
 

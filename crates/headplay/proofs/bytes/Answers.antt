@@ -1,8 +1,5 @@
 -- Only what is there is read.
-use Prim.Native.Nat.{◌-◌, ◌≤◌}
 use native.Mathlib.Omega.{arith}
-use lib.ListN.{length}
-use borrow.Author.Rules.{rules}
 use Rattle.headplay.proofs.bytes.Goals as goal
 
 pub loop-i-init : goal.loop-i-init

@@ -2,7 +2,6 @@
 use mathlib.Core.Path.{◌≡◌, refl, ap, sym, ◌∙◌}
 use mathlib.Core.Logic.{◌≢◌}
 use Prim.Native.Nat.{ℕ, zero, suc}
-use borrow.Author.Rules.{rules}
 use Rattle.terms.specs.declared.Family.TheVariants.{OneRound}
 use Rattle.head_spec.specs.Seats.{family_in}
 use Rattle.headplay.proofs.family_at.Goals as goal

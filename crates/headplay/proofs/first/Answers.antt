@@ -1,5 +1,4 @@
 -- What a start of that head would make.
-use borrow.Author.Rules.{rules}
 use Rattle.head_spec.specs.Calls.{started}
 use Rattle.headplay.proofs.first.Goals as goal
 

@@ -1,5 +1,5 @@
 -- Each turn passes one byte of the table; the measure is what is left of it.
-use Rattle.std.proofs.Common.{◌-◌, length, rules}
+use Rattle.std.proofs.Common.{◌-◌, length}
 use Rattle.points.proofs.print.Given as goal
 
 abbrev pub invariant-loop-at : goal.invariant-loop-at

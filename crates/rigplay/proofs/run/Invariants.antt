@@ -1,7 +1,6 @@
 -- `rigplay::run` is safe and ends: the piece keeps its size, and the turns are counted down.
 use mathlib.Core.Path.{◌≡◌}
 use lib.ListN.{length}
-use borrow.Author.Rules.{rules}
 use Rattle.rigplay.proofs.run.Given as goal
 
 abbrev pub invariant-loop-turns : goal.invariant-loop-turns

@@ -1,5 +1,5 @@
 -- Each turn stores one of 32 lists; the array keeps its elements.
-use Rattle.std.proofs.Common.{◌≡◌, ◌-◌, length, rules}
+use Rattle.std.proofs.Common.{◌≡◌, ◌-◌, length}
 use Rattle.points.proofs.asks.lists.Given as goal
 
 abbrev pub invariant-loop-k : goal.invariant-loop-k
