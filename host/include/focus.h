@@ -57,14 +57,13 @@
  * Threads and interrupts: no function has memory of its own. Calls on different blocks may run at once. Calls on one block are made
  * one at a time, those that only read it too while another changes it: an interrupt that reads a window in the middle of a call
  * reads a mixture. So an interrupt handler makes no call on the block: after each call that changes it the program takes a copy of the
- * window, into the one of two buffers that is not shown, and then shows it; the handler reads the copy .
+ * window, into the one of two buffers that is not shown, and then shows it; the handler reads the copy.
  *
- * The functions call memcpy and memset, and on x86-64 nothing else; on processors that cannot divide or add floats themselves they
- * call the compiler's own functions for it, which `host/cross` names. Stack: focus_play takes less than FOCUS_STACK_PLAY bytes, each
- * other call less than FOCUS_STACK (measured on each target by host/c/stack.c and host/cross, not proved).
+ * The functions call memcpy and memset, and nothing else. Stack: focus_play takes less than FOCUS_STACK_PLAY bytes, each other call
+ * less than FOCUS_STACK (measured by host/c/stack.c, not proved).
  *
  * docs/TRUST.md says what must be believed of all this, and what whoever builds a ring of it owes. Link with the one library that
- * `host/install PREFIX` makes, or `host/cross TARGET PREFIX` for another processor:
+ * `host/install PREFIX` makes:
  *
  *     gcc -IPREFIX/include your.c PREFIX/lib/libfocus.a
  */
