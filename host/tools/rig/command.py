@@ -14,10 +14,14 @@ def read(name):
 
 
 def version():
-    """That of the interface, from its header."""
-    root = os.path.dirname(os.path.dirname(os.path.dirname(os.path.abspath(__file__))))
-    with open(os.path.join(root, 'include', 'focus.h'), encoding='utf-8') as header:
-        return re.search('FOCUS_VERSION_TEXT "(.*)"', header.read())[1]
+    """That of the interface, from its header: host/include, or the prefix's include where this is installed as lib/focus/rig."""
+    above = os.path.dirname(os.path.dirname(os.path.dirname(os.path.abspath(__file__))))
+    for root in (above, os.path.dirname(above)):
+        name = os.path.join(root, 'include', 'focus.h')
+        if os.path.exists(name):
+            with open(name, encoding='utf-8') as header:
+                return re.search('FOCUS_VERSION_TEXT "(.*)"', header.read())[1]
+    return 'of an unknown version'
 
 
 def parser(name, usage, words):
