@@ -1,27 +1,30 @@
 -- Cells: a position of 32 bits is read back from its cell, and so two cells are equal just if their entries are.
 use mathlib.Core.Path.{◌≡◌, refl, ap, sym, ◌∙◌}
-use mathlib.Core.Bool.{true, false}
+use mathlib.Core.Bool.{Bool, true, false}
 use mathlib.Core.List.{List}
 use mathlib.Core.Logic.{◌≢◌}
-use Prim.Native.Nat.{ℕ, zero, suc, ◌+◌, ◌-◌, ◌%◌, ◌<◌}
+use Prim.Native.Nat.{ℕ, zero, suc, ◌+◌, ◌<◌, ◌≤◌}
 use native.Mathlib.Omega.{arith}
+use native.Mathlib.Numerals.{add-one}
 use native.Mathlib.Nat.{mod-eq_of_lt}
 use lib.Dec.{eqb, eqb→eq, eqb_refl, eqb-zero-suc}
 use lib.IntN.{ℤ, pos}
-use lib.ListN.{length, get_or, set}
+use lib.ListN.{length, get_or, set, take}
 use lib.Seq.{get_or-set_same, get_or-set_other}
 use mir.Syntax.{w32}
 use mir.Val.{SFits, to_z, of_z}
 use mir.Facts.{to_z-of_z, Fits-of_z}
 use borrow.Author.Count.{below_more}
+use Rattle.std.specs.List.{count_by}
+use Rattle.std.proofs.lemmas.List.{get_or-take, length-take}
+use Rattle.std.proofs.lemmas.List.Sums.{count_by_more_yes, count_by_more_no}
 use Rattle.terms.specs.Positions.{eq_z}
 use Rattle.terms.specs.declared.Entry.{Entry}
 use Rattle.terms.specs.declared.Entry.TheVariants.{Null, Position}
 use Rattle.terms.proofs.Whole.{eqZ→eq, eq_z_refl}
-use Rattle.fields.specs.Bytes.{signed_of, word_of}
+use Rattle.fields.specs.Bytes.{word_of}
 use Rattle.marks.specs.Marks.{bit_of}
 use Rattle.entries.specs.Entries.{entry_at}
-use Rattle.entries.specs.Tables.{mark, value_of}
 use Rattle.fields.proofs.Bytes.{to_z_signed, of_z_word}
 use Rattle.terms.specs.Counting.{Each, sum, bit}
 use Rattle.convergence.specs.Trust.{is}
@@ -73,21 +76,22 @@ is_held : {x y : ℕ} {u : ℤ} {e : Entry} → CellOf x (Position u) → CellOf
 is_held {u = u} {e = Null} p q = rw (q.cell, p.cell) (ap bit (eqb-zero-suc (word_of u)))
 is_held {e = Position v} p q = ap bit (same_cells p q)
 
--- ---- the entry of a cell that is not 0
-
-pub cell_mark : (x : ℕ) → (x ≡ 0 → ⊥) → 1 ≡ mark (cell_entry x)
-cell_mark zero h = absurd (h refl)
-cell_mark (suc w) h = refl
-
-pub cell_number : (x : ℕ) → (x ≡ 0 → ⊥) → signed_of ((x - 1) % 4294967296) ≡ value_of (cell_entry x)
-cell_number zero h = absurd (h refl)
-cell_number (suc w) h = let e : suc w - 1 ≡ w = omega arith in rw e
-
-pub cell_position : (x : ℕ) → (x ≡ 0 → ⊥) → Position (value_of (cell_entry x)) ≡ cell_entry x
-cell_position zero h = absurd (h refl)
-cell_position (suc w) h = refl
-
 -- ---- a column
+
+-- a cell of the first n, read from these alone
+pub read_first : (n : ℕ) (cells : List ℕ) (k : ℕ) → k < length (take n cells) → get_or (take n cells) k 0 ≡ get_or cells k 0
+read_first n cells k l = get_or-take n cells k 0 (omega (arith, length-take n cells))
+
+-- the first n cells that pass a test, counted by a chain
+pub counted : (p : ℕ → Bool) (cells : List ℕ) (n : ℕ) → n ≤ length cells → count_by p (take n cells) ≡ sum n (λ k. bit (p (get_or cells k 0)))
+unfolding sum
+counted p cells zero h = refl
+counted p cells (suc n) h = go (p (get_or cells n 0)) refl (counted p cells n (omega arith))
+  where
+    go : (b : Bool) → p (get_or cells n 0) ≡ b → count_by p (take n cells) ≡ sum n (λ k. bit (p (get_or cells k 0)))
+        → count_by p (take (suc n) cells) ≡ sum n (λ k. bit (p (get_or cells k 0))) + bit (p (get_or cells n 0))
+    go true e i = rw (← add-one n) (omega (arith, count_by_more_yes p cells n 0 (omega arith) e, i, ap bit e))
+    go false e i = rw (← add-one n) (omega (arith, count_by_more_no p cells n 0 (omega arith) e, i, ap bit e))
 
 -- the cell x is as often among the first n as its position is among the entries that they hold
 pub equal_held : {x : ℕ} {u : ℤ} (n : ℕ) (cells : List ℕ) (E : ℕ → Entry) → CellOf x (Position u) → HoldsEach n cells E → equal_to n cells x ≡ sum n (λ k. is u (E k))

@@ -56,12 +56,10 @@ pub fn all_marks(links: Links, n: u8) -> Words
 {
     let count = terms::at_most_32(n as usize);
     let mut marks = [0u32; HEADS];
-    let mut k: usize = 0;
-    while k < count {
+    for k in 0..count {
         let confessed = marks::marked(links.confessed, k);
         let listed = marks::marked(links.listed, k);
         marks[k] = marks_given(confessed, listed, links.marks[k]);
-        k += 1;
     }
     marks
 }
@@ -113,10 +111,8 @@ fn column(lists: &Lists, marks: &Words, n: usize, j: usize, cells: &mut [u64; HE
     requires { (n ≤ 32) × (n ≤ length cells.old) }
     ensures { HoldsEach n cells.new (column_of marks.now lists.now j) }
 {
-    let mut k: usize = 0;
-    while k < n {
+    for k in 0..n {
         cells[k] = entry_cell(marks[k], &lists[k], j);
-        k += 1;
     }
 }
 
@@ -125,13 +121,7 @@ fn equal_to(cells: &[u64; HEADS], n: usize, x: u64) -> usize
     requires { n ≤ 32 }
     ensures { result ≡ equal_to n cells.now x }
 {
-    let mut c: usize = 0;
-    let mut k: usize = 0;
-    while k < n {
-        c += (cells[k] == x) as usize;
-        k += 1;
-    }
-    c
+    cells[..n].iter().filter(|cell| **cell == x).count()
 }
 
 // Whether the cell x is another than the one found, and is in `need` lists or more.
@@ -198,10 +188,8 @@ fn voted(cells: &[u64; HEADS], n: usize) -> Vote
         lead: 0,
         some: 0,
     };
-    let mut k: usize = 0;
-    while k < n {
-        v = after_cell(v, cells[k]);
-        k += 1;
+    for x in &cells[..n] {
+        v = after_cell(v, *x);
     }
     v
 }
@@ -213,16 +201,13 @@ fn searched(cells: &[u64; HEADS], n: usize, need: usize) -> u64
     ensures { AgreedCell n need cells.now result }
 {
     let mut found: u64 = 0;
-    let mut k: usize = 0;
-    while need <= n - k {
-        let x = cells[k];
-        if is_another(cells, n, need, found, x) {
+    for x in &cells[..(n + 1).saturating_sub(need)] {
+        if is_another(cells, n, need, found, *x) {
             if found != 0 {
                 return 0; // a second one
             }
-            found = x;
+            found = *x;
         }
-        k += 1;
     }
     found
 }
@@ -301,12 +286,10 @@ pub fn trusted_table(lists: Lists, links: Links, n: u8, f: u8) -> Table
     let given = all_marks(links, n);
     let mut marks: u32 = 0;
     let mut entries = [0i32; HEADS];
-    let mut j: usize = 0;
-    while j < count {
+    for j in 0..count {
         let x = trusted_cell(&lists, &given, links.confessed, count, need, j);
         marks += mark_of(x) << j;
         entries[j] = value_of(x);
-        j += 1;
     }
     Table { marks, entries }
 }

@@ -4,6 +4,3 @@ use Rattle.settle_trust.proofs.agreed_cell.Goals as goal
 
 pub returns-then-need-eq0 : goal.returns-then-need-eq0
 returns-then-need-eq0 c = none_needed _ _ _ c.if-need-eq0.true
-
-pub returns : goal.returns
-returns c = rw (← c.at_most_32.ensures) c.only.ensures

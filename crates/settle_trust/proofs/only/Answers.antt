@@ -3,9 +3,6 @@ use native.Mathlib.Omega.{arith}
 use Rattle.settle_trust.proofs.Voting.{elected, not_elected}
 use Rattle.settle_trust.proofs.only.Goals as goal
 
-pub returns-then-need-v : goal.returns-then-need-v
-returns-then-need-v c = c.searched.ensures
-
 pub returns-then-need-equal_to : goal.returns-then-need-equal_to
 returns-then-need-equal_to c =
     elected _ _ _ _ c.voted-v.ensures (omega (arith, c.if-need-v.false)) (omega (arith, c.if-need-equal_to.true, c.equal_to.ensures))

@@ -2,40 +2,31 @@
 -- to change it.
 use mathlib.Core.Path.{sym, ◌∙◌}
 use native.Mathlib.Omega.{arith}
-use borrow.Author.Rules.{rules}
+use Rattle.std.proofs.lemmas.List.{length-take}
+use Rattle.settle_trust.proofs.Cells.{read_first}
 use Rattle.settle_trust.proofs.Search.{none_looked, turn_finds, turn_finds_second, turn_passes, search_ends}
 use Rattle.settle_trust.proofs.searched.Goals as goal
 use Rattle.settle_trust.proofs.searched.Goals.{then-is_another+else-found-ne0, else-is_another}
 
-pub loop-k-init : goal.loop-k-init
-loop-k-init c = (search rules, none_looked _ _ _)
-
-pub offset_bounds-cells-k : goal.offset_bounds-cells-k
-offset_bounds-cells-k c = omega arith
-
-pub bounds-cells-k : goal.bounds-cells-k
-bounds-cells-k c = omega arith
+pub loop-x-init : goal.loop-x-init
+loop-x-init c = none_looked _ _ _
 
 pub returns-then-found-ne0 : goal.returns-then-found-ne0
 returns-then-found-ne0 c =
-    turn_finds_second _ _ _ _ _ c.loop-k.invariant.1 (sym c.is_another.ensures ∙ c.if-is_another.true) c.if-found-ne0.true
+    let e = rw (read_first _ _ _ c.loop-x-test.true) at c.is_another.ensures in
+    turn_finds_second _ _ _ _ _ c.loop-x.invariant (sym e ∙ c.if-is_another.true) c.if-found-ne0.true
 
-pub overflow_add-k : goal.overflow_add-k
-overflow_add-k c = omega arith
-
-pub loop-k-smaller : goal.loop-k-smaller
-loop-k-smaller c = omega arith
-
-pub loop-k-preserved : goal.loop-k-preserved
-loop-k-preserved c =
-    let L = c.loop-k.invariant.1 in
-    let e = sym c.is_another.ensures in (
-      omega arith,
-      elim c.if-is_another.branch [
-        | then-is_another+else-found-ne0 w ↦ rw w.found-is (turn_finds _ _ _ _ _ L (e ∙ w.if-is_another.true) w.if-found-ne0.false)
-        | else-is_another w ↦ rw w.found-is (turn_passes _ _ _ _ _ L (e ∙ w.if-is_another.false))
-      ],
-    )
+pub loop-x-preserved : goal.loop-x-preserved
+loop-x-preserved c =
+    let L = c.loop-x.invariant in
+    let x = read_first _ _ _ c.loop-x-test.true in
+    let e = sym (rw x at c.is_another.ensures) in
+    elim c.if-is_another.branch [
+      | then-is_another+else-found-ne0 w ↦ rw (w.found-is, x) (turn_finds _ _ _ _ _ L (e ∙ w.if-is_another.true) w.if-found-ne0.false)
+      | else-is_another w ↦ rw w.found-is (turn_passes _ _ _ _ _ L (e ∙ w.if-is_another.false))
+    ]
 
 pub returns : goal.returns
-returns c = let l = c.loop-k in search_ends _ _ _ _ _ l.invariant.1 l.invariant.0 c.loop-k-test.false
+returns c =
+    let few = length-take c.saturating_sub.result c.args.cells.now in
+    search_ends _ _ _ _ _ c.loop-x.invariant (omega arith) (omega arith)

@@ -5,7 +5,6 @@ use Prim.Native.Nat.{ℕ, min}
 use native.Mathlib.Omega.{arith}
 use mir.Syntax.{w32}
 use mir.Facts.{to_z-of_z}
-use borrow.Author.Rules.{rules}
 use Rattle.terms.specs.declared.Entry.{Entry}
 use Rattle.entries.specs.Entries.{zeros}
 use Rattle.entries.specs.Tables.{mark, value_of, marks_of, values_of}
@@ -30,19 +29,18 @@ module _ (c : goal.After-mark_of) where
 
 pub loop-j-init : goal.loop-j-init
 unfolding marks_of values_of zeros
-loop-j-init c = (search rules, refl, refl)
+loop-j-init c = (refl, refl)
 
 pub overflow_add-marks : goal.overflow_add-marks
 overflow_add-marks c =
     let l = c.loop-j in
-    record { fits = marks_fit (entries c) l.j (omega (arith, c.at_most_32-count.ensures)) l.invariant.1 (c.mark_of.ensures ∙ ap mark (held c)) }
+    record { fits = marks_fit (entries c) l.j (omega (arith, c.at_most_32-count.ensures)) l.invariant.0 (c.mark_of.ensures ∙ ap mark (held c)) }
 
 pub loop-j-preserved : goal.loop-j-preserved
 loop-j-preserved c =
     let l = c.loop-j in (
-      search rules,
-      marks_next (entries c.before) l.j (omega (arith, c.at_most_32-count.ensures)) l.invariant.1 (c.mark_of.ensures ∙ ap mark (held c.before)),
-      numbers_next (entries c.before) l.j l.invariant.2 (to_z-of_z {w = w32} (record { sfits = c.value_of.type_inv }) ∙ c.value_of.ensures ∙ ap value_of (held c.before)),
+      marks_next (entries c.before) l.j (omega (arith, c.at_most_32-count.ensures)) l.invariant.0 (c.mark_of.ensures ∙ ap mark (held c.before)),
+      numbers_next (entries c.before) l.j l.invariant.1 (to_z-of_z {w = w32} (record { sfits = c.value_of.type_inv }) ∙ c.value_of.ensures ∙ ap value_of (held c.before)),
     )
 
 pub returns : goal.returns
@@ -52,4 +50,4 @@ returns c =
     let e : l.j ≡ min a.n 32 = omega (arith, c.at_most_32-count.ensures) in
     let E = trusted a.n a.f (given_by a.links a.lists) in
     table_first_32 E (trusted_past a.links a.lists (words a.links c.well_formed.1.0) a.n a.f) a.n
-    (l.invariant.1 ∙ ap (λ (k : ℕ). marks_of k E) e) (l.invariant.2 ∙ ap (λ (k : ℕ). values_of k E) e)
+    (l.invariant.0 ∙ ap (λ (k : ℕ). marks_of k E) e) (l.invariant.1 ∙ ap (λ (k : ℕ). values_of k E) e)
