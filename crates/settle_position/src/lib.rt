@@ -43,10 +43,8 @@ fn add_same(a: &Numbers, b: &Numbers, same: &mut Words)
     requires { (length same.old ≡ 32) × Each 32 (λ j. get_or same.old j 0 < 32) }
     ensures { (length same.new ≡ 32) × Each 32 (λ j. get_or same.new j 0 ≡ get_or same.old j 0 + bit (same_number a.now b.now j)) }
 {
-    let mut j: usize = 0;
-    while j < HEADS {
-        same[j] = same[j] + (a[j] == b[j]) as u32;
-        j += 1;
+    for j in 0..HEADS {
+        same[j] += (a[j] == b[j]) as u32;
     }
 }
 
@@ -70,14 +68,12 @@ fn compare(lists: &Lists, marks: &Words, n: usize, reference: usize) -> Comparis
     let mut alike: u8 = 0;
     let mut apart: u8 = 0;
     let mut same = [0u32; HEADS];
-    let mut k: usize = 0;
-    while k < n {
+    for k in 0..n {
         alike += (marks[k] == word) as u8;
         apart += is_apart(marks[k], word) as u8;
         if marks[k] == word {
             add_same(&lists[k], &row, &mut same);
         }
-        k += 1;
     }
     Comparison { alike, apart, same }
 }
@@ -212,10 +208,8 @@ pub fn settle_entries(
     let count = terms::at_most_32(n as usize);
     let mut positions = [0i32; HEADS];
     let mut len: usize = 0;
-    let mut j: usize = 0;
-    while j < count {
+    for j in 0..count {
         len = decide_entry(lists, marks, reference, same, d, j, &mut positions, len);
-        j += 1;
     }
     settle_midpoint::middle_of(Order { len, positions }, Family::TwoRounds, n, f, up)
 }

@@ -1,7 +1,6 @@
 -- `settle_position::compare` meets its contract: after k turns the lists compared are the first k.
-use mathlib.Core.Path.{◌≡◌, refl}
+use mathlib.Core.Path.{refl}
 use native.Mathlib.Omega.{arith}
-use borrow.Author.Rules.{rules}
 use lib.Dec.{eqb}
 use lib.ListN.{get_or}
 use Rattle.terms.proofs.Sums.{bit_le}
@@ -11,37 +10,30 @@ use Rattle.settle_position.proofs.compare.Goals as goal
 use Rattle.settle_position.proofs.compare.Goals.{then-marks-k, else-marks-k}
 
 pub loop-k-init : goal.loop-k-init
-loop-k-init c = (search rules, refl, compares_none)
+loop-k-init c = (refl, compares_none)
 
 pub overflow_add-alike : goal.overflow_add-alike
 overflow_add-alike c =
     let a = c.args in
     let like = eqb (get_or a.marks.now c.loop-k.k 0) (get_or a.marks.now a.reference 0) in
-    omega (arith, byte_bit like, bit_le like, (compares_few c.loop-k.invariant.2).0)
+    omega (arith, byte_bit like, bit_le like, (compares_few c.loop-k.invariant.1).0)
 
 pub overflow_add-apart : goal.overflow_add-apart
 overflow_add-apart c =
     let apart = c.is_apart.result in
-    omega (arith, byte_bit apart, bit_le apart, (compares_few c.loop-k.invariant.2).1)
+    omega (arith, byte_bit apart, bit_le apart, (compares_few c.loop-k.invariant.1).1)
 
 pub add_same-requires : goal.add_same-requires
 add_same-requires c =
     let l = c.loop-k in
-    (l.invariant.1, λ j i. omega (arith, (compares_few l.invariant.2).2 j i))
+    (l.invariant.0, λ j i. omega (arith, (compares_few l.invariant.1).2 j i))
 
 pub loop-k-preserved : goal.loop-k-preserved
 loop-k-preserved c =
     let l = c.loop-k in (
-      search rules,
-      elim c.if-marks-k.branch [ then-marks-k w ↦ rw w.same-is w.add_same.ensures.0 | else-marks-k w ↦ rw w.same-is l.invariant.1 ],
+      elim c.if-marks-k.branch [ then-marks-k w ↦ rw w.same-is w.add_same.ensures.0 | else-marks-k w ↦ rw w.same-is l.invariant.0 ],
       elim c.if-marks-k.branch [
-        | then-marks-k w ↦ rw w.same-is (compares_alike l.invariant.2 c.is_apart.ensures w.if-marks-k.true w.add_same.ensures.1)
-        | else-marks-k w ↦ rw w.same-is (compares_other l.invariant.2 c.is_apart.ensures w.if-marks-k.false)
+        | then-marks-k w ↦ rw w.same-is (compares_alike l.invariant.1 c.is_apart.ensures w.if-marks-k.true w.add_same.ensures.1)
+        | else-marks-k w ↦ rw w.same-is (compares_other l.invariant.1 c.is_apart.ensures w.if-marks-k.false)
       ],
     )
-
-pub returns : goal.returns
-returns c =
-    let l = c.loop-k in
-    let e : l.k ≡ c.args.n = omega arith in
-    rw e at l.invariant.2
