@@ -1,13 +1,13 @@
 -- Entries of a list. Whether a word may stand there is read off its bits, since a position's word is a small one, or one near 2^32. What is
 -- said of the first j entries goes on to entry j by one step of its definition.
 use mathlib.Core.Path.{◌≡◌, refl, sym, ◌∙◌}
-use mathlib.Core.Bool.{Bool, true, false, and-true, and-false}
+use mathlib.Core.Bool.{Bool, true, ◌&&◌, and-true}
 use mathlib.Core.List.{List}
 use mathlib.Core.Logic.{◌≢◌}
 use Prim.Native.Nat.{ℕ, zero, suc, ◌+◌, ◌-◌, ◌*◌, ◌≤◌, ◌<◌, min}
 use native.Mathlib.Omega.{arith}
 use native.Mathlib.Numerals.{add-one}
-use native.Mathlib.Decide.{dec_lt, dec_le, le_ind, ℕ_discrete}
+use native.Mathlib.Decide.{dec_lt, dec_le, ℕ_discrete}
 use lib.Dec.{eqb, leb}
 use lib.ListN.{length, get_or, set, length-set}
 use lib.Seq.{set_out, get_or-set_same, get_or-set_other}
@@ -17,6 +17,8 @@ use Rattle.terms.specs.Positions.{is_position, eq_z}
 use Rattle.fields.specs.Bytes.{at4, signed_of, signed_at}
 use Rattle.marks.specs.Marks.{bit_of}
 use Rattle.marks.proofs.Counts.{first_32}
+use Rattle.std.specs.List.{list_all, range_with_len}
+use Rattle.entries.proofs.Chains.{all_below}
 use Rattle.entries.specs.Entries.{fits, entries_fit, zeros, numbers}
 use Rattle.fields.proofs.Bytes.{signed_low, signed_high}
 
@@ -51,26 +53,20 @@ zero_word x = go (dec_lt x 2147483648)
 
 -- ---- entry by entry
 
--- after entries that fit, what the next one says: m and s give the mark and the word that it was asked of
-pub fits_next : (m : ℕ) (s : List ℕ) (j : ℕ) {mark fit : Bool} {x : ℕ} → entries_fit m s j ≡ true → mark ≡ bit_of m j → x ≡ at4 s (4 * j) → fit ≡ fits mark (signed_of x)
-    → entries_fit m s (j + 1) ≡ fit
-unfolding entries_fit
-fits_next m s j a b c d = rw (add-one j, a, d, b, c)
+module _ (m : ℕ) (s : List ℕ) where
+  abbrev pub fits_at : ℕ → Bool
+  fits_at j = fits (bit_of m j) (signed_of (at4 s (4 * j)))
 
--- of a list without nulls: the word x is a position, or it is not
-module _ (m : ℕ) (s : List ℕ) (j : ℕ) (marked : bit_of m j ≡ true) {good : Bool} {x : ℕ} (word : x ≡ at4 s (4 * j)) (test : good ≡ is_position (signed_of x)) where
-  pub full_next : {fit : Bool} → fit ≡ entries_fit m s j → good ≡ true → fit ≡ entries_fit m s (j + 1)
+  -- the first n fit if each of them does
+  pub each_fit : (n : ℕ) → list_all fits_at (range_with_len 0 n) ≡ entries_fit m s n
   unfolding entries_fit
-  full_next {fit} a b = rw (add-one j, ← a, marked, ← word, ← test, b) (sym (and-true fit))
+  each_fit = all_below fits_at (entries_fit m s) refl (λ j. refl)
 
-  pub full_misfit : good ≡ false → false ≡ entries_fit m s (j + 1)
+  -- one more of a list without nulls: x is its word
+  pub full_next : (j : ℕ) {fit good : Bool} {x : ℕ} → bit_of m j ≡ true → x ≡ at4 s (4 * j) → good ≡ is_position (signed_of x) → fit ≡ entries_fit m s j
+      → (fit && good) ≡ entries_fit m s (j + 1)
   unfolding entries_fit
-  full_misfit b = rw (add-one j, marked, ← word, ← test, b) (sym (and-false (entries_fit m s j)))
-
--- an entry that does not fit, and any after it
-pub misfit : (m : ℕ) (s : List ℕ) (j n : ℕ) → entries_fit m s j ≡ false → j ≤ n → entries_fit m s n ≡ false
-unfolding entries_fit
-misfit m s j n e l = le_ind (λ k. entries_fit m s k ≡ false) e (λ k i h. rw h) n l
+  full_next j marked word test before = rw (add-one j, marked, ← word, ← test, before)
 
 pub numbers_next : (s : List ℕ) (j : ℕ) {out : List ℤ} {v : ℤ} → out ≡ numbers s j → v ≡ signed_at s (4 * j) → set out j v ≡ numbers s (j + 1)
 unfolding numbers

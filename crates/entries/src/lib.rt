@@ -48,14 +48,7 @@ fn each_fits(marks: u32, s: &[u8], n: u8) -> bool
 {
     let count = n as usize;
     let whole = 4 * count <= s.len();
-    let mut j: usize = 0;
-    while j < count {
-        if !word_fits(marks::marked(marks, j), word_in(whole, s, 4 * j)) {
-            return false;
-        }
-        j += 1;
-    }
-    true
+    (0..count).all(|j| word_fits(marks::marked(marks, j), word_in(whole, s, 4 * j)))
 }
 
 // The same of a list without nulls. All words are looked at, without a branch, so that many are tested at once.
@@ -63,14 +56,9 @@ fn all_fit(s: &[u8], n: u8) -> bool
     requires { 4 * n ≤ length s.now }
     ensures { (marks : ℕ) → all_marked marks n ≡ true → result ≡ entries_fit marks s.now n }
 {
-    let count = n as usize;
     let mut fit = true;
-    let mut i: usize = 0;
-    while i < count {
-        if !is_position_word(word_within(s, 4 * i)) {
-            fit = false;
-        }
-        i += 1;
+    for i in 0..n as usize {
+        fit &= is_position_word(word_within(s, 4 * i));
     }
     fit
 }
@@ -93,11 +81,8 @@ pub fn numbers_at(s: &[u8], n: u8) -> Numbers
     let mut out = [0i32; HEADS];
     let end = terms::at_most_32(n as usize);
     let whole = 4 * end <= s.len();
-    let mut k: usize = 0;
-    while k < end {
-        let v = fields::signed(word_in(whole, s, 4 * k));
-        out[k] = v;
-        k += 1;
+    for k in 0..end {
+        out[k] = fields::signed(word_in(whole, s, 4 * k));
     }
     out
 }

@@ -6,9 +6,5 @@ use Rattle.entries.specs.Entries.{fits}
 use Rattle.entries.proofs.Entries.{zero_word}
 use Rattle.entries.proofs.word_fits.Goals as goal
 
-pub returns-then-mark : goal.returns-then-mark
-returns-then-mark c =
-    c.is_position_word.ensures ∙ ap (λ (b : Bool). fits b (signed_of c.args.x)) (sym c.if-mark.true)
-
 pub returns-else-mark : goal.returns-else-mark
 returns-else-mark c = sym (zero_word c.args.x) ∙ ap (λ (b : Bool). fits b (signed_of c.args.x)) (sym c.if-mark.false)
