@@ -3,29 +3,15 @@
 use mathlib.Core.Path.{◌≡◌, refl, ap, sym, ◌∙◌}
 use mathlib.Core.Bool.{Bool, true, false, cond, ◌&&◌, and-false}
 use mathlib.Core.List.{List, ◌++◌, append_assoc}
-use Prim.Native.Nat.{ℕ, zero, suc, ◌+◌, ◌*◌, ◌-◌, ◌≤◌, ◌<◌}
+use Prim.Native.Nat.{ℕ, ◌+◌, ◌*◌, ◌-◌, ◌≤◌, ◌<◌}
 use native.Mathlib.Omega.{arith}
 use native.Mathlib.Decide.{dec_lt}
 use borrow.Author.Tests.{eqb-true, eqb-false, ne_eqb, lt-ltb, le-ltb, le-leb, lt-leb}
 use lib.Dec.{eqb}
-use lib.ListN.{length, get_or, set, take, drop, replicate, length-take, length-drop, take-append-drop}
+use lib.ListN.{length, get_or, set, take, drop, length-take, length-drop, take-append-drop}
 use lib.Seq.{take-append-le, drop-append-le, take-append_seam, drop_at, take-length, length-take-le, drop-drop, get_or-set_same, get_or-set_other, paste, drop-paste}
 use Rattle.fields.proofs.Copying.{copied_fits}
 use Rattle.frame_slots.specs.Slots.{slot, planted_in, is_plantable, with_planted, with_length}
-
-zeros : (n j : ℕ) → get_or (replicate {A = ℕ} n 0) j 0 ≡ 0
-zeros zero j = refl
-zeros (suc n) zero = refl
-zeros (suc n) (suc j) = zeros n j
-
--- a list whose first n numbers are 0
-pub wiped : (l x : List ℕ) (n j : ℕ) → l ≡ replicate n 0 ++ x → j < n → get_or l j 0 ≡ 0
-wiped l x n j e h = rw e (front n j h)
-  where
-    front : (n j : ℕ) → j < n → get_or (replicate n 0 ++ x) j 0 ≡ 0
-    front zero j h = absurd (omega (arith, h))
-    front (suc n) zero h = refl
-    front (suc n) (suc j) h = front n j (omega (arith, h))
 
 -- a part of the first of two lists
 part_front : (h x : List ℕ) (from n : ℕ) → from + n ≤ length h → take n (drop from (h ++ x)) ≡ take n (drop from h)

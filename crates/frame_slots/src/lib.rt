@@ -43,26 +43,11 @@ pub fn planted<'a, 'b>(bytes: &'a [u8], lengths: &'b [u8], k: u8, i: u8) -> &'a 
 }
 
 // Whether two slices have the same bytes. Lists that differ mostly do at byte 20, an entry's lowest: it is looked at first. Then all are,
-// without a branch, so that many are compared at once.
+// many at once.
 fn is_same(a: &[u8], b: &[u8]) -> bool
     ensures { (result ≡ true) ↔ (a.now ≡ b.now) }
 {
-    let len = a.len();
-    if b.len() != len {
-        return false;
-    }
-    if fields::byte_at(a, 20) != fields::byte_at(b, 20) {
-        return false;
-    }
-    let mut same = true;
-    let mut j: usize = 0;
-    while j < len {
-        if a[j] != b[j] {
-            same = false;
-        }
-        j += 1;
-    }
-    same
+    fields::byte_at(a, 20) == fields::byte_at(b, 20) && a == b
 }
 
 // Whether the same is planted on the links from k to i and from k to m.
@@ -72,23 +57,11 @@ pub fn is_alike(bytes: &[u8], lengths: &[u8], k: u8, i: u8, m: u8) -> bool
     is_same(planted(bytes, lengths, k, i), planted(bytes, lengths, k, m))
 }
 
-// The first lengths, up to `end`, are 0.
-fn wipe(lengths: &mut [u8], end: usize)
-    requires { end ≤ length lengths.old }
-    ensures { (s : ℕ) → s < end → get_or lengths.new s 0 ≡ 0 }
-{
-    let mut s: usize = 0;
-    while s < end {
-        lengths[s] = 0;
-        s += 1;
-    }
-}
-
 // Nothing is planted on the links from the first n heads.
 pub fn clear(lengths: &mut PlantedLengths, n: u8)
     ensures { (bytes : List ℕ) (k i : ℕ) → k < 32 → k < n → i < 48 → planted_in bytes lengths.new k i ≡ [] }
 {
-    wipe(lengths, 48 * terms::at_most_32(n as usize));
+    lengths[..48 * terms::at_most_32(n as usize)].fill(0);
 }
 
 // The length of a slot.
