@@ -26,9 +26,6 @@ module _ (x : ℕ) (f : Fits w32 x) (h : 2147483648 ≤ x) where
   signed_fits : SFits w32 (signed_of x)
   signed_fits = rw (← to_z_signed x) (sfits_to_z f)
 
-  pub high_fits : SFits w32 (negsuc 0 -ℤ to_z w32 (4294967295 - x))
-  high_fits = rw high_is signed_fits
-
   pub high_read : to_z w32 (of_z w32 (negsuc 0 -ℤ to_z w32 (4294967295 - x))) ≡ signed_of x
   high_read = ap (λ (z : ℤ). to_z w32 (of_z w32 z)) high_is ∙ to_z-of_z signed_fits
 
@@ -44,16 +41,9 @@ unfolding word_of
 from_zero (pos n) t = (refl, refl)
 from_zero (negsuc n) t = absurd (true≢false t)
 
--- what the machine casts is not below 0
-pub cast_fits : {z : ℤ} {n : ℕ} → z ≡ pos n → n < 2147483648 → T (non_neg z) × Fits w32 (nat_abs z)
-cast_fits e h = rw e (tt, record { fits = omega arith })
-
 module _ (v : ℤ) (f : SFits w32 v) where
   turned_read : negsuc 0 -ℤ to_z w32 (of_z w32 v) ≡ turned v
   turned_read = ap (λ (z : ℤ). negsuc 0 -ℤ z) (to_z-of_z f) ∙ turned_is v
-
-  pub less_fits : SFits w32 (negsuc 0 -ℤ to_z w32 (of_z w32 v))
-  less_fits = rw turned_read (turned_fits v f)
 
   module _ (t : lt_z (to_z w32 (of_z w32 v)) (pos 0) ≡ true) where
     is_below : lt_z v (pos 0) ≡ true

@@ -1,13 +1,9 @@
 -- `fields::put_half` meets its contract: the two stores are the two that `over` makes, and past the end it makes none.
-use mathlib.Core.Path.{sym, ◌∙◌}
+use mathlib.Core.Path.{sym}
 use mathlib.Core.List.{[]}
-use lib.ListN.{length-set}
 use Rattle.fields.specs.Bytes.{put2, over}
 use Rattle.fields.proofs.Bytes.{writes_past}
 use Rattle.fields.proofs.put_half.Goals as goal
-
-pub shape_of-s : goal.shape_of-s
-shape_of-s c = c.put_byte.auto.s ∙ simp length-set
 
 pub returns-then-at-s : goal.returns-then-at-s
 unfolding over

@@ -1,10 +1,7 @@
 -- `fields::signed` meets its contract: a cast reads the word's bits, and from 2^31 up -1 - (2^32 - 1 - x) is the number.
 use Rattle.fields.proofs.Bytes.{to_z_signed}
-use Rattle.fields.proofs.Signs.{high_fits, high_read}
+use Rattle.fields.proofs.Signs.{high_read}
 use Rattle.fields.proofs.signed.Goals as goal
-
-pub overflow_sub-result-else-x-lt2147483648 : goal.overflow_sub-result-else-x-lt2147483648
-overflow_sub-result-else-x-lt2147483648 c = high_fits c.args.x c.ranges.x c.if-x-lt2147483648.false
 
 pub returns-then-x-lt2147483648 : goal.returns-then-x-lt2147483648
 returns-then-x-lt2147483648 c = to_z_signed c.args.x
