@@ -90,9 +90,6 @@ pub record Spelt (b k x at : ℕ) (from bytes : List ℕ) (rest i : ℕ) : Type 
   pub before : take at bytes ≡ take at from
   pub behind : spelled b i rest ++ drop (at + i) bytes ≡ spelled b k x ++ drop (at + k) from
 
-pub spelt_none : (b k x at : ℕ) (from : List ℕ) → length from ≡ 64 → Spelt b k x at from from x k
-spelt_none b k x at from h = record { inside = omega arith; long = h; before = refl; behind = refl }
-
 -- a byte stored at n, and what stands behind it
 stored : (l : List ℕ) (n v : ℕ) → n < length l → drop n (set l n v) ≡ v ∷ drop (suc n) l
 stored l n v h = ap (drop n) (set_split l n v h) ∙ drop_at (take n l) (v ∷ drop (suc n) l) n (length-take-le n l (omega arith))

@@ -71,11 +71,9 @@ fn put_digits(line: &mut [u8], at: usize, base: u32, k: usize, x: u32, after: u8
 {
     line[at + k] = after;
     let mut rest = x;
-    let mut i = k;
-    while 0 < i {
-        i -= 1;
+    for i in (0..k).rev() {
         line[at + i] = digit(rest % base);
-        rest = rest / base;
+        rest /= base;
     }
     at + k + 1
 }
@@ -85,15 +83,13 @@ fn size_of(x: u32) -> usize
     ensures { (result ≡ size 9 x) × (result ≤ 10) }
 {
     let mut rest = x;
-    let mut k: usize = 1;
-    while k < 10 {
+    for k in 1..10 {
         if rest < 10 {
             return k;
         }
-        rest = rest / 10;
-        k += 1;
+        rest /= 10;
     }
-    k
+    10
 }
 
 // A number, without padding, and one byte more.

@@ -1,18 +1,9 @@
 -- `texts::put_digits` meets its contract: at the loop's head the last k - i digits stand in place, and `rest` has the others.
 use mathlib.Core.Path.{◌≡◌}
 use native.Mathlib.Omega.{arith}
-use native.Mathlib.Nat.{mod-lt}
-use lib.ListN.{length-set}
 use borrow.Author.Rules.{rules}
-use Rattle.texts.proofs.Writing.{spelt_none, spelt_more, spelt_all}
+use Rattle.texts.proofs.Writing.{spelt_more, spelt_all}
 use Rattle.texts.proofs.put_digits.Goals as goal
-
-pub loop-i-init : goal.loop-i-init
-loop-i-init c =
-    spelt_none _ _ _ _ _ (simp length-set c.requires.0)
-
-pub digit-requires : goal.digit-requires
-digit-requires c = let s = c in omega (arith, mod-lt c.loop-i.rest s.requires.1)
 
 pub loop-i-preserved : goal.loop-i-preserved
 loop-i-preserved c = rw c.digit.ensures (spelt_more (search rules) (search rules) c.loop-i.invariant)
