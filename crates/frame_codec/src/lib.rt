@@ -211,11 +211,8 @@ fn entry_word(entries: &[i32], j: usize) -> u32
 fn put_entries(entries: &[i32], n: u8, buffer: &mut [u8])
     ensures { buffer.new ≡ over (entry_bytes entries.now n) 12 buffer.old }
 {
-    let count = n as usize;
-    let mut j: usize = 0;
-    while j < count {
+    for j in 0..n as usize {
         fields::put_word(buffer, 12 + 4 * j, entry_word(entries, j));
-        j += 1;
     }
 }
 
