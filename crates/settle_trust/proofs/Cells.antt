@@ -1,11 +1,10 @@
 -- Cells: a position of 32 bits is read back from its cell, and so two cells are equal just if their entries are.
 use mathlib.Core.Path.{◌≡◌, refl, ap, sym, ◌∙◌}
-use mathlib.Core.Bool.{Bool, true, false}
+use mathlib.Core.Bool.{true, false}
 use mathlib.Core.List.{List}
 use mathlib.Core.Logic.{◌≢◌}
-use Prim.Native.Nat.{ℕ, zero, suc, ◌+◌, ◌<◌, ◌≤◌}
+use Prim.Native.Nat.{ℕ, ◌+◌, ◌<◌}
 use native.Mathlib.Omega.{arith}
-use native.Mathlib.Numerals.{add-one}
 use native.Mathlib.Nat.{mod-eq_of_lt}
 use lib.Dec.{eqb, eqb→eq, eqb_refl, eqb-zero-suc}
 use lib.IntN.{ℤ, pos}
@@ -15,9 +14,7 @@ use mir.Syntax.{w32}
 use mir.Val.{SFits, to_z, of_z}
 use mir.Facts.{to_z-of_z, Fits-of_z}
 use borrow.Author.Count.{below_more}
-use Rattle.std.specs.List.{count_by}
 use Rattle.std.proofs.lemmas.List.{get_or-take, length-take}
-use Rattle.std.proofs.lemmas.List.Sums.{count_by_more_yes, count_by_more_no}
 use Rattle.terms.specs.Positions.{eq_z}
 use Rattle.terms.specs.declared.Entry.{Entry}
 use Rattle.terms.specs.declared.Entry.TheVariants.{Null, Position}
@@ -81,17 +78,6 @@ is_held {e = Position v} p q = ap bit (same_cells p q)
 -- a cell of the first n, read from these alone
 pub read_first : (n : ℕ) (cells : List ℕ) (k : ℕ) → k < length (take n cells) → get_or (take n cells) k 0 ≡ get_or cells k 0
 read_first n cells k l = get_or-take n cells k 0 (omega (arith, length-take n cells))
-
--- the first n cells that pass a test, counted by a chain
-pub counted : (p : ℕ → Bool) (cells : List ℕ) (n : ℕ) → n ≤ length cells → count_by p (take n cells) ≡ sum n (λ k. bit (p (get_or cells k 0)))
-unfolding sum
-counted p cells zero h = refl
-counted p cells (suc n) h = go (p (get_or cells n 0)) refl (counted p cells n (omega arith))
-  where
-    go : (b : Bool) → p (get_or cells n 0) ≡ b → count_by p (take n cells) ≡ sum n (λ k. bit (p (get_or cells k 0)))
-        → count_by p (take (suc n) cells) ≡ sum n (λ k. bit (p (get_or cells k 0))) + bit (p (get_or cells n 0))
-    go true e i = rw (← add-one n) (omega (arith, count_by_more_yes p cells n 0 (omega arith) e, i, ap bit e))
-    go false e i = rw (← add-one n) (omega (arith, count_by_more_no p cells n 0 (omega arith) e, i, ap bit e))
 
 -- the cell x is as often among the first n as its position is among the entries that they hold
 pub equal_held : {x : ℕ} {u : ℤ} (n : ℕ) (cells : List ℕ) (E : ℕ → Entry) → CellOf x (Position u) → HoldsEach n cells E → equal_to n cells x ≡ sum n (λ k. is u (E k))
