@@ -1,17 +1,9 @@
 -- Within the entries it is the word of the one that is read. Past them an entry counts as 0, whose word is 0.
-use mathlib.Core.Path.{ap, sym, ◌∙◌}
-use lib.ListN.{get_or, get_or-eq_default}
+use mathlib.Core.Path.{ap, sym}
+use lib.ListN.{get_or-eq_default}
 use lib.IntN.{pos}
-use mir.Syntax.{w32}
-use mir.Facts.{to_z-of_z}
 use Rattle.fields.specs.Bytes.{word_of}
-use borrow.Author.Rules.{rules}
 use Rattle.frame_codec.proofs.entry_word.Goals as goal
-
-pub returns-then-j-entries : goal.returns-then-j-entries
-returns-then-j-entries c =
-    let v = get_or c.args.entries.now c.args.j (pos 0) in
-    c.unsigned.ensures ∙ ap word_of (to_z-of_z {w = w32} {z = v} (record { sfits = search rules }))
 
 pub returns-else-j-entries : goal.returns-else-j-entries
 unfolding word_of

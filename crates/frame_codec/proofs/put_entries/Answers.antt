@@ -1,6 +1,5 @@
 -- The loop's invariant: the first j entries are written, and the buffer is as long as it was. A turn writes the next entry just behind them.
-use mathlib.Core.Path.{◌≡◌, refl, ◌∙◌}
-use native.Mathlib.Omega.{arith}
+use mathlib.Core.Path.{refl, ◌∙◌}
 use Rattle.fields.specs.Bytes.{over}
 use Rattle.frame_spec.specs.Written.{entry_bytes}
 use Rattle.frame_spec.proofs.Fronts.{over_entry}
@@ -14,12 +13,3 @@ pub loop-j-preserved : goal.loop-j-preserved
 loop-j-preserved c =
     let a = c.args in
     (c.put_word.auto.s ∙ c.loop-j.invariant.0, over_entry a.entries.now a.buffer.now c.loop-j.j c.loop-j.invariant.1 c.entry_word.ensures c.put_word.ensures)
-
-pub shape_of-buffer : goal.shape_of-buffer
-shape_of-buffer c = c.loop-j.invariant.0
-
-pub returns : goal.returns
-returns c =
-    let l = c.loop-j in
-    let e : l.j ≡ c.args.n = omega arith in
-    rw e at l.invariant.1

@@ -1,12 +1,6 @@
 -- The four fields are written one behind the other, so that the front is then the header.
-use mathlib.Core.Path.{◌∙◌}
-use lib.ListN.{length-set}
 use Rattle.frame_spec.proofs.Fronts.{over_header}
 use Rattle.frame_codec.proofs.put_header.Goals as goal
-
-pub shape_of-buffer : goal.shape_of-buffer
-shape_of-buffer c =
-    c.put_half-3.auto.s ∙ simp length-set (c.put_half-2.auto.s ∙ c.put_half.auto.s)
 
 pub returns : goal.returns
 returns c =
