@@ -1,5 +1,5 @@
 -- Document 01, "Points on the ring": the starred points as one table, and one theorem that they all hold, which is computed.
-use Rattle.std.specs.Prelude.{◌≡◌, ℕ, suc, ◌-◌, Bool, T, List, [], ◌∷◌, ℤ, pos, negsuc, slice_index_or, refl}
+use Rattle.std.specs.Prelude.{◌≡◌, ℕ, ◌-◌, List, [], ◌∷◌, ℤ, pos, negsuc, slice_index_or, refl}
 use Rattle.std.proofs.Common.{arith}
 use Rattle.terms.specs.Positions.{floor_div, half, eq_z, rounding}
 use Rattle.terms.specs.Sizes.{is_count, is_limit, size_refusal}

@@ -110,13 +110,11 @@ fn list_frame(x: First) -> u64 {
 fn lists(r: Brackets, settling: bool) -> Lists {
     let bytes = r.bytes;
     let row = entries::numbers_at(&bytes, 32);
-    let mut lists = [row; 32];
-    let mut k: usize = 0;
-    while k < 32 && !settling {
-        lists[k] = [row[k]; 32];
-        k += 1;
+    if settling {
+        [row; 32]
+    } else {
+        row.map(|x| [x; 32])
     }
-    lists
 }
 
 fn links(r: Brackets, settling: bool) -> Links {

@@ -7,6 +7,8 @@ mod asks;
 mod lines;
 mod show;
 
+use std::slice;
+
 fn print(table: &[u8]) {
     let mut line = lines::fresh();
     let mut said = asks::Said {
@@ -14,20 +16,17 @@ fn print(table: &[u8]) {
         latest: 0,
     };
     let mut asked = false;
-    let mut at: usize = 0;
-    while at < table.len() {
-        let b = table[at];
+    for b in table {
         if asked {
-            line = lines::turn(line, b);
-            said = asks::say(line, said, b);
+            line = lines::turn(line, *b);
+            said = asks::say(line, said, *b);
             asked = false;
-        } else if b == b'#' {
+        } else if *b == b'#' {
             asked = true;
         } else {
-            show::text(&table[at..at + 1]);
-            line = lines::read(line, b);
+            show::text(slice::from_ref(b));
+            line = lines::read(line, *b);
         }
-        at += 1;
     }
 }
 
