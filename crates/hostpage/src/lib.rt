@@ -61,13 +61,10 @@ fn page_length(n: u8, readings: Readings) -> usize
     requires { n ≤ 32 }
     ensures { result ≡ length (page_of n readings) }
 {
-    let mut total: usize = 0;
-    let mut k: u8 = 0;
-    while k < n {
-        let reading = readings[k as usize];
-        let t = line_of(k, reading);
+    let mut total = 0;
+    for k in 0..n {
+        let t = line_of(k, readings[k as usize]);
         total += t.len;
-        k += 1;
     }
     total
 }
@@ -89,13 +86,10 @@ fn put_page(n: u8, readings: Readings, buffer: &mut [u8])
     requires readings_in_bounds { length (page_of n readings) ≤ length buffer.old }
     ensures { buffer.new ≡ buffered (page_of n readings) buffer.old }
 {
-    let mut at: usize = 0;
-    let mut k: u8 = 0;
-    while k < n {
-        let reading = readings[k as usize];
-        let t = line_of(k, reading);
+    let mut at = 0;
+    for k in 0..n {
+        let t = line_of(k, readings[k as usize]);
         at = put_line(buffer, at, t);
-        k += 1;
     }
 }
 

@@ -1,12 +1,9 @@
 -- `hostpage::page_length` meets its contract: before head k the total is the length of the page of the heads below k.
 use mathlib.Core.Path.{◌≡◌}
-use Prim.Native.Nat.{◌-◌, ◌*◌, ◌≤◌}
+use Prim.Native.Nat.{◌*◌, ◌≤◌}
 use lib.ListN.{length}
 use Rattle.hostpage.specs.Page.{page_of}
 use Rattle.hostpage.proofs.page_length.Given as goal
 
 abbrev pub invariant-loop-k : goal.invariant-loop-k
-invariant-loop-k l = (l.k ≤ l.n) × (l.total ≡ length (page_of l.k l.readings)) × (l.total ≤ 64 * l.k)
-
-abbrev pub decreases-loop-k : goal.decreases-loop-k
-decreases-loop-k l = l.n - l.k
+invariant-loop-k l = (l.total ≡ length (page_of l.k l.readings)) × (l.total ≤ 64 * l.k)

@@ -4,7 +4,6 @@ use mathlib.Core.List.{List}
 use Prim.Native.Nat.{ℕ, ◌+◌, ◌≤◌, ◌<◌}
 use native.Mathlib.Omega.{arith}
 use lib.ListN.{length, get_or}
-use borrow.Author.Rules.{rules}
 use Rattle.reading.specs.declared.Reading.{Reading}
 use Rattle.hostpage.specs.Page.{reading_line, page_of}
 use Rattle.hostpage.proofs.Pages.{page_none, next_length, page_grows, front, front_none, front_next, front_is}
@@ -18,28 +17,25 @@ fit rs n k b d l e p q r =
     omega (arith, ap length e, next_length k rs, page_grows (k + 1) n rs h)
 
 pub loop-k-init : goal.loop-k-init
-loop-k-init c = let a = c.args in (search rules, search rules, sym (page_none a.readings), front_none a.readings a.buffer.now)
+loop-k-init c = let a = c.args in (sym (page_none a.readings), front_none a.readings a.buffer.now)
 
 pub put_line-at-requires : goal.put_line-at-requires
-put_line-at-requires c = (c.line_of-t.ensures.len_bound, fit c.args.readings c.args.n c.loop-k.k c.loop-k.buffer c.args.buffer.now c.loop-k-test.true c.line_of-t.ensures.result_value c.loop-k.invariant.2 c.loop-k.invariant.1 c.requires.readings_in_bounds)
+put_line-at-requires c =
+    (c.line_of-t.ensures.len_bound, fit c.args.readings c.args.n c.loop-k.k _ c.args.buffer.now c.loop-k-test.true c.line_of-t.ensures.result_value c.loop-k.invariant.0 c.loop-k.auto.buffer c.requires.readings_in_bounds)
 
 pub loop-k-preserved : goal.loop-k-preserved
 loop-k-preserved c =
     let rs = c.args.readings in
     let k = c.loop-k.k in
-    let e = c.line_of-t.ensures.result_value in (
-      search rules,
-      c.put_line-at.auto.buffer ∙ c.loop-k.invariant.1,
-      c.put_line-at.ensures.0 ∙ rw (c.loop-k.invariant.2, e) (sym (next_length k rs)),
-      c.put_line-at.ensures.1 ∙ front_next k rs c.args.buffer.now c.loop-k.invariant.2 c.loop-k.invariant.3 e (fit c.args.readings c.args.n c.loop-k.k c.loop-k.buffer c.args.buffer.now c.loop-k-test.true c.line_of-t.ensures.result_value c.loop-k.invariant.2 c.loop-k.invariant.1 c.requires.readings_in_bounds),
+    let e = c.line_of-t.ensures.result_value in
+    let f = fit rs c.args.n k _ c.args.buffer.now c.loop-k-test.true e c.loop-k.invariant.0 c.loop-k.auto.buffer c.requires.readings_in_bounds in (
+      c.put_line-at.ensures.0 ∙ rw (c.loop-k.invariant.0, e) (sym (next_length k rs)),
+      c.put_line-at.ensures.1 ∙ front_next k rs c.args.buffer.now c.loop-k.invariant.0 c.loop-k.invariant.1 e f,
     )
-
-pub shape_of-buffer : goal.shape_of-buffer
-shape_of-buffer c = c.loop-k.invariant.1
 
 pub returns : goal.returns
 returns c =
     let l = c.loop-k in
     let a = c.args in
     let e : l.k ≡ a.n = omega arith in
-    l.invariant.3 ∙ ap (λ (k : ℕ). front (page_of k a.readings) a.buffer.now) e ∙ front_is (page_of a.n a.readings) a.buffer.now c.requires.readings_in_bounds
+    l.invariant.1 ∙ ap (λ (k : ℕ). front (page_of k a.readings) a.buffer.now) e ∙ front_is (page_of a.n a.readings) a.buffer.now c.requires.readings_in_bounds
