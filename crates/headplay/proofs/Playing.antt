@@ -58,27 +58,10 @@ module _ {s : List ℕ} {x y : Outcome} (L : Leads s x y) where
         same = rw (ne_eqb (record_size s) 0 d) at p;
       }
 
--- ---- the records from `at` on; n is the length of the first
-
-module _ (script rest : List ℕ) (at n : ℕ) (e : rest ≡ drop at script) (z : n ≡ record_size rest) (l : at ≤ length script) where
-  long : length rest ≡ length script - at
-  long = rw e (length-drop at script)
-
-  pub first_fits : n ≤ length rest
-  first_fits = rw z (size_fits rest)
-
-  pub next_at : at + n ≤ length script
-  next_at = let f = first_fits in omega (arith, long)
-
-  module _ {x y : Outcome} (L : Leads (drop at script) x y) where
-    pub ends_at : n ≡ 0 → x ≡ y
-    ends_at o = ends L (rw (← e) (sym z ∙ o))
-
-    pub next : n ≢ 0 → {x' : Outcome} → x' ≡ turn (take n rest) x.head x.offer → Leads (drop (at + n) script) x' y
-    next d p = rw (p, z, e, ← drop-drop (record_size (drop at script)) at script) (goes_on L (λ q. d (z ∙ (rw e q))))
-
-pub none_left : (script : List ℕ) (at : ℕ) → length script ≤ at → length (drop at script) ≤ 0
-none_left script at l = rw (length-drop at script) (omega arith)
+  -- the first record, of n bytes, and what is behind it
+  pub next : {n : ℕ} {front behind : List ℕ} {x' : Outcome} → n ≡ record_size s → n ≢ 0 → front ≡ take n s → behind ≡ drop n s
+      → x' ≡ turn front x.head x.offer → Leads behind x' y
+  next e d p q t = rw (t, p, q, e) (goes_on (λ z. d (e ∙ z)))
 
 -- all of it
 pub starts : (script : List ℕ) {h : Head} → h ≡ started TwoRounds 1 0 0 (pos 0) → played_up_to (length script) script (record { number = 0; head = h; offer = Offer.Nothing }) ≡ played script

@@ -153,10 +153,8 @@ fn byte(b: u8) {
 }
 
 fn bytes(s: &[u8]) {
-    let mut i: usize = 0;
-    while i < s.len() {
-        byte(s[i]);
-        i += 1;
+    for b in s {
+        byte(*b);
     }
 }
 
@@ -231,13 +229,7 @@ fn opening(call: u8, s: &[u8], h: Head) -> Answer
 fn lapsed_by(answers: &[u8], offer: Offer) -> Offer
     ensures { result ≡ lapsed_by answers.now offer }
 {
-    let mut left = offer;
-    let mut i: usize = 0;
-    while i < answers.len() {
-        left = head_calls::lapsed(answers[i], left);
-        i += 1;
-    }
-    left
+    answers.iter().fold(offer, |left, number| head_calls::lapsed(*number, left))
 }
 
 fn batched(h: Head, batch: &[u8], answers: &mut [u8], offer: Offer) -> Outcome
@@ -395,19 +387,18 @@ fn play(script: &[u8]) -> Outcome
         head: first(),
         offer: Offer::Nothing,
     };
-    let mut at: usize = 0;
-    while at < script.len() {
-        let rest = fields::bytes_from(script, at);
+    let mut rest = script;
+    // Records differ in length, so each is cut from the front: the bytes hold no parts of one size that an iterator could give.
+    while !rest.is_empty() {
         let size = record_size(rest);
         if size == 0 {
             text(b"cut\n");
             return x;
         }
-        let head = x.head;
-        let offer = x.offer;
-        x = turn(&rest[..size], head, offer);
+        let (record, behind) = rest.split_at(size);
+        x = turn(record, x.head, x.offer);
         show(x);
-        at += size;
+        rest = behind;
     }
     text(b"end\n");
     x
