@@ -13,14 +13,9 @@ use terms::{Family, HEADS, Lists, refusal};
 fn laid_out(lists: [Row; HEADS]) -> Lists
     ensures { result ≡ rows lists }
 {
-    let zeros = [0i32; HEADS];
-    let mut out = [zeros; HEADS];
-    let mut k: usize = 0;
-    while k < HEADS {
-        let row = lists[k];
-        let entries = row.entries;
-        out[k] = entries;
-        k += 1;
+    let mut out = [[0i32; HEADS]; HEADS];
+    for (k, row) in lists.iter().enumerate() {
+        out[k] = row.entries;
     }
     out
 }
