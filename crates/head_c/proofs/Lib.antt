@@ -1,4 +1,5 @@
 -- What other crates may cite: a block is read as the record that was put into it, and after a call as the record that the call makes.
+pub mod Arrays
 pub mod Copying
 pub mod Reading
 pub mod Rows

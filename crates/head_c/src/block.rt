@@ -17,6 +17,7 @@ use head_spec::{Head, LastKept, Offer, Seat};
 use head_window::Registers;
 use settle_midpoint::Kept;
 use settle_trust::Links;
+use std::array;
 use terms::{Entry, Family, HEADS, Table};
 
 // ---- The record that a block is.
@@ -91,14 +92,7 @@ fn numbers_in(h: &[u32], from: usize) -> [i32; HEADS]
     requires { from + 32 ≤ length h.now }
     ensures { result ≡ numbers_at h.now from }
 {
-    let mut out = [0i32; HEADS];
-    let mut j: usize = 0;
-    while j < HEADS {
-        let v = fields::signed(h[from + j]);
-        out[j] = v;
-        j += 1;
-    }
-    out
+    array::from_fn(|j| fields::signed(h[from + j]))
 }
 
 // The list.
@@ -119,11 +113,7 @@ pub(crate) fn links_in(h: &[u32]) -> Links
     ensures { result ≡ (head_of h.now).links }
 {
     let mut marks = [0u32; HEADS];
-    let mut k: usize = 0;
-    while k < HEADS {
-        marks[k] = h[place::LIST_MARKS + k];
-        k += 1;
-    }
+    marks.copy_from_slice(&h[place::LIST_MARKS..place::LIST_MARKS + HEADS]);
     Links {
         confessed: h[place::CONFESSED],
         listed: h[place::LISTED],
@@ -148,10 +138,8 @@ pub(crate) fn put_numbers(h: &mut [u32], from: usize, numbers: &[i32; HEADS])
     requires { from + 32 ≤ length h.old }
     ensures { h.new ≡ paste h.old from (words_of numbers.now) 32 }
 {
-    let mut j: usize = 0;
-    while j < HEADS {
-        h[from + j] = fields::unsigned(numbers[j]);
-        j += 1;
+    for (j, v) in numbers.iter().enumerate() {
+        h[from + j] = fields::unsigned(*v);
     }
 }
 
@@ -252,11 +240,7 @@ pub(crate) fn clear_links(h: &mut [u32])
     requires { IsBlock h.old }
     ensures { h.new ≡ paste h.old place.confessed (up_to 34 (λ _. 0)) 34 }
 {
-    let mut j: usize = 0;
-    while j < 34 {
-        h[place::CONFESSED + j] = 0;
-        j += 1;
-    }
+    h[place::CONFESSED..place::LISTS].fill(0);
 }
 
 // Puts a record with nothing heard, as start, restart and closing make it.

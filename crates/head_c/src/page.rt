@@ -11,7 +11,8 @@ use crate::{Block, WORDS};
 use frame_spec::Written;
 use hostpage::Readings;
 use reading::Reading;
-use terms::{HEADS, refusal};
+use std::array;
+use terms::refusal;
 
 // The head's reading: 0 unknown; 1 a point, and its float; 2 a range, and its lowest, its highest and their midpoint.
 pub fn focus_head_reading(h: &Block, floats: &mut [f32; 3]) -> u8
@@ -50,14 +51,7 @@ fn reading_at(blocks: &[u32], k: usize) -> Reading
 fn readings_in(blocks: &[u32]) -> Readings
     ensures { result ≡ readings_of blocks.now }
 {
-    let mut out = [Reading::Unknown; HEADS];
-    let mut k: usize = 0;
-    while k < HEADS {
-        let reading = reading_at(blocks, k);
-        out[k] = reading;
-        k += 1;
-    }
-    out
+    array::from_fn(|k| reading_at(blocks, k))
 }
 
 // The page of n heads whose blocks follow one another, at the front of the buffer, and its length: 0, or 1, 24.

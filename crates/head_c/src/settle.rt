@@ -36,10 +36,8 @@ fn add_same(a: &[u32], b: &[u32], same: &mut Words)
     ensures { (length same.new ≡ 32) × Each 32 (λ j. get_or same.new j 0
         ≡ get_or same.old j 0 + bit (eq_z (signed_of (get_or a.now j 0)) (signed_of (get_or b.now j 0)))) }
 {
-    let mut j: usize = 0;
-    while j < HEADS {
-        same[j] = same[j] + (a[j] == b[j]) as u32;
-        j += 1;
+    for (j, s) in same.iter_mut().enumerate() {
+        *s += (a[j] == b[j]) as u32;
     }
 }
 
@@ -53,14 +51,12 @@ fn compare_in(h: &[u32], marks: &Words, n: usize, reference: usize) -> Compariso
     let mut alike: u8 = 0;
     let mut apart: u8 = 0;
     let mut same = [0u32; HEADS];
-    let mut k: usize = 0;
-    while k < n {
+    for k in 0..n {
         alike += (marks[k] == word) as u8;
         apart += settle_position::is_apart(marks[k], word) as u8;
         if marks[k] == word {
             add_same(row_in(h, k), row, &mut same);
         }
-        k += 1;
     }
     Comparison { alike, apart, same }
 }
@@ -81,10 +77,8 @@ fn column_in(h: &[u32], marks: &Words, n: usize, j: usize, cells: &mut [u64; HEA
     requires { IsBlock h.now × (n ≤ 32) × (j < 32) × (length cells.old ≡ 32) }
     ensures { (length cells.new ≡ 32) × HoldsEach n cells.new (column_of marks.now (rows_in h.now) j) }
 {
-    let mut k: usize = 0;
-    while k < n {
+    for k in 0..n {
         cells[k] = cell_at(h, k, marks[k], j);
-        k += 1;
     }
 }
 
@@ -153,11 +147,9 @@ pub(crate) fn settle_lists(h: &[u32], links: Links, n: u8, f: u8, up: bool) -> S
     let mut cells = [0u64; HEADS];
     let mut positions = [0i32; HEADS];
     let mut len: usize = 0;
-    let mut j: usize = 0;
-    while j < count {
+    for j in 0..count {
         let x = cell_in(h, &marks, first, &same, d, j, &mut cells);
         len = settle_midpoint::place(settle_trust::entry_of(x), &mut positions, len);
-        j += 1;
     }
     settle_midpoint::middle_in(&positions, len, Family::TwoRounds, n, f, up)
 }

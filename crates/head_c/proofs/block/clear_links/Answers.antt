@@ -1,24 +1,19 @@
--- Word after word: after j turns the first j words are 0.
-use mathlib.Core.Path.{◌≡◌, refl, ap, sym, ◌∙◌}
-use Prim.Native.Nat.{ℕ}
-use native.Mathlib.Omega.{arith}
-use lib.ListN.{get_or, length-set}
-use lib.Seq.{paste, paste-zero}
-use Rattle.head_c.proofs.Copying.{up_to_long, up_to_at, copied}
-use Rattle.head_c.proofs.block.clear_links.Invariants.{blank}
+-- The words that are filled are the 34 from word 58 on.
+use Rattle.std.proofs.Common.{◌≡◌, refl, ◌∙◌, ap, ℕ, length, take, drop, replicate, arith}
+use Rattle.std.proofs.lemmas.Slice.{put_mid-paste}
+use lib.ListN.{length-drop}
+use lib.Seq.{length-take-le}
+use Rattle.head_c.specs.Blocks.{up_to}
+use Rattle.head_c.proofs.Copying.{up_to_long}
 use Rattle.head_c.proofs.block.clear_links.Goals as goal
 
-pub loop-j-init : goal.loop-j-init
-loop-j-init c = (omega arith, refl, paste-zero c.args.h.now 58 blank)
-
-pub loop-j-preserved : goal.loop-j-preserved
-loop-j-preserved c =
-    let l = c.loop-j in
-    let w = c.args.h.now in
-    let v : 0 ≡ get_or blank l.j 0 = sym (up_to_at 34 (λ i. 0) l.j 0 (omega arith)) in
-    (omega arith, simp length-set l.invariant.1, copied w blank 58 0 l.invariant.2 v (omega arith) (omega (arith, up_to_long {A = ℕ} 34 (λ i. 0))))
+zeros_lem : replicate {A = ℕ} 34 0 ≡ up_to 34 (λ (i : ℕ). 0)
+unfolding up_to
+zeros_lem = refl
 
 pub returns : goal.returns
 returns c =
-    let all : c.loop-j.j ≡ 34 = omega arith in
-    c.loop-j.invariant.2 ∙ ap (paste c.args.h.now 58 blank) all
+    let w = c.args.h.now in
+    let long : length (take 34 (drop 58 w)) ≡ 34 = length-take-le 34 (drop 58 w) (omega (arith, length-drop 58 w)) in
+    put_mid-paste 58 34 w c.fill.new.self (up_to 34 (λ (i : ℕ). 0)) 34 (c.fill.ensures.after (λ y e. e) ∙ ap (λ (n : ℕ). replicate {A = ℕ} n 0) long ∙ zeros_lem) refl
+    (omega (arith, up_to_long {A = ℕ} 34 (λ i. 0)))

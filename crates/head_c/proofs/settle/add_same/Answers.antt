@@ -7,8 +7,8 @@ use Rattle.head_c.proofs.settle.add_same.Goals as goal
 pub loop-j-init : goal.loop-j-init
 loop-j-init c = added_none c.requires.2
 
-pub overflow_add-same : goal.overflow_add-same
-overflow_add-same c =
+pub overflow_add-s : goal.overflow_add-s
+overflow_add-s c =
     let j = c.loop-j.j in
     omega (arith, added_small c.loop-j.invariant (omega arith) (same_word _ _ (c.type_inv.a j).fits (c.type_inv.b j).fits) c.requires.3)
 

@@ -8,16 +8,15 @@ use Rattle.head_c.specs.Steps.{rows_in}
 use Rattle.head_c.proofs.settle.column_in.Goals as goal
 
 pub loop-k-init : goal.loop-k-init
-loop-k-init c = (search rules, search rules, λ i l. absurd (omega arith))
+loop-k-init c = (search rules, λ i l. absurd (omega arith))
 
 pub loop-k-preserved : goal.loop-k-preserved
 loop-k-preserved c =
     let l = c.loop-k in
     let a = c.args in (
-      search rules,
-      simp length-set l.invariant.1,
-      each_stored l.cells l.k c.cell_at.result (λ i x. CellOf x (column_of a.marks.now (rows_in a.h.now) a.j i)) (omega arith) l.invariant.2 c.cell_at.ensures,
+      simp length-set l.invariant.0,
+      each_stored l.cells l.k c.cell_at.result (λ i x. CellOf x (column_of a.marks.now (rows_in a.h.now) a.j i)) (omega arith) l.invariant.1 c.cell_at.ensures,
     )
 
 pub returns : goal.returns
-returns c = (c.loop-k.invariant.1, λ i h. c.loop-k.invariant.2 i (omega arith))
+returns c = (c.loop-k.invariant.0, λ i h. c.loop-k.invariant.1 i (omega arith))

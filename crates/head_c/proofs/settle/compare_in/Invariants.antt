@@ -1,6 +1,5 @@
 -- After k turns the lists compared are the first k.
 use mathlib.Core.Path.{◌≡◌}
-use Prim.Native.Nat.{◌-◌, ◌≤◌}
 use lib.ListN.{length}
 use Rattle.settle_position.specs.Reference.{Compares}
 use Rattle.head_c.specs.Steps.{rows_in}
@@ -8,7 +7,4 @@ use Rattle.head_c.proofs.settle.compare_in.Given as goal
 
 abbrev pub invariant-loop-k : goal.invariant-loop-k
 invariant-loop-k l =
-    (l.k ≤ l.n) × (length l.same ≡ 32) × Compares l.k l.marks (rows_in l.h) l.reference (record { alike = l.alike; apart = l.apart; same = l.same })
-
-abbrev pub decreases-loop-k : goal.decreases-loop-k
-decreases-loop-k l = l.n - l.k
+    (length l.same ≡ 32) × Compares l.k l.marks (rows_in l.h) l.reference (record { alike = l.alike; apart = l.apart; same = l.same })

@@ -1,7 +1,7 @@
 -- Before entry j the order holds the positions among the trusted entries below j. After the last entry these are all that settling asks of the entries.
 use mathlib.Core.Path.{◌≡◌}
 use mathlib.Core.List.{[]}
-use Prim.Native.Nat.{ℕ, ◌-◌, ◌≤◌}
+use Prim.Native.Nat.{ℕ}
 use lib.ListN.{length, get_or}
 use Rattle.terms.specs.declared.Entry.{Entry}
 use Rattle.settle_midpoint.specs.Orders.{OrderAfter}
@@ -11,7 +11,4 @@ use Rattle.head_c.proofs.settle.settle_lists.Given as goal
 
 abbrev pub invariant-loop-j : goal.invariant-loop-j
 invariant-loop-j l =
-    (l.j ≤ l.count) × (length l.cells ≡ 32) × ((E : ℕ → Entry) → Prepared E (rows_in l.h) l.marks (get_or (rows_in l.h) l.first []) l.same l.d → OrderAfter l.j E l.len l.positions)
-
-abbrev pub decreases-loop-j : goal.decreases-loop-j
-decreases-loop-j l = l.count - l.j
+    (length l.cells ≡ 32) × ((E : ℕ → Entry) → Prepared E (rows_in l.h) l.marks (get_or (rows_in l.h) l.first []) l.same l.d → OrderAfter l.j E l.len l.positions)
