@@ -51,9 +51,3 @@ loop-k-preserved c =
       )
       | else-marks-k x ↦ (rw x.same-is l.invariant.0, rw x.same-is (compares_other l.invariant.1 c.is_apart.ensures x.if-marks-k.false))
     ]
-
-pub returns : goal.returns
-returns c =
-    let l = c.loop-k in
-    let e : l.k ≡ c.args.n = omega arith in
-    rw e at l.invariant.1

@@ -12,16 +12,8 @@ use Rattle.settle_position.proofs.Reference.{prepared}
 use Rattle.head_c.specs.Steps.{rows_in}
 use Rattle.head_c.proofs.settle.settle_lists.Goals as goal
 
-pub compare_in-compared-requires : goal.compare_in-compared-requires
-compare_in-compared-requires c =
-    (c.requires, omega (arith, c.at_most_32-count.ensures), omega arith)
-
 pub loop-j-init : goal.loop-j-init
 loop-j-init c = (refl, λ E P. order_none E)
-
-pub cell_in-x-requires : goal.cell_in-x-requires
-cell_in-x-requires c =
-    (c.requires, omega arith, omega (arith, c.at_most_32-count.ensures), omega (arith, c.at_most_32-count.ensures), c.loop-j.invariant.0)
 
 pub loop-j-preserved : goal.loop-j-preserved
 loop-j-preserved c =
@@ -31,21 +23,6 @@ loop-j-preserved c =
           rw (c.place-len.ensures.0, c.place-len.ensures.1)
           (order_next E _ (omega (arith, few)) (sym (c.entry_of.ensures ∙ (c.cell_in-x.ensures.1 E P).entry)) (c.loop-j.invariant.1 E P)),
     )
-
--- the entries E that are trusted, and the order that holds them
-pub slice_bounds-middle_in-end : goal.slice_bounds-middle_in-end
-slice_bounds-middle_in-end c =
-    let a = c.args in
-    let few = c.at_most_32-count.ensures in
-    let L = rows_in a.h.now in
-    let g = words a.links c.well_formed.1.0 in
-    let E = trusted a.n a.f (given_by a.links L) in
-    let past = trusted_past a.links L g a.n a.f in
-    let held : OrderAfter c.loop-j.j E c.loop-j.len c.loop-j.positions =
-    c.loop-j.invariant.1 E
-    (prepared E L _ _ c.compare_in-compared.result _ c.compare_in-compared.ensures refl refl refl
-    (λ j. decided_marked a.links L g a.n a.f j few c.lists_needed.ensures c.all_marks-marks.ensures) past (omega (arith, few))) in
-    sym (order_long E (omega (arith, few)) held)
 
 pub returns : goal.returns
 returns c =
