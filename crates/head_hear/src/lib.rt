@@ -146,17 +146,18 @@ pub struct Cuts {
 pub fn cut(batch: &[u8], room: usize) -> Cuts
     ensures { result ≡ record { refusal = batch_refusal batch.now room; entries = length (deliveries_of batch.now) } }
 {
-    let mut at: usize = 0;
+    let mut rest = batch;
     let mut entries: usize = 0;
-    while at < batch.len() {
-        let size = entry_size(fields::bytes_from(batch, at));
+    // Entries differ in length, so each is cut from the front of what remains: no iterator over the bytes gives them.
+    while !rest.is_empty() {
+        let size = entry_size(rest);
         if size == 0 {
             return Cuts {
                 refusal: refusal::BAD_BATCH_ENTRY,
                 entries,
             };
         }
-        at += size;
+        rest = &rest[size..];
         entries += 1;
     }
     if room < entries {
@@ -178,15 +179,15 @@ fn hear_entries(h: Head, batch: &[u8], answers: &mut [u8]) -> Head
     ensures answers { answers.new ≡ answers_to h (deliveries_of batch.now) ++ drop (length (deliveries_of batch.now)) answers.old }
 {
     let mut next = h;
-    let mut at: usize = 0;
+    let mut rest = batch;
     let mut i: usize = 0;
-    while at < batch.len() {
-        let rest = fields::bytes_from(batch, at);
-        let size = entry_size(rest);
-        let heard = hear(next, rest[0] as u32, &rest[1..size]);
+    // Entries differ in length, so each is cut from the front of what remains: no iterator over the bytes gives them.
+    while let [link, behind @ ..] = rest {
+        let (frame, after) = behind.split_at(entry_size(rest) - 1);
+        let heard = hear(next, *link as u32, frame);
         next = heard.head;
         answers[i] = heard.refusal;
-        at += size;
+        rest = after;
         i += 1;
     }
     next

@@ -4,11 +4,10 @@ use mathlib.Core.Path.{◌≡◌, refl, ap, sym, ◌∙◌}
 use mathlib.Core.Logic.{◌≢◌}
 use mathlib.Core.Bool.{Bool, true, false, cond, ◌&&◌, true≢false}
 use mathlib.Core.List.{List, [], ◌∷◌, ◌++◌}
-use Prim.Native.Nat.{ℕ, zero, suc, ◌+◌, ◌≤◌, ◌<◌}
+use Prim.Native.Nat.{ℕ, zero, suc, ◌+◌, ◌-◌, ◌≤◌, ◌<◌}
 use native.Mathlib.Omega.{arith}
 use lib.Dec.{leb}
-use lib.ListN.{length, drop, length-drop, replicate}
-use lib.Seq.{drop-drop}
+use lib.ListN.{length, get_or, take, drop, length-drop, replicate}
 use borrow.Author.Tests.{leb-true}
 use Rattle.terms.specs.Refusals as refusal
 use Rattle.terms.specs.Refusals.{leaves}
@@ -118,22 +117,30 @@ batch_whole s told l = go (is_whole s) (torn_told s l)
     go true f = refl
     go false f = absurd (true≢false (sym told ∙ f refl))
 
--- the entry behind the first `at` bytes, if it is whole: n bytes
-module _ (s : List ℕ) (at : ℕ) (w : is_whole (drop at s) ≡ true) {n : ℕ} (e : n ≡ entry_size (drop at s)) where
-  pub size_here : n ≡ 1 + frame_length (drop at s)
-  size_here = e ∙ ap (λ (b : Bool). cond b (1 + frame_length (drop at s)) 0) w
+pub nothing_left : (s : List ℕ) → length s ≤ 0 → s ≡ []
+nothing_left [] l = refl
+nothing_left (x ∷ s) l = absurd (omega arith)
 
-  pub fits_here : (5 ≤ n) × (at + n ≤ length s)
-  fits_here = let (four, short) = whole_fits (drop at s) w in (omega (arith, size_here), omega (arith, size_here, length-drop at s))
+-- the first entry, if it is whole: n bytes
+module _ (s : List ℕ) (w : is_whole s ≡ true) {n : ℕ} (e : n ≡ entry_size s) where
+  size_here : n ≡ 1 + frame_length s
+  size_here = e ∙ ap (λ (b : Bool). cond b (1 + frame_length s) 0) w
 
-  behind_here : behind_first (drop at s) ≡ drop (at + n) s
-  behind_here = drop-drop (1 + frame_length (drop at s)) at s ∙ rw size_here
+  pub fits_here : (5 ≤ n) × (n ≤ length s)
+  fits_here = let (four, short) = whole_fits s w in (omega (arith, size_here), omega (arith, size_here, short))
 
-  pub cut_here : deliveries_of (drop at s) ≡ first_entry (drop at s) ∷ deliveries_of (drop (at + n) s)
-  cut_here = first_cut (drop at s) w ∙ ap (λ (t : List ℕ). first_entry (drop at s) ∷ deliveries_of t) behind_here
+  behind_here : behind_first s ≡ drop n s
+  behind_here = rw size_here
 
-  pub told_here : is_batch (drop at s) ≡ is_batch (drop (at + n) s)
-  told_here = first_told (drop at s) w ∙ ap is_batch behind_here
+  pub cut_here : deliveries_of s ≡ record { link = get_or s 0 0; bytes = take (n - 1) (drop 1 s) } ∷ deliveries_of (drop n s)
+  cut_here =
+      let less : frame_length s ≡ n - 1 = omega (arith, size_here) in
+      first_cut s w
+      ∙ ap (λ (m : ℕ). record { link = get_or s 0 0; bytes = take m (drop 1 s) } ∷ deliveries_of (behind_first s)) less
+      ∙ ap (λ (t : List ℕ). record { link = get_or s 0 0; bytes = take (n - 1) (drop 1 s) } ∷ deliveries_of t) behind_here
+
+  pub told_here : is_batch s ≡ is_batch (drop n s)
+  told_here = first_told s w ∙ ap is_batch behind_here
 
 -- ---- hearing
 

@@ -2,19 +2,19 @@
 -- whole, or where nothing remains.
 use mathlib.Core.Path.{◌≡◌}
 use mathlib.Core.List.{List}
-use Prim.Native.Nat.{ℕ, ◌+◌, ◌-◌, ◌≤◌}
-use lib.ListN.{length, drop}
+use Prim.Native.Nat.{ℕ, ◌+◌, ◌≤◌}
+use lib.ListN.{length}
 use Rattle.head_spec.specs.Batch.{deliveries_of, is_batch}
 use Rattle.head_hear.proofs.cut.Given as goal
 
-pub record Cutting (s : List ℕ) (at i : ℕ) : Type 0 where
-  pub inside : at ≤ length s
-  pub few : i ≤ at
-  pub told : is_batch (drop at s) ≡ is_batch s
-  pub count : i + length (deliveries_of (drop at s)) ≡ length (deliveries_of s)
+-- i entries are cut from s, and t remains
+pub record Cutting (s t : List ℕ) (i : ℕ) : Type 0 where
+  pub few : i + length t ≤ length s
+  pub told : is_batch t ≡ is_batch s
+  pub count : i + length (deliveries_of t) ≡ length (deliveries_of s)
 
-abbrev pub invariant-loop-at : goal.invariant-loop-at
-invariant-loop-at l = Cutting l.batch l.at l.entries
+abbrev pub invariant-loop-rest : goal.invariant-loop-rest
+invariant-loop-rest l = Cutting l.batch l.rest l.entries
 
-abbrev pub decreases-loop-at : goal.decreases-loop-at
-decreases-loop-at l = length l.batch - l.at
+abbrev pub decreases-loop-rest : goal.decreases-loop-rest
+decreases-loop-rest l = length l.rest
