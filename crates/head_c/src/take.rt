@@ -105,13 +105,13 @@ pub(crate) fn hear_entries(h: &mut [u32], batch: &[u8], answers: &mut [u8])
         × (answers.new ≡ answers_to (head_of h.old) (deliveries_of batch.now)
         ++ drop (length (deliveries_of batch.now)) answers.old) }
 {
-    let mut at: usize = 0;
+    let mut rest = batch;
     let mut i: usize = 0;
-    while at < batch.len() {
-        let rest = fields::bytes_from(batch, at);
-        let size = head_hear::entry_size(rest);
-        answers[i] = hear(h, rest[0] as u32, &rest[1..size]);
-        at += size;
+    // Entries differ in length, so each is cut from the front of what remains: no iterator over the bytes gives them.
+    while let [link, behind @ ..] = rest {
+        let (frame, after) = behind.split_at(head_hear::entry_size(rest) - 1);
+        answers[i] = hear(h, *link as u32, frame);
+        rest = after;
         i += 1;
     }
 }
