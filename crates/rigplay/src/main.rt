@@ -41,7 +41,7 @@ fn call(rt: &HostRuntime, ask: Ask, piece: &mut [u8], page: &Page) -> Did {
     }
 }
 
-// Step by step. A proved loop ends, and nothing says that the input does: the turns are counted down from a number that no run uses up.
+// Step by step. A proved loop ends, and nothing says that the input does: there are as many turns as no run uses up.
 fn run(
     rt: &HostRuntime,
     piece: &mut [u8],
@@ -55,8 +55,7 @@ fn run(
 ) {
     let mut program = run_program::begin();
     let mut did = Did::Nothing;
-    let mut turns = u64::MAX;
-    while turns > 0 {
+    for _ in 0..u64::MAX {
         let stepped = run_program::step(
             program, did, piece, page, carry, positions, marks, lists, planted, lengths,
         );
@@ -66,7 +65,6 @@ fn run(
             return;
         }
         did = call(rt, ask, piece, page);
-        turns -= 1;
     }
 }
 
