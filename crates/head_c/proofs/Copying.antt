@@ -7,7 +7,7 @@ use native.Mathlib.Omega.{arith}
 use native.Mathlib.Numerals.{add-one}
 use native.Mathlib.Decide.{ℕ_discrete, dec_lt}
 use lib.ListN.{length, get_or, set, take, drop, length-append, length-set, get_or-append}
-use lib.Seq.{get_or_at, get_or-take, get_or-drop, get_or-set_same, get_or-set_other, get_or-append-add, ext_get_or, take_all, take-suc, take-suc-set}
+use lib.Seq.{get_or_at, get_or-take, get_or-drop, get_or-set_same, get_or-set_other, get_or-append-add, ext_get_or}
 use lib.Seq.{length-take-le, length-paste, length_paste_head, paste, paste-suc}
 use Rattle.head_c.specs.Blocks.{up_to}
 

@@ -1,14 +1,13 @@
 -- A script played record by record: what is left of it still leads to the same end.
-use mathlib.Core.Path.{◌≡◌, refl, sym, ◌∙◌}
+use mathlib.Core.Path.{◌≡◌, refl, ◌∙◌}
 use mathlib.Core.Logic.{◌≢◌}
 use mathlib.Core.Bool.{Bool, true, false, cond, ◌&&◌}
 use mathlib.Core.List.{List}
-use Prim.Native.Nat.{ℕ, zero, suc, ◌+◌, ◌-◌, ◌≤◌, zero-le}
+use Prim.Native.Nat.{ℕ, zero, suc, ◌≤◌, zero-le}
 use native.Mathlib.Omega.{arith}
 use lib.Dec.{leb}
 use lib.IntN.{pos}
 use lib.ListN.{length, take, drop, length-drop}
-use lib.Seq.{drop-drop}
 use borrow.Author.Tests.{leb-true, ne_eqb}
 use Rattle.terms.specs.declared.Family.TheVariants.{TwoRounds}
 use Rattle.fields.specs.Bytes.{at2}

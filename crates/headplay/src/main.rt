@@ -229,7 +229,9 @@ fn opening(call: u8, s: &[u8], h: Head) -> Answer
 fn lapsed_by(answers: &[u8], offer: Offer) -> Offer
     ensures { result ≡ lapsed_by answers.now offer }
 {
-    answers.iter().fold(offer, |left, number| head_calls::lapsed(*number, left))
+    answers
+        .iter()
+        .fold(offer, |left, number| head_calls::lapsed(*number, left))
 }
 
 fn batched(h: Head, batch: &[u8], answers: &mut [u8], offer: Offer) -> Outcome

@@ -13,7 +13,6 @@ use Rattle.head_spec.specs.Calls.{spoken_in, spoken, write_answer, write_buffer}
 use Rattle.head_lent.specs.Answers.{written_number, written_or}
 use Rattle.head_c.specs.Blocks.{head_of}
 use Rattle.head_c.specs.Steps.{bare}
-use borrow.Author.Rules.{rules}
 use Rattle.head_c.proofs.focus_head_write.Goals as goal
 
 module _ (h : Head) (buffer : List ℕ) where

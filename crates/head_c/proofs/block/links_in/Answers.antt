@@ -1,8 +1,8 @@
 -- The mark words stand in a row.
-use Rattle.std.proofs.Common.{◌≡◌, sym, ◌∙◌, ℕ, ◌+◌, get_or, take, drop, arith}
+use Rattle.std.proofs.Common.{sym, ◌∙◌, ◌+◌, get_or, take, drop, arith}
 use lib.ListN.{length-drop}
 use lib.Seq.{get_or-take, get_or-drop, length-take-le}
-use Rattle.head_c.specs.Blocks.{up_to, head_of}
+use Rattle.head_c.specs.Blocks.{head_of}
 use Rattle.head_c.proofs.Copying.{up_to_list}
 use Rattle.head_c.proofs.block.links_in.Goals as goal
 

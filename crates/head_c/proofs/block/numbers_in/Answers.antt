@@ -1,5 +1,5 @@
 -- Number after number, that of the word there.
-use Rattle.std.proofs.Common.{ℕ, ◌+◌, rules}
+use Rattle.std.proofs.Common.{◌+◌, rules}
 use lib.ListN.{get_or}
 use lib.IntN.{pos}
 use Rattle.fields.specs.Bytes.{signed_of}

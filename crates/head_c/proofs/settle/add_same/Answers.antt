@@ -1,6 +1,6 @@
 -- Before entry j, the counts below j have one more if the two words are the same, and the others are as they were.
 use native.Mathlib.Omega.{arith}
-use Rattle.settle_position.proofs.Counting.{added_none, added_small, added_next, added_all}
+use Rattle.settle_position.proofs.Counting.{added_next}
 use Rattle.head_c.proofs.Rows.{same_word}
 use Rattle.head_c.proofs.settle.add_same.Goals as goal
 

@@ -6,7 +6,7 @@ use Rattle.settle_trust.specs.Received.{given_by}
 use Rattle.settle_trust.proofs.Received.{words}
 use Rattle.settle_trust.proofs.Trusted.{decided_marked, trusted_past}
 use Rattle.settle_midpoint.specs.Orders.{OrderAfter}
-use Rattle.settle_midpoint.proofs.Ordering.{order_long, order_none, order_next, order_all}
+use Rattle.settle_midpoint.proofs.Ordering.{order_none, order_next, order_all}
 use Rattle.settle_midpoint.proofs.Middle.{settling_after}
 use Rattle.settle_position.proofs.Reference.{prepared}
 use Rattle.head_c.specs.Steps.{rows_in}
