@@ -21,16 +21,20 @@ loop-k-init c = let a = c.args in (sym (page_none a.readings), front_none a.read
 
 pub put_line-at-requires : goal.put_line-at-requires
 put_line-at-requires c =
-    (c.line_of-t.ensures.len_bound, fit c.args.readings c.args.n c.loop-k.k _ c.args.buffer.now c.loop-k-test.true c.line_of-t.ensures.result_value c.loop-k.invariant.0 c.loop-k.auto.buffer c.requires.readings_in_bounds)
+    let l = c.loop-k in
+    let t = c.line_of-t.ensures in
+    let d = c.args.buffer.now in
+    (t.len_bound, fit c.args.readings c.args.n l.k _ d c.loop-k-test.true t.result_value l.invariant.0 l.auto.buffer c.requires.readings_in_bounds)
 
 pub loop-k-preserved : goal.loop-k-preserved
 loop-k-preserved c =
     let rs = c.args.readings in
-    let k = c.loop-k.k in
+    let l = c.loop-k in
+    let d = c.args.buffer.now in
     let e = c.line_of-t.ensures.result_value in
-    let f = fit rs c.args.n k _ c.args.buffer.now c.loop-k-test.true e c.loop-k.invariant.0 c.loop-k.auto.buffer c.requires.readings_in_bounds in (
-      c.put_line-at.ensures.0 ∙ rw (c.loop-k.invariant.0, e) (sym (next_length k rs)),
-      c.put_line-at.ensures.1 ∙ front_next k rs c.args.buffer.now c.loop-k.invariant.0 c.loop-k.invariant.1 e f,
+    let f = fit rs c.args.n l.k _ d c.loop-k-test.true e l.invariant.0 l.auto.buffer c.requires.readings_in_bounds in (
+      c.put_line-at.ensures.0 ∙ rw (l.invariant.0, e) (sym (next_length l.k rs)),
+      c.put_line-at.ensures.1 ∙ front_next l.k rs d l.invariant.0 l.invariant.1 e f,
     )
 
 pub returns : goal.returns
@@ -38,4 +42,6 @@ returns c =
     let l = c.loop-k in
     let a = c.args in
     let e : l.k ≡ a.n = omega arith in
-    l.invariant.1 ∙ ap (λ (k : ℕ). front (page_of k a.readings) a.buffer.now) e ∙ front_is (page_of a.n a.readings) a.buffer.now c.requires.readings_in_bounds
+    l.invariant.1
+    ∙ ap (λ (k : ℕ). front (page_of k a.readings) a.buffer.now) e
+    ∙ front_is (page_of a.n a.readings) a.buffer.now c.requires.readings_in_bounds

@@ -15,5 +15,6 @@ pub returns : goal.returns
 returns c =
     let w = c.args.h.now in
     let long : length (take 34 (drop 58 w)) ≡ 34 = length-take-le 34 (drop 58 w) (omega (arith, length-drop 58 w)) in
-    put_mid-paste 58 34 w c.fill.new.self (up_to 34 (λ (i : ℕ). 0)) 34 (c.fill.ensures.after (λ y e. e) ∙ ap (λ (n : ℕ). replicate {A = ℕ} n 0) long ∙ zeros_lem) refl
+    put_mid-paste 58 34 w c.fill.new.self (up_to 34 (λ (i : ℕ). 0)) 34
+    (c.fill.ensures.after (λ y e. e) ∙ ap (λ (n : ℕ). replicate {A = ℕ} n 0) long ∙ zeros_lem) refl
     (omega (arith, up_to_long {A = ℕ} 34 (λ i. 0)))
