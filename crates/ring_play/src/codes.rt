@@ -32,11 +32,8 @@ fn codes_of(marks: u32, list: &Numbers, n: usize) -> Numbers
     ensures { Each n (λ j. slice_index_or result j (pos 0) ≡ code_at marks list.now j) }
 {
     let mut codes = [0i32; HEADS];
-    let mut j: usize = 0;
-    while j < n {
-        let v = code(marks, j, list[j]);
-        codes[j] = v;
-        j += 1;
+    for j in 0..n {
+        codes[j] = code(marks, j, list[j]);
     }
     codes
 }
@@ -46,11 +43,9 @@ fn count_codes(marks: u32, list: &Numbers, codes: &Numbers, same: &mut [u32], n:
     requires { (n ≤ 32) × (length same.old ≡ 32) }
     ensures { Tallied n marks list.now codes.now same.old same.new }
 {
-    let mut j: usize = 0;
-    while j < n {
+    for j in 0..n {
         let x = code(marks, j, list[j]);
-        same[j] = std::num::wrapping_add_u32(same[j], (x == codes[j]) as u32);
-        j += 1;
+        same[j] = same[j].wrapping_add((x == codes[j]) as u32);
     }
 }
 
@@ -59,10 +54,8 @@ fn count_numbers(marks: u32, list: &Numbers, codes: &Numbers, same: &mut [u32], 
     requires { (n ≤ 32) × (length same.old ≡ 32) × Each n (λ j. bit_of marks j ≡ true) }
     ensures { Tallied n marks list.now codes.now same.old same.new }
 {
-    let mut j: usize = 0;
-    while j < n {
-        same[j] = std::num::wrapping_add_u32(same[j], (list[j] == codes[j]) as u32);
-        j += 1;
+    for j in 0..n {
+        same[j] = same[j].wrapping_add((list[j] == codes[j]) as u32);
     }
 }
 
@@ -108,15 +101,12 @@ fn vote(row: &Numbers, codes: &mut [i32], leads: &mut [u32], n: usize)
         × Each n (λ j. Voted (slice_index_or row.now j (pos 0)) (slice_index_or codes.old j (pos 0)) (slice_index leads.old j)
         (slice_index_or codes.new j (pos 0)) (slice_index leads.new j)) }
 {
-    let mut j: usize = 0;
-    while j < n {
+    for j in 0..n {
         let x = row[j];
         let c = codes[j];
         let l = leads[j];
-        let v = leader(x, c, l);
-        codes[j] = v;
+        codes[j] = leader(x, c, l);
         leads[j] = lead(x, c, l);
-        j += 1;
     }
 }
 
@@ -155,13 +145,11 @@ fn vote_all(lists: &Lists, links: Links, n: usize, codes: &mut [i32], leads: &mu
         (slice_index_or codes.new j (pos 0)) (slice_index leads.new j)) }
 {
     let mut count: usize = 0;
-    let mut k: usize = 0;
-    while k < n {
+    for k in 0..n {
         if gives_list(links.confessed, links.listed, k) {
             vote_for(links.marks[k], &lists[k], codes, leads, n);
             count += 1;
         }
-        k += 1;
     }
     count
 }
@@ -173,12 +161,10 @@ fn tally_all(lists: &Lists, links: Links, n: usize, codes: &Numbers, same: &mut 
         × Each n (λ j. slice_index same.new j
         ≡ sum n (λ k. holds j (slice_index_or codes.now j (pos 0)) (given_by links lists.now k))) }
 {
-    let mut k: usize = 0;
-    while k < n {
+    for k in 0..n {
         if gives_list(links.confessed, links.listed, k) {
             tally(links.marks[k], &lists[k], codes, same, n);
         }
-        k += 1;
     }
 }
 
@@ -187,16 +173,7 @@ fn are_alone(leads: &Words, confessed: u32, n: usize, count: usize, most: usize)
     requires { (n ≤ 32) × (most ≤ 255) × (count ≤ n) × Each n (λ j. slice_index leads.now j ≤ count) }
     ensures { result ≡ true → Each n (λ j. bit_of confessed j ≡ false → count < slice_index leads.now j + 2 * most) }
 {
-    let mut j: usize = 0;
-    while j < n {
-        if !marks::marked(confessed, j) {
-            if leads[j] as usize + 2 * most <= count {
-                return false;
-            }
-        }
-        j += 1;
-    }
-    true
+    (0..n).all(|j| marks::marked(confessed, j) || count < leads[j] as usize + 2 * most)
 }
 
 // No code for the entries of links that confessed.
@@ -205,12 +182,10 @@ fn drop_confessed(codes: &mut [i32], confessed: u32, n: usize)
     ensures { (length codes.new ≡ 32)
         × Each n (λ j. slice_index_or codes.new j (pos 0) ≡ (if bit_of confessed j then no_code else slice_index_or codes.old j (pos 0))) }
 {
-    let mut j: usize = 0;
-    while j < n {
+    for j in 0..n {
         if marks::marked(confessed, j) {
             codes[j] = NONE;
         }
-        j += 1;
     }
 }
 
@@ -259,32 +234,6 @@ fn picked(c: i32, need: u32, s: u32, dropped: bool) -> i32
 
 // Takes the codes of a receiver's trusted entries: of those that enough lists have, but for the entries of links that confessed. Answers
 // whether all are as they were.
-fn pick(
-    codes: &Numbers,
-    same: &Words,
-    need: u32,
-    confessed: u32,
-    n: usize,
-    taken: &mut [i32],
-) -> bool
-    requires { (n ≤ 32) × (length taken.old ≡ 32) }
-    ensures codes { Each n (λ j. slice_index_or taken.new j (pos 0) ≡ code_taken codes.now same.now need confessed j) }
-    ensures alike { result ≡ true → Each n (λ j. slice_index_or taken.new j (pos 0) ≡ slice_index_or taken.old j (pos 0)) }
-{
-    let mut alike = true;
-    let mut j: usize = 0;
-    while j < n {
-        let v = picked(codes[j], need, same[j], marks::marked(confessed, j));
-        if taken[j] != v {
-            alike = false;
-        }
-        taken[j] = v;
-        j += 1;
-    }
-    alike
-}
-
-// The same into an array.
 pub(crate) fn trust_codes(
     codes: &Numbers,
     same: &Words,
@@ -297,7 +246,15 @@ pub(crate) fn trust_codes(
     ensures codes { Each n (λ j. slice_index_or taken.new j (pos 0) ≡ code_taken codes.now same.now need confessed j) }
     ensures alike { result ≡ true → Each n (λ j. slice_index_or taken.new j (pos 0) ≡ slice_index_or taken.old j (pos 0)) }
 {
-    pick(codes, same, need, confessed, n, taken)
+    let mut alike = true;
+    for j in 0..n {
+        let v = picked(codes[j], need, same[j], marks::marked(confessed, j));
+        if taken[j] != v {
+            alike = false;
+        }
+        taken[j] = v;
+    }
+    alike
 }
 
 // The entry of a code.
@@ -319,10 +276,8 @@ pub(crate) fn settle_codes(s: Stage, codes: &Numbers) -> i32
     let count = n as usize;
     let mut positions = [0i32; HEADS];
     let mut len: usize = 0;
-    let mut j: usize = 0;
-    while j < count {
-        len = settle_midpoint::place(entry_of(codes[j]), &mut positions, len);
-        j += 1;
+    for c in &codes[..count] {
+        len = settle_midpoint::place(entry_of(*c), &mut positions, len);
     }
     let up = terms::rounds_up(s.phase);
     round::position_in(settle_midpoint::middle_in(&positions, len, Family::TwoRounds, n, s.f, up))

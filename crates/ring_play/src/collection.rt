@@ -86,15 +86,14 @@ fn entries_sent(s: Stage, positions: &Positions) -> Table
     let n = round::head_count(s) as usize;
     let mut marks: u32 = 0;
     let mut entries = [0i32; HEADS];
-    let mut k: usize = 0;
-    while k < n {
-        let mut e = Entry::Null;
-        if !marks::marked(s.struck, k) {
-            e = own_entry(s, positions, k);
-        }
+    for k in 0..n {
+        let e = if marks::marked(s.struck, k) {
+            Entry::Null
+        } else {
+            own_entry(s, positions, k)
+        };
         marks += mark_of(e) << k;
         entries[k] = value_of(e);
-        k += 1;
     }
     Table { marks, entries }
 }
@@ -152,13 +151,11 @@ fn fill_lists(
 {
     let n = round::head_count(s) as usize;
     let entries = sent.entries;
-    let mut i: usize = 0;
-    while i < n {
+    for i in 0..n {
         if !marks::marked(s.struck, i) {
             lists[i] = entries;
             marks[i] = list_for(s, sent.marks, planted, lengths, i, &mut lists[i]);
         }
-        i += 1;
     }
 }
 
@@ -230,13 +227,11 @@ fn fill_positions(
         (slice_index_or positions.old i (pos 0)) }
 {
     let end = round::receiver_end(s);
-    let mut i: usize = 0;
-    while i < end {
+    for i in 0..end {
         if round::settles(s, i) {
             let position = position_for(s, sent, order, planted, lengths, i);
             positions[i] = position;
         }
-        i += 1;
     }
 }
 

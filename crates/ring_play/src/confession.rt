@@ -19,8 +19,7 @@ fn links_of(s: Stage, marks: &Words) -> Links
     let n = round::head_count(s) as usize;
     let mut confessed: u32 = 0;
     let mut listed: u32 = 0;
-    let mut k: usize = 0;
-    while k < n {
+    for k in 0..n {
         if !marks::marked(s.struck, k) {
             if marks::marked(s.before, k) {
                 confessed = marks::with_mark(confessed, k);
@@ -28,7 +27,6 @@ fn links_of(s: Stage, marks: &Words) -> Links
                 listed = marks::with_mark(listed, k);
             }
         }
-        k += 1;
     }
     Links {
         confessed,
@@ -135,13 +133,11 @@ fn fill_positions(
         (slice_index_or positions.old i (pos 0)) }
 {
     let end = round::receiver_end(s);
-    let mut i: usize = 0;
-    while i < end {
+    for i in 0..end {
         if round::settles(s, i) {
             let position = position_for(s, planted, lengths, i, base, rows);
             positions[i] = position;
         }
-        i += 1;
     }
 }
 

@@ -177,11 +177,9 @@ pub(crate) fn fill_same(s: Stage, position: i32, positions: &mut [i32])
     ensures { (i : ℕ) → slice_index_or positions.new i (pos 0) ≡ (if settles s i then position else slice_index_or positions.old i (pos 0)) }
 {
     let end = receiver_end(s);
-    let mut i: usize = 0;
-    while i < end {
+    for i in 0..end {
         if settles(s, i) {
             positions[i] = position;
         }
-        i += 1;
     }
 }

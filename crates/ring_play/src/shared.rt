@@ -127,8 +127,7 @@ fn fill_positions(
         newer: Before::None,
         older: Before::None,
     };
-    let mut i: usize = 0;
-    while i < end {
+    for i in 0..end {
         if round::settles(s, i) {
             match round::same_of_two(s, planted, lengths, i, two) {
                 Before::As(m) => {
@@ -153,7 +152,6 @@ fn fill_positions(
                 }
             }
         }
-        i += 1;
     }
 }
 

@@ -1,9 +1,9 @@
 -- What head i hears in a collection round: of the unstruck heads what all hear, of the struck ones what is planted to it.
-use Rattle.std.specs.Prelude.{◌≡◌, ℕ, Bool, true, false, cond, ◌&&◌, List, length, ℤ, pos, ◌==◌, slice_index_or}
+use Rattle.std.specs.Prelude.{◌≡◌, ℕ, Bool, true, cond, ◌&&◌, List, length, ℤ, pos, ◌==◌, slice_index_or}
 use Rattle.terms.specs.declared.Entry.{Entry}
 use Rattle.terms.specs.declared.Table.{Table}
 use Rattle.marks.specs.Marks.{bit_of}
-use Rattle.entries.specs.Tables.{marks_of, values_of, table_of}
+use Rattle.entries.specs.Tables.{table_of}
 use Rattle.fields.specs.Bytes.{at2}
 use Rattle.frame_check.specs.Check.{length_field, sender_field, phase_field}
 use Rattle.frame_spec.specs.Said.{said}

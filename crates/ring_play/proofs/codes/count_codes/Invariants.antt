@@ -1,5 +1,5 @@
 -- `ring_play::codes::count_codes` meets its contract: before entry j, the counts below j have one more if the list has the code, and the others are as they were.
-use Rattle.std.proofs.Common.{◌≡◌, ℕ, ◌+◌, ◌-◌, ◌%◌, ◌≤◌, length, get_or, pos}
+use Rattle.std.proofs.Common.{◌≡◌, ℕ, ◌+◌, ◌%◌, ◌≤◌, get_or, pos}
 use Rattle.terms.specs.Positions.{eq_z}
 use Rattle.terms.specs.Counting.{Each, bit}
 use Rattle.ring_play.specs.Inner.Codes.{code_at}
@@ -7,9 +7,5 @@ use Rattle.ring_play.proofs.codes.count_codes.Given as goal
 
 abbrev pub invariant-loop-j : goal.invariant-loop-j
 invariant-loop-j l =
-    (l.j ≤ l.n) × (length l.same ≡ 32)
-    × Each l.j (λ i. get_or l.same i 0 ≡ (get_or l.initial.same i 0 + bit (eq_z (code_at l.marks l.list i) (get_or l.codes i (pos 0)))) % 4294967296)
+    Each l.j (λ i. get_or l.same i 0 ≡ (get_or l.initial.same i 0 + bit (eq_z (code_at l.marks l.list i) (get_or l.codes i (pos 0)))) % 4294967296)
     × ((i : ℕ) → l.j ≤ i → get_or l.same i 0 ≡ get_or l.initial.same i 0)
-
-abbrev pub decreases-loop-j : goal.decreases-loop-j
-decreases-loop-j l = l.n - l.j

@@ -7,10 +7,7 @@ use Rattle.ring_play.proofs.codes.tally_all.Goals.{then-gives_list, else-gives_l
 
 pub loop-k-init : goal.loop-k-init
 unfolding sum
-loop-k-init c = (search rules, c.requires.1, c.requires.2)
-
-pub tally-requires : goal.tally-requires
-tally-requires c = search rules
+loop-k-init c = c.requires.2
 
 pub loop-k-preserved : goal.loop-k-preserved
 loop-k-preserved c =
@@ -18,21 +15,14 @@ loop-k-preserved c =
     let a = c.args in
     let e = sym c.gives_list.ensures in
     elim c.if-gives_list.branch [
-      | then-gives_list w ↦ (
-        search rules,
-        rw w.same-is (w.tally.ensures.long ∙ l.invariant.1),
-        rw w.same-is
-            (λ j q. tally_given a.links a.lists.now j l.k (get_or a.codes.now j (pos 0)) (l.invariant.2 j q) (e ∙ w.if-gives_list.true) (omega arith) (w.tally.ensures.counts j q)),
-      )
-      | else-gives_list w ↦ (
-        search rules,
-        rw w.same-is l.invariant.1,
-        rw w.same-is (λ j q. tally_skipped a.links a.lists.now j l.k (get_or a.codes.now j (pos 0)) (l.invariant.2 j q) (e ∙ w.if-gives_list.false)),
-      )
+      | then-gives_list w ↦
+          rw w.same-is
+          (λ j q. tally_given a.links a.lists.now j l.k (get_or a.codes.now j (pos 0)) (l.invariant j q) (e ∙ w.if-gives_list.true) (omega arith) (w.tally.ensures.counts j q))
+      | else-gives_list w ↦
+          rw w.same-is (λ j q. tally_skipped a.links a.lists.now j l.k (get_or a.codes.now j (pos 0)) (l.invariant j q) (e ∙ w.if-gives_list.false))
     ]
 
 pub returns : goal.returns
 returns c =
-    let l = c.loop-k in
-    let e : l.k ≡ c.args.n = omega arith in
-    (l.invariant.1, rw e at l.invariant.2)
+    let e : c.loop-k.k ≡ c.args.n = omega arith in
+    (search rules, rw e at c.loop-k.invariant)

@@ -9,16 +9,12 @@ use Rattle.ring_play.proofs.codes.vote_all.Goals.{then-gives_list, else-gives_li
 pub loop-k-init : goal.loop-k-init
 unfolding sum
 loop-k-init c =
-    let p = c.requires in
-    (search rules, p.1, p.2, search rules, λ j l. rw (p.3 j l) (leads_none _ (λ w. refl) _))
+    (search rules, λ j l. rw (c.requires.3 j l) (leads_none _ (λ w. refl) _))
 
 pub vote_for-requires : goal.vote_for-requires
 vote_for-requires c =
     let l = c.loop-k in
-    (search rules, l.invariant.1, l.invariant.2, λ j q. omega (arith, (l.invariant.4 j q).within))
-
-pub overflow_add-count : goal.overflow_add-count
-overflow_add-count c = search rules
+    (search rules, search rules, search rules, λ j q. omega (arith, (l.invariant.1 j q).within))
 
 pub loop-k-preserved : goal.loop-k-preserved
 loop-k-preserved c =
@@ -27,23 +23,16 @@ loop-k-preserved c =
     let e = sym c.gives_list.ensures in
     elim c.if-gives_list.branch [
       | then-gives_list w ↦ (
-        search rules,
-        rw w.codes-is w.vote_for.ensures.0,
-        rw w.leads-is w.vote_for.ensures.1,
         rw w.count-is (omega arith),
-        rw (w.codes-is, w.leads-is, w.count-is) (λ j q. vote_given a.links a.lists.now j l.k (l.invariant.4 j q) (e ∙ w.if-gives_list.true) (w.vote_for.ensures.2 j q)),
+        rw (w.codes-is, w.leads-is, w.count-is) (λ j q. vote_given a.links a.lists.now j l.k (l.invariant.1 j q) (e ∙ w.if-gives_list.true) (w.vote_for.ensures.2 j q)),
       )
       | else-gives_list w ↦ (
-        search rules,
-        rw w.codes-is l.invariant.1,
-        rw w.leads-is l.invariant.2,
         rw w.count-is (omega arith),
-        rw (w.codes-is, w.leads-is, w.count-is) (λ j q. vote_skipped a.links a.lists.now j l.k (l.invariant.4 j q) (e ∙ w.if-gives_list.false)),
+        rw (w.codes-is, w.leads-is, w.count-is) (λ j q. vote_skipped a.links a.lists.now j l.k (l.invariant.1 j q) (e ∙ w.if-gives_list.false)),
       )
     ]
 
 pub returns : goal.returns
 returns c =
-    let l = c.loop-k in
-    let e : l.k ≡ c.args.n = omega arith in
-    (l.invariant.1, l.invariant.2, omega arith, rw e at l.invariant.4)
+    let e : c.loop-k.k ≡ c.args.n = omega arith in
+    (search rules, search rules, omega arith, rw e at c.loop-k.invariant.1)

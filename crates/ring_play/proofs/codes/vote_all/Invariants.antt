@@ -1,5 +1,5 @@
 -- `ring_play::codes::vote_all` meets its contract: before link k, the lists of the links below k have voted.
-use Rattle.std.proofs.Common.{◌≡◌, ◌-◌, ◌≤◌, length, get_or, pos}
+use Rattle.std.proofs.Common.{◌≤◌, get_or, pos}
 use Rattle.terms.specs.Counting.{Each}
 use Rattle.ring_play.specs.Inner.Votes.{CodeLeads}
 use Rattle.ring_play.proofs.codes.Lists.{counted}
@@ -7,8 +7,4 @@ use Rattle.ring_play.proofs.codes.vote_all.Given as goal
 
 abbrev pub invariant-loop-k : goal.invariant-loop-k
 invariant-loop-k l =
-    (l.k ≤ l.n) × (length l.codes ≡ 32) × (length l.leads ≡ 32) × (l.count ≤ l.k)
-    × Each l.n (λ j. CodeLeads (counted l.links l.lists j l.k) l.count (get_or l.codes j (pos 0)) (get_or l.leads j 0))
-
-abbrev pub decreases-loop-k : goal.decreases-loop-k
-decreases-loop-k l = l.n - l.k
+    (l.count ≤ l.k) × Each l.n (λ j. CodeLeads (counted l.links l.lists j l.k) l.count (get_or l.codes j (pos 0)) (get_or l.leads j 0))

@@ -18,17 +18,17 @@ module _ (s : Stage) (t : Table) (lists : List (List ℤ)) (i : ℕ) (below : i 
   shared_here = shared_as (ap (λ (x : List ℤ). record { marks = t.marks; entries = x }) stored)
 
 pub loop-i-init : goal.loop-i-init
-loop-i-init c = (search rules, search rules, search rules, λ S. filled_none _ _ _)
+loop-i-init c = λ S. filled_none _ _ _
 
 pub bounds-lists-i-then-not-marked : goal.bounds-lists-i-then-not-marked
-bounds-lists-i-then-not-marked c = let l = c.loop-i in omega (arith, length-set l.lists l.i c.args.sent.entries, l.invariant.2)
+bounds-lists-i-then-not-marked c = let l = c.loop-i in omega (arith, length-set l.lists l.i c.args.sent.entries)
 
 pub list_for-requires : goal.list_for-requires
 list_for-requires c =
     let a = c.args in
     let l = c.loop-i in
     let e : length a.sent.entries ≡ 32 = search rules in
-    let below : l.i < length l.lists = omega (arith, l.invariant.2) in
+    let below : l.i < length l.lists = omega (arith) in
     (search rules, ap length (stored a.s a.sent l.lists l.i below) ∙ e, shared_here a.s a.sent l.lists l.i below c.requires.2)
 
 pub loop-i-preserved : goal.loop-i-preserved
@@ -37,25 +37,17 @@ loop-i-preserved c =
     let l = c.loop-i in
     let b = ap not (sym c.marked.ensures) in
     elim c.if-not-marked.branch [
-      | then-not-marked w ↦ (
-        search rules,
-        rw w.marks-is (simp length-set l.invariant.1),
-        rw w.lists-is (simp length-set l.invariant.2),
-        λ S.
-            rw (w.marks-is, w.lists-is, set-set l.lists l.i a.sent.entries _)
-            (filled_row _ _ _ l.marks l.lists l.i (l.invariant.3 S) (omega arith) (omega arith) (b ∙ ap not w.if-not-marked.true)
-            (w.list_for.ensures.1 (shared_here a.s a.sent l.lists l.i (omega (arith, l.invariant.2)) S))),
-      )
-      | else-not-marked w ↦ (
-        search rules,
-        rw w.marks-is l.invariant.1,
-        rw w.lists-is l.invariant.2,
-        λ S. rw (w.marks-is, w.lists-is) (filled_passed _ _ _ l.i (l.invariant.3 S) (b ∙ ap not w.if-not-marked.false)),
-      )
+      | then-not-marked w ↦
+          λ S.
+          rw (w.marks-is, w.lists-is, set-set l.lists l.i a.sent.entries _)
+          (filled_row _ _ _ l.marks l.lists l.i (l.invariant S) (omega arith) (omega arith) (b ∙ ap not w.if-not-marked.true)
+          (w.list_for.ensures.1 (shared_here a.s a.sent l.lists l.i (omega (arith)) S)))
+      | else-not-marked w ↦
+          λ S. rw (w.marks-is, w.lists-is) (filled_passed _ _ _ l.i (l.invariant S) (b ∙ ap not w.if-not-marked.false))
     ]
 
 pub returns : goal.returns
 returns c S =
     let l = c.loop-i in
     let e : l.i ≡ heads c.args.s = omega (arith, c.head_count-n.ensures) in
-    rw e at (l.invariant.3 S)
+    rw e at (l.invariant S)

@@ -1,5 +1,5 @@
 -- `ring_play::collection::fill_positions` meets its contract: before receiver i, the unstruck ones below i have their new position, and all others the one they had.
-use Rattle.std.proofs.Common.{pos, sym, ◌∙◌, arith, length-set, to_z-of_z, rules, w32}
+use Rattle.std.proofs.Common.{pos, sym, ◌∙◌, arith, to_z-of_z, rules, w32}
 use Rattle.ring_play.proofs.round.Filling.{filled_none, filled_passed, filled_set, filled_all}
 use Rattle.ring_play.proofs.round.Receivers.{end_small, settles_below}
 use Rattle.ring_play.proofs.collection.fill_positions.Goals as goal
@@ -8,7 +8,7 @@ use Rattle.ring_play.proofs.collection.fill_positions.Goals.{then-settles, else-
 pub loop-i-init : goal.loop-i-init
 loop-i-init c =
     let s = c.args.s in
-    (search rules, omega (arith, c.receiver_end-end.ensures, end_small s), search rules, λ S. filled_none _ _ _)
+    (omega (arith, c.receiver_end-end.ensures, end_small s), λ S. filled_none _ _ _)
 
 pub position_for-position-requires : goal.position_for-position-requires
 position_for-position-requires c =
@@ -21,18 +21,14 @@ loop-i-preserved c =
     let b = sym c.settles.ensures in
     elim c.if-settles.branch [
       | then-settles w ↦ (
-        search rules,
-        l.invariant.1,
-        rw w.positions-is (simp length-set l.invariant.2),
+        l.invariant.0,
         λ S. rw w.positions-is
-            (filled_set _ _ _ l.positions (pos 0) l.i (l.invariant.3 S) (omega arith) (b ∙ w.if-settles.true)
+            (filled_set _ _ _ l.positions (pos 0) l.i (l.invariant.1 S) (omega arith) (b ∙ w.if-settles.true)
             (to_z-of_z {w = w32} (record { sfits = w.position_for-position.type_inv }) ∙ w.position_for-position.ensures S)),
       )
       | else-settles w ↦ (
-        search rules,
-        l.invariant.1,
-        rw w.positions-is l.invariant.2,
-        λ S. rw w.positions-is (filled_passed _ _ _ l.i (l.invariant.3 S) (b ∙ w.if-settles.false)),
+        l.invariant.0,
+        λ S. rw w.positions-is (filled_passed _ _ _ l.i (l.invariant.1 S) (b ∙ w.if-settles.false)),
       )
     ]
 
@@ -40,4 +36,4 @@ pub returns : goal.returns
 returns c S =
     let l = c.loop-i in
     let s = c.args.s in
-    filled_all _ _ _ l.i (λ j t. omega (arith, settles_below s j t, c.receiver_end-end.ensures)) (l.invariant.3 S)
+    filled_all _ _ _ l.i (λ j t. omega (arith, settles_below s j t, c.receiver_end-end.ensures)) (l.invariant.1 S)

@@ -1,5 +1,5 @@
 -- `ring_play::collection::fill_positions` meets its contract: before receiver i, the unstruck ones below i have their new position, and all others the one they had.
-use Rattle.std.proofs.Common.{◌≡◌, ◌-◌, ◌≤◌, length, get_or, pos}
+use Rattle.std.proofs.Common.{◌≤◌, get_or, pos}
 use Rattle.entries.specs.Tables.{table_at, table_of}
 use Rattle.ring_play.specs.Memory.{heads, settles}
 use Rattle.frame_slots.specs.Slots.{planted_in}
@@ -9,10 +9,6 @@ use Rattle.ring_play.proofs.collection.fill_positions.Given as goal
 
 abbrev pub invariant-loop-i : goal.invariant-loop-i
 invariant-loop-i l =
-    (l.i ≤ l.end) × (l.end ≤ 48) × (length l.positions ≡ 48)
-    × ((S : Shared l.s l.sent)
+    (l.end ≤ 48) × ((S : Shared l.s l.sent)
     → Filled (settles l.s) (λ j. position_from l.s (table_at (table_of (heads l.s) (heard_with l.s S.entry (planted_in l.planted l.lengths) j))))
     (λ j. get_or l.initial.positions j (pos 0)) l.i (λ j. get_or l.positions j (pos 0)))
-
-abbrev pub decreases-loop-i : goal.decreases-loop-i
-decreases-loop-i l = l.end - l.i

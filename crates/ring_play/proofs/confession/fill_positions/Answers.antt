@@ -1,5 +1,5 @@
 -- `ring_play::confession::fill_positions` meets its contract: before receiver i, the unstruck ones below i have their new position, and all others the one they had.
-use Rattle.std.proofs.Common.{pos, sym, refl, ap, ◌∙◌, arith, length-set, to_z-of_z, rules, w32}
+use Rattle.std.proofs.Common.{pos, sym, refl, ap, ◌∙◌, arith, to_z-of_z, rules, w32}
 use Rattle.frame_slots.specs.Slots.{planted_in}
 use Rattle.ring_play.specs.Inner.Planted.{position_settled}
 use Rattle.ring_play.proofs.round.Filling.{filled_none, filled_passed, filled_set, filled_all}
@@ -10,12 +10,12 @@ use Rattle.ring_play.proofs.confession.fill_positions.Goals.{then-settles, else-
 
 pub loop-i-init : goal.loop-i-init
 loop-i-init c =
-    (search rules, omega (arith, c.receiver_end-end.ensures, end_small c.args.s), search rules, filled_none _ _ _, record { long = c.requires.0.rows_long; gives = refl })
+    (omega (arith, c.receiver_end-end.ensures, end_small c.args.s), filled_none _ _ _, record { long = c.requires.0.rows_long; gives = refl })
 
 pub position_for-position-requires : goal.position_for-position-requires
 position_for-position-requires c =
     let a = c.args in
-    (search rules, untold_kept a.s a.base a.rows.now c.loop-i.rows c.loop-i.invariant.4 c.requires.0)
+    (search rules, untold_kept a.s a.base a.rows.now c.loop-i.rows c.loop-i.invariant.2 c.requires.0)
 
 pub loop-i-preserved : goal.loop-i-preserved
 loop-i-preserved c =
@@ -25,20 +25,16 @@ loop-i-preserved c =
     elim c.if-settles.branch [
       | then-settles w ↦
           let e = to_z-of_z {w = w32} (record { sfits = w.position_for-position.type_inv }) ∙ w.position_for-position.ensures.position
-          ∙ ap (position_settled a.s) (planted_kept a.s a.base a.rows.now l.rows l.invariant.4 (planted_in a.planted.now a.lengths.now) l.i) in
+          ∙ ap (position_settled a.s) (planted_kept a.s a.base a.rows.now l.rows l.invariant.2 (planted_in a.planted.now a.lengths.now) l.i) in
           let k = w.position_for-position.ensures.kept in (
-            search rules,
-            l.invariant.1,
-            rw w.positions-is (simp length-set l.invariant.2),
-            rw w.positions-is (filled_set _ _ _ l.positions (pos 0) l.i l.invariant.3 (omega arith) (b ∙ w.if-settles.true) e),
-            rw w.rows-is (record { long = k.long; gives = k.gives ∙ l.invariant.4.gives }),
+            l.invariant.0,
+            rw w.positions-is (filled_set _ _ _ l.positions (pos 0) l.i l.invariant.1 (omega arith) (b ∙ w.if-settles.true) e),
+            rw w.rows-is (record { long = k.long; gives = k.gives ∙ l.invariant.2.gives }),
           )
       | else-settles w ↦ (
-        search rules,
-        l.invariant.1,
-        rw w.positions-is l.invariant.2,
-        rw w.positions-is (filled_passed _ _ _ l.i l.invariant.3 (b ∙ w.if-settles.false)),
-        rw w.rows-is l.invariant.4,
+        l.invariant.0,
+        rw w.positions-is (filled_passed _ _ _ l.i l.invariant.1 (b ∙ w.if-settles.false)),
+        rw w.rows-is l.invariant.2,
       )
     ]
 
@@ -46,4 +42,4 @@ pub returns : goal.returns
 returns c =
     let l = c.loop-i in
     let s = c.args.s in
-    filled_all _ _ _ l.i (λ j t. omega (arith, settles_below s j t, c.receiver_end-end.ensures)) l.invariant.3
+    filled_all _ _ _ l.i (λ j t. omega (arith, settles_below s j t, c.receiver_end-end.ensures)) l.invariant.1

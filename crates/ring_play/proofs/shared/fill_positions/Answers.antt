@@ -1,5 +1,5 @@
 -- `ring_play::shared::fill_positions` meets its contract: before receiver i, each unstruck one below i has its new position, and `earlier` was settled from `settled`.
-use Rattle.std.proofs.Common.{◌≡◌, get_or, pos, sym, ◌∙◌, arith, length-set, to_z-of_z, rules, w32, to_z, of_z}
+use Rattle.std.proofs.Common.{◌≡◌, get_or, pos, sym, ◌∙◌, arith, to_z-of_z, rules, w32, to_z, of_z}
 use Rattle.frame_slots.specs.Slots.{planted_in}
 use Rattle.ring_play.specs.Inner.Before.{AsBefore}
 use Rattle.ring_play.specs.declared.round.Before.TheVariants.{As}
@@ -12,11 +12,11 @@ use Rattle.ring_play.proofs.shared.fill_positions.Goals.{then-settles+in-As, the
 
 pub loop-i-init : goal.loop-i-init
 loop-i-init c =
-    (search rules, omega (arith, c.receiver_end-end.ensures, end_small c.args.s), search rules, tt, tt, tt, λ S A. filled_none _ _ _)
+    (omega (arith, c.receiver_end-end.ensures, end_small c.args.s), tt, tt, tt, λ S A. filled_none _ _ _)
 
 pub same_of_two-requires : goal.same_of_two-requires
 same_of_two-requires c =
-    let l = c.loop-i in (search rules, l.invariant.4, l.invariant.5)
+    let l = c.loop-i in (search rules, l.invariant.2, l.invariant.3)
 
 -- the receiver that was found
 pub offset_bounds-positions-m : goal.offset_bounds-positions-m
@@ -29,14 +29,14 @@ pub slice_copy_out-positions : goal.slice_copy_out-positions
 slice_copy_out-positions c =
     let a = c.args in
     let f : AsBefore a.s (planted_in a.planted.now a.lengths.now) c.loop-i.i (As c.in-As.m) = rw c.in-As.is at c.same_of_two.ensures in
-    omega (arith, f.0, c.loop-i.invariant.2)
+    omega (arith, f.0, c.loop-i.invariant.0)
 
 pub count_planted-confessed-requires : goal.count_planted-confessed-requires
 count_planted-confessed-requires c = (search rules, c.requires.1.shares.few)
 
 pub position_counted-position-requires : goal.position_counted-position-requires
 position_counted-position-requires c =
-    c.loop-i.invariant.3
+    c.loop-i.invariant.1
 
 pub loop-i-preserved : goal.loop-i-preserved
 loop-i-preserved c =
@@ -47,41 +47,35 @@ loop-i-preserved c =
     elim c.if-settles.branch [
       | then-settles+in-As w ↦
           let r = w.remember-two.ensures in (
-            search rules,
-            l.invariant.1,
-            rw w.positions-is (simp length-set l.invariant.2),
-            rw (w.settled-is, w.earlier-is) l.invariant.3,
+            l.invariant.0,
+            rw (w.settled-is, w.earlier-is) l.invariant.1,
             rw (w.two-is, r.0) (omega arith, b ∙ w.if-settles.true),
-            rw w.two-is (r.1 a.s _ (settles_more a.s l.i l.two.newer l.invariant.4) (settles_more a.s l.i l.two.older l.invariant.5)),
+            rw w.two-is (r.1 a.s _ (settles_more a.s l.i l.two.newer l.invariant.2) (settles_more a.s l.i l.two.older l.invariant.3)),
             λ S A.
                 let f : AsBefore a.s plant l.i (As w.in-As.m) = rw w.in-As.is at w.same_of_two.ensures in
                 let fits : to_z w32 (of_z w32 (get_or l.positions w.in-As.m (pos 0))) ≡ get_or l.positions w.in-As.m (pos 0) = search rules in
                 rw w.positions-is
-                (filled_set _ _ _ l.positions (pos 0) l.i (l.invariant.6 S A) (omega arith) (b ∙ w.if-settles.true)
-                (fits ∙ filled_had _ _ _ l.i (l.invariant.6 S A) _ f.0 f.1 ∙ told_settled a.s S.given plant l.i _ f.2)),
+                (filled_set _ _ _ l.positions (pos 0) l.i (l.invariant.4 S A) (omega arith) (b ∙ w.if-settles.true)
+                (fits ∙ filled_had _ _ _ l.i (l.invariant.4 S A) _ f.0 f.1 ∙ told_settled a.s S.given plant l.i _ f.2)),
           )
       | then-settles+in-None w ↦
           let r = w.remember-two-in-None.ensures in
           let p = w.position_counted-position.ensures in
           let fits = to_z-of_z {w = w32} (record { sfits = w.position_counted-position.type_inv }) in (
-            search rules,
-            l.invariant.1,
-            rw w.positions-is (simp length-set l.invariant.2),
+            l.invariant.0,
             rw (w.settled-is, w.earlier-is) (fits ∙ p.codes),
             rw (w.two-is, r.0) (omega arith, b ∙ w.if-settles.true),
-            rw w.two-is (r.1 a.s _ (settles_more a.s l.i l.two.newer l.invariant.4) (settles_more a.s l.i l.two.older l.invariant.5)),
+            rw w.two-is (r.1 a.s _ (settles_more a.s l.i l.two.newer l.invariant.2) (settles_more a.s l.i l.two.older l.invariant.3)),
             λ S A. rw w.positions-is
-                (filled_set _ _ _ l.positions (pos 0) l.i (l.invariant.6 S A) (omega arith) (b ∙ w.if-settles.true)
+                (filled_set _ _ _ l.positions (pos 0) l.i (l.invariant.4 S A) (omega arith) (b ∙ w.if-settles.true)
                 (fits ∙ p.position ∙ settled_here a.s plant l.i S A w.count_planted-confessed.ensures)),
           )
       | else-settles w ↦ (
-        search rules,
-        l.invariant.1,
-        rw w.positions-is l.invariant.2,
-        rw (w.settled-is, w.earlier-is) l.invariant.3,
-        rw w.two-is (settles_more a.s l.i l.two.newer l.invariant.4),
-        rw w.two-is (settles_more a.s l.i l.two.older l.invariant.5),
-        λ S A. rw w.positions-is (filled_passed _ _ _ l.i (l.invariant.6 S A) (b ∙ w.if-settles.false)),
+        l.invariant.0,
+        rw (w.settled-is, w.earlier-is) l.invariant.1,
+        rw w.two-is (settles_more a.s l.i l.two.newer l.invariant.2),
+        rw w.two-is (settles_more a.s l.i l.two.older l.invariant.3),
+        λ S A. rw w.positions-is (filled_passed _ _ _ l.i (l.invariant.4 S A) (b ∙ w.if-settles.false)),
       )
     ]
 
@@ -89,4 +83,4 @@ pub returns : goal.returns
 returns c S A =
     let l = c.loop-i in
     let s = c.args.s in
-    filled_all _ _ _ l.i (λ j t. omega (arith, settles_below s j t, c.receiver_end-end.ensures)) (l.invariant.6 S A)
+    filled_all _ _ _ l.i (λ j t. omega (arith, settles_below s j t, c.receiver_end-end.ensures)) (l.invariant.4 S A)
