@@ -1,6 +1,7 @@
 -- What the private functions promise each other. Readers of the public promises do not need these files.
 pub mod Before
 pub mod Struck
+pub mod Walk
 pub mod Collection
 pub mod Sides
 pub mod Codes

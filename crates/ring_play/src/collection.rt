@@ -122,14 +122,11 @@ fn list_for(
         → ◌≡◌ {A = Table} (record { marks = result; entries = entries.new })
         (table_of (heads s) (heard_with s S.entry (planted_in planted.now lengths.now) i))) }
 {
-    let n = round::head_count(s) as usize;
     let mut marks = sent;
-    let mut k = round::next_struck(s, 0);
-    while k < n {
+    for k in round::struck_heads(s) {
         let e = entry_planted(s, planted, lengths, k, i);
         marks += mark_of(e) << k;
         entries[k] = value_of(e);
-        k = round::next_struck(s, k + 1);
     }
     marks
 }

@@ -71,13 +71,10 @@ fn hear_planted(
     ensures kept { RowsKept base rows.old rows.new }
 {
     let n = round::head_count(s);
-    let count = n as usize;
     let mut links = base;
-    let mut k = round::next_struck(s, 0);
-    while k < count {
+    for k in round::struck_heads(s) {
         let frame = frame_slots::planted(planted, lengths, k as u8, i as u8);
         links = hear(links, rows, k, frame, n, s.phase);
-        k = round::next_struck(s, k + 1);
     }
     links
 }

@@ -1,5 +1,5 @@
 // What all kinds of rounds need: how many heads and listeners are played, who settles, and to whom the same is planted.
-ghost use Rattle.std.specs.Prelude.{◌≡◌, ℕ, ◌<◌, ◌≤◌, true, ◌↔◌, length, pos, if◌then◌else◌, slice_index_or};
+ghost use Rattle.std.specs.Prelude.{◌≡◌, ℕ, ◌-◌, ◌<◌, ◌≤◌, true, ◌↔◌, length, pos, if◌then◌else◌, slice_index_or};
 ghost use Rattle.frame_slots.specs.Slots.{planted_in};
 ghost use Rattle.ring_play.specs.Memory.{heads, listeners, receiver_end, settles, SamePlanted, position_of};
 ghost use Rattle.ring_play.specs.declared.Stage.{Stage};
@@ -48,6 +48,41 @@ pub(crate) fn next_struck(s: Stage, k: usize) -> usize
     if j < n { j } else { n }
 }
 
+// The struck heads that are played, from the lowest up.
+#[derive(Drop)]
+pub(crate) struct StruckHeads {
+    stage: Stage,
+    from: usize,
+    ghost within: { from ≤ heads stage },
+}
+
+// The struck heads of a round.
+pub(crate) fn struck_heads(s: Stage) -> StruckHeads
+    ensures { (result.stage ≡ s) × (result.from ≡ 0) }
+{
+    StruckHeads { stage: s, from: 0 }
+}
+
+impl Iterator for StruckHeads {
+    ghost use Rattle.std.specs.Iterator.{at_most};
+    ghost use Rattle.ring_play.specs.Inner.Walk.{GivesStruck};
+
+    type Item = usize;
+
+    ghost next_gives = { GivesStruck };
+
+    ghost remaining = { λ h. at_most (heads h.stage - h.from) };
+
+    fn next(&mut self) -> Option<usize> {
+        let k = next_struck(self.stage, self.from);
+        if head_count(self.stage) as usize <= k {
+            return None;
+        }
+        self.from = k + 1;
+        Some(k)
+    }
+}
+
 // The position that settling answers; 0 if it refuses.
 pub(crate) fn position_in(answer: Settled) -> i32
     ensures { result ≡ position_of answer }
@@ -87,13 +122,10 @@ pub(crate) fn is_same_planted(s: Stage, planted: &[u8], lengths: &[u8], i: usize
     requires { (i < 48) × (m < 48) }
     ensures { (result ≡ true) ↔ SamePlanted s (planted_in planted.now lengths.now) i m }
 {
-    let n = head_count(s) as usize;
-    let mut k = next_struck(s, 0);
-    while k < n {
+    for k in struck_heads(s) {
         if !frame_slots::is_alike(planted, lengths, k as u8, i as u8, m as u8) {
             return false;
         }
-        k = next_struck(s, k + 1);
     }
     true
 }

@@ -61,13 +61,10 @@ fn count_planted(
     ensures { Told s (planted_in planted.now lengths.now) i codes.now same.old same.new result }
 {
     let n = round::head_count(s);
-    let count = n as usize;
     let mut confessed: u32 = 0;
-    let mut k = round::next_struck(s, 0);
-    while k < count {
+    for k in round::struck_heads(s) {
         let frame = frame_slots::planted(planted, lengths, k as u8, i as u8);
         confessed = count_frame(frame, n, s.phase, k, codes, same, confessed);
-        k = round::next_struck(s, k + 1);
     }
     confessed
 }

@@ -56,7 +56,6 @@ pub(crate) fn count_sides(
     ensures { SidesCounted (heads s) (planted_entry s (planted_in planted.now lengths.now) i) (slice_index_or order.positions 0 (pos 0))
         (slice_index_or order.positions (order.len - 1) (pos 0)) result }
 {
-    let n = round::head_count(s) as usize;
     let lowest = order.positions[0];
     let highest = highest_of(order);
     let mut c = Counts {
@@ -64,11 +63,9 @@ pub(crate) fn count_sides(
         low: 0,
         high: 0,
     };
-    let mut k = round::next_struck(s, 0);
-    while k < n {
+    for k in round::struck_heads(s) {
         let e = collection::entry_planted(s, planted, lengths, k, i);
         c = with_entry(c, e, lowest, highest);
-        k = round::next_struck(s, k + 1);
     }
     c
 }

@@ -21,8 +21,6 @@ use Rattle.entries.specs.Tables.{table_at}
 use Rattle.entries.proofs.TableAt.{table_at_lem}
 use Rattle.ring_play.specs.Memory.{heads, sends, InRange, list_entry, row_in, position_of, heard_position}
 use Rattle.ring_play.specs.Inner.Collection.{own_entry, sent_by, heard_of, heard_with, Shared, position_from}
-use Rattle.ring_play.specs.Inner.Struck.{NextStruck}
-use Rattle.ring_play.proofs.round.Struck.{WalkedTo, walked}
 use Rattle.ring_play.proofs.round.Filling.{filled_to, Filled, filled_none, filled_passed, filled_stored, filled_yet}
 
 -- ---- what is heard
@@ -72,21 +70,17 @@ module _ (s : Stage) (plant : ℕ → ℕ → List ℕ) (i : ℕ) where
     abbrev pub ListTo : ℕ → Type 0
     ListTo k = (S : Shared s t₀) → (m ≡ marks_of (heads s) (heard_to S.entry k)) × (l ≡ values_of (heads s) (heard_to S.entry k))
 
-    pub list_walked : {k r : ℕ} → NextStruck s k r → ListTo k → WalkedTo s ListTo r
-    list_walked h p =
-        walked s ListTo h
-        (λ j b q S. (
-          (q S).0 ∙ marks_same (heads s) _ _ (λ x z. passed_heard S.entry j b x),
-          (q S).1 ∙ numbers_same (heads s) _ _ (λ x z. passed_heard S.entry j b x),
-        ))
-        p
+    pub list_pass : (k : ℕ) → bit_of s.struck k ≡ false → ListTo k → ListTo (k + 1)
+    list_pass k b h S = (
+      (h S).0 ∙ marks_same (heads s) _ _ (λ x z. passed_heard S.entry k b x),
+      (h S).1 ∙ numbers_same (heads s) _ _ (λ x z. passed_heard S.entry k b x),
+    )
 
-    pub list_last : {k : ℕ} → k ≡ heads s → ListTo k → (S : Shared s t₀)
+    pub list_last : ListTo (heads s) → (S : Shared s t₀)
         → ◌≡◌ {A = Table} (record { marks = m; entries = l }) (table_of (heads s) (heard_with s S.entry plant i))
     unfolding heard_with
-    list_last e h S =
-        let p = rw e at h in
-        ap₂ (λ (a : ℕ) (b : List ℤ). record { marks = a; entries = b }) (p S).0 (p S).1 ∙ table_same (heads s) _ _ (λ j z. rw (lt-ltb j (heads s) z))
+    list_last h S =
+        ap₂ (λ (a : ℕ) (b : List ℤ). record { marks = a; entries = b }) (h S).0 (h S).1 ∙ table_same (heads s) _ _ (λ j z. rw (lt-ltb j (heads s) z))
 
   module _ {t₀ : Table} where
     pub list_none : ListTo t₀ t₀.marks t₀.entries 0

@@ -15,8 +15,6 @@ use Rattle.settle_trust.proofs.Received.{confessed_given}
 use Rattle.head_spec.specs.Record.{given_of}
 use Rattle.ring_play.specs.declared.Stage.{Stage}
 use Rattle.ring_play.specs.Inner.Confession.{links_with, rows_with, Received}
-use Rattle.ring_play.specs.Inner.Struck.{NextStruck}
-use Rattle.ring_play.proofs.round.Struck.{WalkedTo, walked}
 use Rattle.ring_play.proofs.round.Filling.{filled_to, filled_none, filled_passed, filled_stored, filled_yet}
 
 -- ---- one link
@@ -102,5 +100,5 @@ module _ (s : Stage) (new old : ℕ → Given) (g₀ : Links) (rows₀ : List (L
   abbrev pub ReceivedTo : ℕ → Type 0
   ReceivedTo k = Received g rows (filled_to (bit_of s.struck) new old k) × (given_by g₀ rows ≡ given_by g₀ rows₀)
 
-  pub received_walked : {k r : ℕ} → NextStruck s k r → ReceivedTo k → WalkedTo s ReceivedTo r
-  received_walked h p = walked s ReceivedTo h (λ j b q. (received_passed (bit_of s.struck) new old g rows j q.0 b, q.1)) p
+  pub received_pass : (k : ℕ) → bit_of s.struck k ≡ false → ReceivedTo k → ReceivedTo (k + 1)
+  received_pass k b h = (received_passed (bit_of s.struck) new old g rows k h.0 b, h.1)

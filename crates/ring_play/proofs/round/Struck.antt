@@ -1,5 +1,5 @@
 -- The struck heads, one after another: the zeros below the lowest bit of a word, and what is left as it is by the heads that are passed.
-use Rattle.std.proofs.Common.{◌≡◌, ℕ, zero, suc, ◌+◌, ◌-◌, ◌/◌, ◌%◌, ◌^◌, ◌<◌, ◌≤◌, true, false, eqb, List, sym, refl, ap, ◌∙◌, true≢false, add-one, arith, below_more}
+use Rattle.std.proofs.Common.{◌≡◌, ℕ, zero, suc, ◌+◌, ◌-◌, ◌/◌, ◌%◌, ◌^◌, ◌<◌, ◌≤◌, true, false, eqb, Some, List, sym, refl, ap, ◌∙◌, true≢false, add-one, arith, below_more}
 use native.Mathlib.Decide.{le_ind}
 use lib.Count.{under, count_trailing_zeros}
 use Rattle.terms.specs.Counting.{Each}
@@ -8,7 +8,9 @@ use Rattle.marks.proofs.Marks.{bit_zero, bit_suc}
 use Rattle.marks.proofs.Words.{word_high}
 use Rattle.ring_play.specs.declared.Stage.{Stage}
 use Rattle.ring_play.specs.Memory.{heads}
+use Rattle.ring_play.specs.declared.round.StruckHeads.{StruckHeads}
 use Rattle.ring_play.specs.Inner.Struck.{NextStruck}
+use Rattle.ring_play.specs.Inner.Walk.{GivesStruck}
 
 -- ---- the lowest bit of a word
 
@@ -62,17 +64,33 @@ next_end s e = record { from = omega arith; to = omega arith; passed = λ j a b.
 to_next : (P : ℕ → Type 0) (s : Stage) {k r : ℕ} → NextStruck s k r → ((j : ℕ) → bit_of s.struck j ≡ false → P j → P (j + 1)) → P k → P r
 to_next P s {k} {r} h pass p = le_ind (λ j. j ≤ r → P j) (λ l. p) (λ j a q l. rw (← add-one j) (pass j (h.passed j a (omega arith)) (q (omega arith)))) r h.from (omega arith)
 
--- a walk over the struck heads: it stands at one, or at the end, and P holds of the heads below
-abbrev pub WalkedTo : Stage → (ℕ → Type 0) → ℕ → Type 0
-WalkedTo s P k = (k ≤ heads s) × (k < heads s → bit_of s.struck k ≡ true) × P k
+-- a walk over the struck heads of s: P holds of the heads that it has passed
+pub record Walked (s : Stage) (P : ℕ → Type 0) (a : StruckHeads) : Type 0 where
+  pub of : a.stage ≡ s
+  pub passed : P a.from
 
-pub walked : (s : Stage) (P : ℕ → Type 0) {k r : ℕ} → NextStruck s k r → ((j : ℕ) → bit_of s.struck j ≡ false → P j → P (j + 1)) → P k → WalkedTo s P r
-walked s P h pass p = (h.to, h.found, to_next P s h pass p)
+pub walk_starts : {s : Stage} {P : ℕ → Type 0} {a : StruckHeads} → (a.stage ≡ s) × (a.from ≡ 0) → P 0 → Walked s P a
+walk_starts e p = record { of = e.0; passed = rw e.1 p }
+
+module _ {s : Stage} {P : ℕ → Type 0} {a : StruckHeads} (w : Walked s P a) (pass : (j : ℕ) → bit_of s.struck j ≡ false → P j → P (j + 1)) where
+  -- the walk gives head k
+  pub walk_turn : {k : ℕ} → k < heads a.stage → NextStruck a.stage a.from k → (k < heads s) × (bit_of s.struck k ≡ true) × P k
+  walk_turn l n =
+      let m = rw w.of at l in
+      let h = rw w.of at n in
+      (m, h.found m, to_next P s h pass w.passed)
+
+  -- it has passed all heads
+  pub walk_ends : NextStruck a.stage a.from (heads a.stage) → P (heads s)
+  walk_ends n = to_next P s (rw w.of at n) pass w.passed
+
+pub walk_on : {s : Stage} {P Q : ℕ → Type 0} {a b : StruckHeads} → Walked s P a → (k : ℕ) → GivesStruck a (Some k) b → Q (k + 1) → Walked s Q b
+walk_on w k g q = record { of = g.0 ∙ w.of; passed = rw g.1.2 q }
 
 -- the same is planted to receivers i and m by the struck heads below k
 module _ (s : Stage) (plant : ℕ → ℕ → List ℕ) (i m : ℕ) where
   abbrev pub SameTo : ℕ → Type 0
   SameTo k = Each k (λ j. bit_of s.struck j ≡ true → plant j i ≡ plant j m)
 
-  pub same_walked : {k r : ℕ} → NextStruck s k r → SameTo k → WalkedTo s SameTo r
-  same_walked h p = walked s SameTo h (λ j b q. below_more _ j q (λ e. absurd (true≢false (sym e ∙ b)))) p
+  pub same_pass : (k : ℕ) → bit_of s.struck k ≡ false → SameTo k → SameTo (k + 1)
+  same_pass k b h = below_more _ k h (λ e. absurd (true≢false (sym e ∙ b)))

@@ -17,8 +17,6 @@ use Rattle.ring_play.proofs.codes.Codes.{code_entry, holds_le}
 use Rattle.head_spec.specs.Record.{given_of}
 use Rattle.ring_play.specs.declared.Stage.{Stage}
 use Rattle.ring_play.specs.Memory.{heads}
-use Rattle.ring_play.specs.Inner.Struck.{NextStruck}
-use Rattle.ring_play.proofs.round.Struck.{WalkedTo, walked}
 use Rattle.ring_play.proofs.round.Filling.{Filled, filled_none, filled_passed, filled_stored, filled_yet}
 use Rattle.ring_play.specs.Inner.Told.{planted_given, Counted}
 
@@ -102,5 +100,5 @@ module _ (s : Stage) (plant : ℕ → ℕ → List ℕ) (i : ℕ) (codes : List 
           one : (j : ℕ) → adds j k ≡ holds j (get_or codes j (pos 0)) (planted_given s plant i k)
           one j = rw e
 
-  pub told_walked : {counts : List ℕ} {marked k r : ℕ} → NextStruck s k r → PlantedTo k counts marked → WalkedTo s (λ j. PlantedTo j counts marked) r
-  told_walked {counts} {marked} h p = walked s (λ j. PlantedTo j counts marked) h (λ j b q. told_passed j q b) p
+  pub told_pass : {counts : List ℕ} {marked : ℕ} (k : ℕ) → bit_of s.struck k ≡ false → PlantedTo k counts marked → PlantedTo (k + 1) counts marked
+  told_pass k b h = told_passed k h b

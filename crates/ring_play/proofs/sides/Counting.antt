@@ -11,10 +11,8 @@ use Rattle.terms.specs.Counting.{sum}
 use Rattle.terms.proofs.Sums.{bit_le}
 use Rattle.ring_play.specs.declared.Stage.{Stage}
 use Rattle.ring_play.specs.declared.sides.Counts.{Counts}
-use Rattle.ring_play.specs.Inner.Struck.{NextStruck}
 use Rattle.ring_play.specs.Inner.Collection.{heard_of}
 use Rattle.ring_play.specs.Inner.Sides.{planted_entry, tested, counts_with, SidesCounted}
-use Rattle.ring_play.proofs.round.Struck.{WalkedTo, walked}
 
 pub tested_le : (q : ℤ → Bool) (e : Entry) → tested q e ≤ 1
 tested_le q Null = omega arith
@@ -85,11 +83,10 @@ module _ (E : ℕ → Entry) (lowest highest : ℤ) where
         next : (q : ℤ → Bool) → sum k (λ j. tested q (E j)) ≡ sum (k + 1) (λ j. tested q (E j))
         next q = rw (add-one k) (omega (arith, ap (tested q) e))
 
-pub counts_walked : (s : Stage) (plant : ℕ → ℕ → List ℕ) (i : ℕ) {lowest highest : ℤ} {c : Counts} {k r : ℕ} → NextStruck s k r → SidesCounted k (planted_entry s plant i) lowest highest c
-    → WalkedTo s (λ j. SidesCounted j (planted_entry s plant i) lowest highest c) r
-counts_walked s plant i {lowest} {highest} {c} h p =
-    walked s (λ j. SidesCounted j (planted_entry s plant i) lowest highest c) h (λ j b q. counts_passed (planted_entry s plant i) lowest highest j q (told_none s plant i j b)) p
+pub counts_pass : (s : Stage) (plant : ℕ → ℕ → List ℕ) (i : ℕ) {lowest highest : ℤ} {c : Counts} (k : ℕ) → bit_of s.struck k ≡ false → SidesCounted k (planted_entry s plant i) lowest highest c
+    → SidesCounted (k + 1) (planted_entry s plant i) lowest highest c
+counts_pass s plant i {lowest} {highest} k b h = counts_passed (planted_entry s plant i) lowest highest k h (told_none s plant i k b)
 
-pub counts_as : {E : ℕ → Entry} {k n : ℕ} {lowest lowest' highest highest' : ℤ} {c : Counts} → k ≡ n → lowest ≡ lowest' → highest ≡ highest'
-    → SidesCounted k E lowest highest c → SidesCounted n E lowest' highest' c
-counts_as p q r h = rw (p, q, r) at h
+pub counts_as : {E : ℕ → Entry} {n : ℕ} {lowest lowest' highest highest' : ℤ} {c : Counts} → lowest ≡ lowest' → highest ≡ highest'
+    → SidesCounted n E lowest highest c → SidesCounted n E lowest' highest' c
+counts_as p q h = rw (p, q) at h

@@ -58,7 +58,7 @@ module _ (s : Stage) {t : Table} (S : Shared s t) (plant : ℕ → ℕ → List 
       let E : SidesDecide (heads s) s.f (length l) c = rw p at D in
       let some = E.some in
       let B : SidesCounted (heads s) (planted_entry s plant i) (get_or l 0 (pos 0)) (get_or l (length l - 1) (pos 0)) c =
-      counts_as refl (padded_at l 0 (omega arith)) (padded_at l (length l - 1) (omega arith)) (rw (p, q) at C) in
+      counts_as (padded_at l 0 (omega arith)) (padded_at l (length l - 1) (omega arith)) (rw (p, q) at C) in
       rw (p, q) at h
       ∙ ap₂ (λ (x y : ℤ). half (rounding s.phase) (x +ℤ y)) (padded_at l (s.f - c.low) (omega arith)) (padded_at l (length l - 1 - (s.f - c.high)) (omega arith))
       ∙ settled_inside (heads s) s.f (table_at t) (planted_entry s plant i) heard split B E (rounding s.phase)

@@ -1,14 +1,11 @@
 -- `ring_play::collection::list_for` meets its contract: before head k, what is planted by the struck heads below k is in the list. A turn adds the mark and stores the
 -- number of one entry.
-use Rattle.std.proofs.Common.{◌≡◌, ◌-◌, length}
+use Rattle.std.proofs.Common.{◌≡◌, length}
 use Rattle.frame_slots.specs.Slots.{planted_in}
-use Rattle.ring_play.proofs.round.Struck.{WalkedTo}
+use Rattle.ring_play.proofs.round.Struck.{Walked}
 use Rattle.ring_play.proofs.collection.Lists.{ListTo}
 use Rattle.ring_play.proofs.collection.list_for.Given as goal
 
 abbrev pub invariant-loop-k : goal.invariant-loop-k
 invariant-loop-k l =
-    (length l.entries ≡ 32) × WalkedTo l.s (ListTo l.s (planted_in l.planted l.lengths) l.i (record { marks = l.initial.marks; entries = l.initial.entries }) l.marks l.entries) l.k
-
-abbrev pub decreases-loop-k : goal.decreases-loop-k
-decreases-loop-k l = l.n - l.k
+    (length l.entries ≡ 32) × Walked l.s (ListTo l.s (planted_in l.planted l.lengths) l.i (record { marks = l.initial.marks; entries = l.initial.entries }) l.marks l.entries) l.k-iterator

@@ -1,13 +1,9 @@
 -- `ring_play::shared::count_planted` meets its contract: before head k, the struck heads below k gave what is planted.
-use Rattle.std.proofs.Common.{◌-◌}
 use Rattle.frame_slots.specs.Slots.{planted_in}
-use Rattle.ring_play.proofs.round.Struck.{WalkedTo}
+use Rattle.ring_play.proofs.round.Struck.{Walked}
 use Rattle.ring_play.proofs.shared.Counting.{PlantedTo}
 use Rattle.ring_play.proofs.shared.count_planted.Given as goal
 
 abbrev pub invariant-loop-k : goal.invariant-loop-k
 invariant-loop-k l =
-    WalkedTo l.s (λ j. PlantedTo l.s (planted_in l.planted l.lengths) l.i l.codes l.initial.same j l.same l.confessed) l.k
-
-abbrev pub decreases-loop-k : goal.decreases-loop-k
-decreases-loop-k l = l.count - l.k
+    Walked l.s (λ j. PlantedTo l.s (planted_in l.planted l.lengths) l.i l.codes l.initial.same j l.same l.confessed) l.k-iterator

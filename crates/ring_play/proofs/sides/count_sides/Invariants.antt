@@ -1,13 +1,9 @@
 -- `ring_play::sides::count_sides` meets its contract: before head k, what is planted by the struck heads below k is counted.
-use Rattle.std.proofs.Common.{◌-◌}
 use Rattle.frame_slots.specs.Slots.{planted_in}
 use Rattle.ring_play.specs.Inner.Sides.{planted_entry, SidesCounted}
-use Rattle.ring_play.proofs.round.Struck.{WalkedTo}
+use Rattle.ring_play.proofs.round.Struck.{Walked}
 use Rattle.ring_play.proofs.sides.count_sides.Given as goal
 
 abbrev pub invariant-loop-k : goal.invariant-loop-k
 invariant-loop-k l =
-    WalkedTo l.s (λ j. SidesCounted j (planted_entry l.s (planted_in l.planted l.lengths) l.i) l.lowest l.highest l.c) l.k
-
-abbrev pub decreases-loop-k : goal.decreases-loop-k
-decreases-loop-k l = l.n - l.k
+    Walked l.s (λ j. SidesCounted j (planted_entry l.s (planted_in l.planted l.lengths) l.i) l.lowest l.highest l.c) l.k-iterator
