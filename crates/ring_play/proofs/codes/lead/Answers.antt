@@ -1,10 +1,7 @@
 -- `ring_play::codes::lead` meets its contract: no code led; or the code that led is voted for; or another is.
-use Rattle.std.proofs.Common.{eq-eqb, ne_eqb}
+use Rattle.std.proofs.Common.{ne_eqb}
 use Rattle.ring_play.proofs.codes.Codes.{eq_z_yes, eq_z_no, bits_same, bits_other}
 use Rattle.ring_play.proofs.codes.lead.Goals as goal
-
-pub returns-then-l-eq0 : goal.returns-then-l-eq0
-returns-then-l-eq0 c = rw (eq-eqb _ 0 c.if-l-eq0.true)
 
 pub returns-then-x-c : goal.returns-then-x-c
 returns-then-x-c c =

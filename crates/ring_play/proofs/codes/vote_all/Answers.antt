@@ -11,11 +11,6 @@ unfolding sum
 loop-k-init c =
     (search rules, λ j l. rw (c.requires.3 j l) (leads_none _ (λ w. refl) _))
 
-pub vote_for-requires : goal.vote_for-requires
-vote_for-requires c =
-    let l = c.loop-k in
-    (search rules, search rules, search rules, λ j q. omega (arith, (l.invariant.1 j q).within))
-
 pub loop-k-preserved : goal.loop-k-preserved
 loop-k-preserved c =
     let l = c.loop-k in

@@ -9,7 +9,3 @@ pub returns-then-all_marked : goal.returns-then-all_marked
 returns-then-all_marked c =
     let bits : Each c.args.n (λ j. bit_of c.args.marks j ≡ true) = λ j l. all_bits c.args.marks c.args.n j (sym c.all_marked.ensures ∙ c.if-all_marked.true) l in
     (c.vote.ensures.0, c.vote.ensures.1, λ j l. rw (bits j l) (c.vote.ensures.2 j l))
-
-pub returns-else-all_marked : goal.returns-else-all_marked
-returns-else-all_marked c =
-    (c.vote-else-all_marked.ensures.0, c.vote-else-all_marked.ensures.1, λ j l. rw (← c.codes_of-row.ensures j l) (c.vote-else-all_marked.ensures.2 j l))

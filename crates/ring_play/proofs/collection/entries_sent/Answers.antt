@@ -4,7 +4,6 @@ use Rattle.entries.specs.Entries.{zeros}
 use Rattle.entries.specs.Tables.{mark, value_of, marks_of, values_of}
 use Rattle.entries.proofs.Tables.{marks_next, marks_fit, numbers_next}
 use Rattle.ring_play.specs.Inner.Collection.{sent_by}
-use Rattle.entries.proofs.Tables.{table_filled}
 use Rattle.ring_play.proofs.collection.entries_sent.Goals as goal
 use Rattle.ring_play.proofs.collection.entries_sent.Goals.{then-marked, else-marked}
 
@@ -40,8 +39,3 @@ loop-k-preserved c =
       marks_next _ l.k below l.invariant.0 (c.mark_of.ensures ∙ ap mark e),
       numbers_next _ l.k l.invariant.1 (to_z-of_z {w = w32} (record { sfits = c.value_of.type_inv }) ∙ c.value_of.ensures ∙ ap value_of e),
     )
-
-pub returns : goal.returns
-returns c =
-    let l = c.loop-k in
-    table_filled _ (omega (arith, c.head_count-n.ensures)) l.invariant.0 l.invariant.1

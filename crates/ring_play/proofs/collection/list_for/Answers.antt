@@ -2,14 +2,9 @@
 -- number of one entry.
 use Rattle.std.proofs.Common.{◌∙◌, length-set, to_z-of_z, w32}
 use Rattle.frame_slots.specs.Slots.{planted_in}
-use Rattle.ring_play.proofs.round.Struck.{walk_starts, walk_turn, walk_on, walk_ends}
-use Rattle.ring_play.proofs.collection.Lists.{list_pass, list_none, list_room, list_next, list_last}
+use Rattle.ring_play.proofs.round.Struck.{walk_turn, walk_on, walk_ends}
+use Rattle.ring_play.proofs.collection.Lists.{list_pass, list_room, list_next, list_last}
 use Rattle.ring_play.proofs.collection.list_for.Goals as goal
-
-pub loop-k-init : goal.loop-k-init
-loop-k-init c =
-    let a = c.args in
-    (c.requires.1, walk_starts (rw c.into_iter-k-iterator.ensures.into_iter_gives c.struck_heads-k-items.ensures) (list_none a.s (planted_in a.planted.now a.lengths.now) a.i))
 
 pub overflow_add-marks : goal.overflow_add-marks
 overflow_add-marks c =

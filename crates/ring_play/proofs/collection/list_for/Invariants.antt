@@ -1,4 +1,4 @@
--- `ring_play::collection::list_for` meets its contract: before head k, what is planted by the struck heads below k is in the list. A turn adds the mark and stores the
+-- `ring_play::collection::list_for` meets its contract: what is planted by the struck heads that the walk has passed is in the list. A turn adds the mark and stores the
 -- number of one entry.
 use Rattle.std.proofs.Common.{◌≡◌, length}
 use Rattle.frame_slots.specs.Slots.{planted_in}

@@ -1,5 +1,5 @@
 -- `ring_play::collection::position_for` meets its contract: by the counts if they decide, and else from the whole list.
-use Rattle.std.proofs.Common.{◌≡◌, ◌≤◌, length, sym, ap, ◌∙◌, arith, to_z-of_z, rules, w32}
+use Rattle.std.proofs.Common.{◌≡◌, ◌≤◌, ap, ◌∙◌, arith, to_z-of_z, w32}
 use Rattle.terms.specs.declared.Table.{Table}
 use Rattle.entries.specs.Tables.{table_at}
 use Rattle.convergence.specs.Settling.{ordered}
@@ -8,7 +8,6 @@ use Rattle.settle_midpoint.specs.declared.Order.{Order}
 use Rattle.ring_play.specs.declared.Stage.{Stage}
 use Rattle.frame_slots.specs.Slots.{planted_in}
 use Rattle.ring_play.specs.Memory.{heads}
-use Rattle.ring_play.specs.Inner.Collection.{position_from}
 use Rattle.ring_play.proofs.sides.Counting.{counts_small}
 use Rattle.ring_play.proofs.sides.Settling.{order_small, settles_inside}
 use Rattle.ring_play.proofs.collection.position_for.Goals as goal
@@ -33,18 +32,3 @@ returns-then-decides c S =
     to_z-of_z {w = w32} (record { sfits = c.position_inside.type_inv })
     ∙ settles_inside a.s S (planted_in a.planted.now a.lengths.now) a.i (ap (λ (o : Order). o.len) c.requires.2) (ap (λ (o : Order). o.positions) c.requires.2)
     c.count_sides-c.ensures (c.decides.ensures c.if-decides.true) c.position_inside.ensures
-
-pub slice_bounds-list_for-end : goal.slice_bounds-list_for-end
-slice_bounds-list_for-end c = let e : length c.args.sent.entries ≡ 32 = search rules in sym e
-
-pub list_for-marks-requires : goal.list_for-marks-requires
-list_for-marks-requires c =
-    let p = c.requires in
-    (p.0, search rules, p.1)
-
-pub returns : goal.returns
-returns c S =
-    let a = c.args in
-    to_z-of_z {w = w32} (record { sfits = c.position_of.type_inv })
-    ∙ c.position_of.ensures
-    ∙ ap (λ (t : Table). position_from a.s (table_at t)) (c.list_for-marks.ensures.1 S)

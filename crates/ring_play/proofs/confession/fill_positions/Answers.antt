@@ -1,21 +1,11 @@
 -- `ring_play::confession::fill_positions` meets its contract: before receiver i, the unstruck ones below i have their new position, and all others the one they had.
-use Rattle.std.proofs.Common.{pos, sym, refl, ap, ◌∙◌, arith, to_z-of_z, rules, w32}
+use Rattle.std.proofs.Common.{pos, sym, ap, ◌∙◌, arith, to_z-of_z, w32}
 use Rattle.frame_slots.specs.Slots.{planted_in}
 use Rattle.ring_play.specs.Inner.Planted.{position_settled}
-use Rattle.ring_play.proofs.round.Filling.{filled_none, filled_passed, filled_set, filled_all}
-use Rattle.ring_play.proofs.round.Receivers.{end_small, settles_below}
-use Rattle.ring_play.proofs.confession.Settling.{untold_kept, planted_kept}
+use Rattle.ring_play.proofs.round.Filling.{filled_passed, filled_set}
+use Rattle.ring_play.proofs.confession.Settling.{planted_kept}
 use Rattle.ring_play.proofs.confession.fill_positions.Goals as goal
 use Rattle.ring_play.proofs.confession.fill_positions.Goals.{then-settles, else-settles}
-
-pub loop-i-init : goal.loop-i-init
-loop-i-init c =
-    (omega (arith, c.receiver_end-end.ensures, end_small c.args.s), filled_none _ _ _, record { long = c.requires.0.rows_long; gives = refl })
-
-pub position_for-position-requires : goal.position_for-position-requires
-position_for-position-requires c =
-    let a = c.args in
-    (search rules, untold_kept a.s a.base a.rows.now c.loop-i.rows c.loop-i.invariant.2 c.requires.0)
 
 pub loop-i-preserved : goal.loop-i-preserved
 loop-i-preserved c =
@@ -37,9 +27,3 @@ loop-i-preserved c =
         rw w.rows-is l.invariant.2,
       )
     ]
-
-pub returns : goal.returns
-returns c =
-    let l = c.loop-i in
-    let s = c.args.s in
-    filled_all _ _ _ l.i (λ j t. omega (arith, settles_below s j t, c.receiver_end-end.ensures)) l.invariant.1

@@ -1,21 +1,15 @@
--- `ring_play::confession::hear_planted` meets its contract: before head k, the struck heads below k gave what is planted, and all others what they had given; a struck
+-- `ring_play::confession::hear_planted` meets its contract: the struck heads that the walk has passed gave what is planted, and all others what they had given; a struck
 -- head had given nothing.
-use Rattle.std.proofs.Common.{◌≡◌, ℕ, List, refl, ap, ◌∙◌, ap₂, arith, lt-ltb}
+use Rattle.std.proofs.Common.{◌≡◌, ℕ, List, ap, ◌∙◌, ap₂, arith, lt-ltb}
 use Rattle.convergence.specs.Trust.{Given, nothing}
 use Rattle.frame_spec.specs.Said.{said}
 use Rattle.settle_trust.specs.Received.{given_by}
 use Rattle.head_spec.specs.Record.{given_of}
 use Rattle.ring_play.specs.Memory.{heads}
 use Rattle.ring_play.specs.Inner.Planted.{given_or_planted}
-use Rattle.ring_play.proofs.confession.Received.{rows_kept, received_start, received_heard, received_pass}
-use Rattle.ring_play.proofs.round.Struck.{walk_starts, walk_turn, walk_on, walk_ends}
+use Rattle.ring_play.proofs.confession.Received.{rows_kept, received_heard, received_pass}
+use Rattle.ring_play.proofs.round.Struck.{walk_turn, walk_on, walk_ends}
 use Rattle.ring_play.proofs.confession.hear_planted.Goals as goal
-
-pub loop-k-init : goal.loop-k-init
-loop-k-init c =
-    let u = c.requires.1 in
-    walk_starts (rw c.into_iter-k-iterator.ensures.into_iter_gives c.struck_heads-k-items.ensures)
-    (received_start _ _ _ _ _ (record { marks_long = u.marks_long; rows_long = u.rows_long; gives = λ j. refl }), refl)
 
 pub loop-k-preserved : goal.loop-k-preserved
 loop-k-preserved c =

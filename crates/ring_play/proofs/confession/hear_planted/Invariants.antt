@@ -1,4 +1,4 @@
--- `ring_play::confession::hear_planted` meets its contract: before head k, the struck heads below k gave what is planted, and all others what they had given; a struck
+-- `ring_play::confession::hear_planted` meets its contract: the struck heads that the walk has passed gave what is planted, and all others what they had given; a struck
 -- head had given nothing.
 use Rattle.frame_spec.specs.Said.{said}
 use Rattle.settle_trust.specs.Received.{given_by}

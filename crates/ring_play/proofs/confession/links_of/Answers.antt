@@ -1,6 +1,5 @@
 -- `ring_play::confession::links_of` meets its contract: before head k, the unstruck heads below k are marked, each in one of the two words.
-use Rattle.std.proofs.Common.{◌≡◌, not, sym, refl, ap, ◌∙◌, arith}
-use Rattle.ring_play.specs.Memory.{heads}
+use Rattle.std.proofs.Common.{not, sym, ap, ◌∙◌, arith}
 use Rattle.ring_play.proofs.confession.Honest.{marked_none, marked_passed, marked_healed, marked_listed}
 use Rattle.ring_play.proofs.confession.links_of.Goals as goal
 use Rattle.ring_play.proofs.confession.links_of.Goals.{then-not-marked+then-marked, then-not-marked+else-marked, else-not-marked}
@@ -22,9 +21,3 @@ loop-k-preserved c =
           (marked_listed _ l.k l.invariant (omega arith) (b ∙ ap not w.if-not-marked.true) (sym w.marked-then-not-marked.ensures ∙ w.if-marked.false) w.with_mark-listed.ensures)
       | else-not-marked w ↦ rw (w.confessed-is, w.listed-is) (marked_passed _ l.k l.invariant (b ∙ ap not w.if-not-marked.false))
     ]
-
-pub returns : goal.returns
-returns c =
-    let l = c.loop-k in
-    let e : l.k ≡ heads c.args.s = omega (arith, c.head_count-n.ensures) in
-    record { confesses = rw e at l.invariant.healed; lists = rw e at l.invariant.others; marks_kept = refl }

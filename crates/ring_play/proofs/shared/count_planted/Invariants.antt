@@ -1,4 +1,4 @@
--- `ring_play::shared::count_planted` meets its contract: before head k, the struck heads below k gave what is planted.
+-- `ring_play::shared::count_planted` meets its contract: the struck heads that the walk has passed gave what is planted.
 use Rattle.frame_slots.specs.Slots.{planted_in}
 use Rattle.ring_play.proofs.round.Struck.{Walked}
 use Rattle.ring_play.proofs.shared.Counting.{PlantedTo}

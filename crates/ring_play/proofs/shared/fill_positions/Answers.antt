@@ -3,40 +3,12 @@ use Rattle.std.proofs.Common.{◌≡◌, get_or, pos, sym, ◌∙◌, arith, to_
 use Rattle.frame_slots.specs.Slots.{planted_in}
 use Rattle.ring_play.specs.Inner.Before.{AsBefore}
 use Rattle.ring_play.specs.declared.round.Before.TheVariants.{As}
-use Rattle.ring_play.proofs.round.Filling.{filled_none, filled_passed, filled_set, filled_had, filled_all}
-use Rattle.ring_play.proofs.round.Receivers.{end_small, settles_below, settles_more}
+use Rattle.ring_play.proofs.round.Filling.{filled_passed, filled_set, filled_had}
+use Rattle.ring_play.proofs.round.Receivers.{settles_more}
 use Rattle.ring_play.proofs.shared.Settling.{told_settled}
 use Rattle.ring_play.proofs.shared.Told.{settled_here}
 use Rattle.ring_play.proofs.shared.fill_positions.Goals as goal
 use Rattle.ring_play.proofs.shared.fill_positions.Goals.{then-settles+in-As, then-settles+in-None, else-settles}
-
-pub loop-i-init : goal.loop-i-init
-loop-i-init c =
-    (omega (arith, c.receiver_end-end.ensures, end_small c.args.s), tt, tt, tt, λ S A. filled_none _ _ _)
-
-pub same_of_two-requires : goal.same_of_two-requires
-same_of_two-requires c =
-    let l = c.loop-i in (search rules, l.invariant.2, l.invariant.3)
-
--- the receiver that was found
-pub offset_bounds-positions-m : goal.offset_bounds-positions-m
-offset_bounds-positions-m c =
-    let a = c.args in
-    let f : AsBefore a.s (planted_in a.planted.now a.lengths.now) c.loop-i.i (As c.in-As.m) = rw c.in-As.is at c.same_of_two.ensures in
-    omega (arith, f.0)
-
-pub slice_copy_out-positions : goal.slice_copy_out-positions
-slice_copy_out-positions c =
-    let a = c.args in
-    let f : AsBefore a.s (planted_in a.planted.now a.lengths.now) c.loop-i.i (As c.in-As.m) = rw c.in-As.is at c.same_of_two.ensures in
-    omega (arith, f.0, c.loop-i.invariant.0)
-
-pub count_planted-confessed-requires : goal.count_planted-confessed-requires
-count_planted-confessed-requires c = (search rules, c.requires.1.shares.few)
-
-pub position_counted-position-requires : goal.position_counted-position-requires
-position_counted-position-requires c =
-    c.loop-i.invariant.1
 
 pub loop-i-preserved : goal.loop-i-preserved
 loop-i-preserved c =
@@ -78,9 +50,3 @@ loop-i-preserved c =
         λ S A. rw w.positions-is (filled_passed _ _ _ l.i (l.invariant.4 S A) (b ∙ w.if-settles.false)),
       )
     ]
-
-pub returns : goal.returns
-returns c S A =
-    let l = c.loop-i in
-    let s = c.args.s in
-    filled_all _ _ _ l.i (λ j t. omega (arith, settles_below s j t, c.receiver_end-end.ensures)) (l.invariant.4 S A)

@@ -1,10 +1,7 @@
 -- `ring_play::shared::settle_all` meets its contract: what is given all alike shows the codes and counts, and from these all receivers settle.
-use Rattle.std.proofs.Common.{sym, refl, true≢false, rules}
+use Rattle.std.proofs.Common.{true≢false, rules}
 use Rattle.ring_play.proofs.shared.Told.{shared_by}
 use Rattle.ring_play.proofs.shared.settle_all.Goals as goal
-
-pub returns-then-not-share : goal.returns-then-not-share
-returns-then-not-share c = record { settles = λ e. absurd (true≢false (sym e)); stays = λ e. refl }
 
 -- the lists show codes and counts
 pub fill_positions-requires : goal.fill_positions-requires

@@ -1,4 +1,4 @@
--- `ring_play::sides::count_sides` meets its contract: before head k, what is planted by the struck heads below k is counted.
+-- `ring_play::sides::count_sides` meets its contract: what is planted by the struck heads that the walk has passed is counted.
 use Rattle.frame_slots.specs.Slots.{planted_in}
 use Rattle.ring_play.specs.Inner.Sides.{planted_entry, SidesCounted}
 use Rattle.ring_play.proofs.round.Struck.{Walked}
