@@ -21,7 +21,7 @@ use Rattle.entries.specs.Tables.{table_at}
 use Rattle.entries.proofs.TableAt.{table_at_lem}
 use Rattle.ring_play.specs.Memory.{heads, sends, InRange, list_entry, row_in, position_of, heard_position}
 use Rattle.ring_play.specs.Inner.Collection.{own_entry, sent_by, heard_of, heard_with, Shared, position_from}
-use Rattle.ring_play.proofs.round.Filling.{filled_to, Filled, filled_none, filled_passed, filled_stored, filled_yet}
+use Rattle.ring_play.proofs.round.Filling.{filled_to, Filled, filled_passed, filled_stored, filled_yet}
 
 -- ---- what is heard
 
@@ -56,9 +56,6 @@ module _ (s : Stage) (plant : ℕ → ℕ → List ℕ) (i : ℕ) where
   abbrev heard_to : (ℕ → Entry) → ℕ → ℕ → Entry
   heard_to E = filled_to (bit_of s.struck) (λ j. heard_of s (plant j i) j) E
 
-  none_heard : (E : ℕ → Entry) (j : ℕ) → E j ≡ heard_to E 0 j
-  none_heard E = filled_none (bit_of s.struck) (λ j. heard_of s (plant j i) j) E
-
   passed_heard : (E : ℕ → Entry) (k : ℕ) → bit_of s.struck k ≡ false → (j : ℕ) → heard_to E k j ≡ heard_to E (k + 1) j
   passed_heard E k b = filled_passed (bit_of s.struck) (λ j. heard_of s (plant j i) j) E k (λ j. refl) b
 
@@ -83,11 +80,6 @@ module _ (s : Stage) (plant : ℕ → ℕ → List ℕ) (i : ℕ) where
         ap₂ (λ (a : ℕ) (b : List ℤ). record { marks = a; entries = b }) (h S).0 (h S).1 ∙ table_same (heads s) _ _ (λ j z. rw (lt-ltb j (heads s) z))
 
   module _ {t₀ : Table} where
-    pub list_none : ListTo t₀ t₀.marks t₀.entries 0
-    list_none S =
-        let e = S.is ∙ table_same (heads s) _ _ (λ j z. none_heard S.entry j) in
-        (ap (λ (t : Table). t.marks) e, ap (λ (t : Table). t.entries) e)
-
     -- the entry e of head k, with its mark r and its number v
     module _ (k : ℕ) {m : ℕ} {l : List ℤ} (h : ListTo t₀ m l k) {e : Entry} {r : ℕ} (below : k < heads s) (b : bit_of s.struck k ≡ true)
         (is : e ≡ heard_of s (plant k i) k) (q : r ≡ mark e) where

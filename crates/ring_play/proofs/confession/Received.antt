@@ -15,15 +15,9 @@ use Rattle.settle_trust.proofs.Received.{confessed_given}
 use Rattle.head_spec.specs.Record.{given_of}
 use Rattle.ring_play.specs.declared.Stage.{Stage}
 use Rattle.ring_play.specs.Inner.Confession.{links_with, rows_with, Received}
-use Rattle.ring_play.proofs.round.Filling.{filled_to, filled_none, filled_passed, filled_stored, filled_yet}
+use Rattle.ring_play.proofs.round.Filling.{filled_to, filled_passed, filled_stored, filled_yet}
 
 -- ---- one link
-
--- a frame that is neither a list nor a confession changes nothing
-pub nothing_stored : (g : Links) (rows : List (List ℤ)) (k : ℕ) (e : Entry) (c : ℕ) (b : Bool) → let m = cond b (collected e) (refused c) in
-    (g ≡ links_with g k m) × (rows ≡ rows_with rows k m)
-nothing_stored g rows k e c true = (refl, refl)
-nothing_stored g rows k e c false = (refl, refl)
 
 both_long : (g : Links) (rows : List (List ℤ)) (k : ℕ) (m : Meaning) → (length (links_with g k m).marks ≡ length g.marks) × (length (rows_with rows k m) ≡ length rows)
 both_long g rows k (refused c) = (refl, refl)
@@ -72,10 +66,6 @@ module _ (g : Links) (rows : List (List ℤ)) (k : ℕ) where
       go j (no d) = rw (get_or-set_other rows k j t.entries [] d)
 
 -- ---- link by link
-
-pub received_start : (picked : ℕ → Bool) (new old : ℕ → Given) (g : Links) (rows : List (List ℤ)) → Received g rows old → Received g rows (filled_to picked new old 0)
-received_start picked new old g rows h =
-    record { marks_long = h.marks_long; rows_long = h.rows_long; gives = λ j. h.gives j ∙ filled_none picked new old j }
 
 module _ (picked : ℕ → Bool) (new old : ℕ → Given) (g : Links) (rows : List (List ℤ)) (k : ℕ) (h : Received g rows (filled_to picked new old k)) where
   received_passed : picked k ≡ false → Received g rows (filled_to picked new old (k + 1))

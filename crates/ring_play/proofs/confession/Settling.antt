@@ -1,6 +1,5 @@
 -- What a receiver settles in a confession round: the unstruck heads give all alike, and the struck ones what is planted.
 use Rattle.std.proofs.Common.{◌≡◌, ℕ, ◌<◌, Bool, true, false, cond, not, ◌&&◌, ltb, List, ℤ, sym, refl, ap, ◌∙◌, true≢false, arith, lt-ltb}
-use mathlib.Core.Path.{fun_ext}
 use Rattle.terms.specs.Positions.{is_position, rounding}
 use Rattle.terms.specs.declared.Entry.TheVariants.{Position}
 use Rattle.marks.specs.Marks.{bit_of}
@@ -19,7 +18,7 @@ use Rattle.ring_play.specs.Memory.{heads, hears, replies, given_entry, position_
 use Rattle.ring_play.specs.Inner.Planted.{is_struck, given_or_planted, position_settled, Alike}
 use Rattle.ring_play.proofs.shared.Settling.{settled_same}
 use Rattle.ring_play.proofs.shared.Told.{given_positions}
-use Rattle.ring_play.specs.Inner.Confession.{replied, Received, RowsKept, given_alike, Unplanted}
+use Rattle.ring_play.specs.Inner.Confession.{replied, RowsKept, given_alike}
 
 -- ---- what is settled
 
@@ -29,16 +28,10 @@ pub settled_is : (s : Stage) (G : ℕ → Given) {n r : ℕ} {x : Settled} → n
 unfolding position_settled
 settled_is s G p r e = ap position_of e ∙ rw (p, r)
 
-pub settled_received : (s : Stage) (g : Links) (rows : List (List ℤ)) (G : ℕ → Given) → Received g rows G → position_settled s (given_by g rows) ≡ position_settled s G
-settled_received s g rows G h = ap (position_settled s) (fun_ext h.gives)
-
 -- ---- what is planted
 
 -- g gives the same with other rows
 module _ (s : Stage) (g : Links) (rows rows' : List (List ℤ)) (h : RowsKept g rows rows') where
-  pub untold_kept : Unplanted s g rows → Unplanted s g rows'
-  untold_kept u = record { marks_long = u.marks_long; rows_long = h.long; untold = λ k e. ap (λ (G : ℕ → Given). G k) h.gives ∙ u.untold k e }
-
   pub planted_kept : (plant : ℕ → ℕ → List ℕ) (i : ℕ) → given_or_planted s (given_by g rows') plant i ≡ given_or_planted s (given_by g rows) plant i
   planted_kept plant i = ap (λ (G : ℕ → Given). given_or_planted s G plant i) h.gives
 

@@ -44,11 +44,3 @@ module _ {A : Type 0} (picked : ℕ → Bool) (new old : ℕ → A) where
   pub filled_set : (l : List A) (d : A) (i : ℕ) {v : A} → Filled i (λ j. get_or l j d) → i < length l → picked i ≡ true → v ≡ new i
       → Filled (i + 1) (λ j. get_or (set l i v) j d)
   filled_set l d i {v} h below e q = filled_stored i h e (get_or-set_same l i v d below ∙ q) (λ j r. get_or-set_other l i j v d r)
-
-  -- all that are picked lie below e
-  pub filled_all : (e : ℕ) {held : ℕ → A} → ((j : ℕ) → picked j ≡ true → j < e) → Filled e held → (j : ℕ) → held j ≡ cond (picked j) (new j) (old j)
-  filled_all e below h j = h j ∙ go (picked j) (below j)
-    where
-      go : (b : Bool) → (b ≡ true → j < e) → cond (ltb j e && b) (new j) (old j) ≡ cond b (new j) (old j)
-      go true l = rw (lt-ltb j e (l refl)) refl
-      go false l = rw (and-false (ltb j e)) refl

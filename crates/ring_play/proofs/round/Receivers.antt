@@ -1,9 +1,8 @@
 -- Receivers: a head stands below the ring's size, a listener at 32 or above. Those that settle stand below the end, and that is at most 48.
-use Rattle.std.proofs.Common.{◌≡◌, ℕ, ◌+◌, ◌-◌, ◌<◌, ◌≤◌, true, false, not, sym, refl, ◌∙◌, true≢false, arith, le-ltb, lt-ltb, eq-eqb, ne_eqb, le-leb}
+use Rattle.std.proofs.Common.{◌≡◌, ℕ, ◌+◌, ◌-◌, ◌<◌, ◌≤◌, true, false, sym, refl, ◌∙◌, true≢false, arith, le-ltb, eq-eqb, ne_eqb, le-leb}
 use mathlib.Core.Logic.{by_cases}
 use native.Mathlib.Decide.{dec_lt, ℕ_discrete}
 use borrow.Author.Tests.{lt-leb}
-use Rattle.marks.specs.Marks.{bit_of}
 use Rattle.ring_play.specs.declared.Stage.{Stage}
 use Rattle.ring_play.specs.declared.round.Before.{Before}
 use Rattle.ring_play.specs.declared.round.Before.TheVariants.{None, As}
@@ -32,14 +31,8 @@ module _ (s : Stage) where
   -- ---- who settles
 
   module _ (i : ℕ) where
-    pub settles_head : i < heads s → settles s i ≡ not (bit_of s.struck i)
-    settles_head h = rw (lt-ltb i (heads s) h, lt-ltb i 32 (omega arith)) refl
-
     pub no_head : heads s ≤ i → i < 32 → settles s i ≡ false
     no_head h l = rw (le-ltb i (heads s) h, lt-leb 32 i l) refl
-
-    pub settles_listener : 32 ≤ i → i - 32 < listeners s → settles s i ≡ not (bit_of s.away (i - 32))
-    settles_listener l h = rw (le-ltb i (heads s) (omega arith), le-leb 32 i l, lt-ltb i (32 + listeners s) (omega arith), le-ltb i 32 l) refl
 
     pub no_listener : 32 ≤ i → listeners s ≤ i - 32 → settles s i ≡ false
     no_listener l h = rw (le-ltb i (heads s) (omega arith), le-leb 32 i l, le-ltb i (32 + listeners s) (omega arith)) refl
@@ -61,9 +54,6 @@ module _ (s : Stage) where
             (λ h. never (no_listener (omega arith) (omega arith)) t)
 
   -- ---- a receiver that settles before receiver i
-
-  pub settles_at : {i m : ℕ} {x : Before} → x ≡ As m → SettlesBefore s i x → (m < i) × (settles s m ≡ true)
-  settles_at e h = rw e at h
 
   pub settles_more : (i : ℕ) (x : Before) → SettlesBefore s i x → SettlesBefore s (i + 1) x
   settles_more i None h = tt

@@ -1,5 +1,5 @@
 -- The struck heads, one after another: the zeros below the lowest bit of a word, and what is left as it is by the heads that are passed.
-use Rattle.std.proofs.Common.{◌≡◌, ℕ, zero, suc, ◌+◌, ◌-◌, ◌/◌, ◌%◌, ◌^◌, ◌<◌, ◌≤◌, true, false, eqb, Some, List, sym, refl, ap, ◌∙◌, true≢false, add-one, arith, below_more}
+use Rattle.std.proofs.Common.{◌≡◌, ℕ, zero, suc, ◌+◌, ◌-◌, ◌/◌, ◌%◌, ◌^◌, ◌<◌, ◌≤◌, true, false, eqb, Some, List, refl, ap, ◌∙◌, add-one, arith}
 use native.Mathlib.Decide.{le_ind}
 use lib.Count.{under, count_trailing_zeros}
 use Rattle.terms.specs.Counting.{Each}
@@ -57,9 +57,6 @@ module _ (s : Stage) (k : ℕ) (below : k < heads s) where
   pub next_none : heads s ≤ lowest → NextStruck s k (heads s)
   next_none l = record { from = omega arith; to = omega arith; passed = λ j a b. passed_bits j a (omega arith); found = λ m. absurd (omega arith) }
 
-pub next_end : (s : Stage) {k : ℕ} → k ≡ heads s → NextStruck s k (heads s)
-next_end s e = record { from = omega arith; to = omega arith; passed = λ j a b. absurd (omega arith); found = λ m. absurd (omega arith) }
-
 -- what each head that is not struck leaves as it is, holds up to the next struck one
 to_next : (P : ℕ → Type 0) (s : Stage) {k r : ℕ} → NextStruck s k r → ((j : ℕ) → bit_of s.struck j ≡ false → P j → P (j + 1)) → P k → P r
 to_next P s {k} {r} h pass p = le_ind (λ j. j ≤ r → P j) (λ l. p) (λ j a q l. rw (← add-one j) (pass j (h.passed j a (omega arith)) (q (omega arith)))) r h.from (omega arith)
@@ -91,6 +88,3 @@ walk_on w k g q = record { of = g.0 ∙ w.of; passed = rw g.1.2 q }
 module _ (s : Stage) (plant : ℕ → ℕ → List ℕ) (i m : ℕ) where
   abbrev pub SameTo : ℕ → Type 0
   SameTo k = Each k (λ j. bit_of s.struck j ≡ true → plant j i ≡ plant j m)
-
-  pub same_pass : (k : ℕ) → bit_of s.struck k ≡ false → SameTo k → SameTo (k + 1)
-  same_pass k b h = below_more _ k h (λ e. absurd (true≢false (sym e ∙ b)))

@@ -2,16 +2,15 @@
 -- of what the struck links add.
 use Rattle.std.proofs.Common.{◌≡◌, ℕ, ◌+◌, ◌<◌, ◌≤◌, Bool, true, false, cond, ◌≢◌, List, [], ◌∷◌, get_or, ℤ, pos, refl, ap, ◌∙◌, arith}
 use Rattle.terms.specs.Positions.{eq_z}
-use Rattle.terms.specs.declared.Entry.{Entry}
 use Rattle.terms.specs.declared.Table.{Table}
 use Rattle.entries.specs.Tables.{table_at}
 use Rattle.marks.specs.Marks.{bit_of, with_mark}
 use Rattle.marks.proofs.Marks.{bit_none, with_same, with_other}
 use Rattle.marks.proofs.Counts.{sum_next}
 use Rattle.terms.specs.Counting.{Each, sum, bit}
-use Rattle.convergence.specs.Trust.{confessed, gave, has_confessed}
+use Rattle.convergence.specs.Trust.{gave, has_confessed}
 use Rattle.terms.proofs.Sums.{sums_le, sum_one, bit_le}
-use Rattle.frame_spec.specs.Said.{refused, collected, said}
+use Rattle.frame_spec.specs.Said.{said}
 use Rattle.ring_play.specs.Inner.Codes.{code_at, holds, Tallied}
 use Rattle.ring_play.proofs.codes.Codes.{code_entry, holds_le}
 use Rattle.head_spec.specs.Record.{given_of}
@@ -21,14 +20,6 @@ use Rattle.ring_play.proofs.round.Filling.{Filled, filled_none, filled_passed, f
 use Rattle.ring_play.specs.Inner.Told.{planted_given, Counted}
 
 module _ (n : ℕ) (codes : List ℤ) (k : ℕ) (same : List ℕ) (marked : ℕ) where
-  -- a frame that is neither a list nor a confession
-  pub counted_nothing : (e : Entry) (c : ℕ) (b : Bool) → Counted n codes k (given_of (cond b (collected e) (refused c))) same marked same marked
-  counted_nothing e c true = record { counts = λ j l m. omega arith; confesses = refl }
-  counted_nothing e c false = record { counts = λ j l m. omega arith; confesses = refl }
-
-  pub counted_confession : Counted n codes k confessed same marked same (with_mark marked k)
-  counted_confession = record { counts = λ j l m. omega arith; confesses = refl }
-
   pub counted_list : (t : Table) {same' : List ℕ} → Tallied n t.marks t.entries codes same same' → Counted n codes k (gave (table_at t)) same marked same' marked
   counted_list t {same'} T = record { counts = go; confesses = refl }
     where

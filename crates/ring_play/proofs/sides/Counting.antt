@@ -1,12 +1,10 @@
 -- Planted positions, counted head by head. A head that is not struck adds nothing.
-use Rattle.std.proofs.Common.{◌≡◌, ℕ, zero, suc, ◌+◌, ◌<◌, ◌≤◌, Bool, true, false, List, ℤ, ◌+ℤ◌, sym, refl, ap, ◌∙◌, add-zero, add-one, arith, to_z-of_z, w32, w64, Fits, SFits, to_z, of_z}
-use mir.Val.{bool_byte}
+use Rattle.std.proofs.Common.{◌≡◌, ℕ, zero, suc, ◌+◌, ◌≤◌, Bool, true, false, List, ℤ, sym, refl, ap, ◌∙◌, add-one, arith}
 use lib.Signed.{le_z}
-use Rattle.terms.specs.Positions.{half}
 use Rattle.terms.specs.declared.Entry.{Entry}
 use Rattle.terms.specs.declared.Entry.TheVariants.{Null, Position}
 use Rattle.marks.specs.Marks.{bit_of}
-use Rattle.marks.proofs.Counts.{byte_bit, sum_next}
+use Rattle.marks.proofs.Counts.{sum_next}
 use Rattle.terms.specs.Counting.{sum}
 use Rattle.terms.proofs.Sums.{bit_le}
 use Rattle.ring_play.specs.declared.Stage.{Stage}
@@ -22,28 +20,6 @@ pub sum_tested_le : (n : ℕ) (q : ℤ → Bool) (E : ℕ → Entry) → sum n (
 unfolding sum
 sum_tested_le zero q E = omega arith
 sum_tested_le (suc n) q E = omega (arith, tested_le q (E n), sum_tested_le n q E)
-
--- ---- an entry more
-
-pub one_more_fits : {x : ℕ} (b : Bool) → x < 32 → Fits w64 (x + bool_byte b)
-one_more_fits b h = record { fits = omega (arith, byte_bit b, bit_le b) }
-
-module _ (lowest highest : ℤ) (c : Counts) where
-  pub with_null : c ≡ counts_with lowest highest Null c
-  with_null = rw (add-zero c.all, add-zero c.low, add-zero c.high) refl
-
-  -- as the code works it out
-  pub with_position : {v : ℤ} → SFits w32 v → SFits w32 lowest → SFits w32 highest
-      → ◌≡◌ {A = Counts} (record {
-        all = c.all + 1;
-        low = c.low + bool_byte (le_z (to_z w32 (of_z w32 v)) (to_z w32 (of_z w32 lowest)));
-        high = c.high + bool_byte (le_z (to_z w32 (of_z w32 highest)) (to_z w32 (of_z w32 v)));
-      }) (counts_with lowest highest (Position v) c)
-  with_position {v} a b d = rw (to_z-of_z a, to_z-of_z b, to_z-of_z d, byte_bit (le_z v lowest), byte_bit (le_z highest v)) refl
-
--- half of the sum of two positions that were read
-pub half_read : (x y : ℤ) {u r : ℕ} {v : ℤ} → SFits w32 x → SFits w32 y → u ≡ r → v ≡ half u (to_z w32 (of_z w32 x) +ℤ to_z w32 (of_z w32 y)) → v ≡ half r (x +ℤ y)
-half_read x y a b e h = h ∙ rw (to_z-of_z a, to_z-of_z b, e) refl
 
 -- ---- head by head
 
