@@ -72,15 +72,7 @@ pub fn is_allowed(kind: u16, len: u16, begun: bool, first: bool, pending: bool, 
 fn positions_fit(bytes: &[u8], n: u8) -> bool
     ensures { result ≡ positions_fit bytes.now n }
 {
-    let count = n as usize;
-    let mut j: usize = 0;
-    while j < count {
-        if !entries::is_position_word(fields::word_at(bytes, 6 + 4 * j)) {
-            return false;
-        }
-        j += 1;
-    }
-    true
+    (0..n as usize).all(|j| entries::is_position_word(fields::word_at(bytes, 6 + 4 * j)))
 }
 
 // A whole start record of a ring of either family: 13, 1, 2 or 18, 4.
@@ -110,6 +102,7 @@ pub fn first_positions(bytes: &[u8]) -> Numbers
 }
 
 // Whether at most f heads are marked, and none at n or above.
+#[tactic(auto, using(marks::proofs::Ones::ones_marked), unfolding(run_spec::specs::RunFile::few_marks, marks::specs::Marks::marks_below))]
 fn few_marks(n: u8, f: u8, marks: u32) -> bool
     ensures { result ≡ few_marks n f marks }
 {
@@ -194,6 +187,7 @@ pub fn is_receiver(n: u8, m: u8, i: usize) -> bool
 
 // Whether a pair may be planted: a sender among n heads that is struck, a receiver among them or m listeners that is not, after the last
 // pair.
+#[tactic(auto, unfolding(run_spec::specs::RunFile::pair_fits))]
 fn pair_fits(n: u8, m: u8, struck: u64, previous: Pair, from: u8, to: u8) -> bool
     ensures { result ≡ pair_fits n m struck previous from to }
 {
