@@ -87,7 +87,7 @@ module _ (n m struck : ℕ) (ps : List ℤ) {j : ℕ} {low high : Entry} (f : Lo
 
 -- ---- the first that is sound
 
-pub first_none : (e : End) → first_sound 0 e ≡ Null
+first_none : (e : End) → first_sound 0 e ≡ Null
 unfolding first_sound
 first_none e = refl
 
@@ -96,7 +96,7 @@ unfolding first_sound
 first_stays e k h = rw h refl
 
 module _ (n m struck : ℕ) (ps : List ℤ) (j : ℕ) (none : first_sound j (end_in n m struck ps) ≡ Null) where
-  pub first_struck : is_out n m struck j ≡ true → first_sound (j + 1) (end_in n m struck ps) ≡ Null
+  first_struck : is_out n m struck j ≡ true → first_sound (j + 1) (end_in n m struck ps) ≡ Null
   unfolding first_sound end_in
   first_struck o = rw (add-one j, none, o) refl
 
@@ -108,6 +108,11 @@ module _ (n m struck : ℕ) (ps : List ℤ) (j : ℕ) (none : first_sound j (end
   first_sound_lem {v} l o e =
       sym
       (le_ind (λ k. first_sound k (end_in n m struck ps) ≡ Position v) (rw (add-one j) at (first_here o e)) (λ k i h. first_stays _ k h) receivers (omega arith))
+
+-- none of the first k is sound
+pub first_of_none : (n m struck : ℕ) (ps : List ℤ) (k : ℕ) → Each k (λ i. is_out n m struck i ≡ true) → first_sound k (end_in n m struck ps) ≡ Null
+first_of_none n m struck ps zero h = first_none _
+first_of_none n m struck ps (suc k) h = rw (add-one k) at (first_struck n m struck ps k (first_of_none n m struck ps k (each_less h)) (each_last h))
 
 -- ---- where all places hold one position
 

@@ -83,17 +83,14 @@ fn is_sound(n: u8, m: u8, struck: u64, j: usize) -> bool
 pub fn extremes_of(n: u8, m: u8, struck: u64, positions: &Positions) -> Extremes
     ensures { LowestHighest receivers (end_in n m struck positions.now) result.low result.high }
 {
-    let count = reach(n, m);
     let mut low = Entry::Null;
     let mut high = Entry::Null;
-    let mut j: usize = 0;
-    while j < count {
+    for j in 0..reach(n, m) {
         if is_sound(n, m, struck, j) {
             let v = position_at(positions, j);
             low = outer(v, low, false);
             high = outer(v, high, true);
         }
-        j += 1;
     }
     Extremes { low, high }
 }
@@ -102,17 +99,14 @@ pub fn extremes_of(n: u8, m: u8, struck: u64, positions: &Positions) -> Extremes
 pub fn first_sound(n: u8, m: u8, struck: u64, positions: &Positions) -> Entry
     ensures { result ≡ first_sound receivers (end_in n m struck positions.now) }
 {
-    let mut first: usize = 0;
-    while first < RECEIVERS {
-        if is_sound(n, m, struck, first) {
-            return Entry::Position(position_at(positions, first));
-        }
-        first += 1;
+    match (0..RECEIVERS).find(|j| is_sound(n, m, struck, *j)) {
+        Some(first) => Entry::Position(positions[first]),
+        None => Entry::Null,
     }
-    Entry::Null
 }
 
 // How far apart two entries are; 0 if one is null.
+#[tactic(auto, unfolding(terms::specs::Positions::gap))]
 fn spread_of(low: Entry, high: Entry) -> u32
     ensures { result ≡ apart low high }
 {
@@ -122,9 +116,7 @@ fn spread_of(low: Entry, high: Entry) -> u32
     let Entry::Position(b) = high else {
         return 0;
     };
-    let x = height(a);
-    let y = height(b);
-    if x <= y { y - x } else { x - y }
+    b.abs_diff(a)
 }
 
 // Whether all heads and listeners that the mark word leaves hold one position. If they do, it becomes that of all places.
