@@ -23,6 +23,12 @@ unfolding aged
 aged_long zero l = refl
 aged_long (suc j) l = length-set (aged j l) j _ ∙ aged_long j l
 
+-- those from k on stay
+pub aged_past : (k : ℕ) (l : List ℕ) (i : ℕ) → k ≤ i → get_or (aged k l) i 0 ≡ get_or l i 0
+unfolding aged
+aged_past zero l i past = refl
+aged_past (suc j) l i past = get_or-set_other (aged j l) j i _ 0 (omega arith) ∙ aged_past j l i (omega arith)
+
 aged_at : (k : ℕ) (l : List ℕ) (i : ℕ) → k ≤ length l → i < k → get_or (aged k l) i 0 ≡ min most_counted (get_or l i 0 + 1)
 unfolding aged
 aged_at zero l i room below = absurd (omega arith)

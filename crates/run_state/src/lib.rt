@@ -3,7 +3,6 @@
 #![tactic(auto)]
 
 ghost use Rattle.std.specs.Prelude.{false, cond, [], ◌≡◌, ◌+◌, ◌*◌, ◌%◌, min, ◌^◌};
-ghost use Rattle.head_spec.specs.Seats.{most_counted};
 ghost use Rattle.terms.specs.declared.Family.TheVariants.{TwoRounds};
 ghost use Rattle.ring_spec.specs.Rounds.{phase_of, ends_phase, most_rounds, receivers};
 ghost use Rattle.run_spec.specs.RunFile.{last_pair};
@@ -119,11 +118,7 @@ pub fn ends_phase(family: Family, given: u32) -> bool
 fn one_more(given: u32) -> u32
     ensures { result ≡ min (given + 1) (most_rounds TwoRounds) }
 {
-    if given < MOST_ROUNDS {
-        given + 1
-    } else {
-        MOST_ROUNDS
-    }
+    given.saturating_add(1).min(MOST_ROUNDS)
 }
 
 // Who was struck in the round before the next one.
@@ -133,22 +128,13 @@ fn struck_before(p: Player) -> u64
     if p.pending { p.struck } else { p.before }
 }
 
-// One more, up to 255, where a count rests.
-fn count_more(c: u8) -> u8
-    ensures { result ≡ min most_counted (c + 1) }
-{
-    if c < 255 { c + 1 } else { 255 }
-}
-
-// A phase end more, for each.
+// A phase end more, for each, up to 255, where a count rests.
 fn aged(since: Counts) -> Counts
     ensures { result ≡ aged receivers since }
 {
     let mut out = since;
-    let mut j: usize = 0;
-    while j < RECEIVERS {
-        out[j] = count_more(since[j]);
-        j += 1;
+    for c in out.iter_mut() {
+        *c = c.saturating_add(1);
     }
     out
 }
@@ -158,15 +144,13 @@ fn cleared(since: Counts, marks: u64) -> Counts
     ensures { result ≡ cleared receivers marks since }
 {
     let mut out = since;
-    let mut j: usize = 0;
-    while j < RECEIVERS {
+    for (j, c) in out.iter_mut().enumerate() {
         if marks >> j == 0 {
             return out;
         }
         if marks::marked_wide(marks, j) {
-            out[j] = 0;
+            *c = 0;
         }
-        j += 1;
     }
     out
 }

@@ -1,11 +1,7 @@
--- `run_state::aged` meets its contract: after j turns the first j are a phase end older.
-use mathlib.Core.Path.{◌≡◌}
-use Prim.Native.Nat.{◌-◌, ◌≤◌}
+-- `run_state::aged` meets its contract: after c-index turns so many are a phase end older.
+use Rattle.std.proofs.Common.{◌≡◌}
 use Rattle.run_state.specs.Counts.{aged}
 use Rattle.run_state.proofs.aged.Given as goal
 
-abbrev pub invariant-loop-j : goal.invariant-loop-j
-invariant-loop-j l = (l.j ≤ 48) × (l.out ≡ aged l.j l.since)
-
-abbrev pub decreases-loop-j : goal.decreases-loop-j
-decreases-loop-j l = 48 - l.j
+abbrev pub invariant-loop-c : goal.invariant-loop-c
+invariant-loop-c l = l.c-items ≡ aged l.c-index l.initial.c-items
