@@ -39,11 +39,7 @@ fn store_heads(first: &Numbers, positions: &mut [i32])
     requires { 32 ≤ length positions.old }
     ensures { (j : ℕ) → j < 32 → get_or positions.new j (pos 0) ≡ get_or first.now j (pos 0) }
 {
-    let mut j: usize = 0;
-    while j < HEADS {
-        positions[j] = first[j];
-        j += 1;
-    }
+    positions[..HEADS].copy_from_slice(first);
 }
 
 // A start record of a ring of either family.

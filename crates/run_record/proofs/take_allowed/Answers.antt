@@ -1,17 +1,16 @@
 -- `run_record::take_allowed` meets its contract: the kind says which function takes the record, and that it is allowed says what that one needs to know.
 use mathlib.Core.Path.{◌≡◌, ap, sym, ◌∙◌}
-use mathlib.Core.Bool.{true, true≢false}
+use mathlib.Core.Bool.{true}
 use mathlib.Core.List.{List}
 use Prim.Native.Nat.{ℕ, ◌≤◌}
 use lib.ListN.{length, drop, length-drop}
 use native.Mathlib.Omega.{arith}
-use borrow.Author.Rules.{rules}
 use Rattle.terms.specs.declared.Family.TheVariants.{TwoRounds, OneRound}
-use Rattle.run_spec.specs.RunFile.{read_file, start, round, plant, listeners, strikes, other, record_kind, kind_in, length_in, is_allowed}
+use Rattle.run_spec.specs.RunFile.{read_file, start, plant, record_kind, kind_in, length_in, is_allowed}
 use Rattle.terms.proofs.Booleans.{and_both}
 use Rattle.run_spec.proofs.Whole.{plant_long}
 use Rattle.run_state.specs.Memory.{memory_lent}
-use Rattle.run_record.proofs.Records.{start_place, round_place, listeners_place, strikes_place}
+use Rattle.run_record.proofs.Records.{start_place}
 use Rattle.run_record.proofs.take_allowed.Goals as goal
 
 pub returns-in-16 : goal.returns-in-16
@@ -22,15 +21,6 @@ returns-in-16 c =
     record {
       by_index = λ a T H may whole. rw kind (c.take_start.ensures.next (read_file a) (memory_lent x.positions.now x.marks.now x.lists.now x.planted.now x.lengths.now) (start_place (read_file a) (length_in s) TwoRounds (rw kind at may)) T H);
       len_bound = c.take_start.ensures.len_bound;
-    }
-
-pub returns-in-17 : goal.returns-in-17
-returns-in-17 c =
-    let s = c.args.bytes.now in
-    let kind : kind_in s ≡ round = ap record_kind (sym c.half_at.ensures ∙ c.in-17.is) in
-    record {
-      by_index = λ a T H may whole. rw kind (c.take_round.ensures.by_index a (round_place (read_file a) (length_in s) (rw kind at may)) T H);
-      len_bound = c.take_round.ensures.len_bound;
     }
 
 pub returns-in-18 : goal.returns-in-18
@@ -45,24 +35,6 @@ returns-in-18 c =
       len_bound = c.take_plant.ensures.len_bound;
     }
 
-pub returns-in-21 : goal.returns-in-21
-returns-in-21 c =
-    let s = c.args.bytes.now in
-    let kind : kind_in s ≡ listeners = ap record_kind (sym c.half_at.ensures ∙ c.in-21.is) in
-    record {
-      by_index = λ a T H may whole. rw kind (c.take_listeners.ensures.next (read_file a) _ (listeners_place (read_file a) (length_in s) (rw kind at may)) T H);
-      len_bound = c.take_listeners.ensures.len_bound;
-    }
-
-pub returns-in-19 : goal.returns-in-19
-returns-in-19 c =
-    let s = c.args.bytes.now in
-    let kind : kind_in s ≡ strikes = ap record_kind (sym c.half_at.ensures ∙ c.in-19.is) in
-    record {
-      by_index = λ a T H may whole. rw kind (c.take_strikes.ensures.by_index a _ (strikes_place (read_file a) (length_in s) (rw kind at may)) T H);
-      len_bound = c.take_strikes.ensures.len_bound;
-    }
-
 pub returns-in-20 : goal.returns-in-20
 returns-in-20 c =
     let x = c.args in
@@ -71,13 +43,4 @@ returns-in-20 c =
     record {
       by_index = λ a T H may whole. rw kind (c.take_start-in-20.ensures.next (read_file a) (memory_lent x.positions.now x.marks.now x.lists.now x.planted.now x.lengths.now) (start_place (read_file a) (length_in s) OneRound (rw kind at may)) T H);
       len_bound = c.take_start-in-20.ensures.len_bound;
-    }
-
-pub returns-in_default : goal.returns-in_default
-returns-in_default c =
-    let s = c.args.bytes.now in
-    let kind : kind_in s ≡ other = ap record_kind (sym c.half_at.ensures) ∙ search rules in
-    record {
-      by_index = λ a T H may whole. absurd (true≢false (sym (rw kind at may)));
-      len_bound = c.refuse.ensures.len_bound;
     }
