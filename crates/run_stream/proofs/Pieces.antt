@@ -4,9 +4,9 @@ use mathlib.Core.List.{List, [], ◌++◌, append-nil, append_assoc}
 use Prim.Native.Nat.{ℕ, ◌+◌, ◌-◌, ◌≤◌, ◌<◌}
 use native.Mathlib.Omega.{arith}
 use native.Mathlib.Nat.{le_refl}
-use lib.ListN.{length, take, drop, length-drop}
+use lib.ListN.{length, take, drop, length-drop, length-append}
 use lib.IntN.{ℤ}
-use lib.Seq.{take-add, take_all}
+use lib.Seq.{take-add, take_all, take-append-le, drop-drop, drop-append_seam}
 use Rattle.ring_spec.specs.Rounds.{Ring, PhaseEnd}
 use Rattle.run_spec.specs.RunFile.{File, read_file, accepted, ends_so_far}
 use Rattle.run_spec.specs.Listing.{shown}
@@ -42,6 +42,17 @@ pub moved : (at used : ℕ) (bytes : List ℕ) → at < length bytes → used �
 moved at used bytes l within some =
     let n = length_rest at bytes in
     (omega arith, some (omega arith))
+
+-- a record x of the bytes from `at` on, with what comes after it
+pub record_there : (at : ℕ) (bytes x tail : List ℕ) → drop at bytes ≡ x ++ tail → length x ≡ 8 → at ≤ length bytes
+    → (at + 8 ≤ length bytes) × (take 8 x ≡ take 8 (rest at bytes)) × (tail ≡ drop (at + 8) bytes)
+record_there at bytes x tail e n l =
+    let long = length-drop at bytes in
+    let both = ap length e ∙ length-append x tail in (
+      omega arith,
+      rw (rest_all at bytes, e) (sym (take-append-le 8 x tail (omega arith))),
+      sym (drop-append_seam x tail) ∙ ap (λ (k : ℕ). drop k (x ++ tail)) n ∙ ap (drop 8) (sym e) ∙ drop-drop 8 at bytes,
+    )
 
 pub joined : (a : List ℕ) (at used : ℕ) (bytes : List ℕ) → (a ++ take at bytes) ++ take used (rest at bytes) ≡ a ++ take (at + used) bytes
 joined a at used bytes =

@@ -78,6 +78,7 @@ fn pass_plants(
     let n = p.n;
     let m = p.listeners;
     let struck = p.struck;
+    // A `while`: a planted record has its own length, and the bytes that are taken are the answer, so that no iterator form is plainer.
     while used < bytes.len() {
         let one = run_piece::pass_plant(n, m, struck, pair, &bytes[used..], planted, lengths);
         pair = one.pair;
@@ -135,6 +136,7 @@ pub fn feed(
 {
     let mut player = p;
     let mut used: usize = 0;
+    // A `while`: a step takes as many bytes as it finds, and how many were taken is the answer, so that no iterator form is plainer.
     while used < bytes.len() {
         let fed = step(
             player,
@@ -157,6 +159,7 @@ pub fn feed(
 }
 
 // How the file ends: the number of its first fault, or 13 if it has no start, ends inside a record or inside a phase.
+#[tactic(auto, unfolding(crate::specs::Inner::ending_of))]
 fn ending(p: Player) -> u8
     ensures { result ≡ ending_of p }
 {
@@ -252,17 +255,12 @@ fn pass_rounds(
     let mut player = p;
     let mut used: usize = 0;
     let mut to = from;
-    while used < bytes.len() && to <= FULL {
-        let rest = &bytes[used..];
-        if !run_piece::is_calm(player, rest) {
-            return FillResult {
-                player,
-                used,
-                len: to,
-            };
+    for record in bytes.chunks_exact(8) {
+        if FULL < to || !run_piece::is_calm(player, record) {
+            break;
         }
         to = put(page, to, run_round::play_agreed(player, positions));
-        player = run_state::given_round(player, fields::word_at(rest, 4), true);
+        player = run_state::given_round(player, fields::word_at(record, 4), true);
         used += 8;
     }
     FillResult {
@@ -293,6 +291,7 @@ pub fn fill(
     let mut player = p;
     let mut used: usize = 0;
     let mut len: usize = 0;
+    // A `while`: each turn takes as many bytes and shows as many as it finds, so that no iterator form is plainer.
     while used < bytes.len() && len <= FULL {
         let more = feed(
             player,

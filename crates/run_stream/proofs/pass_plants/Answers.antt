@@ -23,41 +23,23 @@ waits W pair' =
 moves : (n m struck at : ℕ) (pair : Pair) (bytes : List ℕ) {used : ℕ} → at ≤ length bytes → used ≡ plant_passed n m struck pair (rest at bytes) → at + used ≤ length bytes
 moves n m struck at pair bytes {used} l e = moved_within at used bytes l (passed_within n m struck pair (rest at bytes) e)
 
-pub returns-then-not-awaits_plants : goal.returns-then-not-awaits_plants
-returns-then-not-awaits_plants c = record { used_in_bounds = omega arith; passes = λ a carry M L. none_there L }
+pub returns-then-not-awaits_plants-clause-passes : goal.returns-then-not-awaits_plants-clause-passes
+returns-then-not-awaits_plants-clause-passes c = λ a carry M L. none_there L
 
 pub loop-used-init : goal.loop-used-init
 loop-used-init c =
     let W = c.awaits_plants.ensures c.if-not-awaits_plants.false in
     (search rules, λ carry M. rw (waits_as W) still_first)
 
-pub returns-then-one-eq0 : goal.returns-then-one-eq0
-returns-then-one-eq0 c =
+pub returns-then-one-eq0-clause-passes : goal.returns-then-one-eq0-clause-passes
+returns-then-one-eq0-clause-passes c =
     let p = c.args.p in
     let l = c.loop-used in
     let m = moves p.n p.listeners p.struck l.used l.pair c.args.bytes.now l.invariant.0 c.pass_plant-one.ensures.used_value in
     let W = waits (c.awaits_plants.ensures c.if-not-awaits_plants.false) l.pair in
     let z : l.used ≡ l.used + c.pass_plant-one.result.used = omega (arith, c.if-one-eq0.true) in
     rw c.passed.ensures
-    record {
-      used_in_bounds = l.invariant.0;
-      passes = λ a carry M L.
-          used_as c.args.bytes.now z (last_step (l.invariant.1 carry M) c.pass_plant-one.result.used m (λ b K. c.pass_plant-one.ensures.passes _ W b carry M K) a L);
-    }
-
-pub overflow_add-used : goal.overflow_add-used
-overflow_add-used c =
-    let p = c.args.p in
-    let l = c.loop-used in
-    let m = moves p.n p.listeners p.struck l.used l.pair c.args.bytes.now l.invariant.0 c.pass_plant-one.ensures.used_value in
-    omega (arith, m, c.well_formed.1.0.0)
-
-pub loop-used-smaller : goal.loop-used-smaller
-loop-used-smaller c =
-    let p = c.args.p in
-    let l = c.loop-used in
-    let m = moves p.n p.listeners p.struck l.used l.pair c.args.bytes.now l.invariant.0 c.pass_plant-one.ensures.used_value in
-    omega (arith, m, c.if-one-eq0.false)
+    (λ a carry M L. used_as c.args.bytes.now z (last_step (l.invariant.1 carry M) c.pass_plant-one.result.used m (λ b K. c.pass_plant-one.ensures.passes _ W b carry M K) a L))
 
 pub loop-used-preserved : goal.loop-used-preserved
 loop-used-preserved c =
@@ -67,7 +49,7 @@ loop-used-preserved c =
     let W = waits (c.awaits_plants.ensures c.if-not-awaits_plants.false) l.pair in
     (m, λ carry M. still_more (l.invariant.1 carry M) c.pass_plant-one.result.used m refl (λ b K. c.pass_plant-one.ensures.passes _ W b carry M K))
 
-pub returns : goal.returns
-returns c =
+pub returns-clause-passes : goal.returns-clause-passes
+returns-clause-passes c =
     let l = c.loop-used in
-    rw c.passed-2.ensures record { used_in_bounds = l.invariant.0; passes = λ a carry M L. steps_here (l.invariant.1 carry M) a L }
+    rw c.passed-2.ensures (λ a carry M L. steps_here (l.invariant.1 carry M) a L)
