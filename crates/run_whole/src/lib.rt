@@ -51,14 +51,11 @@ const ALL_ENDS: usize = 65536;
 fn most_ends(file: &[u8]) -> usize
     ensures { result ≡ most_ends file.now }
 {
-    let most = ends_by_bytes(file);
-    if ALL_ENDS < most {
-        return ALL_ENDS;
-    }
-    most
+    ends_by_bytes(file).min(ALL_ENDS)
 }
 
 // Whether buffers of these lengths have room for a file.
+#[tactic(auto, unfolding(crate::specs::Buffers::has_room))]
 fn has_room(file: &[u8], out: usize, rows: usize, words: usize) -> bool
     ensures { result ≡ has_room file.now out rows words }
 {
@@ -109,11 +106,8 @@ fn fill_row(rows: &mut [i32], base: usize, positions: &Positions, n: u8, m: u8, 
     requires { base + 48 ≤ length rows.old }
     ensures { rows.new ≡ paste rows.old base (sound_row n m word positions.now 48) 48 }
 {
-    let mut i: usize = 0;
-    while i < RECEIVERS {
-        let v = number_at(positions, n, m, word, i);
-        rows[base + i] = v;
-        i += 1;
+    for (i, v) in rows[base..base + RECEIVERS].iter_mut().enumerate() {
+        *v = number_at(positions, n, m, word, i);
     }
 }
 
@@ -272,6 +266,7 @@ fn run(
         len: put(out, 0, title),
         count: 0,
     };
+    // A `while`: a step takes as many bytes of the file as show a line, so that no iterator form is plainer.
     while at.used < file.len() {
         at = step(
             at, file, out, rows, words, carry, positions, marks, lists, planted, lengths,
