@@ -1,6 +1,6 @@
 -- The lowest and the highest position, found one receiver at a time. One that is struck or not there leaves both as they are, and any other is compared
 -- with each: which of two positions lies further out is one test, whose answer is turned for the lowest.
-use mathlib.Core.Path.{◌≡◌, refl, ap, ap₂, sym, ◌∙◌}
+use mathlib.Core.Path.{◌≡◌, refl, ap, sym, ◌∙◌}
 use mathlib.Core.Bool.{Bool, true, false, not, cond, ◌&&◌, ◌||◌, or-false, beq}
 use mathlib.Core.List.{List}
 use mathlib.Core.Logic.{◌⊎◌, inl, inr, ⊎_elim}
@@ -12,13 +12,9 @@ use lib.Dec.{ltb, leb}
 use lib.ListN.{get_or}
 use lib.IntN.{ℤ, pos}
 use lib.Signed.{le_z}
-use mir.Syntax.{w32}
-use mir.Val.{SFits}
-use mir.Facts.{to_z-of_z}
 use borrow.Author.Tests.{le-ltb, le-leb, lt-leb}
 use Rattle.terms.specs.declared.Entry.{Entry}
 use Rattle.terms.specs.declared.Entry.TheVariants.{Null, Position}
-use Rattle.terms.proofs.Machine.{read}
 use Rattle.marks.specs.Marks.{bit_of}
 use Rattle.terms.specs.Counting.{Each}
 use Rattle.convergence.specs.Phases.{End, join, sound_at, lowest, highest}
@@ -39,12 +35,6 @@ outward_is false v w = go (le_z v w)
     go : (t : Bool) → cond t v w ≡ cond (beq t false) w v
     go true = refl
     go false = refl
-
--- the machine's test of two numbers that it holds
-pub outward_test : {v w : ℤ} {t : Bool} (high : Bool) → SFits w32 v → SFits w32 w → beq (le_z (read w32 v) (read w32 w)) high ≡ t
-    → outward high v w ≡ cond t w v
-outward_test {v} {w} high f g e =
-    outward_is high v w ∙ ap (λ (t : Bool). cond t w v) (sym (ap₂ (λ (x y : ℤ). beq (le_z x y) high) (to_z-of_z f) (to_z-of_z g)) ∙ e)
 
 -- ---- without listeners the heads alone are receivers
 

@@ -139,9 +139,6 @@ module _ {bytes : List ℕ} {p : Player} {carry₀ : List ℕ} {M₀ : Memory} w
 -- ---- records that change the player alone
 
 module _ {p : Player} {bytes : List ℕ} {positions : List ℤ} {text : List ℕ} where
-  pub follows_first : Follows p bytes positions text p 0 text
-  follows_first = record { after = λ a b carry p₀ M₀ M f. rw (append-nil b) f }
-
   pub follows_more : {q r : Player} {at : ℕ} {text' text'' new : List ℕ} (used : ℕ) → Follows p bytes positions text q at text'
       → ((a carry : List ℕ) (M : Memory) → StateAt a q carry (with_positions M positions)
       → AdvancesOnce a (take used (rest at bytes)) q (with_positions M positions) r new carry (with_positions M positions))
