@@ -55,10 +55,7 @@ pub(crate) fn asks_read(program: Program) -> bool
 pub(crate) fn gap(from: usize, to: usize) -> usize
     ensures { result ≡ to - from }
 {
-    if to <= from {
-        return 0;
-    }
-    to - from
+    to.saturating_sub(from)
 }
 
 // How many bytes are to be written.
