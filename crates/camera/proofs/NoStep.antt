@@ -6,7 +6,7 @@ use lib.IntN.{ℤ}
 use Rattle.terms.specs.Positions.{Within}
 use Rattle.steps.specs.Unscale.{ReadsAs, UnscaleAnswer}
 use Rattle.steps.specs.Unscale.UnscaleAnswer.{refused, step, none}
-use Rattle.steps.specs.declared.Unscaled.{Unscaled}
+use Rattle.steps.specs.Answers.{Unscaled}
 use Rattle.terms.proofs.Whole.{position_within}
 use Rattle.camera.specs.Out.{no_step, step_number, step_or, StepLent}
 

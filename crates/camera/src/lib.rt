@@ -5,6 +5,7 @@
 
 ghost use Rattle.std.specs.Prelude.{◌≡◌};
 ghost use Rattle.terms.specs.declared.Family.{Family};
+ghost use Rattle.terms.specs.Refused.{numbered};
 ghost use Rattle.frame_check.specs.Check.{frame_refusal};
 ghost use Rattle.settle_midpoint.specs.Call.{midpoint_call};
 ghost use Rattle.steps.specs.Scale.{scaled};
@@ -12,11 +13,9 @@ ghost use Rattle.settle_midpoint.specs.Answers.{settled_number};
 ghost use Rattle.camera.specs.Version.{version};
 ghost use Rattle.camera.specs.Out.{settled_or, kept_or, RangeLent, reached_number, reached_or, PositionLent, scaled_number, scaled_or, StepLent};
 
-use settle_limits::Ranged;
-use settle_midpoint::Settled;
-use settle_reach::{Aim, Reached};
-use steps::{Scaled, Unscaled};
-use terms::Family;
+use settle_midpoint::Kept;
+use settle_reach::Aim;
+use terms::{Family, Refusal};
 
 // The version of the library, as the header has it in FOCUS_VERSION.
 #[unsafe(no_mangle)]
@@ -31,16 +30,16 @@ pub extern "C" fn focus_version() -> u32
 pub extern "C" fn focus_frame_check(frame: &[u8]) -> u8
     ensures { result ≡ frame_refusal frame.now }
 {
-    frame_check::frame_refusal(frame)
+    terms::number_of(frame_check::frame_refusal(frame))
 }
 
 // A settling's number, and its new position into what C lends.
-fn put_position(settled: Settled, position: &mut i32) -> u8
-    ensures { (result ≡ settled_number settled) × (position.new ≡ settled_or settled position.old) }
+fn put_position(settled: Result<Kept, Refusal>, position: &mut i32) -> u8
+    ensures { (result ≡ settled_number (numbered settled)) × (position.new ≡ settled_or (numbered settled) position.old) }
 {
     match settled {
-        Settled::Refused(number) => number,
-        Settled::New(kept) => {
+        Err(refusal) => refusal.number(),
+        Ok(kept) => {
             let v = kept.position;
             *position = v;
             0
@@ -87,12 +86,12 @@ pub extern "C" fn focus_one_round_midpoint(
 }
 
 // A settling's number, and what it kept into what C lends: the lowest kept entry, the highest, the trim and the new position.
-fn put_kept(settled: Settled, kept: &mut [i32; 4]) -> u8
-    ensures { (result ≡ settled_number settled) × (kept.new ≡ kept_or settled kept.old) }
+fn put_kept(settled: Result<Kept, Refusal>, kept: &mut [i32; 4]) -> u8
+    ensures { (result ≡ settled_number (numbered settled)) × (kept.new ≡ kept_or (numbered settled) kept.old) }
 {
     match settled {
-        Settled::Refused(refused) => refused,
-        Settled::New(k) => {
+        Err(refused) => refused.number(),
+        Ok(k) => {
             *kept = [k.low, k.high, k.trim as i32, k.position];
             0
         }
@@ -147,8 +146,8 @@ pub extern "C" fn focus_limits(
 {
     let answer = settle_limits::limits(n, f, phase, marks, limits);
     match answer {
-        Ranged::Refused(number) => number,
-        Ranged::Range(low, high) => {
+        Err(fault) => fault.number(),
+        Ok((low, high)) => {
             *range = [low, high];
             0
         }
@@ -156,17 +155,13 @@ pub extern "C" fn focus_limits(
 }
 
 // The number of what is answered for an open entry, and the position into what C lends.
-fn put_reached(reached: Reached, position: &mut i32) -> u8
-    ensures { (result ≡ reached_number reached) × (position.new ≡ reached_or reached position.old) }
+fn put_reached(reached: Result<Option<i32>, Refusal>, position: &mut i32) -> u8
+    ensures { (result ≡ reached_number (numbered reached)) × (position.new ≡ reached_or (numbered reached) position.old) }
 {
     match reached {
-        Reached::Refused(number) => number,
-        Reached::None => {
-            *position = -2147483648;
-            0
-        }
-        Reached::Set(v) => {
-            *position = v;
+        Err(reason) => reason.number(),
+        Ok(found) => {
+            *position = found.unwrap_or(-2147483648);
             0
         }
     }
@@ -228,8 +223,8 @@ pub extern "C" fn focus_scale(
 {
     let answer = steps::scale(steps, numerator, denominator);
     match answer {
-        Scaled::Refused(number) => number,
-        Scaled::Nanometres(x) => {
+        Err(reason) => reason.number(),
+        Ok(x) => {
             *nanometres = x;
             0
         }
@@ -248,13 +243,9 @@ pub extern "C" fn focus_unscale(
 {
     let answer = steps::unscale(nanometres, numerator, denominator);
     match answer {
-        Unscaled::Refused(number) => number,
-        Unscaled::None => {
-            *steps = -2147483648;
-            0
-        }
-        Unscaled::Step(v) => {
-            *steps = v;
+        Err(bad_scale) => bad_scale.number(),
+        Ok(step) => {
+            *steps = step.unwrap_or(-2147483648);
             0
         }
     }

@@ -1,6 +1,7 @@
 -- Demand 3, for a ring played on what its links carry (`converges`): a phase within the limits takes an end to a nearer one, since the facts of
 -- `Links` or `OneRound` hold at each of its receivers, head or listener, and then any two ends are as `Ends` says. Besides: no receiver ever meets refusal 25, and
 -- each keeps an entry.
+use Rattle.std.specs.Prelude.{Some}
 use mathlib.Core.Path.{◌≡◌, refl}
 use mathlib.Core.Bool.{true, not}
 use Prim.Native.Nat.{ℕ, zero, suc, ◌+◌, ◌*◌, ◌≤◌, ◌<◌}
@@ -11,8 +12,7 @@ use lib.Dec.{ltb}
 use lib.IntN.{ℤ}
 use lib.Signed.{◌<ℤ◌}
 use Rattle.terms.specs.Sizes.{is_limit}
-use Rattle.terms.specs.declared.Entry.{Entry}
-use Rattle.terms.specs.declared.Entry.TheVariants.{Position}
+use Rattle.terms.specs.Entry.{Entry}
 use Rattle.terms.specs.declared.Family.{Family}
 use Rattle.terms.specs.declared.Family.TheVariants.{TwoRounds, OneRound}
 use Rattle.terms.specs.Counting.{bit, AtMost}
@@ -31,7 +31,7 @@ use Rattle.convergence.proofs.Ends.{number, AllHold, Inside, held_position, held
 
 -- ---- one phase of a ring
 
-pub settled_is : (r n : ℕ) (R : Rule) (E : ℕ → Entry) → nulls n E ≤ R.most → settled r n R E ≡ Position (midpoint r n R E)
+pub settled_is : (r n : ℕ) (R : Rule) (E : ℕ → Entry) → nulls n E ≤ R.most → settled r n R E ≡ Some (midpoint r n R E)
 unfolding settled enough
 settled_is r n R E h = rw le-leb
 
@@ -104,13 +104,13 @@ module _ (K : Family) (n f : ℕ) (e : End) (F : Faults) (L : Limits K n f F e) 
     pub some_kept_in_phase : 2 * rule.trim (nulls n (table i)) + nulls n (table i) < n
     some_kept_in_phase = keeps_one K n f L.size (table i) few_nulls_in_phase
 
-    settles : (r : ℕ) (a : ℤ) → sound_at (after K r n f e F) i ≡ Position a → a ≡ midpoint r n rule (table i)
+    settles : (r : ℕ) (a : ℤ) → sound_at (after K r n f e F) i ≡ Some a → a ≡ midpoint r n rule (table i)
     unfolding after
     settles r a s = same_position (settled_is r n rule (table i) few_nulls_in_phase) (sound_holds (F.struck_in_confession i) (settled r n rule (table i)) a s)
 
   module _ (m M : ℤ) (I : Inside n e m M) where
     holds_inside : AllHold n e
-    holds_inside j l s = held_position (Position m) (Position M) (e.at j) (I j l s)
+    holds_inside j l s = held_position (Some m) (Some M) (e.at j) (I j l s)
 
     before_inside : Between n e.struck (before e) m M
     before_inside j l s = held_between m M (e.at j) (I j l s)
@@ -119,7 +119,7 @@ module _ (K : Family) (n f : ℕ) (e : End) (F : Faults) (L : Limits K n f F e) 
     table_inside = phase_holds n f e F holds_inside K L m M before_inside
 
     -- what receiver i keeps lies between them too
-    kept_inside : (i : ℕ) → let E = table i in KeptBetween (Position m) (Position M) (low n rule E) (high n rule E)
+    kept_inside : (i : ℕ) → let E = table i in KeptBetween (Some m) (Some M) (low n rule E) (high n rule E)
     kept_inside i = kept_in (table_inside i)
 
   -- at the heads and any receivers after them

@@ -1,6 +1,7 @@
 -- Phase ends, whatever made them. If each end is nearer than the one before (`Nearer`), any two of them are as demand 3 says (`any_two`): a range
 -- once kept is kept, and halving k times, each time rounded up, is dividing by 2 to the power k. Lowest and highest are found alike: a sound head
 -- holds what is found, and none holds a better position.
+use Rattle.std.specs.Prelude.{None, Some}
 use mathlib.Core.Path.{◌≡◌, refl}
 use mathlib.Core.List.{[], ◌∷◌}
 use mathlib.Core.Logic.{◌⊎◌, inl, inr, ⊎_elim}
@@ -12,8 +13,7 @@ use lib.Dec.{T}
 use lib.IntN.{ℤ, pos, ◌+ℤ◌}
 use lib.Signed.{le_z, ◌≤ℤ◌, ◌<ℤ◌, le_z_yes, ≤ℤ_refl}
 use Rattle.terms.specs.Positions.{gap}
-use Rattle.terms.specs.declared.Entry.{Entry}
-use Rattle.terms.specs.declared.Entry.TheVariants.{Null, Position}
+use Rattle.terms.specs.Entry.{Entry}
 use Rattle.terms.proofs.Whole.{arithZ, le_z_fail, gap_lin, sum_lin, pos_lin}
 use Rattle.terms.specs.Counting.{Each, bit, AtMost}
 use Rattle.convergence.specs.Phases.{End, lesser, greater, join, sound_at, lowest, highest, spread}
@@ -55,12 +55,12 @@ higher =
 
 -- a sound head among 0 .. n - 1 holds m
 abbrev Held : ℕ → End → ℤ → Type 0
-Held n e m = (i : ℕ) × (i < n) × (sound_at e i ≡ Position m)
+Held n e m = (i : ℕ) × (i < n) × (sound_at e i ≡ Some m)
 
 -- m is held, and no better one is; null if no position is held
 abbrev Best : (ℤ → ℤ → Type 0) → ℕ → End → Entry → Type 0
-Best Better n e Null = Each n (λ j. sound_at e j ≡ Null)
-Best Better n e (Position m) = Held n e m × Each n (λ j. (u : ℤ) → sound_at e j ≡ Position u → Better m u)
+Best Better n e None = Each n (λ j. sound_at e j ≡ None)
+Best Better n e (Some m) = Held n e m × Each n (λ j. (u : ℤ) → sound_at e j ≡ Some u → Better m u)
 
 module _ (Better : ℤ → ℤ → Type 0) (pick : ℤ → ℤ → ℤ) (C : Choice Better pick) (n : ℕ) (e : End) where
   held_before : {m : ℤ} → Held n e m → Held (suc n) e m
@@ -68,13 +68,13 @@ module _ (Better : ℤ → ℤ → Type 0) (pick : ℤ → ℤ → ℤ) (C : Cho
 
   -- head n has x, and the best of the heads before it is y
   best_join : (x y : Entry) → sound_at e n ≡ x → Best Better n e y → Best Better (suc n) e (join pick x y)
-  best_join Null Null q h = each_more h q
-  best_join Null (Position m) q h = (held_before h.0, each_more h.1 (λ u r. absurd (not_null q r)))
-  best_join (Position u) Null q h =
+  best_join None None q h = each_more h q
+  best_join None (Some m) q h = (held_before h.0, each_more h.1 (λ u r. absurd (not_null q r)))
+  best_join (Some u) None q h =
       ((n, le_refl (suc n), q), each_more (λ j l w r. absurd (not_null (h j l) r)) (λ w r. rw (same_position q r) (C.same u)))
-  best_join (Position u) (Position m) q h = go (C.picks u m)
+  best_join (Some u) (Some m) q h = go (C.picks u m)
     where
-      go : (Better u m × (pick u m ≡ u)) ⊎ (Better m u × (pick u m ≡ m)) → Best Better (suc n) e (Position (pick u m))
+      go : (Better u m × (pick u m ≡ u)) ⊎ (Better m u × (pick u m ≡ m)) → Best Better (suc n) e (Some (pick u m))
       go (inl k) =
           rw k.1
           ((n, le_refl (suc n), q), each_more (λ j l w r. C.chain u m w k.0 (h.1 j l w r)) (λ w r. rw (same_position q r) (C.same u)))
@@ -94,45 +94,45 @@ best_highest (suc n) e = best_join (λ a b. b ≤ℤ a) greater higher n e (soun
 
 -- the position of an entry that has one
 abbrev pub number : Entry → ℤ
-number Null = pos 0
-number (Position u) = u
+number None = pos 0
+number (Some u) = u
 
 -- each sound receiver among 0 .. n - 1 holds a position
 abbrev pub AllHold : ℕ → End → Type 0
-AllHold n e = Each n (λ i. e.struck i ≡ false → e.at i ≡ Position (number (e.at i)))
+AllHold n e = Each n (λ i. e.struck i ≡ false → e.at i ≡ Some (number (e.at i)))
 
 -- and it lies between m and M
 abbrev pub Inside : ℕ → End → ℤ → ℤ → Type 0
-Inside n e m M = Each n (λ i. e.struck i ≡ false → HeldBetween (Position m) (Position M) (e.at i))
+Inside n e m M = Each n (λ i. e.struck i ≡ false → HeldBetween (Some m) (Some M) (e.at i))
 
-pub held_position : (a b x : Entry) → HeldBetween a b x → x ≡ Position (number x)
-held_position a b Null h = absurd h
-held_position a b (Position u) h = refl
+pub held_position : (a b x : Entry) → HeldBetween a b x → x ≡ Some (number x)
+held_position a b None h = absurd h
+held_position a b (Some u) h = refl
 
-pub held_between : (m M : ℤ) (x : Entry) → HeldBetween (Position m) (Position M) x → (m ≤ℤ number x) × (number x ≤ℤ M)
-held_between m M Null h = absurd h
-held_between m M (Position u) h = h
+pub held_between : (m M : ℤ) (x : Entry) → HeldBetween (Some m) (Some M) x → (m ≤ℤ number x) × (number x ≤ℤ M)
+held_between m M None h = absurd h
+held_between m M (Some u) h = h
 
 -- what `sound_at` shows is held
-pub sound_holds : (b : Bool) (x : Entry) (u : ℤ) → cond b Null x ≡ Position u → x ≡ Position u
+pub sound_holds : (b : Bool) (x : Entry) (u : ℤ) → cond b None x ≡ Some u → x ≡ Some u
 sound_holds true x u q = absurd (not_null refl q)
 sound_holds false x u q = q
 
 inside_sound : (n : ℕ) (e : End) (m M u : ℤ) → Inside n e m M → Held n e u → (m ≤ℤ u) × (u ≤ℤ M)
 inside_sound n e m M u I (i, l, q) = go (e.struck i) (e.at i) (I i l) q
   where
-    go : (b : Bool) (x : Entry) → (b ≡ false → HeldBetween (Position m) (Position M) x) → cond b Null x ≡ Position u → (m ≤ℤ u) × (u ≤ℤ M)
+    go : (b : Bool) (x : Entry) → (b ≡ false → HeldBetween (Some m) (Some M) x) → cond b None x ≡ Some u → (m ≤ℤ u) × (u ≤ℤ M)
     go true x h q = absurd (not_null refl q)
-    go false Null h q = absurd (h refl)
-    go false (Position w) h q = rw (same_position refl q) (h refl)
+    go false None h q = absurd (h refl)
+    go false (Some w) h q = rw (same_position refl q) (h refl)
 
 -- the lowest and the highest of n receivers
 record Bounds (n : ℕ) (e : End) : Type 0 where
   low : ℤ
   high : ℤ
   low_high : low ≤ℤ high
-  is_low : lowest n e ≡ Position low
-  is_high : highest n e ≡ Position high
+  is_low : lowest n e ≡ Some low
+  is_high : highest n e ≡ Some high
   low_held : Held n e low
   high_held : Held n e high
   inside : Inside n e low high
@@ -141,11 +141,11 @@ record Bounds (n : ℕ) (e : End) : Type 0 where
 bounds : (n N f : ℕ) (e : End) → AtMost f n e.struck → f < n → n ≤ N → AllHold N e → Bounds N e
 bounds n N f e few large more H = go (lowest N e) refl (best_lowest N e) (highest N e) refl (best_highest N e)
   where
-    struck_of : (b : Bool) (x : Entry) → (b ≡ false → x ≡ Position (number x)) → cond b Null x ≡ Null → 1 ≤ bit b
+    struck_of : (b : Bool) (x : Entry) → (b ≡ false → x ≡ Some (number x)) → cond b None x ≡ None → 1 ≤ bit b
     struck_of true x h q = omega arith
     struck_of false x h q = absurd (not_null q (h refl))
 
-    not_all : Each N (λ j. sound_at e j ≡ Null) → ⊥
+    not_all : Each N (λ j. sound_at e j ≡ None) → ⊥
     not_all h =
         omega (
           arith,
@@ -155,9 +155,9 @@ bounds n N f e few large more H = go (lowest N e) refl (best_lowest N e) (highes
         )
 
     go : (a : Entry) → lowest N e ≡ a → Best ◌≤ℤ◌ N e a → (b : Entry) → highest N e ≡ b → Best (λ x y. y ≤ℤ x) N e b → Bounds N e
-    go Null p h b q k = absurd (not_all h)
-    go (Position m) p h Null q k = absurd (not_all k)
-    go (Position m) p h (Position M) q k =
+    go None p h b q k = absurd (not_all h)
+    go (Some m) p h None q k = absurd (not_all k)
+    go (Some m) p h (Some M) q k =
         record {
           low = m;
           high = M;
@@ -166,7 +166,7 @@ bounds n N f e few large more H = go (lowest N e) refl (best_lowest N e) (highes
           is_high = q;
           low_held = h.0;
           high_held = k.0;
-          inside = λ i l s. let r = H i l s in let t : sound_at e i ≡ Position (number (e.at i)) = rw s r in rw r (h.1 i l _ t, k.1 i l _ t);
+          inside = λ i l s. let r = H i l s in let t : sound_at e i ≡ Some (number (e.at i)) = rw s r in rw r (h.1 i l _ t, k.1 i l _ t);
         }
 
 -- ---- from one end to the next, and to any later one
@@ -175,7 +175,7 @@ bounds n N f e few large more H = go (lowest N e) refl (best_lowest N e) (highes
 -- before; any two of them are near if Q holds.
 pub record Nearer (n N : ℕ) (Q : Type 0) (e e' : End) : Type 0 where
   pub between : (m M : ℤ) → Inside n e m M → Inside N e' m M
-  pub near : Q → (m M : ℤ) → Inside n e m M → (i i' : ℕ) → i < N → i' < N → (a b : ℤ) → sound_at e' i ≡ Position a → sound_at e' i' ≡ Position b
+  pub near : Q → (m M : ℤ) → Inside n e m M → (i i' : ℕ) → i < N → i' < N → (a b : ℤ) → sound_at e' i ≡ Some a → sound_at e' i' ≡ Some b
       → b ≤ℤ (a +ℤ pos ((gap m M + 1) / 2))
 
 -- ends 0, 1, 2 .., each nearer than the one before, with the struck limit f
@@ -194,14 +194,14 @@ module _ {n N f : ℕ} {Q : Type 0} {E : ℕ → End} (R : Run n N f Q E) where
   holds_at zero = R.holds
   holds_at (suc p) =
       let B = bounds n N f (E p) (R.few p) R.large R.more (holds_at p) in
-      λ i l s. held_position (Position B.low) (Position B.high) ((E (suc p)).at i)
+      λ i l s. held_position (Some B.low) (Some B.high) ((E (suc p)).at i)
       ((R.step p).between B.low B.high (heads_inside p B.low B.high B.inside) i l s)
 
   bounds_at : (p : ℕ) → Bounds N (E p)
   bounds_at p = bounds n N f (E p) (R.few p) R.large R.more (holds_at p)
 
   -- the lowest and the highest of an end
-  pub bounds_inside : (p : ℕ) → (m : ℤ) × (M : ℤ) × (lowest N (E p) ≡ Position m) × (highest N (E p) ≡ Position M) × Inside N (E p) m M
+  pub bounds_inside : (p : ℕ) → (m : ℤ) × (M : ℤ) × (lowest N (E p) ≡ Some m) × (highest N (E p) ≡ Some M) × Inside N (E p) m M
   bounds_inside p = let B = bounds_at p in (B.low, B.high, B.is_low, B.is_high, B.inside)
 
   spread_halves : Q → (p : ℕ) → spread N (E (suc p)) ≤ (spread N (E p) + 1) / 2

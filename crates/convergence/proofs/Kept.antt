@@ -8,7 +8,7 @@ use native.Mathlib.Omega.{arith}
 use lib.IntN.{ℤ, pos, ◌+ℤ◌}
 use lib.Signed.{le_z, ◌≤ℤ◌, ◌<ℤ◌, ≤ℤ_refl}
 use Rattle.terms.specs.Positions.{gap}
-use Rattle.terms.specs.declared.Entry.{Entry}
+use Rattle.terms.specs.Entry.{Entry}
 use Rattle.terms.proofs.Whole.{arithZ, not_le, dec_le_z, half_between, half_closer}
 use Rattle.terms.specs.Counting.{sum, bit}
 use Rattle.convergence.specs.Settling.{nulls, Rule, ordered, low_kept, high_kept, middle, midpoint}

@@ -1,5 +1,6 @@
 -- Listeners in a run (document 02, A6): five heads with the struck limit 1, and receivers 5 and 6. In each confession round head 4 is struck, and confesses
 -- to 5 only; so is listener 6, which does not count. Listener 5 does not count at the start; after phase 1 it holds a position that no head holds.
+use Rattle.std.specs.Prelude.{None, Some}
 use mathlib.Core.Path.{◌≡◌, refl}
 use mathlib.Core.List.{[], ◌∷◌}
 use mathlib.Core.Bool.{false, cond, ◌||◌}
@@ -8,7 +9,6 @@ use lib.Dec.{eqb, lit≤}
 use lib.ListN.{get_or}
 use lib.IntN.{ℤ, pos}
 use Rattle.terms.specs.Positions.{gap, half, floor_div, eq_z, rounding}
-use Rattle.terms.specs.declared.Entry.TheVariants.{Null, Position}
 use Rattle.terms.specs.declared.Family.TheVariants.{TwoRounds}
 use Rattle.terms.specs.Counting.{sum}
 use Rattle.convergence.specs.Settling.{nulls, trim, insert, ordered, low_kept, high_kept, middle, midpoint, enough, settled}
@@ -20,7 +20,7 @@ pub strikes : ℕ → Faults
 strikes p =
     record {
       struck_in_collection = λ j. false;
-      sent = λ k i. Null;
+      sent = λ k i. None;
       struck_in_confession = λ j. eqb j 4 || eqb j 6;
       replied = λ k i. cond (eqb i 5) confessed nothing;
     }
@@ -32,8 +32,8 @@ end = end_after TwoRounds 5 1 (λ j. pos (get_or (10 ∷ 10 ∷ 14 ∷ 18 ∷ 18
 pub record Listening : Type 0 where
   pub few : FewStruck 5 1 strikes
   pub at_start : spread 7 (end 0) ≡ 8
-  pub head : (end 1).at 0 ≡ Position (pos 14)
-  pub listener : (end 1).at 5 ≡ Position (pos 12)
+  pub head : (end 1).at 0 ≡ Some (pos 14)
+  pub listener : (end 1).at 5 ≡ Some (pos 12)
   pub counted : spread 7 (end 1) ≡ 2
 
 pub listening : Listening

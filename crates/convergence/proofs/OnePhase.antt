@@ -1,6 +1,7 @@
 -- One phase, at its receivers. From what is known of their trusted entries (`Fact`, which `Links` proves) it follows by counting that no receiver
 -- has more than 3f nulls, that something is kept, that the new position lies between the sound ones of before, and that two receivers end no further
 -- apart than half of these, rounded up. Each count is an inequality at one index (the lemmas named -point), summed over all.
+use Rattle.std.specs.Prelude.{None, Some}
 use mathlib.Core.Path.{◌≡◌, refl, sym, ◌∙◌}
 use mathlib.Core.List.{[], ◌∷◌}
 use mathlib.Core.Logic.{◌≢◌, by_cases}
@@ -12,8 +13,7 @@ use borrow.Author.Tests.{le-leb, lt-leb}
 use lib.IntN.{ℤ, pos, ◌+ℤ◌, ℤ_discrete}
 use lib.Signed.{le_z, ◌≤ℤ◌, ◌<ℤ◌, ≤ℤ_refl}
 use Rattle.terms.specs.Positions.{gap}
-use Rattle.terms.specs.declared.Entry.{Entry}
-use Rattle.terms.specs.declared.Entry.TheVariants.{Null, Position}
+use Rattle.terms.specs.Entry.{Entry}
 use Rattle.terms.proofs.Whole.{arithZ, not_le, dec_le_z, half_between, half_closer}
 use Rattle.terms.specs.Counting.{Each, sum, bit, AtMost}
 use Rattle.terms.specs.declared.Family.TheVariants.{TwoRounds}
@@ -26,14 +26,14 @@ use Rattle.convergence.proofs.Kept.{low, high, Holds, the_kept}
 -- What is known of a trusted entry of head j, by whether j was struck in this collection round (c), in this confession round (d) and in the
 -- confession round of the phase before (p), with v the position of j at the phase's start, if it was sound.
 abbrev pub Fact : Bool → Bool → Bool → ℤ → Entry → Type 0
-Fact false false false v Null = ⊥
-Fact false false false v (Position u) = u ≡ v
-Fact false true false v Null = Unit {0}
-Fact false true false v (Position u) = u ≡ v
-Fact false d true v Null = Unit {0}
-Fact false d true v (Position u) = ⊥
-Fact true false p v Null = Unit {0}
-Fact true false p v (Position u) = ⊥
+Fact false false false v None = ⊥
+Fact false false false v (Some u) = u ≡ v
+Fact false true false v None = Unit {0}
+Fact false true false v (Some u) = u ≡ v
+Fact false d true v None = Unit {0}
+Fact false d true v (Some u) = ⊥
+Fact true false p v None = Unit {0}
+Fact true false p v (Some u) = ⊥
 Fact true true p v e = Unit {0}
 
 -- 1 at a head struck in both rounds
@@ -43,42 +43,42 @@ both false d = 0
 
 -- 1 at an entry that a liar chose: such a head's, if it is not null
 abbrev pub liar : Bool → Bool → Entry → ℕ
-liar c d Null = 0
-liar c d (Position u) = both c d
+liar c d None = 0
+liar c d (Some u) = both c d
 
 -- what two receivers trust of one head: two positions, and not the same
 abbrev pub TwoFaced : Entry → Entry → Type 0
-TwoFaced e e' = (u : ℤ) × (w : ℤ) × (e ≡ Position u) × (e' ≡ Position w) × (u ≢ w)
+TwoFaced e e' = (u : ℤ) × (w : ℤ) × (e ≡ Some u) × (e' ≡ Some w) × (u ≢ w)
 
 -- ---- at one index
 
 -- an entry that a liar chose took two strikes, and a null one
 null_point : (c d p : Bool) (v : ℤ) (e : Entry) → Fact c d p v e → 2 * liar c d e + is_null e ≤ bit p + bit c + bit d
-null_point false false false v Null h = absurd h
-null_point false false false v (Position u) h = omega arith
-null_point false true false v Null h = omega arith
-null_point false true false v (Position u) h = omega arith
-null_point false d true v Null h = omega arith
-null_point false d true v (Position u) h = absurd h
-null_point true false p v Null h = omega arith
-null_point true false p v (Position u) h = absurd h
-null_point true true p v Null h = omega arith
-null_point true true p v (Position u) h = omega arith
+null_point false false false v None h = absurd h
+null_point false false false v (Some u) h = omega arith
+null_point false true false v None h = omega arith
+null_point false true false v (Some u) h = omega arith
+null_point false d true v None h = omega arith
+null_point false d true v (Some u) h = absurd h
+null_point true false p v None h = omega arith
+null_point true false p v (Some u) h = absurd h
+null_point true true p v None h = omega arith
+null_point true true p v (Some u) h = omega arith
 
 pub liar_point : (c d : Bool) (e : Entry) → liar c d e ≤ bit d
-liar_point c d Null = omega arith
-liar_point false d (Position u) = omega arith
-liar_point true d (Position u) = omega arith
+liar_point c d None = omega arith
+liar_point false d (Some u) = omega arith
+liar_point true d (Some u) = omega arith
 
 -- a test that no position from m to M passes is passed by entries that a liar chose only
 pub outside_point : (m M : ℤ) (q : ℤ → Bool) → ((u : ℤ) → m ≤ℤ u → u ≤ℤ M → bit (q u) ≡ 0)
     → (c d p : Bool) (v : ℤ) (e : Entry) → Fact c d p v e → (p ≡ false → (m ≤ℤ v) × (v ≤ℤ M)) → passes q e ≤ liar c d e
-outside_point m M q k c d p v Null h w = omega arith
-outside_point m M q k false false false v (Position u) h w = rw h (omega (arith, k v (w refl).0 (w refl).1))
-outside_point m M q k false true false v (Position u) h w = rw h (omega (arith, k v (w refl).0 (w refl).1))
-outside_point m M q k false d true v (Position u) h w = absurd h
-outside_point m M q k true false p v (Position u) h w = absurd h
-outside_point m M q k true true p v (Position u) h w = bit_le (q u)
+outside_point m M q k c d p v None h w = omega arith
+outside_point m M q k false false false v (Some u) h w = rw h (omega (arith, k v (w refl).0 (w refl).1))
+outside_point m M q k false true false v (Some u) h w = rw h (omega (arith, k v (w refl).0 (w refl).1))
+outside_point m M q k false d true v (Some u) h w = absurd h
+outside_point m M q k true false p v (Some u) h w = absurd h
+outside_point m M q k true true p v (Some u) h w = bit_le (q u)
 
 -- no position is both at most h and at least l
 pub not_both : (h l u w : ℤ) → h <ℤ l → u ≡ w → bit (le_z u h) + bit (le_z l w) ≤ 1
@@ -93,33 +93,33 @@ not_both h l u w k e = go (dec_le_z u h)
 abbrev weight : ℤ → ℤ → Entry → Entry → ℕ
 weight h l e e' = 2 * passes (λ u. le_z u h) e + is_null e + 2 * passes (λ u. le_z l u) e' + is_null e'
 
-one_null : (h l u : ℤ) → (weight h l Null (Position u) ≤ 3) × (weight h l (Position u) Null ≤ 3)
+one_null : (h l u : ℤ) → (weight h l None (Some u) ≤ 3) × (weight h l (Some u) None ≤ 3)
 one_null h l u = omega (arith, bit_le (le_z u h), bit_le (le_z l u))
 
 module _ (h l : ℤ) (k : h <ℤ l) (t : ℕ) where
-  two_faced_point : (u w : ℤ) → (u ≢ w → 1 ≤ t) → weight h l (Position u) (Position w) ≤ 3 + t
+  two_faced_point : (u w : ℤ) → (u ≢ w → 1 ≤ t) → weight h l (Some u) (Some w) ≤ 3 + t
   two_faced_point u w f = go (ℤ_discrete u w)
     where
-      go : Dec (u ≡ w) → weight h l (Position u) (Position w) ≤ 3 + t
+      go : Dec (u ≡ w) → weight h l (Some u) (Some w) ≤ 3 + t
       go (yes q) = omega (arith, not_both h l u w k q)
       go (no q) = omega (arith, bit_le (le_z u h), bit_le (le_z l w), f q)
 
   weight_point : (c d p : Bool) (v : ℤ) (e e' : Entry) → Fact c d p v e → Fact c d p v e' → (c ≡ true → d ≡ true → TwoFaced e e' → 1 ≤ t)
       → weight h l e e' ≤ 2 + bit d + t
-  weight_point c d p v Null Null x y f = omega arith
-  weight_point false false false v Null (Position w) x y f = absurd x
-  weight_point false false false v (Position u) Null x y f = absurd y
-  weight_point false false false v (Position u) (Position w) x y f = omega (arith, not_both h l u w k (x ∙ sym y))
-  weight_point false true false v Null (Position w) x y f = omega (arith, one_null h l w)
-  weight_point false true false v (Position u) Null x y f = omega (arith, one_null h l u)
-  weight_point false true false v (Position u) (Position w) x y f = omega (arith, not_both h l u w k (x ∙ sym y))
-  weight_point false d true v Null (Position w) x y f = absurd y
-  weight_point false d true v (Position u) e' x y f = absurd x
-  weight_point true false p v Null (Position w) x y f = absurd y
-  weight_point true false p v (Position u) e' x y f = absurd x
-  weight_point true true p v Null (Position w) x y f = omega (arith, one_null h l w)
-  weight_point true true p v (Position u) Null x y f = omega (arith, one_null h l u)
-  weight_point true true p v (Position u) (Position w) x y f = two_faced_point u w (λ q. f refl refl (u, w, refl, refl, q))
+  weight_point c d p v None None x y f = omega arith
+  weight_point false false false v None (Some w) x y f = absurd x
+  weight_point false false false v (Some u) None x y f = absurd y
+  weight_point false false false v (Some u) (Some w) x y f = omega (arith, not_both h l u w k (x ∙ sym y))
+  weight_point false true false v None (Some w) x y f = omega (arith, one_null h l w)
+  weight_point false true false v (Some u) None x y f = omega (arith, one_null h l u)
+  weight_point false true false v (Some u) (Some w) x y f = omega (arith, not_both h l u w k (x ∙ sym y))
+  weight_point false d true v None (Some w) x y f = absurd y
+  weight_point false d true v (Some u) e' x y f = absurd x
+  weight_point true false p v None (Some w) x y f = absurd y
+  weight_point true false p v (Some u) e' x y f = absurd x
+  weight_point true true p v None (Some w) x y f = omega (arith, one_null h l w)
+  weight_point true true p v (Some u) None x y f = omega (arith, one_null h l u)
+  weight_point true true p v (Some u) (Some w) x y f = two_faced_point u w (λ q. f refl refl (u, w, refl, refl, q))
 
 -- ---- the trim
 

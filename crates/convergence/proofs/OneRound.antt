@@ -1,6 +1,7 @@
 -- A phase of one round, at its receivers (document 02, A9). A head struck in the round counts as one struck in both rounds of a phase, so what is known of an
 -- entry is `Fact` with d for c. Nulls are at most 2f and liars at most f; and at a head struck neither in this round nor in the one before both receivers have one
 -- position, so that with n at least 4f + 1 the kept ranges of two receivers meet.
+use Rattle.std.specs.Prelude.{None, Some}
 use mathlib.Core.Path.{◌≡◌, refl, sym, ◌∙◌}
 use mathlib.Core.List.{[], ◌∷◌}
 use mathlib.Core.Bool.{Bool, true, false}
@@ -8,8 +9,7 @@ use Prim.Native.Nat.{ℕ, ◌+◌, ◌*◌, ◌≤◌, ◌<◌}
 use native.Mathlib.Omega.{arith}
 use lib.IntN.{ℤ}
 use lib.Signed.{le_z, ◌≤ℤ◌, ◌<ℤ◌}
-use Rattle.terms.specs.declared.Entry.{Entry}
-use Rattle.terms.specs.declared.Entry.TheVariants.{Null, Position}
+use Rattle.terms.specs.Entry.{Entry}
 use Rattle.terms.specs.declared.Family.TheVariants.{OneRound}
 use Rattle.terms.specs.Counting.{Each, sum, bit, AtMost}
 use Rattle.convergence.specs.Settling.{is_null, nulls, one_round_rule}
@@ -23,24 +23,24 @@ use Rattle.convergence.proofs.OnePhase.{Fact, Facts, Between, liar, liar_point, 
 -- ---- at one index
 
 null_point : (d p : Bool) (v : ℤ) (e : Entry) → Fact d d p v e → is_null e ≤ bit p + bit d
-null_point false false v Null h = absurd h
-null_point false false v (Position u) h = omega arith
-null_point false true v Null h = omega arith
-null_point false true v (Position u) h = omega arith
-null_point true p v Null h = omega arith
-null_point true p v (Position u) h = omega arith
+null_point false false v None h = absurd h
+null_point false false v (Some u) h = omega arith
+null_point false true v None h = omega arith
+null_point false true v (Some u) h = omega arith
+null_point true p v None h = omega arith
+null_point true p v (Some u) h = omega arith
 
 -- an entry is null, or passes a test, or neither
 one_way : (q : ℤ → Bool) (e : Entry) → passes q e + is_null e ≤ 1
-one_way q Null = omega arith
-one_way q (Position u) = omega (arith, bit_le (q u))
+one_way q None = omega arith
+one_way q (Some u) = omega (arith, bit_le (q u))
 
 -- with h below l: at most h at the one, at least l at the other, or null
 pair_point : (h l : ℤ) → h <ℤ l → (d p : Bool) (v : ℤ) (e e' : Entry) → Fact d d p v e → Fact d d p v e'
     → passes (λ u. le_z u h) e + is_null e + passes (λ u. le_z l u) e' + is_null e' ≤ 1 + bit p + bit d
-pair_point h l k false false v Null e' x y = absurd x
-pair_point h l k false false v (Position u) Null x y = absurd y
-pair_point h l k false false v (Position u) (Position w) x y = omega (arith, not_both h l u w k (x ∙ sym y))
+pair_point h l k false false v None e' x y = absurd x
+pair_point h l k false false v (Some u) None x y = absurd y
+pair_point h l k false false v (Some u) (Some w) x y = omega (arith, not_both h l u w k (x ∙ sym y))
 pair_point h l k false true v e e' x y = omega (arith, one_way (λ u. le_z u h) e, one_way (λ u. le_z l u) e')
 pair_point h l k true p v e e' x y = omega (arith, one_way (λ u. le_z u h) e, one_way (λ u. le_z l u) e')
 
@@ -105,11 +105,11 @@ module _ (n f : ℕ) (d p : ℕ → Bool) (v : ℕ → ℤ) (size : AcceptedSize
 
 -- ---- what a receiver hears
 
-fact_point : (d p : Bool) (v : ℤ) (sent x : Entry) → (p ≡ false → x ≡ Position v) → Fact d d p v (gives d p sent Null x)
+fact_point : (d p : Bool) (v : ℤ) (sent x : Entry) → (p ≡ false → x ≡ Some v) → Fact d d p v (gives d p sent None x)
 fact_point true p v sent x h = tt
 fact_point false true v sent x h = tt
 fact_point false false v sent x h = rw (h refl) refl
 
-pub facts : (n : ℕ) (e : End) (F : Faults) (v : ℕ → ℤ) → Each n (λ j. e.struck j ≡ false → e.at j ≡ Position (v j))
+pub facts : (n : ℕ) (e : End) (F : Faults) (v : ℕ → ℤ) → Each n (λ j. e.struck j ≡ false → e.at j ≡ Some (v j))
     → (i : ℕ) → Facts n F.struck_in_confession F.struck_in_confession e.struck v (heard_from F.struck_in_confession e F i)
 facts n e F v H i j l = fact_point (F.struck_in_confession j) (e.struck j) (v j) (F.sent j i) (e.at j) (H j l)

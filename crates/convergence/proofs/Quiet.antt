@@ -4,8 +4,7 @@ use mathlib.Core.Path.{◌≡◌, refl, ap, ap₂}
 use mathlib.Core.Bool.{Bool, true, false, cond, true≢false}
 use Prim.Native.Nat.{ℕ, suc, ◌<◌}
 use lib.Dec.{leb}
-use Rattle.terms.specs.declared.Entry.{Entry}
-use Rattle.terms.specs.declared.Entry.TheVariants.{Null, Position}
+use Rattle.terms.specs.Entry.{Entry}
 use Rattle.terms.specs.declared.Family.{Family}
 use Rattle.terms.specs.declared.Family.TheVariants.{TwoRounds, OneRound}
 use Rattle.terms.specs.Counting.{Each}

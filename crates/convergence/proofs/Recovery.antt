@@ -1,4 +1,5 @@
 -- Demand 3 from any phase end on: the ends that follow it are a run in the sense of `Ends`, as those that follow the start are.
+use Rattle.std.specs.Prelude.{None, Some}
 use mathlib.Core.Path.{◌≡◌, refl, ap, sym, subst, ◌∙◌}
 use mathlib.Core.Bool.{Bool, true, false, not, cond, true≢false}
 use mathlib.Core.Logic.{◌≢◌}
@@ -12,8 +13,7 @@ use lib.Pow.{pow_pos}
 use lib.IntN.{ℤ, pos, negsuc}
 use lib.Signed.{◌≤ℤ◌}
 use Rattle.terms.specs.Positions.{is_position, rounding, gap, eq_z}
-use Rattle.terms.specs.declared.Entry.{Entry}
-use Rattle.terms.specs.declared.Entry.TheVariants.{Null, Position}
+use Rattle.terms.specs.Entry.{Entry}
 use Rattle.terms.specs.declared.Family.{Family}
 use Rattle.terms.specs.declared.Family.TheVariants.{TwoRounds, OneRound}
 use Rattle.terms.proofs.Sums.{each_last, each_less, sums_le, sum_same, sum_one, sum_none}
@@ -32,9 +32,9 @@ use Rattle.convergence.proofs.Ends.{number, Inside, held_position, Run, spread_w
 use Rattle.convergence.proofs.Demand3.{settled_is, keeps_one, Limits, nearer, kept_between, rounding_le, size_large, run, converges}
 use Rattle.convergence.proofs.Quiet.{quiet_phase}
 
-held : (x : Entry) → x ≢ Null → x ≡ Position (number x)
-held Null d = absurd (d refl)
-held (Position u) d = refl
+held : (x : Entry) → x ≢ None → x ≡ Some (number x)
+held None d = absurd (d refl)
+held (Some u) d = refl
 
 module _ (K : Family) (n f : ℕ) (size : AcceptedSize K n f) (e : End) (q : ℕ) (few : AtMost f n e.struck) (F : ℕ → Faults) (within : FewStruck n f F) where
   abbrev end : ℕ → End
@@ -112,7 +112,7 @@ at_last_one_step K n f N more size halves v range F within = late_enough (run K 
 pub at_last_from : AtLastFrom
 unfolding end_from
 at_last_from K n f N more size halves e q few I F within =
-    late_enough (run_from K n f size e q few F within N more (λ i l s z. not_null z (held_position (Position (negsuc 999_999)) (Position (pos 1_000_000)) (e.at i) (I i l s)))) halves I
+    late_enough (run_from K n f size e q few F within N more (λ i l s z. not_null z (held_position (Some (negsuc 999_999)) (Some (pos 1_000_000)) (e.at i) (I i l s)))) halves I
 
 -- ---- what is settled from entries between m and M
 
@@ -128,39 +128,39 @@ settles_between K n f size E calm m M I =
     } in
     record { position = λ r small. rw (settled_is r n (rule_of K f) E few) (range H r small); kept = kept_in H }
   where
-    go : (q : ℤ → Bool) → ((u : ℤ) → m ≤ℤ u → u ≤ℤ M → bit (q u) ≡ 0) → (x : Entry) → ((u : ℤ) → x ≡ Position u → (m ≤ℤ u) × (u ≤ℤ M))
+    go : (q : ℤ → Bool) → ((u : ℤ) → m ≤ℤ u → u ≤ℤ M → bit (q u) ≡ 0) → (x : Entry) → ((u : ℤ) → x ≡ Some u → (m ≤ℤ u) × (u ≤ℤ M))
         → passes q x ≡ 0
-    go q h Null k = refl
-    go q h (Position u) k = h u (k u refl).0 (k u refl).1
+    go q h None k = refl
+    go q h (Some u) k = h u (k u refl).0 (k u refl).1
 
 -- a trusted entry stands in a list that was given
 abbrev one_of : Seen → Entry
-one_of none = Null
-one_of (one u) = Position u
-one_of many = Null
+one_of none = None
+one_of (one u) = Some u
+one_of many = None
 
-seen_said : (ok : ℤ → Bool) (n : ℕ) (E : ℕ → Entry) (u : ℤ) → one_of (seen ok n E) ≡ Position u → (k : ℕ) × (k < n) × (E k ≡ Position u)
+seen_said : (ok : ℤ → Bool) (n : ℕ) (E : ℕ → Entry) (u : ℤ) → one_of (seen ok n E) ≡ Some u → (k : ℕ) × (k < n) × (E k ≡ Some u)
 unfolding seen
 seen_said ok zero E u h = absurd (not_null refl h)
 seen_said ok (suc n) E u h = go (E n) refl (seen ok n E) (λ q. let (k, l, e) = seen_said ok n E u q in (k, omega arith, e)) h
   where
     Said : Type 0
-    Said = (k : ℕ) × (k < suc n) × (E k ≡ Position u)
+    Said = (k : ℕ) × (k < suc n) × (E k ≡ Some u)
 
-    seeing : (w : ℤ) → E n ≡ Position w → (s : Seen) → (one_of s ≡ Position u → Said) → one_of (see w s) ≡ Position u → Said
+    seeing : (w : ℤ) → E n ≡ Some w → (s : Seen) → (one_of s ≡ Some u → Said) → one_of (see w s) ≡ Some u → Said
     seeing w e none ih q = (n, omega arith, e ∙ q)
     seeing w e (one x) ih q = pick_one (eq_z x w) q
       where
-        pick_one : (b : Bool) → one_of (pick b (one x) many) ≡ Position u → Said
+        pick_one : (b : Bool) → one_of (pick b (one x) many) ≡ Some u → Said
         pick_one true q = ih q
         pick_one false q = absurd (not_null refl q)
     seeing w e many ih q = absurd (not_null refl q)
 
-    go : (x : Entry) → E n ≡ x → (s : Seen) → (one_of s ≡ Position u → Said) → one_of (see_entry ok x s) ≡ Position u → Said
-    go Null e s ih q = ih q
-    go (Position w) e s ih q = either (ok w) q
+    go : (x : Entry) → E n ≡ x → (s : Seen) → (one_of s ≡ Some u → Said) → one_of (see_entry ok x s) ≡ Some u → Said
+    go None e s ih q = ih q
+    go (Some w) e s ih q = either (ok w) q
       where
-        either : (b : Bool) → one_of (pick b (see w s) s) ≡ Position u → Said
+        either : (b : Bool) → one_of (pick b (see w s) s) ≡ Some u → Said
         either true q = seeing w e s ih q
         either false q = ih q
 
@@ -168,7 +168,7 @@ pub trusted_is_said : TrustedIsSaid
 unfolding trusted
 trusted_is_said n f G j u h = seen_said _ n _ u (go (has_confessed (G j)) (leb (n - f) (confessions n G)) _ h)
   where
-    go : (a b : Bool) (s : Seen) → choose a b s ≡ Position u → one_of s ≡ Position u
+    go : (a b : Bool) (s : Seen) → choose a b s ≡ Some u → one_of s ≡ Some u
     go true b s q = absurd (not_null refl q)
     go false true s q = absurd (not_null refl q)
     go false false none q = q
@@ -187,26 +187,26 @@ module _ (n f : ℕ) (large : f < n) (L : ℕ → Entry) (j : ℕ) where
   trusted_all = go (L j) refl
     where
       -- no other position has the support
-      alone : (x : Entry) (w : ℤ) → n - f ≤ sum n (λ k. is w x) → x ≡ Position w
-      alone Null w h = absurd (omega (arith, sum_none n))
-      alone (Position u) w h = one (eq_z w u) (λ t. eqZ→eq w u t) h
+      alone : (x : Entry) (w : ℤ) → n - f ≤ sum n (λ k. is w x) → x ≡ Some w
+      alone None w h = absurd (omega (arith, sum_none n))
+      alone (Some u) w h = one (eq_z w u) (λ t. eqZ→eq w u t) h
         where
-          one : (b : Bool) → (T b → w ≡ u) → n - f ≤ sum n (λ k. bit b) → Position u ≡ Position w
-          one true q k = ap Position (sym (q tt))
+          one : (b : Bool) → (T b → w ≡ u) → n - f ≤ sum n (λ k. bit b) → Some u ≡ Some w
+          one true q k = ap Some (sym (q tt))
           one false q k = absurd (omega (arith, sum_none n))
 
       full : (u : ℤ) (b : Bool) → T b → n - f ≤ sum n (λ k. bit b)
       full u true t = omega (arith, sum_one n)
       full u false t = absurd t
 
-      blank : (y : Entry) → trusted n f (λ k. gave L) j ≡ y → L j ≡ Null → y ≡ Null
-      blank Null q e = refl
-      blank (Position w) q e =
+      blank : (y : Entry) → trusted n f (λ k. gave L) j ≡ y → L j ≡ None → y ≡ None
+      blank None q e = refl
+      blank (Some w) q e =
           absurd (not_null e (alone (L j) w (subst (λ (x : ℕ). n - f ≤ x) (support_all w) ((trusted_iff n f (λ k. gave L) j w).0 q).0.reaches)))
 
       go : (x : Entry) → L j ≡ x → trusted n f (λ k. gave L) j ≡ x
-      go Null e = blank _ refl e
-      go (Position u) e =
+      go None e = blank _ refl e
+      go (Some u) e =
           (trusted_iff n f (λ k. gave L) j u).1 (
             record {
               reaches = subst (λ (x : ℕ). n - f ≤ x) (sym (support_all u ∙ ap (λ (x : Entry). sum n (λ k. is u x)) e)) (full u (eq_z u u) (eq_z_refl u));
@@ -216,7 +216,7 @@ module _ (n f : ℕ) (large : f < n) (L : ℕ → Entry) (j : ℕ) where
           )
 
 module _ (n f : ℕ) (e : End) (F : Faults) (calm-c : Each n (λ j. F.struck_in_collection j ≡ false)) (calm-d : Each n (λ j. F.struck_in_confession j ≡ false)) where
-  sound_given : (b : Bool) (x y : Entry) → gives false b y Null x ≡ cond b Null x
+  sound_given : (b : Bool) (x y : Entry) → gives false b y None x ≡ cond b None x
   sound_given true x y = refl
   sound_given false x y = refl
 
@@ -229,10 +229,10 @@ module _ (n f : ℕ) (e : End) (F : Faults) (calm-c : Each n (λ j. F.struck_in_
   entries_quiet OneRound size i k l = rw (calm-d k l) (sound_given (e.struck k) (e.at k) _)
 
   module _ (H : EachHolds n e) where
-    lost_null : (b : Bool) (x : Entry) → (b ≡ false → x ≢ Null) → is_null (cond b Null x) ≡ bit b
+    lost_null : (b : Bool) (x : Entry) → (b ≡ false → x ≢ None) → is_null (cond b None x) ≡ bit b
     lost_null true x h = refl
-    lost_null false Null h = absurd (h refl refl)
-    lost_null false (Position u) h = refl
+    lost_null false None h = absurd (h refl refl)
+    lost_null false (Some u) h = refl
 
     nulls_quiet : (K : Family) → AcceptedSize K n f → (i : ℕ) → nulls n (entries_at K n f e F i) ≡ lost_at n e
     unfolding nulls
@@ -241,53 +241,53 @@ module _ (n f : ℕ) (e : End) (F : Faults) (calm-c : Each n (λ j. F.struck_in_
         (λ j l. ap is_null (entries_quiet K size i j l) ∙ lost_null (e.struck j) (e.at j) (H j l))
 
     quiet_some : (K : Family) (size : AcceptedSize K n f) (r : ℕ) (small : r ≤ 1) → lost_at n e ≤ (rule_of K f).most
-        → (m M : ℤ) → Each n (λ j. e.struck j ≡ false → HeldBetween (Position m) (Position M) (e.at j))
-        → (i : ℕ) → HeldBetween (Position m) (Position M) ((after K r n f e F).at i)
+        → (m M : ℤ) → Each n (λ j. e.struck j ≡ false → HeldBetween (Some m) (Some M) (e.at j))
+        → (i : ℕ) → HeldBetween (Some m) (Some M) ((after K r n f e F).at i)
     unfolding after enough
     quiet_some K size r small few m M I i =
         (settles_between K n f size (entries_at K n f e F i) (le-leb _ (rule_of K f).most (omega (arith, nulls_quiet K size i))) m M
         (λ j l u q. go (e.struck j) (e.at j) (I j l) u (sym (entries_quiet K size i j l) ∙ q))).position r small
       where
-        go : (b : Bool) (x : Entry) → (b ≡ false → HeldBetween (Position m) (Position M) x) → (u : ℤ) → cond b Null x ≡ Position u → (m ≤ℤ u) × (u ≤ℤ M)
+        go : (b : Bool) (x : Entry) → (b ≡ false → HeldBetween (Some m) (Some M) x) → (u : ℤ) → cond b None x ≡ Some u → (m ≤ℤ u) × (u ≤ℤ M)
         go true x k u q = absurd (not_null refl q)
-        go false Null k u q = absurd (k refl)
-        go false (Position w) k u q = rw (same_position refl q) (k refl)
+        go false None k u q = absurd (k refl)
+        go false (Some w) k u q = rw (same_position refl q) (k refl)
 
 -- ---- and if too many lost their position
 
 -- an entry of which nobody says anything is not trusted
-seen_none : (ok : ℤ → Bool) (n : ℕ) (E : ℕ → Entry) → Each n (λ k. E k ≡ Null) → seen ok n E ≡ none
+seen_none : (ok : ℤ → Bool) (n : ℕ) (E : ℕ → Entry) → Each n (λ k. E k ≡ None) → seen ok n E ≡ none
 unfolding seen
 seen_none ok zero E h = refl
 seen_none ok (suc n) E h = rw (each_last h) (seen_none ok n E (each_less h))
 
-trusted_none : (n f : ℕ) (G : ℕ → Given) (j : ℕ) → Each n (λ k. says_of j (G k) ≡ Null) → trusted n f G j ≡ Null
+trusted_none : (n f : ℕ) (G : ℕ → Given) (j : ℕ) → Each n (λ k. says_of j (G k) ≡ None) → trusted n f G j ≡ None
 unfolding trusted
 trusted_none n f G j h = rw (seen_none (λ u. leb (n - f) (support n G j u)) n _ h) (go (has_confessed (G j)) (leb (n - f) (confessions n G)))
   where
-    go : (a b : Bool) → choose a b none ≡ Null
+    go : (a b : Bool) → choose a b none ≡ None
     go true b = refl
     go false true = refl
     go false false = refl
 
 -- nor is that of a head that confesses
-trusted_confessed : (n f : ℕ) (G : ℕ → Given) (j : ℕ) → has_confessed (G j) ≡ true → trusted n f G j ≡ Null
+trusted_confessed : (n f : ℕ) (G : ℕ → Given) (j : ℕ) → has_confessed (G j) ≡ true → trusted n f G j ≡ None
 unfolding trusted
 trusted_confessed n f G j h = rw h
 
 module _ (n f : ℕ) (e : End) (F : Faults) (calm : Each n (λ j. F.struck_in_confession j ≡ false)) where
   -- Of a head that lost its position everyone says null, or confesses. If it is struck in the collection round it may say anything there, but then it
   -- confesses.
-  lost_silent : (K : Family) (i j : ℕ) → j < n → e.struck j ≡ true → entries_at K n f e F i j ≡ Null
+  lost_silent : (K : Family) (i j : ℕ) → j < n → e.struck j ≡ true → entries_at K n f e F i j ≡ None
   unfolding entries_at given_to list_of
   lost_silent OneRound i j l s = rw (calm j l, s)
   lost_silent TwoRounds i j l s = go (F.struck_in_collection j) refl
     where
-      says : (k : ℕ) (c : Bool) (L : ℕ → Entry) → L j ≡ Null → says_of j (gives false c (F.replied k i) confessed (gave L)) ≡ Null
+      says : (k : ℕ) (c : Bool) (L : ℕ → Entry) → L j ≡ None → says_of j (gives false c (F.replied k i) confessed (gave L)) ≡ None
       says k true L x = refl
       says k false L x = x
 
-      go : (c : Bool) → F.struck_in_collection j ≡ c → trusted n f (given_to e F i) j ≡ Null
+      go : (c : Bool) → F.struck_in_collection j ≡ c → trusted n f (given_to e F i) j ≡ None
       go true q = trusted_confessed n f _ j (rw (calm j l, q))
       go false q = trusted_none n f _ j (λ k t. rw (calm k t) (says k (F.struck_in_collection k) (list_of e F k) (rw (q, s))))
 
@@ -300,7 +300,7 @@ module _ (n f : ℕ) (e : End) (F : Faults) (calm : Each n (λ j. F.struck_in_co
       go j l true s = rw (lost_silent K i j l s) (omega arith)
       go j l false s = omega arith
 
-  quiet_none : (K : Family) (r : ℕ) → (rule_of K f).most < lost_at n e → (i : ℕ) → (after K r n f e F).at i ≡ Null
+  quiet_none : (K : Family) (r : ℕ) → (rule_of K f).most < lost_at n e → (i : ℕ) → (after K r n f e F).at i ≡ None
   unfolding after settled enough
   quiet_none K r more i = rw (lt-leb (nulls n (entries_at K n f e F i)) (rule_of K f).most (omega (arith, lost_nulls K i)))
 

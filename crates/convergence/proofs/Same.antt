@@ -1,12 +1,12 @@
 -- What is settled depends on the entries 0 .. n - 1 only, and a trusted entry on what links 0 .. n - 1 gave, and of their lists on the one entry. Demand 3
 -- depends on who is struck and on what the others hold. The definitions look at nothing else.
+use Rattle.std.specs.Prelude.{None}
 use mathlib.Core.Path.{◌≡◌, refl, ap, ap₂, sym, ◌∙◌, fun_ext}
 use mathlib.Core.Bool.{Bool, true, false, cond}
 use Prim.Native.Nat.{ℕ, zero, suc, ◌-◌, ◌<◌}
 use lib.Dec.{leb}
 use lib.IntN.{ℤ}
-use Rattle.terms.specs.declared.Entry.{Entry}
-use Rattle.terms.specs.declared.Entry.TheVariants.{Null}
+use Rattle.terms.specs.Entry.{Entry}
 use Rattle.terms.specs.Counting.{Each, bit}
 use Rattle.convergence.specs.Settling.{is_null, nulls, ordered, Rule, midpoint, enough, settled}
 use Rattle.convergence.specs.Trust.{Given, nothing, confessed, gave, is, supports, support, has_confessed, confessions, says_of, seen, trusted}
@@ -80,7 +80,7 @@ pub record SameEnd (N : ℕ) (e e' : End) : Type 0 where
 sound_same : {N : ℕ} {e e' : End} → SameEnd N e e' → Each N (λ i. sound_at e i ≡ sound_at e' i)
 sound_same {e} {e'} s i l = rw (← s.struck i l) (go (e.struck i) (s.at i l))
   where
-    go : (b : Bool) → (b ≡ false → e.at i ≡ e'.at i) → cond b Null (e.at i) ≡ cond b Null (e'.at i)
+    go : (b : Bool) → (b ≡ false → e.at i ≡ e'.at i) → cond b None (e.at i) ≡ cond b None (e'.at i)
     go true h = refl
     go false h = h refl
 

@@ -1,6 +1,7 @@
 -- The bound on halving is the right one. Of the accepted sizes with up to 32 heads, seven have 3n below 11f + 3, and at each of these there is a run
 -- in which the spread is 2 at the start and still 2 after the first phase; the runs are played here, by computation. So among all sizes taken, halving
 -- is promised exactly if every run keeps it (`halves_exactly`).
+use Rattle.std.specs.Prelude.{None, Some}
 use mathlib.Core.Path.{◌≡◌, refl}
 use mathlib.Core.List.{[], ◌∷◌}
 use mathlib.Core.Logic.{◌↔◌, by_cases}
@@ -13,8 +14,7 @@ use lib.Dec.{eqb, leb, ltb, lit≤}
 use lib.ListN.{get_or}
 use lib.IntN.{ℤ, pos}
 use Rattle.terms.specs.Positions.{gap, half, floor_div, eq_z, rounding}
-use Rattle.terms.specs.declared.Entry.{Entry}
-use Rattle.terms.specs.declared.Entry.TheVariants.{Null, Position}
+use Rattle.terms.specs.Entry.{Entry}
 use Rattle.terms.specs.declared.Family.TheVariants.{TwoRounds}
 use Rattle.terms.specs.Counting.{sum, AtMost}
 use Rattle.convergence.specs.Settling.{nulls, trim, insert, ordered, low_kept, high_kept, middle, midpoint, enough, settled}
@@ -40,17 +40,17 @@ echo e F confesses =
 -- ---- document 01, "Wrong though they look natural", at (8,2)
 
 known : ℕ → Entry
-known u = Position (pos u)
+known u = Some (pos u)
 
 -- heads 0 and 1 are healed in collection
 pub healed : End
-healed = record { struck = λ j. ltb j 2; at = λ j. get_or (Null ∷ Null ∷ known 2 ∷ known 2 ∷ known 2 ∷ known 0 ∷ known 0 ∷ known 2 ∷ []) j Null }
+healed = record { struck = λ j. ltb j 2; at = λ j. get_or (None ∷ None ∷ known 2 ∷ known 2 ∷ known 2 ∷ known 0 ∷ known 0 ∷ known 2 ∷ []) j None }
 
 -- 2 and 3 are struck in it, 4 and 5 in confession; 4 confesses to 6 only, and 5 to 7 only
 pub apiece : Faults
 apiece =
     echo healed
-    (record { struck_in_collection = λ j. leb 2 j && ltb j 4; sent = λ k i. Null; struck_in_confession = λ j. leb 4 j && ltb j 6; replied = λ k i. nothing })
+    (record { struck_in_collection = λ j. leb 2 j && ltb j 4; sent = λ k i. None; struck_in_confession = λ j. leb 4 j && ltb j 6; replied = λ k i. nothing })
     (λ k i. eqb (k + 2) i)
 
 pub record EightTwo : Type 0 where
@@ -85,7 +85,7 @@ module _ (f x a s : ℕ) where
   telling =
       record {
         struck_in_collection = λ j. ltb j f;
-        sent = λ k i. Position (shown i);
+        sent = λ k i. Some (shown i);
         struck_in_confession = λ j. ltb j x || leb f j && ltb j (2 * f - x);
         replied = λ k i. nothing;
       }

@@ -1,9 +1,8 @@
 -- Demand 3, for a ring played on what its links carry. In the field's terms: approximate consensus. `range` is validity, `halving` is
 -- convergence. `Phases` says what a phase end is, who is struck, what the struck heads may send, and what the lowest, the highest and the
 -- spread are. proofs/Demand3.antt proves `Converges`, proofs/Quiet.antt `QuietAgrees`.
-use Rattle.std.specs.Prelude.{false, ◌≡◌, ℕ, suc, ◌+◌, ◌-◌, ◌*◌, ◌/◌, ◌^◌, ◌≤◌, ℤ, ◌≤ℤ◌}
-use Rattle.terms.specs.declared.Entry.{Entry}
-use Rattle.terms.specs.declared.Entry.TheVariants.{Null, Position}
+use Rattle.std.specs.Prelude.{false, ◌≡◌, ℕ, suc, ◌+◌, ◌-◌, ◌*◌, ◌/◌, ◌^◌, ◌≤◌, ℤ, ◌≤ℤ◌, None, Some}
+use Rattle.terms.specs.Entry.{Entry}
 use Rattle.terms.specs.declared.Family.{Family}
 use Rattle.terms.specs.declared.Family.TheVariants.{TwoRounds, OneRound}
 use Rattle.terms.specs.Counting.{Each, AtMost}
@@ -15,16 +14,16 @@ halved k s = (s + 2 ^ k - 1) / 2 ^ k
 
 -- a receiver holds a position, and it lies between the lowest and the highest (P73)
 abbrev pub HeldBetween : (low high held : Entry) → Type 0
-HeldBetween (Position low) (Position high) (Position u) = (low ≤ℤ u) × (u ≤ℤ high)
-HeldBetween low high Null = ⊥
-HeldBetween Null high (Position u) = ⊥
-HeldBetween (Position low) Null (Position u) = ⊥
+HeldBetween (Some low) (Some high) (Some u) = (low ≤ℤ u) × (u ≤ℤ high)
+HeldBetween low high None = ⊥
+HeldBetween None high (Some u) = ⊥
+HeldBetween (Some low) None (Some u) = ⊥
 
 -- a kept range, from its lowest entry to its highest, lies between the lowest and the highest (document 02, A2)
 abbrev pub KeptBetween : (low high : Entry) (a b : ℤ) → Type 0
-KeptBetween (Position low) (Position high) a b = (low ≤ℤ a) × (a ≤ℤ b) × (b ≤ℤ high)
-KeptBetween Null high a b = ⊥
-KeptBetween (Position low) Null a b = ⊥
+KeptBetween (Some low) (Some high) a b = (low ≤ℤ a) × (a ≤ℤ b) × (b ≤ℤ high)
+KeptBetween None high a b = ⊥
+KeptBetween (Some low) None a b = ⊥
 
 -- the sizes that are accepted: 2n at least 7f + 2, or in a ring of one round n at least 4f + 1
 abbrev pub AcceptedSize : Family → ℕ → ℕ → Type 0

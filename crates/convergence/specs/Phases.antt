@@ -1,11 +1,10 @@
 -- Document 01, "Strikes" and the two rounds, for a whole ring: from one phase end to the next. In the field's terms: the mobile Byzantine
 -- fault model of Garay. Struck is faulty, healed is cured and aware of it, healthy is healthy; sound is fault-free in the phase's last
 -- round; a position is a state. Document 004 calls each of the two rounds a phase.
-use Rattle.std.specs.Prelude.{Bool, true, false, not, cond, ℕ, zero, suc, ◌+◌, ◌%◌, ltb, ℤ}
+use Rattle.std.specs.Prelude.{Bool, true, false, not, cond, ℕ, zero, suc, ◌+◌, ◌%◌, ltb, ℤ, None, Some}
 use Rattle.std.specs.Int.Signed.{le_z}
 use Rattle.terms.specs.Positions.{gap, rounding}
-use Rattle.terms.specs.declared.Entry.{Entry}
-use Rattle.terms.specs.declared.Entry.TheVariants.{Null, Position}
+use Rattle.terms.specs.Entry.{Entry}
 use Rattle.terms.specs.declared.Family.{Family}
 use Rattle.terms.specs.declared.Family.TheVariants.{TwoRounds, OneRound}
 use Rattle.convergence.specs.Settling.{rule_of, settled}
@@ -20,7 +19,7 @@ pub record End : Type 0 where
 -- At the start the heads are sound, with the positions of the start record; a receiver that is no head counts as struck, since it holds no
 -- position yet (Q58).
 unfoldable pub start_end : ℕ → (ℕ → ℤ) → End
-start_end n v = record { struck = λ j. not (ltb j n); at = λ j. Position (v j) }
+start_end n v = record { struck = λ j. not (ltb j n); at = λ j. Some (v j) }
 
 -- A phase's strikes, and what the struck heads send, which is the adversary's choice: anything, something else to each receiver, or nothing.
 -- Nothing is a null entry in `sent`, and the value `nothing` of Trust.antt in `replied`. In both the sender's number is first and the
@@ -43,7 +42,7 @@ gives false false likes healed says = says
 -- A round in which heads send positions, and in which these are struck: what link k gives receiver i. A healthy head sends its position, a
 -- healed one silence (Q80).
 abbrev pub heard_from : (struck : ℕ → Bool) (e : End) (F : Faults) (i k : ℕ) → Entry
-heard_from struck e F i k = gives (struck k) (e.struck k) (F.sent k i) Null (e.at k)
+heard_from struck e F i k = gives (struck k) (e.struck k) (F.sent k i) None (e.at k)
 
 -- Collection round: entry k of the list that receiver i fills.
 unfoldable pub list_of : (e : End) (F : Faults) (i k : ℕ) → Entry
@@ -77,27 +76,27 @@ greater a b = cond (le_z a b) b a
 
 -- of two entries, by their positions; a null counts for nothing
 abbrev pub join : (ℤ → ℤ → ℤ) → Entry → Entry → Entry
-join pick Null b = b
-join pick (Position a) Null = Position a
-join pick (Position a) (Position b) = Position (pick a b)
+join pick None b = b
+join pick (Some a) None = Some a
+join pick (Some a) (Some b) = Some (pick a b)
 
 -- the position of a sound receiver
 abbrev pub sound_at : End → ℕ → Entry
-sound_at e j = cond (e.struck j) Null (e.at j)
+sound_at e j = cond (e.struck j) None (e.at j)
 
 unfoldable pub lowest : ℕ → End → Entry
-lowest zero e = Null
+lowest zero e = None
 lowest (suc n) e = join lesser (sound_at e n) (lowest n e)
 
 unfoldable pub highest : ℕ → End → Entry
-highest zero e = Null
+highest zero e = None
 highest (suc n) e = join greater (sound_at e n) (highest n e)
 
 -- the highest less the lowest
 abbrev pub apart : Entry → Entry → ℕ
-apart Null b = 0
-apart (Position a) Null = 0
-apart (Position a) (Position b) = gap a b
+apart None b = 0
+apart (Some a) None = 0
+apart (Some a) (Some b) = gap a b
 
 -- the spread of the sound ones, the diameter of their positions (P75)
 unfoldable pub spread : ℕ → End → ℕ

@@ -1,8 +1,7 @@
 -- Document 01, "Confession round", from what the links gave to the trusted entries (document 004's vector V).
-use Rattle.std.specs.Prelude.{Bool, true, false, ℕ, zero, suc, ◌-◌, ◌≤◌, ◌≡◌, leb, ℤ}
+use Rattle.std.specs.Prelude.{Bool, true, false, ℕ, zero, suc, ◌-◌, ◌≤◌, ◌≡◌, leb, ℤ, None, Some}
 use Rattle.terms.specs.Positions.{eq_z}
-use Rattle.terms.specs.declared.Entry.{Entry}
-use Rattle.terms.specs.declared.Entry.TheVariants.{Null, Position}
+use Rattle.terms.specs.Entry.{Entry}
 use Rattle.terms.specs.Counting.{sum, bit}
 
 -- what a link gave: nothing, a confession (document 004's empty set), or a list (its vector E)
@@ -13,8 +12,8 @@ pub data Given : Type 0 where
 
 -- 1 if an entry is the position u (P21)
 abbrev pub is : ℤ → Entry → ℕ
-is u Null = 0
-is u (Position w) = bit (eq_z u w)
+is u None = 0
+is u (Some w) = bit (eq_z u w)
 
 -- 1 if a link supports the position u for head j (P25)
 abbrev pub supports : ℕ → ℤ → Given → ℕ
@@ -44,8 +43,8 @@ confessions n G = sum n (λ k. bit (has_confessed (G k)))
 
 -- what a link's list says of head j
 abbrev pub says_of : ℕ → Given → Entry
-says_of j nothing = Null
-says_of j confessed = Null
+says_of j nothing = None
+says_of j confessed = None
 says_of j (gave l) = l j
 
 -- the positions seen that pass a test: none, one, or more
@@ -64,8 +63,8 @@ see u (one w) = pick (eq_z w u) (one w) many
 see u many = many
 
 abbrev pub see_entry : (ℤ → Bool) → Entry → Seen → Seen
-see_entry ok Null s = s
-see_entry ok (Position u) s = pick (ok u) (see u s) s
+see_entry ok None s = s
+see_entry ok (Some u) s = pick (ok u) (see u s) s
 
 unfoldable pub seen : (ℤ → Bool) → ℕ → (ℕ → Entry) → Seen
 seen ok zero E = none
@@ -73,11 +72,11 @@ seen ok (suc n) E = see_entry ok (E n) (seen ok n E)
 
 -- link j has confessed; every position has the support; the positions seen that have it (P28)
 abbrev pub choose : Bool → Bool → Seen → Entry
-choose true b s = Null
-choose false true s = Null
-choose false false none = Null
-choose false false (one u) = Position u
-choose false false many = Null
+choose true b s = None
+choose false true s = None
+choose false false none = None
+choose false false (one u) = Some u
+choose false false many = None
 
 -- Trusted entry j: u, if u alone has support n - f or more and link j has not confessed, and else null (`trusted_iff`, in
 -- proofs/Support.antt). With n - f confessions or more every position has the support, so none has it alone (P23, D9).

@@ -1,4 +1,5 @@
 -- The entries of a table that was made of entries are these.
+use Rattle.std.specs.Prelude.{None, Some}
 use mathlib.Core.Path.{◌≡◌, refl, ap, ◌∙◌}
 use mathlib.Core.Bool.{Bool, true, false, cond}
 use Prim.Native.Nat.{ℕ, zero, suc, ◌-◌, ◌^◌, ◌≤◌}
@@ -7,8 +8,7 @@ use native.Mathlib.Nat.{mul_comm}
 use lib.IntN.{pos}
 use lib.ListN.{get_or}
 use lib.Seq.{get_or-set_same, get_or-set_other}
-use Rattle.terms.specs.declared.Entry.{Entry}
-use Rattle.terms.specs.declared.Entry.TheVariants.{Null, Position}
+use Rattle.terms.specs.Entry.{Entry}
 use Rattle.marks.specs.Marks.{bit_of}
 use Rattle.marks.proofs.Words.{bit_low, bit_high}
 use Rattle.terms.specs.Counting.{Each}
@@ -25,13 +25,13 @@ numbers_at_lem (suc n) E l =
     (get_or-set_same (values_of n E) n (value_of (E n)) (pos 0) (omega (arith, numbers_long E n)))
 
 abbrev is_held : Entry → Bool
-is_held Null = false
-is_held (Position v) = true
+is_held None = false
+is_held (Some v) = true
 
 mark_bit : (e : Entry) → bit_of (mark e) 0 ≡ is_held e
 unfolding bit_of
-mark_bit Null = refl
-mark_bit (Position v) = refl
+mark_bit None = refl
+mark_bit (Some v) = refl
 
 marks_at_lem : (n : ℕ) (E : ℕ → Entry) → Each n (λ j. bit_of (marks_of n E) j ≡ is_held (E j))
 unfolding marks_of
@@ -45,6 +45,6 @@ pub table_at_lem : (n : ℕ) (E : ℕ → Entry) → n ≤ 32 → Each n (λ j. 
 unfolding entry_at
 table_at_lem n E l j h = rw (marks_at_lem n E j h, numbers_at_lem n E l j h) (go (E j))
   where
-    go : (e : Entry) → cond (is_held e) (Position (value_of e)) Null ≡ e
-    go Null = refl
-    go (Position v) = refl
+    go : (e : Entry) → cond (is_held e) (Some (value_of e)) None ≡ e
+    go None = refl
+    go (Some v) = refl

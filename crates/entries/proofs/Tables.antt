@@ -1,4 +1,5 @@
 -- Tables of entries: filled from entry 0 up, the same if their entries are, and with an entry put where there was none. Mark j is 2^j, above the sum of those before it, so that the marks of 32 entries are a word.
+use Rattle.std.specs.Prelude.{None, Some}
 use mathlib.Core.Path.{◌≡◌, refl, ap, ap₂, sym, ◌∙◌}
 use mathlib.Core.Logic.{◌≢◌, by_cases}
 use mathlib.Core.Bool.{cond}
@@ -14,8 +15,7 @@ use lib.IntN.{ℤ}
 use lib.ListN.{length, set, length-set}
 use lib.Seq.{set_out, set-set, set_comm}
 use borrow.Author.Tests.{eq-eqb, ne_eqb}
-use Rattle.terms.specs.declared.Entry.{Entry}
-use Rattle.terms.specs.declared.Entry.TheVariants.{Null, Position}
+use Rattle.terms.specs.Entry.{Entry}
 use Rattle.terms.specs.declared.Table.{Table}
 use Rattle.entries.specs.Entries.{zeros}
 use Rattle.entries.specs.Tables.{mark, value_of, marks_of, values_of, table_of}
@@ -24,8 +24,8 @@ use Rattle.terms.proofs.Sums.{each_last, each_less}
 use Rattle.marks.proofs.Counts.{first_32}
 
 mark_le : (e : Entry) (x : ℕ) → mark e * x ≤ x
-mark_le Null x = omega arith
-mark_le (Position u) x = omega arith
+mark_le None x = omega arith
+mark_le (Some u) x = omega arith
 
 pub marks_below_lem : (E : ℕ → Entry) (n : ℕ) → marks_of n E < 2 ^ n
 unfolding marks_of
@@ -59,7 +59,7 @@ unfolding values_of zeros
 numbers_long E zero = refl
 numbers_long E (suc n) = length-set (values_of n E) n (value_of (E n)) ∙ numbers_long E n
 
-module _ (E : ℕ → Entry) (none : (j : ℕ) → 32 ≤ j → E j ≡ Null) (n : ℕ) where
+module _ (E : ℕ → Entry) (none : (j : ℕ) → 32 ≤ j → E j ≡ None) (n : ℕ) where
   marks_first_32 : marks_of (min n 32) E ≡ marks_of n E
   unfolding marks_of
   marks_first_32 = first_32 (λ k. marks_of k E) (λ k l. rw (none k l) (omega arith)) n
@@ -104,7 +104,7 @@ module _ (E : ℕ → Entry) (k : ℕ) (e : Entry) where
   pub put_other : (j : ℕ) → j ≢ k → put j ≡ E j
   put_other j d = rw (ne_eqb j k d)
 
-  marks_put : E k ≡ Null → (n : ℕ) → k < n → marks_of n put ≡ marks_of n E + mark e * 2 ^ k
+  marks_put : E k ≡ None → (n : ℕ) → k < n → marks_of n put ≡ marks_of n E + mark e * 2 ^ k
   unfolding marks_of
   marks_put none zero l = absurd (omega arith)
   marks_put none (suc n) l = by_cases (ℕ_discrete n k)
@@ -125,7 +125,7 @@ marks_word E zero l = omega arith
 marks_word E (suc n) l = omega (arith, marks_fit E n l refl refl, rw (add-one n) at (marks_next E n l refl refl))
 
 -- the mark r of entry e
-module _ (E : ℕ → Entry) (k n : ℕ) (e : Entry) {m r : ℕ} (none : E k ≡ Null) (l : k < n) (size : n ≤ 32) (p : m ≡ marks_of n E) (q : r ≡ mark e) where
+module _ (E : ℕ → Entry) (k n : ℕ) (e : Entry) {m r : ℕ} (none : E k ≡ None) (l : k < n) (size : n ≤ 32) (p : m ≡ marks_of n E) (q : r ≡ mark e) where
   pub marks_sum : m + r * 2 ^ k % 4294967296 ≡ marks_of n (put E k e)
   marks_sum =
       let s = marks_put E k e none n l in

@@ -1,13 +1,13 @@
 -- A list as it travels: a mark word, and an entry of four bytes for each head, 0 if it is null.
-use Rattle.std.specs.Prelude.{Bool, true, false, cond, ◌&&◌, List, ℕ, zero, suc, ◌*◌, get_or, set, replicate, ℤ, pos}
+use Rattle.std.specs.Prelude.{Bool, true, false, cond, ◌&&◌, List, ℕ, zero, suc, ◌*◌, get_or, set, replicate, ℤ, pos, None, Some}
 use Rattle.terms.specs.Positions.{is_position, eq_z}
-use Rattle.terms.specs.declared.Entry.{Entry}
+use Rattle.terms.specs.Entry.{Entry}
 use Rattle.fields.specs.Bytes.{signed_at}
 use Rattle.marks.specs.Marks.{bit_of}
 
 -- entry j of a list with these marks and the numbers E: null if it is not marked
 unfoldable pub entry_at : ℕ → List ℤ → ℕ → Entry
-entry_at marks E j = cond (bit_of marks j) (Entry.Position (get_or E j (pos 0))) Entry.Null
+entry_at marks E j = cond (bit_of marks j) (Some (get_or E j (pos 0))) None
 
 -- whether a number fits in a list: a position if it is marked, and else 0 (P15)
 abbrev pub fits : Bool → ℤ → Bool

@@ -1,7 +1,6 @@
 -- A table of entries as the code holds it: a mark word, and numbers that are 0 if the entry is null.
-use Rattle.std.specs.Prelude.{List, ℕ, zero, suc, ◌+◌, ◌*◌, ◌^◌, set, ℤ, pos}
-use Rattle.terms.specs.declared.Entry.{Entry}
-use Rattle.terms.specs.declared.Entry.TheVariants.{Null, Position}
+use Rattle.std.specs.Prelude.{List, ℕ, zero, suc, ◌+◌, ◌*◌, ◌^◌, set, ℤ, pos, None, Some}
+use Rattle.terms.specs.Entry.{Entry}
 use Rattle.terms.specs.declared.Table.{Table}
 use Rattle.entries.specs.Entries.{entry_at, zeros}
 
@@ -10,12 +9,12 @@ abbrev pub table_at : Table → ℕ → Entry
 table_at t = entry_at t.marks t.entries
 
 abbrev pub mark : Entry → ℕ
-mark Null = 0
-mark (Position u) = 1
+mark None = 0
+mark (Some u) = 1
 
 abbrev pub value_of : Entry → ℤ
-value_of Null = pos 0
-value_of (Position u) = u
+value_of None = pos 0
+value_of (Some u) = u
 
 unfoldable pub marks_of : ℕ → (ℕ → Entry) → ℕ
 marks_of zero E = 0

@@ -1,10 +1,11 @@
 // Frames: the frame check.
 #![tactic(auto)]
 
-ghost use Rattle.std.specs.Prelude.{◌≡◌, true, ◌+◌};
+ghost use Rattle.std.specs.Prelude.{◌≡◌, true, ◌+◌, IfOk};
+ghost use Rattle.terms.specs.Refused.{number, number_of};
 ghost use Rattle.frame_check.specs.Check.{kind_of, is_known, length_of, frame_refusal, rest_of};
 
-use terms::refusal;
+use terms::Refusal;
 
 pub const POSITION: u16 = 1;
 
@@ -39,37 +40,33 @@ fn length_of(kind: u16, count: u8) -> usize
     7
 }
 
-// The frame check: 0, or 6, 7, 8, in that order. A byte past the end reads as 0.
-pub fn frame_refusal(frame: &[u8]) -> u8
-    ensures { result ≡ frame_refusal frame.now }
+// The frame check: refusals 6, 7, 8, in that order. A byte past the end reads as 0.
+pub fn frame_refusal(frame: &[u8]) -> Result<(), Refusal>
+    ensures { number_of result ≡ frame_refusal frame.now }
 {
     let len = frame.len();
     if len < 4 {
-        return refusal::STATED_LENGTH_DIFFERS;
+        return Err(Refusal::StatedLengthDiffers);
     }
     if fields::half_at(frame, 0) as usize != len {
-        return refusal::STATED_LENGTH_DIFFERS;
+        return Err(Refusal::StatedLengthDiffers);
     }
     let kind = fields::half_at(frame, 2);
     if !is_known(kind) {
-        return refusal::UNKNOWN_KIND;
+        return Err(Refusal::UnknownKind);
     }
     if len != length_of(kind, fields::byte_at(frame, 7)) {
-        return refusal::WRONG_LENGTH_FOR_KIND;
+        return Err(Refusal::WrongLengthForKind);
     }
-    0
+    Ok(())
 }
 
-// The frame check with the rest of the frame, as that part of the caller's own bytes; empty if the frame is refused.
-pub fn check<'a, 'b>(frame: &'a [u8], number: &'b mut u8) -> &'a [u8]
-    ensures number { number.new ≡ frame_refusal frame.now }
-    ensures rest { result.now ≡ rest_of frame.now }
-    ensures place { frame_refusal frame.now ≡ 0 → (result.ref_ptr.0 ≡ frame.entry.ref_ptr.0) × (result.ref_ptr.1 ≡ frame.entry.ref_ptr.1 + 7) }
+// The frame check with the rest of the frame, as that part of the caller's own bytes.
+pub fn check(frame: &[u8]) -> Result<&[u8], Refusal>
+    ensures number { number_of result ≡ frame_refusal frame.now }
+    ensures rest { IfOk result (λ rest. rest.now ≡ rest_of frame.now) }
+    ensures place { IfOk result (λ rest. (rest.ref_ptr.0 ≡ frame.entry.ref_ptr.0) × (rest.ref_ptr.1 ≡ frame.entry.ref_ptr.1 + 7)) }
 {
-    let refused = frame_refusal(frame);
-    *number = refused;
-    if refused == 0 {
-        return &frame[7..];
-    }
-    &frame[..0]
+    frame_refusal(frame)?;
+    Ok(&frame[7..])
 }

@@ -5,12 +5,13 @@ ghost use Rattle.std.specs.Prelude.{true, ◌≡◌, [], ◌≤◌, length, get_
 ghost use Rattle.frame_check.specs.Check.{kind_of, position, list};
 ghost use Rattle.frame_spec.specs.Said.{round_of, rest_field, entries_in, said, said_of, table_in, meant};
 ghost use Rattle.frame_codec.specs.Parts.{parts_of};
-ghost use Rattle.frame_codec.specs.Steps.{from_marks, common_refusal, said_unless};
+ghost use Rattle.frame_codec.specs.Steps.{from_marks, common_refusal, said_unless, told};
 ghost use Rattle.fields.specs.Bytes.{word_of, over};
+ghost use Rattle.terms.specs.Refused.{number_of, numbered};
 ghost use Rattle.frame_spec.specs.Written.{header, entry_bytes, position_frame, list_frame, frame_of, written, buffered};
 
-use frame_spec::{Said, Written};
-use terms::{Entry, Table, refusal};
+use frame_spec::Said;
+use terms::{Entry, Refusal, Table};
 
 // The round that a kind belongs to, 2 if the kind is unknown.
 fn round_of(kind: u16) -> u8
@@ -33,77 +34,80 @@ fn entries_of(rest: &[u8]) -> &[u8]
 }
 
 // The rest of a position frame: 11, and what it says, the same for every count of heads.
-fn read_position(rest: &[u8]) -> Said
-    ensures { result ≡ said_unless (from_marks position 0 rest.now) position 0 rest.now }
+fn read_position(rest: &[u8]) -> Result<Said, Refusal>
+    ensures { told result ≡ said_unless (from_marks position 0 rest.now) position 0 rest.now }
 {
     let word = fields::word_at(rest, 0);
     if entries::is_position_word(word) {
-        return Said::Collection(Entry::Position(fields::signed(word)));
+        return Ok(Said::Collection(Some(fields::signed(word))));
     }
-    Said::Refused(refusal::ENTRY_OUT_OF_RANGE)
+    Err(Refusal::EntryOutOfRange)
 }
 
 // The rest of a list frame: 10, 11.
-fn read_list(rest: &[u8], n: u8) -> Said
-    ensures { result ≡ said_unless (from_marks list n rest.now) list n rest.now }
+fn read_list(rest: &[u8], n: u8) -> Result<Said, Refusal>
+    ensures { told result ≡ said_unless (from_marks list n rest.now) list n rest.now }
 {
     if fields::byte_at(rest, 0) != n {
-        return Said::Refused(refusal::BAD_COUNT_OR_MARKS);
+        return Err(Refusal::BadCountOrMarks);
     }
     let marks = fields::word_at(rest, 1);
     if !marks::marks_below(marks, n as usize) {
-        return Said::Refused(refusal::BAD_COUNT_OR_MARKS);
+        return Err(Refusal::BadCountOrMarks);
     }
     if entries::entries_fit(marks, entries_of(rest), n) {
-        return Said::List;
+        return Ok(Said::List);
     }
-    Said::Refused(refusal::ENTRY_OUT_OF_RANGE)
+    Err(Refusal::EntryOutOfRange)
 }
 
 // 10 and 11, by the kind, and what the frame says.
-fn read_rest(rest: &[u8], kind: u16, n: u8) -> Said
-    ensures { result ≡ said_unless (from_marks (kind_of kind) n rest.now) (kind_of kind) n rest.now }
+fn read_rest(rest: &[u8], kind: u16, n: u8) -> Result<Said, Refusal>
+    ensures { told result ≡ said_unless (from_marks (kind_of kind) n rest.now) (kind_of kind) n rest.now }
 {
     match kind {
         frame_check::POSITION => read_position(rest),
-        frame_check::SILENCE => Said::Collection(Entry::Null),
+        frame_check::SILENCE => Ok(Said::Collection(None)),
         frame_check::LIST => read_list(rest, n),
-        frame_check::CONFESSION => Said::Confession,
-        _ => Said::Refused(refusal::UNKNOWN_KIND),
+        frame_check::CONFESSION => Ok(Said::Confession),
+        _ => Err(Refusal::UnknownKind),
     }
 }
 
 // 22, 9, 23, before the checks of the rest: the round of the kind, the sender and the phase.
-fn common_refusal(frame: &[u8], kind: u16, phase: u16, round: u8, link: u8) -> u8
-    ensures { result ≡ common_refusal (kind_of kind) phase round link frame.now }
+fn common_refusal(frame: &[u8], kind: u16, phase: u16, round: u8, link: u8) -> Result<(), Refusal>
+    ensures { number_of result ≡ common_refusal (kind_of kind) phase round link frame.now }
 {
     if round_of(kind) != round {
-        return refusal::OTHER_ROUND;
+        return Err(Refusal::OtherRound);
     }
     if fields::byte_at(frame, 4) != link {
-        return refusal::SENDER_IS_NOT_LINK;
+        return Err(Refusal::SenderIsNotLink);
     }
     if fields::half_at(frame, 5) != phase {
-        return refusal::OTHER_PHASE;
+        return Err(Refusal::OtherPhase);
     }
-    0
+    Ok(())
+}
+
+// What an accepted frame says, or the first check that refuses it: 6, 7, 8, 22, 9, 23, 10, 11.
+fn accepted(frame: &[u8], n: u8, phase: u16, round: u8, link: u8) -> Result<Said, Refusal>
+    ensures { told result ≡ said_of (said n phase round link frame.now) }
+{
+    let rest = frame_check::check(frame)?;
+    let kind = fields::half_at(frame, 2);
+    common_refusal(frame, kind, phase, round, link)?;
+    read_rest(rest, kind, n)
 }
 
 // What a frame says on a link, to a head of a ring of n heads in this phase and round. Refusals 6, 7, 8, 22, 9, 23, 10, 11.
 pub fn read(frame: &[u8], n: u8, phase: u16, round: u8, link: u8) -> Said
     ensures { result ≡ said_of (said n phase round link frame.now) }
 {
-    let mut refused = 0u8;
-    let rest = frame_check::check(frame, &mut refused);
-    if refused != 0 {
-        return Said::Refused(refused);
+    match accepted(frame, n, phase, round, link) {
+        Ok(said) => said,
+        Err(refusal) => Said::Refused(refusal.number()),
     }
-    let kind = fields::half_at(frame, 2);
-    let common = common_refusal(frame, kind, phase, round, link);
-    if common != 0 {
-        return Said::Refused(common);
-    }
-    read_rest(rest, kind, n)
 }
 
 // What hearing takes of a frame, but for the table of a list: whether it is accepted, else the number of the check that refuses it; the
@@ -118,7 +122,7 @@ pub struct Parts {
 }
 
 // The parts of what an accepted frame said.
-fn accepted(entry: Entry, list: bool, confession: bool) -> Parts
+fn parts_with(entry: Entry, list: bool, confession: bool) -> Parts
     ensures { result ≡ record { accepted = true; refusal = 0; entry = entry; list = list; confession = confession } }
 {
     Parts {
@@ -138,13 +142,13 @@ pub fn parts_of(said: Said) -> Parts
         Said::Refused(refusal) => Parts {
             accepted: false,
             refusal,
-            entry: Entry::Null,
+            entry: None,
             list: false,
             confession: false,
         },
-        Said::Collection(entry) => accepted(entry, false, false),
-        Said::List => accepted(Entry::Null, true, false),
-        Said::Confession => accepted(Entry::Null, false, true),
+        Said::Collection(entry) => parts_with(entry, false, false),
+        Said::List => parts_with(None, true, false),
+        Said::Confession => parts_with(None, false, true),
     }
 }
 
@@ -172,28 +176,28 @@ fn put_header(size: u16, kind: u16, sender: u8, phase: u16, buffer: &mut [u8])
 }
 
 // A frame of the common fields alone.
-fn write_bare(kind: u16, sender: u8, phase: u16, buffer: &mut [u8]) -> Written
-    ensures answer { result ≡ written (header 7 kind sender phase []) buffer.old }
+fn write_bare(kind: u16, sender: u8, phase: u16, buffer: &mut [u8]) -> Result<usize, Refusal>
+    ensures answer { numbered result ≡ written (header 7 kind sender phase []) buffer.old }
     ensures bytes { buffer.new ≡ buffered (header 7 kind sender phase []) buffer.old }
 {
     if buffer.len() < 7 {
-        return Written::Refused(refusal::BUFFER_TOO_SHORT);
+        return Err(Refusal::BufferTooShort);
     }
     put_header(7, kind, sender, phase, buffer);
-    Written::Length(7)
+    Ok(7)
 }
 
 // A frame with a position.
-fn write_position(v: i32, sender: u8, phase: u16, buffer: &mut [u8]) -> Written
-    ensures answer { result ≡ written (position_frame sender phase v) buffer.old }
+fn write_position(v: i32, sender: u8, phase: u16, buffer: &mut [u8]) -> Result<usize, Refusal>
+    ensures answer { numbered result ≡ written (position_frame sender phase v) buffer.old }
     ensures bytes { buffer.new ≡ buffered (position_frame sender phase v) buffer.old }
 {
     if buffer.len() < 11 {
-        return Written::Refused(refusal::BUFFER_TOO_SHORT);
+        return Err(Refusal::BufferTooShort);
     }
     put_header(11, frame_check::POSITION, sender, phase, buffer);
     fields::put_word(buffer, 7, fields::unsigned(v));
-    Written::Length(11)
+    Ok(11)
 }
 
 // The word of entry j; past the entries it is 0.
@@ -224,31 +228,38 @@ fn write_list(
     sender: u8,
     phase: u16,
     buffer: &mut [u8],
-) -> Written
-    ensures answer { result ≡ written (list_frame n sender phase (record { marks = marks; entries = entries.now })) buffer.old }
+) -> Result<usize, Refusal>
+    ensures answer { numbered result ≡ written (list_frame n sender phase (record { marks = marks; entries = entries.now })) buffer.old }
     ensures bytes { buffer.new ≡ buffered (list_frame n sender phase (record { marks = marks; entries = entries.now })) buffer.old }
 {
     let size = 12 + 4 * (n as u16);
     if buffer.len() < size as usize {
-        return Written::Refused(refusal::BUFFER_TOO_SHORT);
+        return Err(Refusal::BufferTooShort);
     }
     put_header(size, frame_check::LIST, sender, phase, buffer);
     buffer[7] = n;
     fields::put_word(buffer, 8, marks);
     put_entries(entries, n, buffer);
-    Written::Length(size as usize)
+    Ok(size as usize)
 }
 
 // Writes the frame that says `what` (a list with `table`) at the front of the buffer. Refusal 24 leaves the buffer as it was.
-pub fn write(what: Said, table: Table, n: u8, sender: u8, phase: u16, buffer: &mut [u8]) -> Written
-    ensures answer { result ≡ written (frame_of n sender phase (meant what table)) buffer.old }
+pub fn write(
+    what: Said,
+    table: Table,
+    n: u8,
+    sender: u8,
+    phase: u16,
+    buffer: &mut [u8],
+) -> Result<usize, Refusal>
+    ensures answer { numbered result ≡ written (frame_of n sender phase (meant what table)) buffer.old }
     ensures bytes { buffer.new ≡ buffered (frame_of n sender phase (meant what table)) buffer.old }
 {
     match what {
-        Said::Refused(_) => Written::Length(0),
+        Said::Refused(_) => Ok(0),
         Said::Collection(entry) => match entry {
-            Entry::Null => write_bare(frame_check::SILENCE, sender, phase, buffer),
-            Entry::Position(v) => write_position(v, sender, phase, buffer),
+            None => write_bare(frame_check::SILENCE, sender, phase, buffer),
+            Some(v) => write_position(v, sender, phase, buffer),
         },
         Said::List => write_list(table.marks, &table.entries, n, sender, phase, buffer),
         Said::Confession => write_bare(frame_check::CONFESSION, sender, phase, buffer),

@@ -1,5 +1,6 @@
 -- A frame written field by field into a lent buffer. A buffer whose front is written has the bytes written and behind them its own; the next field,
 -- written just behind them, makes the front longer by that field. So after the last field the front is the frame.
+use Rattle.std.specs.Prelude.{Ok, Err}
 use mathlib.Core.Path.{◌≡◌, refl, ap, ◌∙◌}
 use mathlib.Core.List.{List, [], ◌∷◌, ◌++◌, append_assoc, append-nil}
 use Prim.Native.Nat.{ℕ, suc, ◌+◌, ◌*◌, ◌≤◌, ◌<◌}
@@ -13,7 +14,7 @@ use borrow.Author.Tests.{le-leb, lt-leb}
 use Rattle.terms.specs.Refusals as refusal
 use Rattle.terms.specs.declared.Table.{Table}
 use Rattle.fields.specs.Bytes.{put2, put4, word_of, over}
-use Rattle.frame_spec.specs.declared.Written.{Written}
+use Rattle.frame_spec.specs.Length.{Written}
 use Rattle.frame_spec.specs.Written.{header, entry_bytes, position_frame, list_frame, written, buffered}
 use Rattle.frame_spec.proofs.Listing.{bytes_length}
 
@@ -75,11 +76,11 @@ over_list n k p t s {x} {y} h e f g =
 
 -- ---- the answer, and the buffer after it
 
-pub too_short : (frame s : List ℕ) → length s < length frame → (Written.Refused refusal.buffer_too_short ≡ written frame s) × (s ≡ buffered frame s)
+pub too_short : (frame s : List ℕ) → length s < length frame → (Err refusal.buffer_too_short ≡ written frame s) × (s ≡ buffered frame s)
 unfolding written buffered
 too_short frame s h = rw (lt-leb (length frame) (length s) h) (refl, refl)
 
 pub fits_front : (frame s : List ℕ) {out : List ℕ} {size : ℕ} → length frame ≡ size → size ≤ length s → out ≡ frame ++ drop size s
-    → (Written.Length size ≡ written frame s) × (out ≡ buffered frame s)
+    → (Ok size ≡ written frame s) × (out ≡ buffered frame s)
 unfolding written buffered
 fits_front frame s {out} {size} e h f = rw (le-leb (length frame) (length s) (omega arith), e) (refl, f)

@@ -1,5 +1,6 @@
 -- A frame written reads back: the frame that says a proper meaning, read in the meaning's round, says that meaning. Each field is written from the
 -- number that the check compares it with, and a field written reads back, so each check passes.
+use Rattle.std.specs.Prelude.{None, Some}
 use mathlib.Core.Path.{◌≡◌, refl, ap, ap₂, sym, ◌∙◌}
 use mathlib.Core.Bool.{true}
 use mathlib.Core.List.{List}
@@ -12,7 +13,7 @@ use lib.Seq.{ext_get_or}
 use lib.IntN.{ℤ, pos}
 use borrow.Author.Tests.{lt-ltb, le-leb, eq-eqb}
 use Rattle.terms.specs.Positions.{is_position}
-use Rattle.terms.specs.declared.Entry.{Entry}
+use Rattle.terms.specs.Entry.{Entry}
 use Rattle.terms.specs.declared.Table.{Table}
 use Rattle.fields.specs.Bytes.{signed_of, signed_at, word_of}
 use Rattle.marks.specs.Marks.{bit_of, marks_below}
@@ -27,7 +28,7 @@ use Rattle.frame_spec.proofs.Accepting.{says}
 use Rattle.frame_spec.proofs.Listing.{fits_position, all_fit, numbers_none, list_length, bytes_read}
 
 module _ (n k p : ℕ) (small : p < 65536) where
-  back_silence : said n p 0 k (silence_frame k p) ≡ collected Entry.Null
+  back_silence : said n p 0 k (silence_frame k p) ≡ collected None
   unfolding check_frame
   back_silence = says n p 0 k (silence_frame k p) (record { frame = refl; of_round = refl; sender = refl; of_phase = back2 p small; count = refl; range = refl })
 
@@ -39,12 +40,12 @@ module _ (n k p : ℕ) (small : p < 65536) where
     position_back : signed_at (position_frame k p v) 7 ≡ v
     position_back = ap signed_of (back4 (word_of v) (word_below v h)) ∙ signed_back v h
 
-    back_position : said n p 0 k (position_frame k p v) ≡ collected (Entry.Position v)
+    back_position : said n p 0 k (position_frame k p v) ≡ collected (Some v)
     unfolding check_frame
     back_position =
         says n p 0 k (position_frame k p v)
         (record { frame = refl; of_round = refl; sender = refl; of_phase = back2 p small; count = refl; range = ap is_position position_back ∙ h })
-        ∙ ap (λ (u : ℤ). collected (Entry.Position u)) position_back
+        ∙ ap (λ (u : ℤ). collected (Some u)) position_back
 
   module _ (t : Table) (size : n ≤ 32) (P : ProperTable n t) where
     abbrev bytes : List ℕ
@@ -89,7 +90,7 @@ module _ (n k p : ℕ) (small : p < 65536) where
 
 pub reads_back : (n k p : ℕ) (m : Meaning) → n ≤ 32 → p < 65536 → Proper n m → said n p (round_of_meaning m) k (frame_of n k p m) ≡ m
 reads_back n k p (refused c) size small h = absurd h
-reads_back n k p (collected Entry.Null) size small h = back_silence n k p small
-reads_back n k p (collected (Entry.Position v)) size small h = back_position n k p small v h
+reads_back n k p (collected None) size small h = back_silence n k p small
+reads_back n k p (collected (Some v)) size small h = back_position n k p small v h
 reads_back n k p (listed t) size small h = back_list n k p small t size h
 reads_back n k p confessed size small h = back_confession n k p small

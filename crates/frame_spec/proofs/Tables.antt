@@ -1,5 +1,6 @@
 -- A proper table is the table of its entries. Bit j of a mark word weighs 2^j, so the marks of the first j entries are the word's remainder by 2^j, and
 -- a number is 0 if its entry is null.
+use Rattle.std.specs.Prelude.{None, Some}
 use mathlib.Core.Path.{◌≡◌, refl, ap₂, sym, ◌∙◌}
 use mathlib.Core.Bool.{Bool, true, false, cond}
 use mathlib.Core.List.{List, []}
@@ -13,8 +14,7 @@ use lib.Pow.{pow_pos}
 use lib.ListN.{length, get_or}
 use lib.Seq.{ext_get_or, get_or-set_other}
 use lib.IntN.{ℤ, pos}
-use Rattle.terms.specs.declared.Entry.{Entry}
-use Rattle.terms.specs.declared.Entry.TheVariants.{Null, Position}
+use Rattle.terms.specs.Entry.{Entry}
 use Rattle.terms.specs.declared.Table.{Table}
 use Rattle.marks.specs.Marks.{bit_of}
 use Rattle.entries.specs.Entries.{fits, entry_at, numbers}
@@ -32,7 +32,7 @@ mark_bit : (m : ℕ) (l : List ℤ) (j : ℕ) → mark (entry_at m l j) ≡ m / 
 unfolding entry_at bit_of
 mark_bit m l j = go (m / 2 ^ j % 2) (omega arith)
   where
-    go : (x : ℕ) → x < 2 → mark (cond (eqb x 1) (Position (get_or l j (pos 0))) Null) ≡ x
+    go : (x : ℕ) → x < 2 → mark (cond (eqb x 1) (Some (get_or l j (pos 0))) None) ≡ x
     go zero h = refl
     go (suc zero) h = refl
     go (suc (suc x)) h = absurd (omega arith)
@@ -72,7 +72,7 @@ module _ (n : ℕ) (t : Table) (P : ProperTable n t) where
   unfolding entry_at
   entries_filled = record { long = P.long; read = λ j l. go (bit_of t.marks j) (get_or t.entries j (pos 0)) (P.fit j l); none = P.none }
     where
-      go : (b : Bool) (v : ℤ) → fits b v ≡ true → v ≡ value_of (cond b (Position v) Null)
+      go : (b : Bool) (v : ℤ) → fits b v ≡ true → v ≡ value_of (cond b (Some v) None)
       go true v h = refl
       go false v h = unmarked_zero v h
 

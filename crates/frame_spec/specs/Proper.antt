@@ -1,7 +1,7 @@
 -- What the laws of frames speak of: which meanings are accepted, which a frame can say to a ring of n heads, and in which round.
-use Rattle.std.specs.Prelude.{◌≡◌, true, List, ℕ, ◌^◌, ◌≤◌, ◌<◌, length, get_or, pos}
+use Rattle.std.specs.Prelude.{◌≡◌, true, List, ℕ, ◌^◌, ◌≤◌, ◌<◌, length, get_or, pos, None, Some}
 use Rattle.terms.specs.Positions.{is_position}
-use Rattle.terms.specs.declared.Entry.{Entry}
+use Rattle.terms.specs.Entry.{Entry}
 use Rattle.terms.specs.declared.Table.{Table}
 use Rattle.marks.specs.Marks.{bit_of}
 use Rattle.entries.specs.Entries.{fits}
@@ -27,8 +27,8 @@ pub record ProperTable (n : ℕ) (t : Table) : Type 0 where
 -- a meaning that a frame can say to a ring of n heads
 abbrev pub Proper : ℕ → Meaning → Type 0
 Proper n (refused c) = ⊥
-Proper n (collected Entry.Null) = Unit {0}
-Proper n (collected (Entry.Position v)) = is_position v ≡ true
+Proper n (collected None) = Unit {0}
+Proper n (collected (Some v)) = is_position v ≡ true
 Proper n (listed t) = ProperTable n t
 Proper n confessed = Unit {0}
 

@@ -1,10 +1,10 @@
 -- What a frame says on link k, to a head of a ring of n heads in phase p and round r (0 collection, 1 confession). Nothing else of the head
 -- matters.
-use Rattle.std.specs.Prelude.{Bool, true, ◌&&◌, List, ℕ, eqb, get_or, drop, ℤ}
+use Rattle.std.specs.Prelude.{Bool, true, ◌&&◌, List, ℕ, eqb, get_or, drop, ℤ, None, Some}
 use Rattle.terms.specs.Refusals as refusal
 use Rattle.terms.specs.Refusals.{check, unless_refused}
 use Rattle.terms.specs.Positions.{is_position}
-use Rattle.terms.specs.declared.Entry.{Entry}
+use Rattle.terms.specs.Entry.{Entry}
 use Rattle.terms.specs.declared.Table.{Table}
 use Rattle.fields.specs.Bytes.{at4, signed_at}
 use Rattle.marks.specs.Marks.{marks_below}
@@ -75,8 +75,8 @@ unfoldable pub table_in : ℕ → List ℕ → Table
 table_in n t = record { marks = marks_in t; entries = numbers (entries_in t) n }
 
 abbrev pub meaning : Kind → ℕ → List ℕ → Meaning
-meaning position n t = collected (Entry.Position (number_in t))
-meaning silence n t = collected Entry.Null
+meaning position n t = collected (Some (number_in t))
+meaning silence n t = collected None
 meaning list n t = listed (table_in n t)
 meaning confession n t = confessed
 meaning unknown n t = refused refusal.unknown_kind

@@ -1,10 +1,10 @@
 -- The frame that says something, from sender k in phase p of a ring of n heads; and a frame put at the front of a lent buffer.
-use Rattle.std.specs.Prelude.{Bool, cond, List, [], ◌∷◌, ◌++◌, ℕ, zero, suc, ◌+◌, ◌*◌, leb, length, get_or, drop, ℤ, pos}
+use Rattle.std.specs.Prelude.{Bool, cond, List, [], ◌∷◌, ◌++◌, ℕ, zero, suc, ◌+◌, ◌*◌, leb, length, get_or, drop, ℤ, pos, None, Some, Ok, Err}
 use Rattle.terms.specs.Refusals as refusal
-use Rattle.terms.specs.declared.Entry.{Entry}
+use Rattle.terms.specs.Entry.{Entry}
 use Rattle.terms.specs.declared.Table.{Table}
 use Rattle.fields.specs.Bytes.{put2, put4, word_of}
-use Rattle.frame_spec.specs.declared.Written.{Written}
+use Rattle.frame_spec.specs.Length.{Written}
 use Rattle.frame_spec.specs.Said.{Meaning, refused, collected, listed, confessed}
 
 -- two bytes length, two bytes kind, sender, two bytes phase
@@ -30,8 +30,8 @@ confession_frame k p = header 7 4 k p []
 
 abbrev pub frame_of : (n sender phase : ℕ) (m : Meaning) → List ℕ
 frame_of n k p (refused c) = []
-frame_of n k p (collected Entry.Null) = silence_frame k p
-frame_of n k p (collected (Entry.Position v)) = position_frame k p v
+frame_of n k p (collected None) = silence_frame k p
+frame_of n k p (collected (Some v)) = position_frame k p v
 frame_of n k p (listed t) = list_frame n k p t
 frame_of n k p confessed = confession_frame k p
 
@@ -42,7 +42,7 @@ fits_in frame buffer = leb (length frame) (length buffer)
 
 -- the frame's length, or 24 (P19)
 unfoldable pub written : List ℕ → List ℕ → Written
-written frame buffer = cond (fits_in frame buffer) (Written.Length (length frame)) (Written.Refused refusal.buffer_too_short)
+written frame buffer = cond (fits_in frame buffer) (Ok (length frame)) (Err refusal.buffer_too_short)
 
 -- the frame at the front, and the bytes after it as they were; all of it as it was if the frame is too long
 unfoldable pub buffered : List ℕ → List ℕ → List ℕ

@@ -1,4 +1,5 @@
 -- A block is read as the record that was put into it, if nothing was heard in the record and its numbers fit their words.
+use Rattle.std.specs.Prelude.{None, Some}
 use mathlib.Core.Path.{◌≡◌, refl, ap, sym, ◌∙◌}
 use mathlib.Core.Bool.{Bool, true, false}
 use mathlib.Core.List.{List, [], ◌∷◌, ◌++◌, append_assoc}
@@ -9,7 +10,7 @@ use native.Mathlib.Decide.{dec_lt}
 use lib.ListN.{length, get_or, drop, get_or-append, get_or-replicate}
 use lib.Seq.{get_or-append-add}
 use lib.IntN.{ℤ, pos, negsuc}
-use Rattle.terms.specs.declared.Entry.{Entry}
+use Rattle.terms.specs.Entry.{Entry}
 use Rattle.terms.specs.declared.Family.{Family}
 use Rattle.terms.specs.declared.Family.TheVariants.{TwoRounds, OneRound}
 use Rattle.fields.specs.Bytes.{signed_of, word_of}
@@ -19,7 +20,7 @@ use Rattle.marks.proofs.Marks.{bit_none}
 use Rattle.entries.specs.Entries.{zeros}
 use Rattle.terms.specs.Counting.{bit}
 use Rattle.head_spec.specs.declared.Row.{Row}
-use Rattle.head_spec.specs.declared.LastKept.{LastKept}
+use Rattle.head_spec.specs.Kept.{LastKept}
 use Rattle.head_spec.specs.declared.Seat.{Seat}
 use Rattle.head_spec.specs.declared.Head.{Head}
 use Rattle.head_spec.specs.Record.{no_links, no_lists, opened}
@@ -57,12 +58,12 @@ pub record FitNumbers (E : List ℤ) : Type 0 where
 -- ---- records whose numbers fit
 
 abbrev pub FitEntry : Entry → Type 0
-FitEntry Entry.Null = Unit {0}
-FitEntry (Entry.Position v) = Fits32 v
+FitEntry None = Unit {0}
+FitEntry (Some v) = Fits32 v
 
 abbrev pub FitLast : LastKept → Type 0
-FitLast LastKept.Nothing = Unit {0}
-FitLast (LastKept.Range k) = Fits32 k.low × Fits32 k.high × (k.trim < 256) × Fits32 k.position
+FitLast None = Unit {0}
+FitLast (Some k) = Fits32 k.low × Fits32 k.high × (k.trim < 256) × Fits32 k.position
 
 pub record FitSeat (s : Seat) : Type 0 where
   pub n : s.n < 256
@@ -85,14 +86,14 @@ family_back TwoRounds = refl
 family_back OneRound = refl
 
 entry_back : (e : Entry) → FitEntry e → held_entry (held_number e) (signed_of (word_of (held_or e (pos 0)))) ≡ e
-entry_back Entry.Null f = refl
-entry_back (Entry.Position v) f = ap Entry.Position (signed_back v f)
+entry_back None f = refl
+entry_back (Some v) f = ap Some (signed_back v f)
 
 range_back : (x : LastKept) → FitLast x → let k = kept_of x in
     range_in (range_number x) (signed_of (word_of k.low)) (signed_of (word_of k.high)) (k.trim % 256) (signed_of (word_of k.position)) ≡ x
-range_back LastKept.Nothing f = refl
-range_back (LastKept.Range k) f = λ i.
-    LastKept.Range
+range_back None f = refl
+range_back (Some k) f = λ i.
+    Some
     (record {
       low = signed_back k.low f.0 i;
       high = signed_back k.high f.1 i;

@@ -1,5 +1,6 @@
 -- After start, restart, closing and adopting a block is the record that the call makes of the one before, as `Hears` says it of hearing. So C may keep a head
 -- all shift. Of closing and adopting this is shown for a proper record, as all calls make them: its numbers fit their words.
+use Rattle.std.specs.Prelude.{None, Some}
 use mathlib.Core.Path.{◌≡◌, refl, sym, ◌∙◌}
 use mathlib.Core.Bool.{Bool, true, false, not, cond, and-true, true≢false}
 use mathlib.Core.List.{List}
@@ -12,7 +13,7 @@ use borrow.Author.Tests.{leb-true, leb-false, eqb-true}
 use Rattle.terms.specs.Refusals as refusal
 use Rattle.terms.specs.Refusals.{check}
 use Rattle.terms.specs.Positions.{is_position, eq_z}
-use Rattle.terms.specs.declared.Entry.{Entry}
+use Rattle.terms.specs.Entry.{Entry}
 use Rattle.terms.specs.declared.Family.{Family}
 use Rattle.terms.specs.declared.Table.{Table}
 use Rattle.marks.specs.Marks.{bit_of}
@@ -21,11 +22,10 @@ use Rattle.convergence.proofs.Demand3.{size_large}
 use Rattle.frame_spec.specs.Said.{collected}
 use Rattle.frame_spec.specs.Proper.{ProperTable, Proper}
 use Rattle.settle_midpoint.specs.declared.Kept.{Kept}
-use Rattle.head_spec.specs.declared.LastKept.{LastKept}
+use Rattle.head_spec.specs.Kept.{LastKept, Offer}
 use Rattle.head_spec.specs.declared.Seat.{Seat}
 use Rattle.head_spec.specs.declared.Head.{Head}
 use Rattle.head_spec.specs.declared.Closed.{Closed}
-use Rattle.head_spec.specs.declared.Offer.{Offer}
 use Rattle.head_spec.specs.Record.{no_entries, opened}
 use Rattle.head_spec.specs.Seats.{first_seat, healed_seat, confession_seat, is_last, next_seat}
 use Rattle.head_spec.specs.Calls.{answer, start_refusal, started, start, restart_refusal, restarted, restart}
@@ -58,12 +58,12 @@ table_fits n t P = record { long = P.long; each = λ j l. go j (dec_lt j n) }
     go j (no l) = rw (P.none j (omega arith)) (omega arith)
 
 entry_fits : (n : ℕ) (e : Entry) → Proper n (collected e) → FitEntry e
-entry_fits n Entry.Null P = tt
-entry_fits n (Entry.Position v) P = position_fits v P
+entry_fits n None P = tt
+entry_fits n (Some v) P = position_fits v P
 
 pub last_fits : (f : ℕ) (x : LastKept) → f < 256 → ProperLast f x → FitLast x
-last_fits f LastKept.Nothing l P = tt
-last_fits f (LastKept.Range k) l P =
+last_fits f None l P = tt
+last_fits f (Some k) l P =
     (position_fits k.low P.low, position_fits k.high P.high, omega (arith, P.trim), position_fits k.position P.position)
 
 pub seat_fits : (s : Seat) → ProperSeat s → FitSeat s
@@ -82,7 +82,7 @@ seat_fits s P =
     }
 
 -- what a proper seat is after a phase that ends with an offer whose numbers fit
-next_fits : (s : Seat) (k : Kept) → ProperSeat s → FitLast (LastKept.Range k) → FitSeat (next_seat s k)
+next_fits : (s : Seat) (k : Kept) → ProperSeat s → FitLast (Some k) → FitSeat (next_seat s k)
 next_fits s k P F =
     let S = seat_fits s P in
     let (phase, round) = times (is_last s) refl in
@@ -107,7 +107,7 @@ module _ (w : List ℕ) (block : IsBlock w) where
 
   pub after_start : (K : Family) (n f i : ℕ) (v : ℤ) → head_of (with_answer w (start (head_of w) K n f i v)) ≡ (start (head_of w) K n f i v).head
   unfolding start started
-  after_start K n f i v = after_answer (start_refusal K n f i v) (first_seat K n f i (Entry.Position v)) (proper_started K n f i v)
+  after_start K n f i v = after_answer (start_refusal K n f i v) (first_seat K n f i (Some v)) (proper_started K n f i v)
 
   pub after_restart : (K : Family) (n f i p r : ℕ) → head_of (with_answer w (restart (head_of w) K n f i p r)) ≡ (restart (head_of w) K n f i p r).head
   unfolding restart restarted
@@ -115,7 +115,7 @@ module _ (w : List ℕ) (block : IsBlock w) where
 
   pub after_start_listener : (K : Family) (n f i : ℕ) → head_of (with_answer w (start_listener (head_of w) K n f i)) ≡ (start_listener (head_of w) K n f i).head
   unfolding start_listener started_listener
-  after_start_listener K n f i = after_answer (start_listener_refusal K n f i) (first_seat K n f i Entry.Null) (proper_started_listener K n f i)
+  after_start_listener K n f i = after_answer (start_listener_refusal K n f i) (first_seat K n f i None) (proper_started_listener K n f i)
 
   pub after_restart_listener : (K : Family) (n f i p r : ℕ) → head_of (with_answer w (restart_listener (head_of w) K n f i p r)) ≡ (restart_listener (head_of w) K n f i p r).head
   unfolding restart_listener restarted
@@ -141,7 +141,7 @@ module _ (w : List ℕ) (block : IsBlock w) where
       h : Head
       h = head_of w
 
-      ends : (b : Bool) (k : Kept) → FitOffer (Offer.Standing k)
+      ends : (b : Bool) (k : Kept) → FitOffer (Some k)
           → let a = answer (check (not b) refusal.run_has_ended 0) (opened (next_seat h.seat k) no_entries) h in head_of (with_answer w a) ≡ a.head
       ends true k F = refl
       ends false k F =
@@ -149,5 +149,5 @@ module _ (w : List ℕ) (block : IsBlock w) where
           head_back s no_entries w block (next_fits h.seat k P.seat F) (table_fits h.seat.n no_entries (no_entries_lem h.seat.n))
 
       go : (o : Offer) → FitOffer o → let a = adopt h o in head_of (with_answer w a) ≡ a.head
-      go Offer.Nothing F = refl
-      go (Offer.Standing k) F = ends h.seat.ended k F
+      go None F = refl
+      go (Some k) F = ends h.seat.ended k F

@@ -1,4 +1,5 @@
 -- What each meaning of a frame changes in a block, read as a record: just what hearing it changes of the record. All other words are as they were.
+use Rattle.std.specs.Prelude.{None, Some}
 use mathlib.Core.Path.{◌≡◌, ap, sym, ◌∙◌}
 use mathlib.Core.Logic.{◌≢◌}
 use mathlib.Core.Bool.{cond}
@@ -9,7 +10,7 @@ use native.Mathlib.Decide.{dec_lt}
 use lib.ListN.{length, get_or, set, length-set}
 use lib.Seq.{get_or-set_same, get_or-set_other, paste}
 use lib.IntN.{ℤ}
-use Rattle.terms.specs.declared.Entry.{Entry}
+use Rattle.terms.specs.Entry.{Entry}
 use Rattle.terms.specs.declared.Table.{Table}
 use Rattle.fields.specs.Bytes.{signed_of, word_of}
 use Rattle.marks.specs.Marks.{bit_of, with_mark}
@@ -115,7 +116,7 @@ module _ (w : List ℕ) (block : IsBlock w) (k : ℕ) where
 
 module _ (w : List ℕ) (block : IsBlock w) (k : ℕ) (below : k < 32) where
   -- silence
-  pub null_is : head_of (marked 24 k w) ≡ taken (head_of w) k (collected Entry.Null)
+  pub null_is : head_of (marked 24 k w) ≡ taken (head_of w) k (collected None)
   unfolding head_of
   null_is =
       let w' = marked 24 k w in
@@ -151,7 +152,7 @@ module _ (w : List ℕ) (block : IsBlock w) (k : ℕ) (below : k < 32) where
         up_to_set 32 (λ j. signed_of (get_or w (26 + j) 0)) (λ j. signed_of (get_or placed (26 + j) 0)) k v (ap signed_of placed_there ∙ signed_back v fits)
         (λ j l d. ap signed_of (placed_other (26 + j) (omega arith)))
 
-    pub position_is : head_of placed ≡ taken (head_of w) k (collected (Entry.Position v))
+    pub position_is : head_of placed ≡ taken (head_of w) k (collected (Some v))
     unfolding head_of
     position_is =
         let two = twice_heard w block k 25 (omega arith) (omega arith) in

@@ -1,24 +1,24 @@
 -- Closing on the block itself, in the parts of the definition: refused, it stays as it was; a collection round is ended; in the last round of a phase it offers.
+use Rattle.std.specs.Prelude.{Some, Ok, Err}
 use mathlib.Core.Path.{◌≡◌, refl}
 use mathlib.Core.Bool.{true, false}
 use mathlib.Core.List.{List}
 use Prim.Native.Nat.{ℕ}
 use Rattle.terms.specs.Refusals as refusal
 use Rattle.settle_midpoint.specs.declared.Kept.{Kept}
-use Rattle.settle_midpoint.specs.declared.Settled.TheVariants as settled
 use Rattle.head_spec.specs.declared.Head.{Head}
 use Rattle.head_spec.specs.declared.Closed.{Closed}
-use Rattle.head_spec.specs.declared.Offer.{Offer}
+use Rattle.head_spec.specs.Kept.{Offer}
 use Rattle.head_spec.specs.Calls.{closed_collection, settling_of, close_in, is_last_round, close}
 use Rattle.head_spec.proofs.Stops.{ended_closes}
 use Rattle.head_spec.proofs.RoundClose.{closes_collection, closes_last}
 use Rattle.head_c.specs.Blocks.{with_head, with_offer}
 use Rattle.head_c.specs.Steps.{BlockCloses}
 
-pub refuses : (w : List ℕ) (h : Head) (n : ℕ) → settled.Refused n ≡ settling_of h → BlockCloses (close_in true h) w (Closed.Refused n) w
+pub refuses : (w : List ℕ) (h : Head) (n : ℕ) → Err n ≡ settling_of h → BlockCloses (close_in true h) w (Closed.Refused n) w
 refuses w h n e = rw (← e) (refl, refl)
 
-pub offers : (w : List ℕ) (h : Head) (k : Kept) {w' : List ℕ} → settled.New k ≡ settling_of h → w' ≡ with_offer (Offer.Standing k) w
+pub offers : (w : List ℕ) (h : Head) (k : Kept) {w' : List ℕ} → Ok k ≡ settling_of h → w' ≡ with_offer (Some k) w
     → BlockCloses (close_in true h) w (Closed.Settled k) w'
 offers w h k e q = rw (← e) (refl, q)
 

@@ -1,5 +1,6 @@
 -- What stands beside the head after a call (document 02, A5), and the offer (A8), and that neither the record nor any other word is another for them: words
 -- 16 to 23 are no part of the record.
+use Rattle.std.specs.Prelude.{None, Some}
 use mathlib.Core.Path.{◌≡◌, refl, ◌∙◌}
 use mathlib.Core.List.{List, ◌∷◌}
 use Prim.Native.Nat.{ℕ, zero, suc, ◌≤◌, ◌<◌}
@@ -9,11 +10,10 @@ use lib.Seq.{get_or-set_same, get_or-set_other}
 use lib.IntN.{ℤ}
 use Rattle.terms.specs.Refusals.{leaves}
 use Rattle.terms.specs.declared.Family.{Family}
-use Rattle.head_spec.specs.declared.LastKept.{LastKept}
+use Rattle.head_spec.specs.Kept.{LastKept, Offer}
 use Rattle.head_spec.specs.declared.Head.{Head}
 use Rattle.head_spec.specs.declared.Answer.{Answer}
 use Rattle.head_spec.specs.declared.Closed.{Closed}
-use Rattle.head_spec.specs.declared.Offer.{Offer}
 use Rattle.head_spec.specs.Calls.{start, restart, start_listener, restart_listener, Delivery, hear, said_to, answers_to, close, adopt}
 use Rattle.head_spec.specs.Batch.{deliveries_of, batch_refusal}
 use Rattle.head_spec.specs.Offers.{lapsed, lapsed_by, offered}
@@ -75,7 +75,7 @@ after_long w a block = either_way (λ x. 22 < length x) a.refusal (put_long w a.
 closing_long : (w : List ℕ) (c : Closed) (h : Head) → IsBlock w → 22 < length (with_closing c h w)
 closing_long w (Closed.Refused c) h block = omega arith
 closing_long w Closed.Listed h block = put_long w h block
-closing_long w (Closed.Settled k) h block = let long : length (with_offer (Offer.Standing k) w) ≡ 1116 = simp length-set block in omega arith
+closing_long w (Closed.Settled k) h block = let long : length (with_offer (Some k) w) ≡ 1116 = simp length-set block in omega arith
 
 -- ---- only these change it
 
@@ -95,12 +95,12 @@ module _ (w : List ℕ) (block : IsBlock w) (b : Registers) (a : Answer) where
 
 -- a closing
 module _ (w : List ℕ) (block : IsBlock w) where
-  proper_fits : (f : ℕ) (c : Closed) → f < 256 → ProperClosed f c → FitOffer (offered c Offer.Nothing)
+  proper_fits : (f : ℕ) (c : Closed) → f < 256 → ProperClosed f c → FitOffer (offered c None)
   proper_fits f (Closed.Refused c) l P = tt
   proper_fits f Closed.Listed l P = tt
-  proper_fits f (Closed.Settled k) l P = last_fits f (LastKept.Range k) l P
+  proper_fits f (Closed.Settled k) l P = last_fits f (Some k) l P
 
-  offer_closed : (c : Closed) (h : Head) → FitOffer (offered c Offer.Nothing) → offer_of (with_closing c h w) ≡ offered c (offer_of w)
+  offer_closed : (c : Closed) (h : Head) → FitOffer (offered c None) → offer_of (with_closing c h w) ≡ offered c (offer_of w)
   offer_closed (Closed.Refused c) h F = refl
   offer_closed Closed.Listed h F = same_offer (with_head h w) w (λ i from to. put_registers w block i (omega arith) (omega arith) h)
   offer_closed (Closed.Settled k) h F = offer_back k w block F

@@ -1,4 +1,5 @@
 -- Hearing in a block: it changes what hearing changes of the record that the block is, for all that a frame can say, and the code changes just that.
+use Rattle.std.specs.Prelude.{None, Some}
 use mathlib.Core.Path.{◌≡◌, refl, ap, sym, ◌∙◌}
 use mathlib.Core.Logic.{by_cases}
 use mathlib.Core.Bool.{Bool, true, false, cond}
@@ -12,7 +13,7 @@ use lib.Seq.{set_out, get_or-set_same, get_or-set_other}
 use lib.IntN.{pos}
 use borrow.Author.Tests.{lt-ltb, le-ltb}
 use Rattle.terms.specs.Refusals.{leaves, unless_refused}
-use Rattle.terms.specs.declared.Entry.{Entry}
+use Rattle.terms.specs.Entry.{Entry}
 use Rattle.fields.specs.Bytes.{at4, signed_of, signed_at}
 use Rattle.marks.specs.Marks.{with_mark}
 use Rattle.marks.proofs.Marks.{with_past}
@@ -53,8 +54,8 @@ module _ (w : List ℕ) (k : ℕ) (past : 32 ≤ k) where
 
       go : (m : Meaning) → taken h k m ≡ h
       go (refused c) = refl
-      go (collected Entry.Null) = rw (unmarked h.heard)
-      go (collected (Entry.Position v)) =
+      go (collected None) = rw (unmarked h.heard)
+      go (collected (Some v)) =
           let entries = set_out h.list.entries k v (omega (arith, up_to_long 32 (λ j. signed_of (get_or w (26 + j) 0)))) in
           rw (unmarked h.heard, unmarked h.list.marks, entries)
       go (listed t) =
@@ -81,8 +82,8 @@ heard_is w block k m F = by_cases (dec_lt k 32)
 
     go : k < 32 → (m : Meaning) → FitMeaning m → head_of (block_with w k m) ≡ taken (head_of w) k m
     go l (refused c) F = refl
-    go l (collected Entry.Null) F = lapsing (collected Entry.Null) (null_is w₀ block₀ k l)
-    go l (collected (Entry.Position v)) F = lapsing (collected (Entry.Position v)) (position_is w₀ block₀ k l v F)
+    go l (collected None) F = lapsing (collected None) (null_is w₀ block₀ k l)
+    go l (collected (Some v)) F = lapsing (collected (Some v)) (position_is w₀ block₀ k l v F)
     go l (listed t) F = lapsing (listed t) (list_is w₀ block₀ k l t F)
     go l confessed F = lapsing confessed (confession_is w₀ block₀ k l)
 

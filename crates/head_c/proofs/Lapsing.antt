@@ -1,4 +1,5 @@
 -- Hearing ends an offer: what is said on a link and accepted clears word 18, and what is refused leaves the block. A batch ends it with its first accepted frame.
+use Rattle.std.specs.Prelude.{None}
 use mathlib.Core.Path.{◌≡◌, refl, ap, sym, ◌∙◌}
 use mathlib.Core.Bool.{not}
 use mathlib.Core.List.{List, [], ◌∷◌}
@@ -15,7 +16,7 @@ use Rattle.frame_spec.specs.Proper.{AcceptedMeaning}
 use Rattle.head_spec.specs.declared.Seat.{Seat}
 use Rattle.head_spec.specs.declared.Head.{Head}
 use Rattle.head_spec.specs.declared.Answer.{Answer}
-use Rattle.head_spec.specs.declared.Offer.{Offer}
+use Rattle.head_spec.specs.Kept.{Offer}
 use Rattle.head_spec.specs.Calls.{Delivery, hear, said_to, refusal_to, answers_to}
 use Rattle.head_spec.specs.Offers.{lapsed, lapsed_by}
 use Rattle.head_spec.proofs.Taking.{hear_keeps}
@@ -34,7 +35,7 @@ module _ (w : List ℕ) (block : IsBlock w) (k : ℕ) (s : List ℕ) where
   heard_block' = either_way IsBlock (hear (head_of w) k s).refusal (heard_block_lem w block k _) block
 
   -- what is said and accepted ends an offer
-  lapses : k < 32 → (m : Meaning) → AcceptedMeaning m → offer_of (heard_in w k m) ≡ Offer.Nothing
+  lapses : k < 32 → (m : Meaning) → AcceptedMeaning m → offer_of (heard_in w k m) ≡ None
   lapses l m a =
       rw (heard_below w k m l)
       (no_offer (block_with w k m) (changed_registers w block 18 (omega arith) (omega arith) k l m a ∙ get_or-set_same w 18 0 0 (omega arith)))

@@ -1,4 +1,5 @@
 -- The blocks that calls make: each call does to the block what the call by value does to its record and to the offer beside it.
+use Rattle.std.specs.Prelude.{None, Some}
 use mathlib.Core.Path.{◌≡◌, refl, ap, sym, ◌∙◌}
 use mathlib.Core.Logic.{◌≢◌}
 use mathlib.Core.Bool.{Bool, true, false, cond}
@@ -8,12 +9,11 @@ use native.Mathlib.Omega.{arith}
 use lib.ListN.{length, take, drop}
 use Rattle.frame_spec.specs.Proper.{AllBytes}
 use Rattle.frame_spec.proofs.FieldByField.{drop_bytes}
-use Rattle.head_spec.specs.declared.LastKept.{LastKept}
+use Rattle.head_spec.specs.Kept.{LastKept, Offer}
 use Rattle.head_spec.specs.declared.Head.{Head}
 use Rattle.head_spec.specs.declared.Answer.{Answer}
 use Rattle.head_spec.specs.declared.Closed.{Closed}
 use Rattle.head_spec.specs.declared.Closing.{Closing}
-use Rattle.head_spec.specs.declared.Offer.{Offer}
 use Rattle.head_spec.specs.Calls.{answer, start_refusal, start, restart_refusal, restart, start_listener_refusal, start_listener, restart_listener_refusal, restart_listener, Delivery, hear_each, answers_to, close, adopt}
 use Rattle.head_spec.specs.Batch.{frame_length, is_whole, first_entry, behind_first, cut_into, deliveries_of, batch_refusal}
 use Rattle.head_spec.specs.Offers.{lapsed, lapsed_by, offered, then_adopt, Offering}
@@ -45,9 +45,9 @@ proper_of {h} {o} H = demand_2.proper h (offering_reached h o H.0 H.1).0
 
 -- ---- starts and restarts: taken, the record is new; refused, all is as it was
 
-left : (c : ℕ) (new old : Head) (o : Offer) → ((answer c new old).refusal ≢ 0 → (x : LastKept) × Offering old o x) → (c ≡ 0 → Offering new Offer.Nothing LastKept.Nothing)
+left : (c : ℕ) (new old : Head) (o : Offer) → ((answer c new old).refusal ≢ 0 → (x : LastKept) × Offering old o x) → (c ≡ 0 → Offering new None None)
     → (x : LastKept) × Offering (answer c new old).head (lapsed (answer c new old).refusal o) x
-left zero new old o H N = (LastKept.Nothing, N refl)
+left zero new old o H N = (None, N refl)
 left (suc c) new old o H N = H (λ e. omega arith)
 
 module _ (w : List ℕ) (block : IsBlock w) where
@@ -115,9 +115,9 @@ module _ (w : List ℕ) (block : IsBlock w) (H : Holds w) where
   P = proper_of H
 
   adopts_holds : (o : Offer) → (x : LastKept) × Offering g o x → (x : LastKept) × Offering (adopt g o).head (lapsed (adopt g o).refusal o) x
-  adopts_holds Offer.Nothing K = moved (ap (λ (a : Answer). a.head) (adopts_nothing g)) (ap (λ (a : Answer). lapsed a.refusal Offer.Nothing) (adopts_nothing g)) K
-  adopts_holds (Offer.Standing k) K =
-      (LastKept.Range k, rw (offer_holds g k K.0 K.1).1 (offering.adopts K.1))
+  adopts_holds None K = moved (ap (λ (a : Answer). a.head) (adopts_nothing g)) (ap (λ (a : Answer). lapsed a.refusal None) (adopts_nothing g)) K
+  adopts_holds (Some k) K =
+      (Some k, rw (offer_holds g k K.0 K.1).1 (offering.adopts K.1))
 
   called_holds : (c : Call) → Bytes c → Holds (block_after w c)
   unfolding block_after
@@ -150,8 +150,8 @@ made_closes w k M block block₁ e =
     let w₁ = block_after w closes in
     let H₁ = made_offers w₁ (made.calls w closes block tt M) in
     let head₁ : head_of w₁ ≡ head_of w = head_closed w block Q ∙ offer_stays (head_of w) e in
-    let offer₁ : offer_of w₁ ≡ Offer.Standing k = (only_these_change w closes block).1 Q ∙ ap (λ (c : Closed). offered c (offer_of w)) e in
-    let O : Offering (head_of w) (Offer.Standing k) H₁.0 = rw (head₁, offer₁) at H₁.1 in
+    let offer₁ : offer_of w₁ ≡ Some k = (only_these_change w closes block).1 Q ∙ ap (λ (c : Closed). offered c (offer_of w)) e in
+    let O : Offering (head_of w) (Some k) H₁.0 = rw (head₁, offer₁) at H₁.1 in
     let (ends, adopted) = offer_holds (head_of w) k H₁.0 O in
     let stays : (close (head_of w)).head ≡ head_of w = offer_stays (head_of w) e in
     let number : number_after w₁ adopts ≡ 0 = (λ t. (adopt (head₁ t) (offer₁ t)).refusal) ∙ adopted in

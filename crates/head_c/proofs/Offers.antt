@@ -1,4 +1,5 @@
 -- The offer beside a head: it is read from words 18 to 22 alone, it is read as it was put, and the record is no other for it.
+use Rattle.std.specs.Prelude.{None, Some}
 use mathlib.Core.Path.{◌≡◌, refl, sym, ◌∙◌}
 use mathlib.Core.List.{List, [], ◌∷◌}
 use Prim.Native.Nat.{ℕ, zero, suc, ◌+◌, ◌%◌, ◌≤◌, ◌<◌}
@@ -8,8 +9,7 @@ use lib.ListN.{length, get_or, set}
 use lib.Seq.{get_or-set_same, sets-eq, paste}
 use Rattle.fields.specs.Bytes.{signed_of, word_of}
 use Rattle.settle_midpoint.specs.declared.Kept.{Kept}
-use Rattle.head_spec.specs.declared.LastKept.{LastKept}
-use Rattle.head_spec.specs.declared.Offer.{Offer}
+use Rattle.head_spec.specs.Kept.{LastKept, Offer}
 use Rattle.head_spec.specs.Offers.{lapsed}
 use Rattle.head_c.specs.Blocks.{IsBlock, head_of, offer_in, offer_of, with_offer, without_offer}
 use Rattle.head_c.proofs.Copying.{copied_before, copied_there, copied_behind}
@@ -25,14 +25,14 @@ same_offer w' w h = λ i.
     (h 21 (omega arith) (omega arith) i % 256)
     (signed_of (h 22 (omega arith) (omega arith) i))
 
-pub no_offer : (w : List ℕ) → get_or w 18 0 ≡ 0 → offer_of w ≡ Offer.Nothing
+pub no_offer : (w : List ℕ) → get_or w 18 0 ≡ 0 → offer_of w ≡ None
 unfolding offer_of
 no_offer w e = rw e
 
 -- its numbers fit their words
 abbrev pub FitOffer : Offer → Type 0
-FitOffer Offer.Nothing = Unit {0}
-FitOffer (Offer.Standing k) = FitLast (LastKept.Range k)
+FitOffer None = Unit {0}
+FitOffer (Some k) = FitLast (Some k)
 
 pub offer_fits : (w : List ℕ) → FitOffer (offer_of w)
 unfolding offer_of
@@ -51,7 +51,7 @@ offer_words k = 1 ∷ word_of k.low ∷ word_of k.high ∷ k.trim ∷ word_of k.
 
 module _ (k : Kept) (w : List ℕ) (block : IsBlock w) where
   abbrev w' : List ℕ
-  w' = with_offer (Offer.Standing k) w
+  w' = with_offer (Some k) w
 
   put_offer : paste w 18 (offer_words k) 5 ≡ w'
   put_offer = sym (sets-eq (offer_words k) w 18 (omega arith))
@@ -65,14 +65,14 @@ module _ (k : Kept) (w : List ℕ) (block : IsBlock w) where
   pub put_behind_lem : (i : ℕ) → 23 ≤ i → get_or w' i 0 ≡ get_or w i 0
   put_behind_lem i l = rw (← put_offer) (copied_behind w (offer_words k) 18 5 0 refl (omega arith) i l)
 
-  pub offer_back : FitOffer (Offer.Standing k) → offer_of w' ≡ Offer.Standing k
+  pub offer_back : FitOffer (Some k) → offer_of w' ≡ Some k
   unfolding offer_of
   offer_back F =
       (λ i.
       offer_in (put_there 0 (omega arith) i) (signed_of (put_there 1 (omega arith) i)) (signed_of (put_there 2 (omega arith) i)) (put_there 3 (omega arith) i % 256)
       (signed_of (put_there 4 (omega arith) i)))
       ∙ (λ i.
-      Offer.Standing
+      Some
       (record {
         low = signed_back k.low F.0 i;
         high = signed_back k.high F.1 i;

@@ -1,4 +1,5 @@
 -- A record put into a block, and hearing, leave words 16 to 23 as they were, whatever is answered; but an accepted frame clears word 18, and so ends an offer.
+use Rattle.std.specs.Prelude.{None, Some}
 use mathlib.Core.Path.{◌≡◌, refl, ap, sym, ◌∙◌}
 use mathlib.Core.List.{List, [], ◌∷◌}
 use mathlib.Core.Logic.{◌≢◌, by_cases}
@@ -8,7 +9,7 @@ use native.Mathlib.Decide.{dec_lt}
 use lib.ListN.{length, get_or, set, take, length-append, length-set, get_or-append}
 use lib.Seq.{get_or-append-add, get_or-drop, get_or-take, get_or-set_other, slice, length-paste}
 use Rattle.terms.specs.Refusals.{leaves}
-use Rattle.terms.specs.declared.Entry.{Entry}
+use Rattle.terms.specs.Entry.{Entry}
 use Rattle.fields.specs.Bytes.{word_of}
 use Rattle.frame_spec.specs.Said.{Meaning, refused, collected, listed, confessed}
 use Rattle.frame_spec.specs.Proper.{AcceptedMeaning}
@@ -55,8 +56,8 @@ module _ (w : List ℕ) (block : IsBlock w) (i : ℕ) (from : 16 ≤ i) (to : i 
 
   pub changed_registers : (k : ℕ) → k < 32 → (m : Meaning) → AcceptedMeaning m → get_or (block_with w k m) i 0 ≡ get_or w₀ i 0
   changed_registers k b (refused c) a = absurd a
-  changed_registers k b (collected Entry.Null) a = get_or-set_other w₀ 24 i _ 0 (omega arith)
-  changed_registers k b (collected (Entry.Position v)) a =
+  changed_registers k b (collected None) a = get_or-set_other w₀ 24 i _ 0 (omega arith)
+  changed_registers k b (collected (Some v)) a =
       get_or-set_other (marked 25 k (heard_on k w)) (26 + k) i (word_of v) 0 (omega arith) ∙ twice_registers 25 k (omega arith)
   changed_registers k b confessed a = twice_registers 58 k (omega arith)
   changed_registers k b (listed t) a =
@@ -88,8 +89,8 @@ heard_block_lem w block k m = by_cases (dec_lt k 32)
   where
     go : k < 32 → (x : Meaning) → IsBlock (block_with w k x)
     go l (refused c) = block
-    go l (collected Entry.Null) = simp length-set block
-    go l (collected (Entry.Position v)) = simp length-set block
+    go l (collected None) = simp length-set block
+    go l (collected (Some v)) = simp length-set block
     go l confessed = simp length-set block
     go l (listed t) =
         let s = set (marked 59 k (heard_on k w)) (60 + k) t.marks in

@@ -1,4 +1,5 @@
 -- The lists where they stand in the block: their words, the numbers and the cells of these, and when two are the same.
+use Rattle.std.specs.Prelude.{Some}
 use mathlib.Core.Path.{◌≡◌, refl, ap, ap₂, sym, ◌∙◌, fun_ext}
 use mathlib.Core.Logic.{by_cases}
 use mathlib.Core.Bool.{Bool, true, false, cond}
@@ -12,7 +13,7 @@ use lib.IntN.{ℤ, pos}
 use lib.ListN.{length, get_or, drop, length-drop, length-map, get_or-map, get_or-eq_default}
 use lib.Seq.{get_or-take, get_or-drop, length-take-le}
 use Rattle.terms.specs.Positions.{eq_z}
-use Rattle.terms.specs.declared.Entry.{Entry}
+use Rattle.terms.specs.Entry.{Entry}
 use Rattle.terms.proofs.Whole.{eqZ→eq, eq_z_refl}
 use Rattle.fields.specs.Bytes.{signed_of, word_of}
 use Rattle.fields.proofs.Bytes.{word_back}
@@ -80,7 +81,7 @@ same_word x y l m =
     (λ t. let e : x ≡ y = sym (word_back x l) ∙ ap word_of (eqZ→eq (signed_of x) (signed_of y) t) ∙ word_back y m in rw e (eqb_refl y))
 
 -- the cell of a word's number
-pub word_cell : (x : ℕ) → x < 4294967296 → CellOf (1 + x) (Entry.Position (signed_of x))
+pub word_cell : (x : ℕ) → x < 4294967296 → CellOf (1 + x) (Some (signed_of x))
 word_cell x l =
     let e : 1 + x ≡ suc x = omega arith in
-    rw e (record { cell = ap suc (sym (word_back x l)); entry = ap (λ (y : ℕ). Entry.Position (signed_of y)) (mod-eq_of_lt l) })
+    rw e (record { cell = ap suc (sym (word_back x l)); entry = ap (λ (y : ℕ). Some (signed_of y)) (mod-eq_of_lt l) })

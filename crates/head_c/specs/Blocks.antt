@@ -1,10 +1,10 @@
 -- A head as C keeps it: a block of 1,116 words, one for each number. Every block is a record, whatever it holds (`head_of`), and a record is
 -- put into a block (`with_head`). Hearing changes a few words alone (`heard_in`). Words 16 to 23 are no part of a record. Words 16 to 22 are
 -- events, mask and offer; each call leaves the others as they were.
-use Rattle.std.specs.Prelude.{◌≡◌, Bool, not, cond, List, [], ◌∷◌, ◌++◌, ℕ, zero, suc, ◌+◌, ◌*◌, ◌%◌, eqb, ltb, length, get_or, set, drop, ℤ, pos}
+use Rattle.std.specs.Prelude.{◌≡◌, Bool, not, cond, List, [], ◌∷◌, ◌++◌, ℕ, zero, suc, ◌+◌, ◌*◌, ◌%◌, eqb, ltb, length, get_or, set, drop, ℤ, pos, None, Some}
 use Rattle.std.proofs.Math.Seq.{paste, slice}
 use Rattle.terms.specs.Refusals.{leaves}
-use Rattle.terms.specs.declared.Entry.{Entry}
+use Rattle.terms.specs.Entry.{Entry}
 use Rattle.terms.specs.declared.Family.{Family}
 use Rattle.terms.specs.declared.Family.TheVariants.{TwoRounds, OneRound}
 use Rattle.fields.specs.Bytes.{signed_of, word_of}
@@ -14,12 +14,11 @@ use Rattle.terms.specs.Counting.{bit}
 use Rattle.frame_spec.specs.Said.{Meaning, refused, collected, listed, confessed}
 use Rattle.settle_midpoint.specs.declared.Kept.{Kept}
 use Rattle.head_spec.specs.declared.Row.{Row}
-use Rattle.head_spec.specs.declared.LastKept.{LastKept}
+use Rattle.head_spec.specs.Kept.{LastKept, Offer}
 use Rattle.head_spec.specs.declared.Seat.{Seat}
 use Rattle.head_spec.specs.declared.Head.{Head}
 use Rattle.head_spec.specs.declared.Answer.{Answer}
 use Rattle.head_spec.specs.declared.Closed.{Closed}
-use Rattle.head_spec.specs.declared.Offer.{Offer}
 use Rattle.head_spec.specs.Seats.{family_in}
 use Rattle.head_spec.specs.Calls.{said_to, hear, Delivery}
 use Rattle.head_spec.specs.Batch.{deliveries_of, batch_refusal, hear_batch, batch_answers, batch_count}
@@ -44,13 +43,13 @@ flag b = not (eqb b 0)
 
 -- a position, if one is held
 abbrev pub held_entry : ℕ → ℤ → Entry
-held_entry zero v = Entry.Null
-held_entry (suc b) v = Entry.Position v
+held_entry zero v = None
+held_entry (suc b) v = Some v
 
 -- a kept range, if one is held
 abbrev pub range_in : (some : ℕ) (low high : ℤ) (trim : ℕ) (position : ℤ) → LastKept
-range_in zero low high trim position = LastKept.Nothing
-range_in (suc b) low high trim position = LastKept.Range (record { low = low; high = high; trim = trim; position = position })
+range_in zero low high trim position = None
+range_in (suc b) low high trim position = Some (record { low = low; high = high; trim = trim; position = position })
 
 -- the 32 numbers from word i on
 unfoldable pub numbers_at : List ℕ → ℕ → List ℤ
@@ -103,8 +102,8 @@ words_of E = up_to 32 (λ j. word_of (get_or E j (pos 0)))
 
 -- a kept range, with zeros if none is held
 abbrev pub kept_of : LastKept → Kept
-kept_of LastKept.Nothing = record { low = pos 0; high = pos 0; trim = 0; position = pos 0 }
-kept_of (LastKept.Range k) = k
+kept_of None = record { low = pos 0; high = pos 0; trim = 0; position = pos 0 }
+kept_of (Some k) = k
 
 abbrev pub family_number : Family → ℕ
 family_number TwoRounds = 0
@@ -140,8 +139,8 @@ with_registers b w = set (set w place.events b.events) place.mask b.mask
 -- ---- the offer (document 02, A8). If word 18 is 0 there is none, and words 19 to 22 are not looked at.
 
 abbrev pub offer_in : (some : ℕ) (low high : ℤ) (trim : ℕ) (middle : ℤ) → Offer
-offer_in zero low high trim middle = Offer.Nothing
-offer_in (suc x) low high trim middle = Offer.Standing (record { low = low; high = high; trim = trim; position = middle })
+offer_in zero low high trim middle = None
+offer_in (suc x) low high trim middle = Some (record { low = low; high = high; trim = trim; position = middle })
 
 -- the offer that stands in a block, or none; it is no part of the record (Q69)
 unfoldable pub offer_of : List ℕ → Offer
@@ -150,21 +149,21 @@ offer_of w =
     (signed_of (get_or w place.offer_middle 0))
 
 abbrev pub with_offer : Offer → List ℕ → List ℕ
-with_offer Offer.Nothing w = set w place.offered 0
-with_offer (Offer.Standing k) w =
+with_offer None w = set w place.offered 0
+with_offer (Some k) w =
     set (set (set (set (set w place.offered 1) place.offer_low (word_of k.low)) place.offer_high (word_of k.high)) place.offer_trim k.trim)
     place.offer_middle (word_of k.position)
 
 -- after a call that answers c: one that is accepted ends it
 abbrev pub without_offer : ℕ → List ℕ → List ℕ
-without_offer c w = leaves c (with_offer Offer.Nothing w) w
+without_offer c w = leaves c (with_offer None w) w
 
 -- after a closing that answers c, with the record h: the record is put into the block if it ended a collection round; a position is only
 -- offered
 abbrev pub with_closing : Closed → Head → List ℕ → List ℕ
 with_closing (Closed.Refused c) h w = w
 with_closing Closed.Listed h w = with_head h w
-with_closing (Closed.Settled k) h w = with_offer (Offer.Standing k) w
+with_closing (Closed.Settled k) h w = with_offer (Some k) w
 
 -- ---- hearing
 
@@ -174,13 +173,13 @@ marked i k w = set w i (with_mark (get_or w i 0) k)
 
 -- link k is heard, and an offer lapses
 abbrev pub heard_on : ℕ → List ℕ → List ℕ
-heard_on k w = marked place.heard k (with_offer Offer.Nothing w)
+heard_on k w = marked place.heard k (with_offer None w)
 
 -- what a frame on link k changes, by what it says
 abbrev pub block_with : List ℕ → ℕ → Meaning → List ℕ
 block_with w k (refused c) = w
-block_with w k (collected Entry.Null) = heard_on k w
-block_with w k (collected (Entry.Position v)) = set (marked place.marks k (heard_on k w)) (place.entries + k) (word_of v)
+block_with w k (collected None) = heard_on k w
+block_with w k (collected (Some v)) = set (marked place.marks k (heard_on k w)) (place.entries + k) (word_of v)
 block_with w k (listed t) =
     paste (set (marked place.listed k (heard_on k w)) (place.list_marks + k) t.marks) (place.lists + 32 * k) (words_of t.entries) 32
 block_with w k confessed = marked place.confessed k (heard_on k w)

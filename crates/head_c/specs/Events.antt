@@ -9,7 +9,7 @@ use Rattle.head_spec.specs.Calls.{start, restart, start_listener, restart_listen
 use Rattle.head_spec.specs.Batch.{deliveries_of, batch_refusal}
 use Rattle.head_spec.specs.Proper.{ProperHead}
 use Rattle.head_spec.specs.Offers.{lapsed, lapsed_by, offered}
-use Rattle.head_spec.specs.declared.Offer.{Offer}
+use Rattle.head_spec.specs.Kept.{Offer}
 use Rattle.head_lent.specs.Answers.{closed_number}
 use Rattle.head_window.specs.declared.Registers.{Registers}
 use Rattle.head_window.specs.Window.{three, started_registers, restarted_registers, closed_registers, adopted_registers, set_refusal, set_registers}

@@ -2,12 +2,11 @@
 -- refused or not. Each is a record that calls by value can reach (`MadeReachable`), so all that head_spec says of those holds of C's heads:
 -- its Demand2 and its Ranges. Words 18 to 22 are an offer in the sense of `Offering` (`MadeOffers`), so closing and adopting are the old
 -- closing (`MadeCloses`; document 02, A8).
-use Rattle.std.specs.Prelude.{◌≡◌, List, ℕ}
+use Rattle.std.specs.Prelude.{◌≡◌, List, ℕ, None}
 use Rattle.settle_midpoint.specs.declared.Kept.{Kept}
 use Rattle.frame_spec.specs.Proper.{AllBytes}
-use Rattle.head_spec.specs.declared.LastKept.{LastKept}
+use Rattle.head_spec.specs.Kept.{LastKept, Offer}
 use Rattle.head_spec.specs.declared.Closed.{Closed}
-use Rattle.head_spec.specs.declared.Offer.{Offer}
 use Rattle.head_spec.specs.Calls.{close, end_round}
 use Rattle.head_spec.specs.Demand2.{Reachable}
 use Rattle.head_spec.specs.Offers.{Offering}
@@ -57,7 +56,7 @@ pub record ClosesTwice (w : List ℕ) (k : Kept) : Type 0 where
   pub head : head_of (block_after (block_after w closes) adopts) ≡ (end_round (head_of w)).head
   pub closed : (end_round (head_of w)).closed ≡ Closed.Settled k
   pub registers : registers_of (block_after (block_after w closes) adopts) ≡ with_event phase_over (registers_of w)
-  pub offer : offer_of (block_after (block_after w closes) adopts) ≡ Offer.Nothing
+  pub offer : offer_of (block_after (block_after w closes) adopts) ≡ None
 
 -- such a block, closed and then adopted, has ended its round as in one step (Q68)
 abbrev pub MadeCloses : Type 0

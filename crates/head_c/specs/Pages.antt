@@ -1,6 +1,6 @@
 -- What C reads of heads (document 02, A14): a reading as a number and floats, and the readings of heads whose blocks follow one another.
 use Rattle.std.specs.Prelude.{cond, List, [], ◌∷◌, ℕ, ◌*◌, ◌/◌, ltb, length, take, drop, set, Float}
-use Rattle.head_spec.specs.declared.LastKept.{LastKept}
+use Rattle.head_spec.specs.Kept.{LastKept}
 use Rattle.head_spec.specs.Offers.{Offering}
 use Rattle.reading.specs.declared.Reading.{Reading}
 use Rattle.reading.specs.Readings.{head_reading}

@@ -6,7 +6,7 @@ ghost use Rattle.head_spec.specs.Record.{no_entries, opened};
 ghost use Rattle.terms.specs.Refusals.{leaves};
 ghost use Rattle.head_spec.specs.Seats.{family_in};
 ghost use Rattle.head_lent.specs.Answers.{held_number, held_or, range_number};
-ghost use Rattle.head_spec.specs.declared.Offer.{Offer};
+ghost use Rattle.head_spec.specs.Kept.{Offer};
 ghost use Rattle.head_c.specs.Places as place;
 ghost use Rattle.head_c.specs.Blocks.{IsBlock, up_to, held_entry, range_in, numbers_at, seat_of, head_of};
 ghost use Rattle.head_c.specs.Blocks.{words_of, kept_of, family_number, seat_words, with_head, registers_of, with_registers, offer_of, with_offer, without_offer};
@@ -37,9 +37,9 @@ fn entry_in(held: u32, position: u32) -> Entry
     ensures { result ≡ held_entry held (signed_of position) }
 {
     if held == 0 {
-        return Entry::Null;
+        return None;
     }
-    Entry::Position(fields::signed(position))
+    Some(fields::signed(position))
 }
 
 // A kept range, if one is held.
@@ -47,7 +47,7 @@ fn range_in(ranged: u32, low: u32, high: u32, trim: u32, position: u32) -> LastK
     ensures { result ≡ range_in ranged (signed_of low) (signed_of high) (trim % 256) (signed_of position) }
 {
     if ranged == 0 {
-        return LastKept::Nothing;
+        return None;
     }
     let kept = Kept {
         low: fields::signed(low),
@@ -55,7 +55,7 @@ fn range_in(ranged: u32, low: u32, high: u32, trim: u32, position: u32) -> LastK
         trim: (trim % 256) as u8,
         position: fields::signed(position),
     };
-    LastKept::Range(kept)
+    Some(kept)
 }
 
 // The seat.
@@ -157,8 +157,8 @@ fn is_held(e: Entry) -> u32
     ensures { result ≡ held_number e }
 {
     match e {
-        Entry::Null => 0,
-        Entry::Position(_) => 1,
+        None => 0,
+        Some(_) => 1,
     }
 }
 
@@ -167,8 +167,8 @@ fn word_of(e: Entry) -> u32
     ensures { result ≡ word_of (held_or e (pos 0)) }
 {
     match e {
-        Entry::Null => 0,
-        Entry::Position(v) => fields::unsigned(v),
+        None => 0,
+        Some(v) => fields::unsigned(v),
     }
 }
 
@@ -177,8 +177,8 @@ fn is_ranged(kept: LastKept) -> u32
     ensures { result ≡ range_number kept }
 {
     match kept {
-        LastKept::Nothing => 0,
-        LastKept::Range(_) => 1,
+        None => 0,
+        Some(_) => 1,
     }
 }
 
@@ -187,13 +187,13 @@ fn kept_of(held: LastKept) -> Kept
     ensures { result ≡ kept_of held }
 {
     match held {
-        LastKept::Nothing => Kept {
+        None => Kept {
             low: 0,
             high: 0,
             trim: 0,
             position: 0,
         },
-        LastKept::Range(kept) => kept,
+        Some(kept) => kept,
     }
 }
 
@@ -281,9 +281,9 @@ pub(crate) fn offer_in(h: &[u32]) -> Offer
     ensures { result ≡ offer_of h.now }
 {
     if h[place::OFFERED] == 0 {
-        return Offer::Nothing;
+        return None;
     }
-    Offer::Standing(Kept {
+    Some(Kept {
         low: fields::signed(h[place::OFFER_LOW]),
         high: fields::signed(h[place::OFFER_HIGH]),
         trim: (h[place::OFFER_TRIM] % 256) as u8,
@@ -293,7 +293,7 @@ pub(crate) fn offer_in(h: &[u32]) -> Offer
 
 pub(crate) fn put_offer(h: &mut [u32], kept: Kept)
     requires { IsBlock h.old }
-    ensures { h.new ≡ with_offer (Offer.Standing kept) h.old }
+    ensures { h.new ≡ with_offer (Some kept) h.old }
 {
     h[place::OFFERED] = 1;
     h[place::OFFER_LOW] = fields::unsigned(kept.low);

@@ -1,5 +1,6 @@
 // Closing, on the block itself.
 ghost use Rattle.std.specs.Prelude.{◌≡◌, true};
+ghost use Rattle.terms.specs.Refused.{numbered};
 ghost use Rattle.head_spec.specs.Calls.{closed_collection, settling_of, close_in, close};
 ghost use Rattle.head_lent.specs.Answers.{closed_number};
 ghost use Rattle.head_c.specs.Blocks.{IsBlock, head_of, with_head};
@@ -8,13 +9,13 @@ ghost use Rattle.head_c.specs.Steps.{BlockCloses};
 use crate::block::{clear_links, links_in, list_in, put_offer, put_seat, seat_in};
 use crate::{place, settle};
 use head_spec::Closed;
-use settle_midpoint::Settled;
-use terms::{Family, refusal};
+use settle_midpoint::Kept;
+use terms::{Family, Refusal};
 
 // What the end of a phase settles: in a ring of two rounds from the lists, in one of one round from what was heard.
-fn settled_in(h: &[u32]) -> Settled
+fn settled_in(h: &[u32]) -> Result<Kept, Refusal>
     requires { IsBlock h.now }
-    ensures { result ≡ settling_of (head_of h.now) }
+    ensures { numbered result ≡ settling_of (head_of h.now) }
 {
     let seat = seat_in(h);
     let family = seat.family;
@@ -48,8 +49,8 @@ fn close_last(h: &mut [u32]) -> Closed
     ensures { BlockCloses (close_in true (head_of h.old)) h.old result h.new }
 {
     match settled_in(h) {
-        Settled::Refused(number) => Closed::Refused(number),
-        Settled::New(kept) => {
+        Err(refusal) => Closed::Refused(refusal.number()),
+        Ok(kept) => {
             put_offer(h, kept);
             Closed::Settled(kept)
         }
@@ -62,7 +63,7 @@ pub(crate) fn close_in(h: &mut [u32]) -> Closed
     ensures { BlockCloses (close (head_of h.old)) h.old result h.new }
 {
     if h[place::ENDED] != 0 {
-        return Closed::Refused(refusal::RUN_HAS_ENDED);
+        return Closed::Refused(Refusal::RunHasEnded.number());
     }
     if !head_calls::is_last_round(seat_in(h)) {
         close_collection(h);

@@ -14,8 +14,7 @@ use crate::block::{bare_in, offer_in, put_fresh, put_registers, registers_in, se
 use crate::close::{close_in, closed_number};
 use crate::start::{restart_in, restart_listener_in, start_in, start_listener_in};
 use crate::take::{hear, hear_entries};
-use head_spec::{LastKept, Offer};
-use terms::{Entry, Family, refusal};
+use terms::{Family, Refusal};
 
 mod block;
 mod close;
@@ -165,11 +164,11 @@ pub fn focus_head_adopt(h: &mut Block) -> u8
         × (h.new ≡ block_after h.old adopts) }
 {
     match offer_in(h) {
-        Offer::Nothing => refusal::NO_OFFER,
-        Offer::Standing(kept) => {
+        None => Refusal::NoOffer.number(),
+        Some(kept) => {
             let seat = seat_in(h);
             if seat.ended {
-                return refusal::RUN_HAS_ENDED;
+                return Refusal::RunHasEnded.number();
             }
             let b = head_window::after_adopt(0, registers_in(h));
             put_fresh(h, 0, head_calls::next_seat(seat, kept), b);
@@ -183,8 +182,8 @@ pub fn focus_head_has_offer(h: &Block, kept: &mut [i32; 4]) -> u8
     ensures { (result ≡ offer_number (offer_of h.now)) × (kept.new ≡ offer_or (offer_of h.now) kept.old) }
 {
     match offer_in(h) {
-        Offer::Nothing => 0,
-        Offer::Standing(o) => {
+        None => 0,
+        Some(o) => {
             *kept = [o.low, o.high, o.trim as i32, o.position];
             1
         }
@@ -208,8 +207,8 @@ pub fn focus_head_has_position(h: &Block, position: &mut i32) -> u8
     let seat = seat_in(h);
     let e = seat.position;
     match e {
-        Entry::Null => 0,
-        Entry::Position(v) => {
+        None => 0,
+        Some(v) => {
             *position = v;
             1
         }
@@ -224,8 +223,8 @@ pub fn focus_head_has_kept(h: &Block, kept: &mut [i32; 4]) -> u8
     let seat = seat_in(h);
     let held = seat.kept;
     match held {
-        LastKept::Nothing => 0,
-        LastKept::Range(k) => {
+        None => 0,
+        Some(k) => {
             *kept = [k.low, k.high, k.trim as i32, k.position];
             1
         }

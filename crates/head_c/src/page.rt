@@ -8,11 +8,10 @@ ghost use Rattle.head_c.specs.Pages.{reading_kind, floats_or, reading_at, readin
 
 use crate::block::seat_in;
 use crate::{Block, WORDS};
-use frame_spec::Written;
 use hostpage::Readings;
 use reading::Reading;
 use std::array;
-use terms::refusal;
+use terms::Refusal;
 
 // The head's reading: 0 unknown; 1 a point, and its float; 2 a range, and its lowest, its highest and their midpoint.
 pub fn focus_head_reading(h: &Block, floats: &mut [f32; 3]) -> u8
@@ -61,11 +60,11 @@ pub fn focus_host_page(blocks: &[u32], n: u32, buffer: &mut [u8], length: &mut u
         × (length.new ≡ written_or (page_answer n (readings_of blocks.now) buffer.old) length.old) }
 {
     if 32 < n {
-        return refusal::BAD_HEAD_COUNT;
+        return Refusal::BadHeadCount.number();
     }
     match hostpage::page(n as u8, readings_in(blocks), buffer) {
-        Written::Refused(number) => number,
-        Written::Length(len) => {
+        Err(refusal) => refusal.number(),
+        Ok(len) => {
             *length = len;
             0
         }

@@ -5,6 +5,8 @@ ghost use Rattle.fields.specs.Bytes.{signed_of};
 ghost use Rattle.terms.specs.Positions.{eq_z};
 ghost use Rattle.entries.specs.Entries.{entry_at};
 ghost use Rattle.terms.specs.Counting.{Each, bit};
+ghost use Rattle.terms.specs.Entry.{Entry};
+ghost use Rattle.terms.specs.Refused.{numbered};
 ghost use Rattle.convergence.specs.Settling.{two_round_rule};
 ghost use Rattle.convergence.specs.Trust.{trusted};
 ghost use Rattle.settle_trust.specs.Received.{given_by};
@@ -16,10 +18,10 @@ ghost use Rattle.head_c.specs.Blocks.{IsBlock};
 ghost use Rattle.head_c.specs.Steps.{row_words, rows_in};
 
 use crate::place;
-use settle_midpoint::Settled;
+use settle_midpoint::Kept;
 use settle_position::{Comparison, Deciding};
 use settle_trust::Links;
-use terms::{Entry, Family, HEADS, Words};
+use terms::{Family, HEADS, Refusal, Words};
 
 // The words of the list of link k.
 fn row_in(h: &[u32], k: usize) -> &[u32]
@@ -127,9 +129,9 @@ fn cell_in(
 }
 
 // The new position from the lists in the block, with the first link that gave one as reference; `up`: whether an odd sum is rounded up.
-pub(crate) fn settle_lists(h: &[u32], links: Links, n: u8, f: u8, up: bool) -> Settled
+pub(crate) fn settle_lists(h: &[u32], links: Links, n: u8, f: u8, up: bool) -> Result<Kept, Refusal>
     requires { IsBlock h.now }
-    ensures { result ≡ settling (bit up) n (two_round_rule f) (trusted n f (given_by links (rows_in h.now))) }
+    ensures { numbered result ≡ settling (bit up) n (two_round_rule f) (trusted n f (given_by links (rows_in h.now))) }
 {
     let count = terms::at_most_32(n as usize);
     let first = (u32::trailing_zeros(links.listed) % 32) as usize;

@@ -8,7 +8,7 @@ ghost use Rattle.head_c.specs.Events.{starts, restarts, starts_listener, restart
 use crate::Block;
 use crate::block::{put_fresh, registers_in};
 use head_spec::Seat;
-use terms::{Entry, Family, refusal};
+use terms::{Entry, Family};
 
 // The seat of a start whose checks pass.
 fn first_seat(family: Family, n: u32, f: u32, number: u32, held: Entry) -> Seat
@@ -48,13 +48,8 @@ pub(crate) fn start_in(
     ensures { (result ≡ (start (head_of h.old) family n f number position).refusal)
         × (h.new ≡ block_after h.old (starts family n f number position)) }
 {
-    let later = head_calls::check(
-        terms::is_position(position),
-        refusal::POSITION_OUT_OF_RANGE,
-        0,
-    );
-    let refused = head_calls::member_refusal(family, false, n, f, number, later);
-    let seat = first_seat(family, n, f, number, Entry::Position(position));
+    let refused = terms::number_of(head_calls::check_start(family, n, f, number, position));
+    let seat = first_seat(family, n, f, number, Some(position));
     let b = head_window::after_start(refused, registers_in(h)); // a start clears both
     put_fresh(h, refused, seat, b);
     refused
@@ -72,12 +67,8 @@ pub(crate) fn restart_in(
     ensures { (result ≡ (restart (head_of h.old) family n f number phase round).refusal)
         × (h.new ≡ block_after h.old (restarts family n f number phase round)) }
 {
-    let later = head_calls::check(
-        head_calls::is_time(family, phase, round),
-        refusal::PHASE_OUT_OF_RANGE,
-        0,
-    );
-    let refused = head_calls::member_refusal(family, false, n, f, number, later);
+    let checked = head_calls::check_restart(family, false, n, f, number, phase, round);
+    let refused = terms::number_of(checked);
     let seat = restart_seat(family, n, f, number, phase, round);
     let b = head_window::after_restart(refused, registers_in(h));
     put_fresh(h, refused, seat, b);
@@ -88,8 +79,8 @@ pub(crate) fn start_listener_in(h: &mut Block, family: Family, n: u32, f: u32, n
     ensures { (result ≡ (start_listener (head_of h.old) family n f number).refusal)
         × (h.new ≡ block_after h.old (starts_listener family n f number)) }
 {
-    let refused = head_calls::member_refusal(family, true, n, f, number, 0);
-    let seat = first_seat(family, n, f, number, Entry::Null);
+    let refused = terms::number_of(head_calls::check_member(family, true, n, f, number));
+    let seat = first_seat(family, n, f, number, None);
     let b = head_window::after_start(refused, registers_in(h));
     put_fresh(h, refused, seat, b);
     refused
@@ -107,12 +98,8 @@ pub(crate) fn restart_listener_in(
     ensures { (result ≡ (restart_listener (head_of h.old) family n f number phase round).refusal)
         × (h.new ≡ block_after h.old (restarts_listener family n f number phase round)) }
 {
-    let later = head_calls::check(
-        head_calls::is_time(family, phase, round),
-        refusal::PHASE_OUT_OF_RANGE,
-        0,
-    );
-    let refused = head_calls::member_refusal(family, true, n, f, number, later);
+    let checked = head_calls::check_restart(family, true, n, f, number, phase, round);
+    let refused = terms::number_of(checked);
     let seat = restart_seat(family, n, f, number, phase, round);
     let b = head_window::after_restart(refused, registers_in(h)); // a restart sets its event
     put_fresh(h, refused, seat, b);

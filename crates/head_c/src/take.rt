@@ -36,8 +36,8 @@ fn take_entry(h: &mut [u32], k: usize, e: Entry)
     }
     put_heard(h, k);
     match e {
-        Entry::Null => {}
-        Entry::Position(v) => {
+        None => {}
+        Some(v) => {
             put_mark(h, place::MARKS, k);
             h[place::ENTRIES + k] = fields::unsigned(v);
         }

@@ -23,13 +23,14 @@ pub fn focus_head_register(h: &Block, at: u32, byte: &mut u8) -> u8
     ensures { (result ≡ read_refusal at)
         × (byte.new ≡ byte_read (head_of h.now).seat (registers_of h.now) at byte.old) }
 {
-    let refused = head_window::read_refusal(at);
-    if refused != 0 {
-        return refused;
+    match head_window::read_refusal(at) {
+        Err(refusal) => refusal.number(),
+        Ok(()) => {
+            let bytes = window_in(h);
+            *byte = bytes[at as usize];
+            0
+        }
     }
-    let bytes = window_in(h);
-    *byte = bytes[at as usize];
-    0
 }
 
 // Reads all sixteen.
@@ -45,7 +46,7 @@ pub fn focus_head_set_register(h: &mut Block, at: u32, byte: u8) -> u8
 {
     let b = head_window::set_register(at, byte, registers_in(h));
     put_registers(h, b);
-    head_window::set_refusal(at)
+    terms::number_of(head_window::set_refusal(at))
 }
 
 // Writes both bytes anew after a strike, which may have left anything beside the head: no event is pending then, and the mask is given. A

@@ -1,13 +1,14 @@
 // Closing a round, and what the end of a round makes of a record.
 ghost use Rattle.std.specs.Prelude.{◌≡◌, true};
+ghost use Rattle.terms.specs.Refused.{numbered};
 ghost use Rattle.head_spec.specs.Record.{rows};
 ghost use Rattle.head_spec.specs.Calls.{closed_collection, closed_phase, settling_of, close_in, is_last_round, close};
 
 use crate::seats::{confession_seat, next_seat};
 use crate::{no_entries, opened};
 use head_spec::{Closed, Closing, Head, Row, Seat};
-use settle_midpoint::{Kept, Settled};
-use terms::{Family, HEADS, Lists, refusal};
+use settle_midpoint::Kept;
+use terms::{Family, HEADS, Lists, Refusal};
 
 // The lists received, without their marks, as settling takes them.
 fn laid_out(lists: [Row; HEADS]) -> Lists
@@ -38,8 +39,8 @@ pub(crate) fn closed_phase(h: Head, kept: Kept) -> Head
 }
 
 // What the end of a phase settles: in a ring of two rounds from the lists, in one of one round from what was heard.
-fn settled_by(h: Head) -> Settled
-    ensures { result ≡ settling_of h }
+fn settled_by(h: Head) -> Result<Kept, Refusal>
+    ensures { numbered result ≡ settling_of h }
 {
     let seat = h.seat;
     let family = seat.family;
@@ -62,11 +63,11 @@ fn close_last(h: Head) -> Closing
     ensures { result ≡ close_in true h }
 {
     match settled_by(h) {
-        Settled::Refused(refused) => Closing {
-            closed: Closed::Refused(refused),
+        Err(refusal) => Closing {
+            closed: Closed::Refused(refusal.number()),
             head: h,
         },
-        Settled::New(kept) => Closing {
+        Ok(kept) => Closing {
             closed: Closed::Settled(kept),
             head: h,
         },
@@ -91,7 +92,7 @@ pub fn close(h: Head) -> Closing
     let seat = h.seat;
     if seat.ended {
         return Closing {
-            closed: Closed::Refused(refusal::RUN_HAS_ENDED),
+            closed: Closed::Refused(Refusal::RunHasEnded.number()),
             head: h,
         };
     }

@@ -19,7 +19,8 @@ pub use closing::{close, is_last_round};
 pub use offers::{adopt, lapsed, offered};
 pub use seats::{confession_seat, first_seat, healed_seat, next_seat};
 pub use starts::{
-    check, is_time, member_refusal, restart, restart_listener, start, start_listener,
+    check_member, check_restart, check_start, is_time, restart, restart_listener, start,
+    start_listener,
 };
 pub use writing::write;
 

@@ -20,7 +20,7 @@ pub fn first_seat(family: Family, n: u8, f: u8, number: u8, held: Entry) -> Seat
         healed: false,
         ended: false,
         position: held,
-        kept: LastKept::Nothing,
+        kept: None,
         since: 0,
     }
 }
@@ -29,7 +29,7 @@ pub fn first_seat(family: Family, n: u8, f: u8, number: u8, held: Entry) -> Seat
 pub fn healed_seat(family: Family, n: u8, f: u8, number: u8, phase: u16, round: u8) -> Seat
     ensures { result ≡ healed_seat family n f number phase round }
 {
-    let mut seat = first_seat(family, n, f, number, Entry::Null);
+    let mut seat = first_seat(family, n, f, number, None);
     seat.phase = phase;
     seat.round = round;
     seat.healed = true;
@@ -58,8 +58,8 @@ fn one_more(since: u8) -> u8
 pub fn next_seat(seat: Seat, kept: Kept) -> Seat
     ensures { result ≡ next_seat seat kept }
 {
-    let held = Entry::Position(kept.position);
-    let range = LastKept::Range(kept);
+    let held = Some(kept.position);
+    let range = Some(kept);
     let family = seat.family;
     let mut later = Seat {
         family,

@@ -1,21 +1,17 @@
 // Starts and restarts of a head or a listener.
 ghost use Rattle.std.specs.Prelude.{◌≡◌};
 ghost use Rattle.terms.specs.Sizes.{rounds_of};
-ghost use Rattle.terms.specs.Refusals.{check};
-ghost use Rattle.head_spec.specs.Calls.{is_time, start, restart, start_listener, restart_listener};
-ghost use Rattle.head_calls.specs.Steps.{is_member, check_member, start_as, restart_as};
+ghost use Rattle.terms.specs.Refused.{number_of};
+ghost use Rattle.head_spec.specs.Answers.{answer_of};
+ghost use Rattle.head_spec.specs.Calls.{is_time, start_refusal, start, restart, start_listener, restart_listener};
+ghost use Rattle.head_spec.specs.Record.{no_entries, opened};
+ghost use Rattle.head_spec.specs.Seats.{first_seat};
+ghost use Rattle.head_calls.specs.Steps.{is_member, check_member, check_restart, restart_as};
 
 use crate::seats::{first_seat, healed_seat};
 use crate::{no_entries, opened};
-use head_spec::{Answer, Head};
-use terms::{Entry, Family, refusal};
-
-// One check: its number if it fails, and else what the checks that follow gave.
-pub fn check(holds: bool, number: u8, rest: u8) -> u8
-    ensures { result ≡ check holds number rest }
-{
-    if holds { rest } else { number }
-}
+use head_spec::Head;
+use terms::{Entry, Family, Refusal};
 
 // Whether a number is taken: for a head, or for a listener.
 fn is_member(listens: bool, n: u32, number: u32) -> bool
@@ -27,19 +23,57 @@ fn is_member(listens: bool, n: u32, number: u32) -> bool
     number < n
 }
 
-// Refusals 1, 2 or 18, and 3, before the checks that follow.
-pub fn member_refusal(family: Family, listens: bool, n: u32, f: u32, number: u32, rest: u8) -> u8
-    ensures { result ≡ check_member family listens n f number rest }
+// Refusals 1, 2 or 18, and 3: of a head, or of a listener.
+pub fn check_member(
+    family: Family,
+    listens: bool,
+    n: u32,
+    f: u32,
+    number: u32,
+) -> Result<(), Refusal>
+    ensures { number_of result ≡ check_member family listens n f number 0 }
 {
-    let size = terms::size_refusal(family, n, f);
-    if size != 0 {
-        return size;
+    terms::check_size(family, n, f)?;
+    if !is_member(listens, n, number) {
+        return Err(Refusal::NumberTooHigh);
     }
-    check(
-        is_member(listens, n, number),
-        refusal::NUMBER_TOO_HIGH,
-        rest,
-    )
+    Ok(())
+}
+
+// What a start with a position is refused for: 1, 2 or 18, 3, 4.
+pub fn check_start(
+    family: Family,
+    n: u32,
+    f: u32,
+    number: u32,
+    position: i32,
+) -> Result<(), Refusal>
+    ensures { number_of result ≡ start_refusal family n f number position }
+{
+    check_member(family, false, n, f, number)?;
+    if !terms::is_position(position) {
+        return Err(Refusal::PositionOutOfRange);
+    }
+    Ok(())
+}
+
+// What a restart of a head or a listener is refused for: 1, 2 or 18, 3, 5.
+pub fn check_restart(
+    family: Family,
+    listens: bool,
+    n: u32,
+    f: u32,
+    number: u32,
+    phase: u32,
+    round: u32,
+) -> Result<(), Refusal>
+    ensures { number_of result ≡ check_restart family listens n f number phase round }
+{
+    check_member(family, listens, n, f, number)?;
+    if !is_time(family, phase, round) {
+        return Err(Refusal::PhaseOutOfRange);
+    }
+    Ok(())
 }
 
 // Whether there is such a phase, and such a round.
@@ -62,84 +96,46 @@ fn rounds_of(family: Family) -> u32
     }
 }
 
-// A start of a head or a listener that holds a position or none.
-fn start_as(
-    family: Family,
-    listens: bool,
-    h: Head,
-    n: u32,
-    f: u32,
-    number: u32,
-    held: Entry,
-    rest: u8,
-) -> Answer
-    ensures { result ≡ start_as family listens h n f number held rest }
+// The record of a head or a listener that starts, in phase 1, with a position or none.
+fn started(family: Family, listens: bool, n: u32, f: u32, number: u32, held: Entry) -> Head
+    requires { check_member family listens n f number 0 ≡ 0 }
+    ensures { result ≡ opened (first_seat family n f number held) no_entries }
 {
-    let refused = member_refusal(family, listens, n, f, number, rest);
-    if refused != 0 {
-        return Answer {
-            refusal: refused,
-            head: h,
-        };
-    }
-    let seat = first_seat(family, n as u8, f as u8, number as u8, held);
-    let head = opened(seat, no_entries());
-    Answer { refusal: 0, head }
-}
-
-// The record of a head that starts with a position, in phase 1.
-pub fn start(h: Head, family: Family, n: u32, f: u32, number: u32, position: i32) -> Answer
-    ensures { result ≡ start h family n f number position }
-{
-    let later = check(
-        terms::is_position(position),
-        refusal::POSITION_OUT_OF_RANGE,
-        0,
-    );
-    start_as(
-        family,
-        false,
-        h,
-        n,
-        f,
-        number,
-        Entry::Position(position),
-        later,
+    opened(
+        first_seat(family, n as u8, f as u8, number as u8, held),
+        no_entries(),
     )
 }
 
-// The record of a listener that starts, in phase 1, with no position.
-pub fn start_listener(h: Head, family: Family, n: u32, f: u32, number: u32) -> Answer
-    ensures { result ≡ start_listener h family n f number }
+// The record of a head that starts with a position, in phase 1.
+pub fn start(family: Family, n: u32, f: u32, number: u32, position: i32) -> Result<Head, Refusal>
+    ensures { (h : Head) → answer_of h result ≡ start h family n f number position }
 {
-    start_as(family, true, h, n, f, number, Entry::Null, 0)
+    check_start(family, n, f, number, position)?;
+    Ok(started(family, false, n, f, number, Some(position)))
 }
 
-// A restart of a head or a listener.
+// The record of a listener that starts, in phase 1, with no position.
+pub fn start_listener(family: Family, n: u32, f: u32, number: u32) -> Result<Head, Refusal>
+    ensures { (h : Head) → answer_of h result ≡ start_listener h family n f number }
+{
+    check_member(family, true, n, f, number)?;
+    Ok(started(family, true, n, f, number, None))
+}
+
+// The record of a head or a listener whose strike is over, in the phase and round given, with no position.
 fn restart_as(
     family: Family,
     listens: bool,
-    h: Head,
     n: u32,
     f: u32,
     number: u32,
     phase: u32,
     round: u32,
-) -> Answer
-    ensures { result ≡ restart_as family listens h n f number phase round }
+) -> Result<Head, Refusal>
+    ensures { (h : Head) → answer_of h result ≡ restart_as family listens h n f number phase round }
 {
-    let later = check(
-        is_time(family, phase, round),
-        refusal::PHASE_OUT_OF_RANGE,
-        0,
-    );
-    let refused = member_refusal(family, listens, n, f, number, later);
-    if refused != 0 {
-        return Answer {
-            refusal: refused,
-            head: h,
-        };
-    }
+    check_restart(family, listens, n, f, number, phase, round)?;
     let seat = healed_seat(
         family,
         n as u8,
@@ -148,36 +144,33 @@ fn restart_as(
         phase as u16,
         round as u8,
     );
-    let head = opened(seat, no_entries());
-    Answer { refusal: 0, head }
+    Ok(opened(seat, no_entries()))
 }
 
 // The record of a head whose strike is over, in the phase and round given, with no position.
 pub fn restart(
-    h: Head,
     family: Family,
     n: u32,
     f: u32,
     number: u32,
     phase: u32,
     round: u32,
-) -> Answer
-    ensures { result ≡ restart h family n f number phase round }
+) -> Result<Head, Refusal>
+    ensures { (h : Head) → answer_of h result ≡ restart h family n f number phase round }
 {
-    restart_as(family, false, h, n, f, number, phase, round)
+    restart_as(family, false, n, f, number, phase, round)
 }
 
 // The record of a listener whose strike is over, likewise.
 pub fn restart_listener(
-    h: Head,
     family: Family,
     n: u32,
     f: u32,
     number: u32,
     phase: u32,
     round: u32,
-) -> Answer
-    ensures { result ≡ restart_listener h family n f number phase round }
+) -> Result<Head, Refusal>
+    ensures { (h : Head) → answer_of h result ≡ restart_listener h family n f number phase round }
 {
-    restart_as(family, true, h, n, f, number, phase, round)
+    restart_as(family, true, n, f, number, phase, round)
 }

@@ -4,6 +4,7 @@
 #![tactic(auto)]
 
 ghost use Rattle.std.specs.Prelude.{true, ◌++◌, ◌≡◌, ◌≤◌, length, drop};
+ghost use Rattle.terms.specs.Refused.{number_of};
 ghost use Rattle.frame_spec.specs.Said.{said_of};
 ghost use Rattle.head_spec.specs.Calls.{with_entry, with_list, hear, hear_each, answers_to};
 ghost use Rattle.head_spec.specs.Batch.{entry_size, deliveries_of, is_batch, batch_refusal, hear_batch, batch_answers, batch_count};
@@ -12,23 +13,23 @@ ghost use Rattle.head_hear.specs.Steps.{link_refusal, said_on};
 use frame_spec::Said;
 use head_spec::{Answer, Head, Row};
 use settle_trust::Links;
-use terms::{Entry, Table, refusal};
+use terms::{Entry, Refusal, Table};
 
 // Refusals 26, 3 and 21 of a link.
-fn link_refusal(ended: bool, n: u8, heard: u32, link: u32) -> u8
-    ensures { result ≡ link_refusal ended n heard link }
+fn link_refusal(ended: bool, n: u8, heard: u32, link: u32) -> Result<(), Refusal>
+    ensures { number_of result ≡ link_refusal ended n heard link }
 {
     let again = marks::marked(heard, link as usize);
     if ended {
-        return refusal::RUN_HAS_ENDED;
+        return Err(Refusal::RunHasEnded);
     }
     if n as u32 <= link {
-        return refusal::NUMBER_TOO_HIGH;
+        return Err(Refusal::NumberTooHigh);
     }
     if again {
-        return refusal::ALREADY_HEARD;
+        return Err(Refusal::AlreadyHeard);
     }
-    0
+    Ok(())
 }
 
 // What a link says to a head in this phase and round that has heard these links: refused for itself, or what its frame says.
@@ -43,16 +44,15 @@ pub fn said_on(
 ) -> Said
     ensures { result ≡ said_of (said_on ended n phase round heard link frame.now) }
 {
-    let refused = link_refusal(ended, n, heard, link);
-    if refused != 0 {
-        return Said::Refused(refused);
+    match link_refusal(ended, n, heard, link) {
+        Err(refusal) => Said::Refused(refusal.number()),
+        Ok(()) => frame_codec::read(frame, n, phase, round, link as u8),
     }
-    frame_codec::read(frame, n, phase, round, link as u8)
 }
 
 // A list with position v at k, if it has such a place.
 fn with_position(list: Table, k: usize, v: i32) -> Table
-    ensures { result ≡ with_entry list k (Entry.Position v) }
+    ensures { result ≡ with_entry list k (Some v) }
 {
     let mut next = list;
     next.marks = marks::with_mark(list.marks, k);
@@ -67,8 +67,8 @@ fn with_entry(list: Table, k: usize, entry: Entry) -> Table
     ensures { result ≡ with_entry list k entry }
 {
     match entry {
-        Entry::Null => list,
-        Entry::Position(v) => with_position(list, k, v),
+        None => list,
+        Some(v) => with_position(list, k, v),
     }
 }
 
@@ -135,7 +135,8 @@ pub fn entry_size(s: &[u8]) -> usize
     len + 1
 }
 
-// How a batch is cut: 0, or 15, or 24 if there is too little room for answers; and how many whole entries there are at its front.
+// How a batch is cut: 0, or 15, or 24 if there is too little room for answers; and how many whole entries there are at its front. No Result:
+// the count is told beside a refusal too.
 #[derive(Clone, Copy)]
 pub struct Cuts {
     pub refusal: u8,
@@ -153,7 +154,7 @@ pub fn cut(batch: &[u8], room: usize) -> Cuts
         let size = entry_size(rest);
         if size == 0 {
             return Cuts {
-                refusal: refusal::BAD_BATCH_ENTRY,
+                refusal: Refusal::BadBatchEntry.number(),
                 entries,
             };
         }
@@ -162,7 +163,7 @@ pub fn cut(batch: &[u8], room: usize) -> Cuts
     }
     if room < entries {
         return Cuts {
-            refusal: refusal::BUFFER_TOO_SHORT,
+            refusal: Refusal::BufferTooShort.number(),
             entries,
         };
     }

@@ -4,21 +4,27 @@
 #![tactic(auto)]
 
 ghost use Rattle.std.specs.Prelude.{◌≡◌, length};
+ghost use Rattle.terms.specs.Refused.{number_of};
 ghost use Rattle.head_spec.specs.Batch.{hear_batch, batch_answers, batch_count};
 ghost use Rattle.head_spec.specs.Calls.{start, restart, start_listener, restart_listener, hear, write_answer, write_buffer, close, adopt};
 ghost use Rattle.head_lent.specs.Answers.{written_number, written_or, held_number, held_or};
 
-use frame_spec::Written;
 use head_spec::{Closed, Head, Offer};
-use terms::{Entry, Family};
+use terms::{Family, Refusal};
 
 // Starts the record with a position, in phase 1: 0, or 1, 2 or 18 by the family, 3, 4.
-pub fn start(h: &mut Head, family: Family, n: u32, f: u32, number: u32, position: i32) -> u8
-    ensures { (result ≡ (start h.old family n f number position).refusal) × (h.new ≡ (start h.old family n f number position).head) }
+pub fn start(
+    h: &mut Head,
+    family: Family,
+    n: u32,
+    f: u32,
+    number: u32,
+    position: i32,
+) -> Result<(), Refusal>
+    ensures { (number_of result ≡ (start h.old family n f number position).refusal) × (h.new ≡ (start h.old family n f number position).head) }
 {
-    let out = head_calls::start(*h, family, n, f, number, position);
-    *h = out.head;
-    out.refusal
+    *h = head_calls::start(family, n, f, number, position)?;
+    Ok(())
 }
 
 // Starts the record of a head again whose strike is over, in the phase and round given, with no position: 0, or 1, 2 or 18, 3, 5.
@@ -30,21 +36,25 @@ pub fn restart(
     number: u32,
     phase: u32,
     round: u32,
-) -> u8
-    ensures { (result ≡ (restart h.old family n f number phase round).refusal) × (h.new ≡ (restart h.old family n f number phase round).head) }
+) -> Result<(), Refusal>
+    ensures { (number_of result ≡ (restart h.old family n f number phase round).refusal) × (h.new ≡ (restart h.old family n f number phase round).head) }
 {
-    let out = head_calls::restart(*h, family, n, f, number, phase, round);
-    *h = out.head;
-    out.refusal
+    *h = head_calls::restart(family, n, f, number, phase, round)?;
+    Ok(())
 }
 
 // Starts the record of a listener, in phase 1, with no position: 0, or 1, 2 or 18, 3.
-pub fn start_listener(h: &mut Head, family: Family, n: u32, f: u32, number: u32) -> u8
-    ensures { (result ≡ (start_listener h.old family n f number).refusal) × (h.new ≡ (start_listener h.old family n f number).head) }
+pub fn start_listener(
+    h: &mut Head,
+    family: Family,
+    n: u32,
+    f: u32,
+    number: u32,
+) -> Result<(), Refusal>
+    ensures { (number_of result ≡ (start_listener h.old family n f number).refusal) × (h.new ≡ (start_listener h.old family n f number).head) }
 {
-    let out = head_calls::start_listener(*h, family, n, f, number);
-    *h = out.head;
-    out.refusal
+    *h = head_calls::start_listener(family, n, f, number)?;
+    Ok(())
 }
 
 // Starts the record of a listener again whose strike is over, in the phase and round given, with no position: 0, or 1, 2 or 18, 3, 5.
@@ -56,13 +66,12 @@ pub fn restart_listener(
     number: u32,
     phase: u32,
     round: u32,
-) -> u8
-    ensures { (result ≡ (restart_listener h.old family n f number phase round).refusal)
+) -> Result<(), Refusal>
+    ensures { (number_of result ≡ (restart_listener h.old family n f number phase round).refusal)
         × (h.new ≡ (restart_listener h.old family n f number phase round).head) }
 {
-    let out = head_calls::restart_listener(*h, family, n, f, number, phase, round);
-    *h = out.head;
-    out.refusal
+    *h = head_calls::restart_listener(family, n, f, number, phase, round)?;
+    Ok(())
 }
 
 // Hears a frame on a link: 0, or 26, 3, 21, 6, 7, 8, 22, 9, 23, 10, 11.
@@ -98,12 +107,11 @@ pub fn close(h: &mut Head) -> Closed
 }
 
 // Adopts what is offered, and ends the phase: 0, or 27, 26.
-pub fn adopt(h: &mut Head, offer: Offer) -> u8
-    ensures { (result ≡ (adopt h.old offer).refusal) × (h.new ≡ (adopt h.old offer).head) }
+pub fn adopt(h: &mut Head, offer: Offer) -> Result<(), Refusal>
+    ensures { (number_of result ≡ (adopt h.old offer).refusal) × (h.new ≡ (adopt h.old offer).head) }
 {
-    let out = head_calls::adopt(*h, offer);
-    *h = out.head;
-    out.refusal
+    *h = head_calls::adopt(*h, offer)?;
+    Ok(())
 }
 
 // What writing by value answers, as a number, and the frame's length where it was lent.
@@ -112,10 +120,9 @@ pub fn written(h: Head, buffer: &mut [u8], length: &mut usize) -> u8
         × (buffer.new ≡ write_buffer h buffer.old)
         × (length.new ≡ written_or (write_answer h buffer.old) length.old) }
 {
-    let answer = head_calls::write(h, buffer);
-    match answer {
-        Written::Refused(number) => number,
-        Written::Length(n) => {
+    match head_calls::write(h, buffer) {
+        Err(refusal) => refusal.number(),
+        Ok(n) => {
             *length = n;
             0
         }
@@ -138,8 +145,8 @@ pub fn held(h: Head, position: &mut i32) -> u8
     let seat = h.seat;
     let e = seat.position;
     match e {
-        Entry::Null => 0,
-        Entry::Position(v) => {
+        None => 0,
+        Some(v) => {
             *position = v;
             1
         }

@@ -16,7 +16,7 @@ use Rattle.terms.specs.Positions.{rounding}
 use Rattle.convergence.proofs.Same.{trusted_same}
 use Rattle.convergence.proofs.Support.{trusted_iff}
 use Rattle.settle_midpoint.specs.Answers.{settling}
-use Rattle.settle_midpoint.specs.declared.Settled.{Settled}
+use Rattle.settle_midpoint.specs.Settled.{Settled}
 use Rattle.settle_midpoint.proofs.Middle.{settling_same}
 use Rattle.frame_spec.proofs.OneMeaning.{one_meaning}
 use Rattle.head_spec.specs.declared.Seat.{Seat}

@@ -1,15 +1,15 @@
 -- The offer beside a head. Closing answers what the end of the round would and leaves the record, and adopting does the rest; so the two make the old closing.
 -- An offer stays right: an accepted frame ends it, and a refused one leaves the record that it was made from.
+use Rattle.std.specs.Prelude.{None, Some}
 use mathlib.Core.Path.{◌≡◌, ap, sym, ◌∙◌}
 use Prim.Native.Nat.{ℕ, zero, suc}
 use native.Mathlib.Omega.{arith}
 use Rattle.settle_midpoint.specs.declared.Kept.{Kept}
-use Rattle.head_spec.specs.declared.LastKept.{LastKept}
+use Rattle.head_spec.specs.Kept.{LastKept, Offer}
 use Rattle.head_spec.specs.declared.Head.{Head}
 use Rattle.head_spec.specs.declared.Answer.{Answer}
 use Rattle.head_spec.specs.declared.Closed.{Closed}
 use Rattle.head_spec.specs.declared.Closing.{Closing}
-use Rattle.head_spec.specs.declared.Offer.{Offer}
 use Rattle.head_spec.specs.Calls.{answer, hear_refusal, taken, said_to, hear, closing, closed_collection, closed_phase, end_round, close, adopt}
 use Rattle.head_spec.specs.Ranges.{Passed}
 use Rattle.head_spec.specs.Ranges as passed
@@ -22,7 +22,7 @@ use Rattle.head_spec.proofs.Ranges.{reached}
 -- ---- offering and then adopting
 
 -- adopting an offer that stands makes the record that the phase end makes
-adopted_head : (h : Head) (k : Kept) → Stands h k → (adopt h (Offer.Standing k)).head ≡ closed_phase h k
+adopted_head : (h : Head) (k : Kept) → Stands h k → (adopt h (Some k)).head ≡ closed_phase h k
 adopted_head h k s = ap (λ (a : Answer). a.head) (adopts_offer h k s.runs)
 
 then_adopts : (c : Closed) (h h' : Head) → Closes c h h' → then_adopt c h' ≡ end_round h
@@ -36,8 +36,8 @@ offer_then_adopt h = then_adopts (close h).closed h (close h).head (closes h)
 -- ---- an offer that stands is right
 
 abbrev Right : Head → Offer → Type 0
-Right h Offer.Nothing = Unit {0}
-Right h (Offer.Standing k) = Stands h k
+Right h None = Unit {0}
+Right h (Some k) = Stands h k
 
 right_heard : (c : ℕ) (new h : Head) (o : Offer) → Right h o → Right (answer c new h).head (lapsed (answer c new h).refusal o)
 right_heard zero new h o r = tt
@@ -45,8 +45,8 @@ right_heard (suc c) new h o r = r
 
 -- no offer stands in a collection round
 listed_unoffered : (h h' : Head) (o : Offer) → end_round h ≡ closing Closed.Listed (closed_collection h) → Right h o → Right h' o
-listed_unoffered h h' Offer.Nothing e r = tt
-listed_unoffered h h' (Offer.Standing k) e r =
+listed_unoffered h h' None e r = tt
+listed_unoffered h h' (Some k) e r =
     let q : Closed.Listed ≡ Closed.Settled k = ap (λ (a : Closing). a.closed) (sym e ∙ r.ends) in
     let z : ◌≡◌ {A = ℕ} 0 1 = cc in
     absurd (omega arith)

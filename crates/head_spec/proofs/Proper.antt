@@ -1,5 +1,6 @@
 -- Start and restart make a proper record, of a head as of a listener, since their checks ask for just that, and a record with nothing heard is proper whatever
 -- the round.
+use Rattle.std.specs.Prelude.{None, Some}
 use mathlib.Core.Path.{◌≡◌, refl, sym, ◌∙◌}
 use mathlib.Core.Logic.{◌≢◌}
 use mathlib.Core.Bool.{Bool, true, false, ◌&&◌, true≢false}
@@ -15,7 +16,7 @@ use Rattle.terms.specs.Refusals as refusal
 use Rattle.terms.specs.Refusals.{check}
 use Rattle.terms.specs.Sizes.{is_count, is_limit, check_size, rounds_of, is_listener}
 use Rattle.terms.specs.Positions.{is_position, eq_z}
-use Rattle.terms.specs.declared.Entry.{Entry}
+use Rattle.terms.specs.Entry.{Entry}
 use Rattle.terms.specs.declared.Family.{Family}
 use Rattle.terms.specs.declared.Family.TheVariants.{TwoRounds, OneRound}
 use Rattle.terms.specs.declared.Table.{Table}
@@ -48,7 +49,7 @@ no_entries_lem n =
       none = λ j l. numbers_none [] 0 j (omega arith);
     }
 
-pub no_entry : (k : ℕ) → table_at no_entries k ≡ Entry.Null
+pub no_entry : (k : ℕ) → table_at no_entries k ≡ None
 unfolding no_entries entry_at
 no_entry k = rw (bit_none k)
 
@@ -64,7 +65,7 @@ no_links_lem n size =
       unheard = λ k e. (bit_none k, bit_none k);
     }
 
-pub proper_opened : {s : Seat} {t : Table} → ProperSeat s → ProperTable s.n t → (s.round ≡ 0 → (k : ℕ) → table_at t k ≡ Entry.Null)
+pub proper_opened : {s : Seat} {t : Table} → ProperSeat s → ProperTable s.n t → (s.round ≡ 0 → (k : ℕ) → table_at t k ≡ None)
     → ProperHead (opened s t)
 proper_opened {s} S list blank =
     record { seat = S; heard = pow_pos s.n; list = list; blank = λ r k e. blank r k; links = no_links_lem s.n S.size.most }
@@ -97,7 +98,7 @@ sized_by K n f count limit =
 pub sized : (K : Family) (n f : ℕ) {rest : ℕ} → check_size K n f rest ≡ 0 → Sized K n f × (rest ≡ 0)
 sized K n f e = let (count, limit, rest) = size_passed K n f _ e in (sized_by K n f count limit, rest)
 
-sized_passes : (K : Family) (n f rest : ℕ) → Sized K n f → check_size K n f rest ≡ rest
+pub sized_passes : (K : Family) (n f rest : ℕ) → Sized K n f → check_size K n f rest ≡ rest
 unfolding is_count
 sized_passes K n f rest S = rw (le-leb 1 n S.some, le-leb n 32 S.most, accepted_limit K n f S.limit)
 
@@ -128,7 +129,7 @@ module _ (K : Family) (n f i : ℕ) where
       member_not_listener i n (ltb-true i n (both_passed (ltb i n) (is_position v) 2 3 rest).0) S.most
 
   proper_opening : {p r : ℕ} {healed : Bool} {e : Entry} → Sized K n f → (is_listener i ≡ false → i < n) → 1 ≤ p → p ≤ 65535 → r < rounds_of K
-      → Proper n (collected e) → (is_listener i ≡ false → r ≡ 0 → healed ≡ false → e ≢ Entry.Null) → ProperSeat (opening_seat K n f i p r healed e)
+      → Proper n (collected e) → (is_listener i ≡ false → r ≡ 0 → healed ≡ false → e ≢ None) → ProperSeat (opening_seat K n f i p r healed e)
   proper_opening S number first last round position holds =
       record {
         size = S;
@@ -142,7 +143,7 @@ module _ (K : Family) (n f i : ℕ) where
         since = omega arith;
       }
 
-  proper_first : (v : ℤ) → start_refusal K n f i v ≡ 0 → ProperSeat (first_seat K n f i (Entry.Position v))
+  proper_first : (v : ℤ) → start_refusal K n f i v ≡ 0 → ProperSeat (first_seat K n f i (Some v))
   unfolding start_refusal
   proper_first v e =
       let (S, rest) = sized K n f e in
@@ -157,7 +158,7 @@ module _ (K : Family) (n f i : ℕ) where
   exempt : {A : Type 0} → is_listener i ≡ true → is_listener i ≡ false → A
   exempt e o = absurd (true≢false (sym e ∙ o))
 
-  proper_listener : start_listener_refusal K n f i ≡ 0 → ProperSeat (first_seat K n f i Entry.Null)
+  proper_listener : start_listener_refusal K n f i ≡ 0 → ProperSeat (first_seat K n f i None)
   unfolding start_listener_refusal
   proper_listener e =
       let (S, rest) = sized K n f e in

@@ -1,5 +1,6 @@
 -- Positions stay in range. A trusted position stands in a list, and what stands in a list that was accepted is in range; so are the lowest and the
 -- highest kept, and so is half the sum of two positions. The trim is at most f.
+use Rattle.std.specs.Prelude.{None, Some}
 use mathlib.Core.Path.{◌≡◌, refl}
 use mathlib.Core.Logic.{by_cases}
 use mathlib.Core.Bool.{Bool, true, false, cond}
@@ -13,10 +14,9 @@ use lib.IntN.{ℤ, pos, negsuc, ◌+ℤ◌}
 use lib.Signed.{le_z, ◌≤ℤ◌}
 use denote.Floats.{passes, is_true}
 use Rattle.terms.specs.Positions.{is_position, half}
-use Rattle.terms.specs.declared.Entry.{Entry}
+use Rattle.terms.specs.Entry.{Entry}
 use Rattle.terms.specs.declared.Family.{Family}
 use Rattle.terms.specs.declared.Family.TheVariants.{TwoRounds, OneRound}
-use Rattle.terms.specs.declared.Entry.TheVariants.{Null, Position}
 use Rattle.terms.specs.declared.Table.{Table}
 use Rattle.terms.proofs.Whole.{arithZ, sum_lin, half_lin}
 use Rattle.marks.specs.Marks.{bit_of}
@@ -67,16 +67,16 @@ insert_positions x (y ∷ ys) h a = go (le_z x y) (insert_positions x ys h a.1)
 
 -- each entry is null or in range
 abbrev pub InRange : ℕ → (ℕ → Entry) → Type 0
-InRange n E = Each n (λ j. (u : ℤ) → E j ≡ Position u → is_position u ≡ true)
+InRange n E = Each n (λ j. (u : ℤ) → E j ≡ Some u → is_position u ≡ true)
 
 ordered_positions : (n : ℕ) (E : ℕ → Entry) → InRange n E → AllPositions (ordered n E)
 unfolding ordered
 ordered_positions zero E h = tt
 ordered_positions (suc n) E h = go (E n) (each_last h) (ordered_positions n E (each_less h))
   where
-    go : (x : Entry) → ((u : ℤ) → x ≡ Position u → is_position u ≡ true) → AllPositions (ordered n E) → AllPositions (put x (ordered n E))
-    go Null k a = a
-    go (Position u) k a = insert_positions u (ordered n E) (k u refl) a
+    go : (x : Entry) → ((u : ℤ) → x ≡ Some u → is_position u ≡ true) → AllPositions (ordered n E) → AllPositions (put x (ordered n E))
+    go None k a = a
+    go (Some u) k a = insert_positions u (ordered n E) (k u refl) a
 
 -- any place, since 0 is a position
 position_at : (l : List ℤ) (k : ℕ) → AllPositions l → is_position (get_or l k (pos 0)) ≡ true
@@ -109,7 +109,7 @@ pub listed_position : (n : ℕ) (t : Table) → ProperTable n t → InRange n (t
 unfolding entry_at
 listed_position n t P j l u e = go (bit_of t.marks j) (get_or t.entries j (pos 0)) (P.fit j l) e
   where
-    go : (b : Bool) (v : ℤ) → fits b v ≡ true → cond b (Position v) Null ≡ Position u → is_position u ≡ true
+    go : (b : Bool) (v : ℤ) → fits b v ≡ true → cond b (Some v) None ≡ Some u → is_position u ≡ true
     go true v f q = let z : v ≡ u = cc in rw z at f
     go false v f q = absurd (not_null refl q)
 
@@ -121,7 +121,7 @@ module _ (h : Head) (P : ProperHead h) where
       ((trusted_in_range h.seat.n h.seat.f (given h) j (λ k m w. says k m w (bit_of G.confessed k) (bit_of G.listed k)) u).0 e).0.within
     where
       says : (k : ℕ) → k < h.seat.n → (w : ℤ) (a b : Bool)
-          → says_of j (cond a confessed (cond b (gave (table_at (list_from h.links h.lists k))) nothing)) ≡ Position w → is_position w ≡ true
+          → says_of j (cond a confessed (cond b (gave (table_at (list_from h.links h.lists k))) nothing)) ≡ Some w → is_position w ≡ true
       says k m w true b q = absurd (not_null refl q)
       says k m w false true q = listed_position h.seat.n (list_from h.links h.lists k) (P.links.tables k m) j l w q
       says k m w false false q = absurd (not_null refl q)

@@ -1,5 +1,6 @@
 -- A head holds the kept range that was passed on last: only a phase end puts one there, and it puts the one that it answers. The position lies in
 -- it, since half the sum of the lowest and the highest kept lies between them. Nothing else puts a position in a listener's record.
+use Rattle.std.specs.Prelude.{None, Some, Ok, Err}
 use mathlib.Core.Path.{◌≡◌, refl, ap, sym, ◌∙◌}
 use mathlib.Core.Bool.{Bool, true, false, cond, true≢false}
 use Prim.Native.Nat.{ℕ, ◌≤◌}
@@ -7,14 +8,14 @@ use native.Mathlib.Omega.{arith}
 use borrow.Author.Tests.{leb-true}
 use Rattle.terms.specs.Refusals as refusal
 use Rattle.terms.specs.Sizes.{is_listener}
-use Rattle.terms.specs.declared.Entry.{Entry}
+use Rattle.terms.specs.Entry.{Entry}
 use Rattle.convergence.specs.Settling.{nulls, rule_of, midpoint, enough}
 use Rattle.terms.specs.Positions.{rounding}
 use Rattle.convergence.proofs.Demand3.{rounding_le, keeps_one}
 use Rattle.convergence.proofs.Kept.{in_kept}
 use Rattle.settle_midpoint.specs.Answers.{settling}
-use Rattle.settle_midpoint.specs.declared.Settled.{Settled}
-use Rattle.head_spec.specs.declared.LastKept.{LastKept}
+use Rattle.settle_midpoint.specs.Settled.{Settled}
+use Rattle.head_spec.specs.Kept.{LastKept}
 use Rattle.head_spec.specs.declared.Seat.{Seat}
 use Rattle.head_spec.specs.declared.Head.{Head}
 use Rattle.head_spec.specs.declared.Closed.{Closed}
@@ -57,8 +58,8 @@ reached (passed.hears k s bytes P) = reachable.hears k s bytes (reached P)
 reached (passed.ends P) = reachable.ends (reached P)
 
 abbrev Sound : LastKept → Type 0
-Sound LastKept.Nothing = Unit {0}
-Sound (LastKept.Range k) = KeptInRange k
+Sound None = Unit {0}
+Sound (Some k) = KeptInRange k
 
 module _ (h : Head) (P : ProperHead h) where
   settled_sound : enough_trusted h ≡ true → KeptInRange (settled_by h)
@@ -75,7 +76,7 @@ module _ (h : Head) (P : ProperHead h) where
   unfolding end_round settling closed_collection closed_phase
   ended_sound s = go h.seat.ended (is_last_round h.seat)
     where
-      settles : (c : Bool) → enough_trusted h ≡ c → Sound (end_settled (cond c (Settled.New (settled_by h)) (Settled.Refused refusal.too_few_trusted)) h).head.seat.kept
+      settles : (c : Bool) → enough_trusted h ≡ c → Sound (end_settled (cond c (Ok (settled_by h)) (Err refusal.too_few_trusted)) h).head.seat.kept
       settles true e = settled_sound e
       settles false e = s
 
@@ -94,21 +95,21 @@ sound (passed.hears {h = x} k s bytes P) = rw (hear_keeps x k s) (sound P)
 sound (passed.ends {h = x} P) = ended_sound x (demand_2.proper x (reached P)) (sound P)
 
 pub passed_in_range : PassedInRange
-passed_in_range h k P = rw (holds_passed h (LastKept.Range k) P) at (sound P)
+passed_in_range h k P = rw (holds_passed h (Some k) P) at (sound P)
 
 -- ---- a listener's first position
 
 -- what is to be shown of a seat
-abbrev None : Seat → Type 0
-None s = is_listener s.number ≡ true → s.position ≡ Entry.Null
+abbrev HoldsNone : Seat → Type 0
+HoldsNone s = is_listener s.number ≡ true → s.position ≡ None
 
-none_ending : (c : Closed) (h h' : Head) (x : LastKept) → Answers c h h' → passing c x ≡ LastKept.Nothing → (x ≡ LastKept.Nothing → None h.seat) → None h'.seat
+none_ending : (c : Closed) (h h' : Head) (x : LastKept) → Answers c h h' → passing c x ≡ None → (x ≡ None → HoldsNone h.seat) → HoldsNone h'.seat
 unfolding closed_collection
 none_ending (Closed.Refused c) h h' x a e none = rw a (none e)
 none_ending Closed.Listed h h' x a e none = rw a (none e)
 none_ending (Closed.Settled k) h h' x a e none = let z : ◌≡◌ {A = ℕ} 0 1 = cc in absurd (omega arith)
 
-none_held : {h : Head} {x : LastKept} → Passed h x → x ≡ LastKept.Nothing → None h.seat
+none_held : {h : Head} {x : LastKept} → Passed h x → x ≡ None → HoldsNone h.seat
 unfolding started restarted started_listener
 none_held (passed.starts K n f i v r) e = λ l. absurd (true≢false (sym l ∙ started_head K n f i v r))
 none_held (passed.restarts K n f i p r c) e = λ l. refl

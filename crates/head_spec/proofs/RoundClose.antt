@@ -1,11 +1,12 @@
 -- Closing a round. It ends a collection round. In the last round of a phase it answers what the end of the round would, and the record stays as it is.
+use Rattle.std.specs.Prelude.{Ok, Err}
 use mathlib.Core.Path.{◌≡◌, refl}
 use mathlib.Core.Bool.{Bool, true, false, cond}
 use Prim.Native.Nat.{ℕ}
 use Rattle.terms.specs.Refusals as refusal
 use Rattle.settle_midpoint.specs.Answers.{settling}
 use Rattle.settle_midpoint.specs.declared.Kept.{Kept}
-use Rattle.settle_midpoint.specs.declared.Settled.{Settled}
+use Rattle.settle_midpoint.specs.Settled.{Settled}
 use Rattle.head_spec.specs.declared.Head.{Head}
 use Rattle.head_spec.specs.declared.Closed.{Closed}
 use Rattle.head_spec.specs.declared.Closing.{Closing}
@@ -45,8 +46,8 @@ unfolding close
 closes h = go h.seat.ended (is_last_round h.seat) refl refl
   where
     settles : (s : Settled) → h.seat.ended ≡ false → end_round h ≡ end_settled s h → Closes (offer_settled s h).closed h (offer_settled s h).head
-    settles (Settled.Refused c) runs e = (refl, e)
-    settles (Settled.New k) runs e = (refl, record { runs = runs; ends = e })
+    settles (Err c) runs e = (refl, e)
+    settles (Ok k) runs e = (refl, record { runs = runs; ends = e })
 
     go : (b r : Bool) → h.seat.ended ≡ b → is_last_round h.seat ≡ r
         → let a = cond b (closing (Closed.Refused refusal.run_has_ended) h) (close_in r h) in Closes a.closed h a.head
@@ -73,7 +74,7 @@ module _ (h : Head) (P : ProperHead h) where
   unfolding close settling
   both = go h.seat.ended (is_last_round h.seat) refl
     where
-      settles : (c : Bool) → Kept-proper (offer_settled (cond c (Settled.New (settled_by h)) (Settled.Refused refusal.too_few_trusted)) h)
+      settles : (c : Bool) → Kept-proper (offer_settled (cond c (Ok (settled_by h)) (Err refusal.too_few_trusted)) h)
       settles true = (P, settled_proper h P)
       settles false = (P, tt)
 

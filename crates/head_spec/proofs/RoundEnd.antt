@@ -1,5 +1,6 @@
 -- The end of a round. A collection round is never refused. The last round of a phase is refused 25 exactly if too many entries are null, and else the record
 -- holds the position that was answered. What the end makes is a round just opened, and a proper record stays proper.
+use Rattle.std.specs.Prelude.{Ok, Err}
 use mathlib.Core.Path.{◌≡◌, refl, ap, sym, ◌∙◌}
 use mathlib.Core.Bool.{Bool, true, false, cond, true≢false}
 use Prim.Native.Nat.{ℕ, zero, suc, ◌+◌, ◌≤◌, ◌<◌}
@@ -15,7 +16,7 @@ use Rattle.convergence.proofs.Demand3.{rounding_le}
 use Rattle.convergence.proofs.Support.{not_null}
 use Rattle.settle_midpoint.specs.Answers.{kept, settling}
 use Rattle.settle_midpoint.specs.declared.Kept.{Kept}
-use Rattle.settle_midpoint.specs.declared.Settled.{Settled}
+use Rattle.settle_midpoint.specs.Settled.{Settled}
 use Rattle.head_spec.specs.declared.Seat.{Seat}
 use Rattle.head_spec.specs.declared.Head.{Head}
 use Rattle.head_spec.specs.declared.Closed.{Closed}
@@ -41,9 +42,9 @@ pub settles_by : (h : Head) {K : Family} → h.seat.family ≡ K
     → settling (rounding h.seat.phase) h.seat.n (rule_of K h.seat.f) (entries_by K h) ≡ settling_of h
 settles_by h e = ap (λ (k : Family). settling (rounding h.seat.phase) h.seat.n (rule_of k h.seat.f) (entries_by k h)) (sym e)
 
-settling_is : (h : Head) {b : Bool} → enough_trusted h ≡ b → settling_of h ≡ cond b (Settled.New (settled_by h)) (Settled.Refused refusal.too_few_trusted)
+settling_is : (h : Head) {b : Bool} → enough_trusted h ≡ b → settling_of h ≡ cond b (Ok (settled_by h)) (Err refusal.too_few_trusted)
 unfolding settling
-settling_is h e = ap (λ (x : Bool). cond x (Settled.New (settled_by h)) (Settled.Refused refusal.too_few_trusted)) e
+settling_is h e = ap (λ (x : Bool). cond x (Ok (settled_by h)) (Err refusal.too_few_trusted)) e
 
 module _ (h : Head) (runs : h.seat.ended ≡ false) where
   pub ends_collection : is_last_round h.seat ≡ false → end_round h ≡ closing Closed.Listed (closed_collection h)
@@ -78,8 +79,8 @@ unfolding end_round
 answers h = go h.seat.ended (is_last_round h.seat)
   where
     settles : (s : Settled) → Answers (end_settled s h).closed h (end_settled s h).head
-    settles (Settled.Refused c) = refl
-    settles (Settled.New k) = refl
+    settles (Err c) = refl
+    settles (Ok k) = refl
 
     go : (b r : Bool) → let a = cond b (closing (Closed.Refused refusal.run_has_ended) h) (end_by r h) in Answers a.closed h a.head
     go true r = refl
@@ -145,7 +146,7 @@ module _ (h : Head) (P : ProperHead h) where
   unfolding end_round settling
   proper_end = go h.seat.ended (is_last_round h.seat) refl
     where
-      settles : (c : Bool) → ProperHead (end_settled (cond c (Settled.New (settled_by h)) (Settled.Refused refusal.too_few_trusted)) h).head
+      settles : (c : Bool) → ProperHead (end_settled (cond c (Ok (settled_by h)) (Err refusal.too_few_trusted)) h).head
       settles true = proper_phase (settled_by h) settled_proper
       settles false = P
 

@@ -1,4 +1,5 @@
 -- Only starting, restarting and adopting touch the count of phase ends, and it is the number of adoptions, up to 255.
+use Rattle.std.specs.Prelude.{Some}
 use mathlib.Core.Path.{◌≡◌, refl, ap, ◌∙◌}
 use Prim.Native.Nat.{ℕ, zero, suc, ◌+◌, min}
 use native.Mathlib.Omega.{arith}
@@ -6,7 +7,7 @@ use Rattle.settle_midpoint.specs.declared.Kept.{Kept}
 use Rattle.head_spec.specs.declared.Seat.{Seat}
 use Rattle.head_spec.specs.declared.Head.{Head}
 use Rattle.head_spec.specs.declared.Closed.{Closed}
-use Rattle.head_spec.specs.declared.Offer.{Offer}
+use Rattle.head_spec.specs.Kept.{Offer}
 use Rattle.head_spec.specs.Seats.{most_counted}
 use Rattle.head_spec.specs.Calls.{started, restarted, started_listener, answer, closed_collection, closed_phase, close, adopt_refusal, adopted, adopt}
 use Rattle.head_spec.specs.Since.{CountStays, starts, restarts, listens, listens_again, hears, closes, adopts, CountHolds}
@@ -40,10 +41,10 @@ count_stays =
 min_suc : (x c : ℕ) → x ≡ min most_counted c → min most_counted (x + 1) ≡ min most_counted (c + 1)
 min_suc x c e = omega (arith, e)
 
-adopting : (h : Head) (k : Kept) → (adopt h (Offer.Standing k)).refusal ≡ 0
-    → (adopt h (Offer.Standing k)).head.seat.since ≡ min most_counted (h.seat.since + 1)
+adopting : (h : Head) (k : Kept) → (adopt h (Some k)).refusal ≡ 0
+    → (adopt h (Some k)).head.seat.since ≡ min most_counted (h.seat.since + 1)
 unfolding adopt closed_phase
-adopting h k e = ap (λ (y : Head). y.seat.since) (accepted (adopt_refusal h (Offer.Standing k)) (closed_phase h k) h e)
+adopting h k e = ap (λ (y : Head). y.seat.since) (accepted (adopt_refusal h (Some k)) (closed_phase h k) h e)
 
 pub count_holds : CountHolds
 unfolding started restarted started_listener

@@ -1,5 +1,6 @@
 -- Demand 2: what a proper record writes reads back, at any head of its ring in its phase and round, as what it had to say. What it has to say is
 -- proper, since its position is in range and its list is a table of n entries, and a frame written for a proper meaning reads back as that meaning.
+use Rattle.std.specs.Prelude.{None, Ok, Err}
 use mathlib.Core.Path.{◌≡◌, refl}
 use mathlib.Core.Bool.{Bool, true, false, cond}
 use mathlib.Core.List.{List, ◌++◌}
@@ -9,10 +10,10 @@ use lib.ListN.{length, take, drop}
 use lib.Seq.{take-append_seam}
 use Rattle.terms.specs.Refusals as refusal
 use Rattle.terms.specs.Sizes.{is_listener}
-use Rattle.terms.specs.declared.Entry.{Entry}
+use Rattle.terms.specs.Entry.{Entry}
 use Rattle.frame_spec.specs.Said.{collected, listed, confessed}
 use Rattle.frame_spec.specs.Written.{fits_in, written, buffered}
-use Rattle.frame_spec.specs.declared.Written.{Written}
+use Rattle.frame_spec.specs.Length.{Written}
 use Rattle.frame_spec.specs.Proper.{Proper, round_of_meaning}
 use Rattle.frame_spec.proofs.ReadsBack.{reads_back}
 use Rattle.head_spec.specs.declared.Head.{Head}
@@ -24,7 +25,7 @@ module _ (h : Head) (P : ProperHead h) where
   unfolding spoken
   proper_spoken = go h.seat.round (omega (arith, P.seat.round, rounds_few h.seat.family))
     where
-      collecting : (b : Bool) → Proper h.seat.n (collected (cond b Entry.Null h.seat.position))
+      collecting : (b : Bool) → Proper h.seat.n (collected (cond b None h.seat.position))
       collecting true = tt
       collecting false = P.seat.position
 
@@ -44,7 +45,7 @@ module _ (h : Head) (P : ProperHead h) where
       rw round at (reads_back h.seat.n h.seat.number h.seat.phase (spoken h) S.size.most (omega (arith, S.to_last)) proper)
 
   -- written into a lent buffer
-  pub written_reads_back : (buffer : List ℕ) {len : ℕ} → write_answer h buffer ≡ Written.Length len
+  pub written_reads_back : (buffer : List ℕ) {len : ℕ} → write_answer h buffer ≡ Ok len
       → said_to h.seat h.seat.number (take len (write_buffer h buffer)) ≡ spoken h
   unfolding write_answer write_buffer written buffered
   written_reads_back buffer {len} = go h.seat.ended (is_listener h.seat.number) (fits_in (frame_for h) buffer)
@@ -53,8 +54,8 @@ module _ (h : Head) (P : ProperHead h) where
       s = frame_for h
 
       go : (a b c : Bool)
-          → cond a (Written.Refused refusal.run_has_ended) (cond b (Written.Refused refusal.listener_sends_nothing) (cond c (Written.Length (length s)) (Written.Refused refusal.buffer_too_short)))
-          ≡ Written.Length len
+          → cond a (Err refusal.run_has_ended) (cond b (Err refusal.listener_sends_nothing) (cond c (Ok (length s)) (Err refusal.buffer_too_short)))
+          ≡ Ok len
           → said_to h.seat h.seat.number (take len (cond a buffer (cond b buffer (cond c (s ++ drop (length s) buffer) buffer)))) ≡ spoken h
       go true b c e = let z : ◌≡◌ {A = ℕ} 0 1 = cc in absurd (omega arith)
       go false true c e = let z : ◌≡◌ {A = ℕ} 0 1 = cc in absurd (omega arith)

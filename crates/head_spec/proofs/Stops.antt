@@ -1,6 +1,7 @@
 -- Stops of the calls, straight from their definitions: a refusal leaves the record, start and restart do not look at the record that was, and once
 -- phase 65,535 has ended hearing, writing and closing are refused 26 before all else, and so is adopting an offer. Before that, a listener's writing is
 -- refused 17.
+use Rattle.std.specs.Prelude.{None, Some, Err}
 use mathlib.Core.Path.{◌≡◌, refl}
 use mathlib.Core.Logic.{◌≢◌}
 use mathlib.Core.Bool.{true, false}
@@ -11,11 +12,11 @@ use Rattle.terms.specs.Refusals as refusal
 use Rattle.terms.specs.Sizes.{is_listener}
 use Rattle.terms.specs.declared.Family.{Family}
 use Rattle.settle_midpoint.specs.declared.Kept.{Kept}
-use Rattle.frame_spec.specs.declared.Written.{Written}
+use Rattle.frame_spec.specs.Length.{Written}
 use Rattle.head_spec.specs.declared.Head.{Head}
 use Rattle.head_spec.specs.declared.Answer.{Answer}
 use Rattle.head_spec.specs.declared.Closed.{Closed}
-use Rattle.head_spec.specs.declared.Offer.{Offer}
+use Rattle.head_spec.specs.Kept.{Offer}
 use Rattle.head_spec.specs.Calls.{answer, start_refusal, started, start, restart_refusal, restarted, restart, start_listener_refusal, started_listener, start_listener, restart_listener_refusal, restart_listener}
 use Rattle.head_spec.specs.Calls.{hear_refusal, hear, write_answer, write_buffer, closing, closed_phase, close, adopt}
 
@@ -56,17 +57,17 @@ module _ (h : Head) (K : Family) (n f i : ℕ) where
 -- ---- a listener sends nothing
 
 pub listener_writes : (h : Head) → h.seat.ended ≡ false → is_listener h.seat.number ≡ true → (buffer : List ℕ)
-    → (write_answer h buffer ≡ Written.Refused refusal.listener_sends_nothing) × (write_buffer h buffer ≡ buffer)
+    → (write_answer h buffer ≡ Err refusal.listener_sends_nothing) × (write_buffer h buffer ≡ buffer)
 unfolding write_answer write_buffer
 listener_writes h runs listens buffer = (rw (runs, listens), rw (runs, listens))
 
 -- ---- adopting
 
-pub adopts_nothing : (h : Head) → adopt h Offer.Nothing ≡ record { refusal = refusal.no_offer; head = h }
+pub adopts_nothing : (h : Head) → adopt h None ≡ record { refusal = refusal.no_offer; head = h }
 unfolding adopt
 adopts_nothing h = refl
 
-pub adopts_offer : (h : Head) (k : Kept) → h.seat.ended ≡ false → adopt h (Offer.Standing k) ≡ takes (closed_phase h k)
+pub adopts_offer : (h : Head) (k : Kept) → h.seat.ended ≡ false → adopt h (Some k) ≡ takes (closed_phase h k)
 unfolding adopt
 adopts_offer h k runs = rw runs
 
@@ -77,7 +78,7 @@ module _ (h : Head) (over : h.seat.ended ≡ true) where
   unfolding hear hear_refusal
   ended_hears k s = rw over
 
-  pub ended_writes : (buffer : List ℕ) → (write_answer h buffer ≡ Written.Refused refusal.run_has_ended) × (write_buffer h buffer ≡ buffer)
+  pub ended_writes : (buffer : List ℕ) → (write_answer h buffer ≡ Err refusal.run_has_ended) × (write_buffer h buffer ≡ buffer)
   unfolding write_answer write_buffer
   ended_writes buffer = (rw over, rw over)
 
@@ -85,6 +86,6 @@ module _ (h : Head) (over : h.seat.ended ≡ true) where
   unfolding close
   ended_closes = rw over
 
-  pub ended_adopts : (k : Kept) → adopt h (Offer.Standing k) ≡ record { refusal = refusal.run_has_ended; head = h }
+  pub ended_adopts : (k : Kept) → adopt h (Some k) ≡ record { refusal = refusal.run_has_ended; head = h }
   unfolding adopt
   ended_adopts k = rw over

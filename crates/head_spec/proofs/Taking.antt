@@ -1,5 +1,6 @@
 -- What a record takes from one link that it had not heard: entry k of its list is the entry said, what link k gave is what was said, and nothing
 -- else changes, since each mark and each place of an array is written alone. A proper record stays proper, since what a frame says is proper.
+use Rattle.std.specs.Prelude.{None, Some}
 use mathlib.Core.Path.{◌≡◌, refl, ap, sym, ◌∙◌}
 use mathlib.Core.Logic.{◌≢◌, by_cases}
 use mathlib.Core.Bool.{Bool, true, false, not, true≢false}
@@ -14,8 +15,7 @@ use lib.IntN.{ℤ, pos}
 use borrow.Author.Tests.{ltb-true}
 use Rattle.terms.specs.Refusals as refusal
 use Rattle.terms.specs.Refusals.{check}
-use Rattle.terms.specs.declared.Entry.{Entry}
-use Rattle.terms.specs.declared.Entry.TheVariants.{Null, Position}
+use Rattle.terms.specs.Entry.{Entry}
 use Rattle.terms.specs.declared.Table.{Table}
 use Rattle.marks.specs.Marks.{bit_of, with_mark}
 use Rattle.entries.specs.Entries.{entry_at, fits}
@@ -67,19 +67,19 @@ module _ (h : Head) (k : ℕ) (P : ProperHead h) (l : k < h.seat.n) where
       ∙ ap (λ (r : Row). r.entries) (get_or-set_same h.lists k _ _ (omega (arith, small, P.links.lists_long)))
 
   -- the list that is being filled
-  pub entry_same : (m : Meaning) → table_at h.list k ≡ Null → table_at (taken h k m).list k ≡ heard_entry m
+  pub entry_same : (m : Meaning) → table_at h.list k ≡ None → table_at (taken h k m).list k ≡ heard_entry m
   unfolding entry_at
   entry_same (refused c) e = e
-  entry_same (collected Null) e = e
-  entry_same (collected (Position v)) e = rw (with_same h.list.marks k small, entry_read v)
+  entry_same (collected None) e = e
+  entry_same (collected (Some v)) e = rw (with_same h.list.marks k small, entry_read v)
   entry_same (listed t) e = e
   entry_same confessed e = e
 
   pub entry_other : (m : Meaning) (j : ℕ) → j ≢ k → table_at (taken h k m).list j ≡ table_at h.list j
   unfolding entry_at
   entry_other (refused c) j d = refl
-  entry_other (collected Null) j d = refl
-  entry_other (collected (Position v)) j d = rw (with_other h.list.marks k small j d, get_or-set_other h.list.entries k j v (pos 0) d)
+  entry_other (collected None) j d = refl
+  entry_other (collected (Some v)) j d = rw (with_other h.list.marks k small j d, get_or-set_other h.list.entries k j v (pos 0) d)
   entry_other (listed t) j d = refl
   entry_other confessed j d = refl
 
@@ -117,8 +117,8 @@ module _ (h : Head) (k : ℕ) (P : ProperHead h) (l : k < h.seat.n) where
   still j e = let d : j ≢ k = λ q. true≢false (sym (with_same h.heard k small) ∙ rw q at e) in (d, sym (with_other h.heard k small j d) ∙ e)
 
   proper_entry : (x : Entry) → Proper n (collected x) → ProperTable n (with_entry h.list k x)
-  proper_entry Null p = P.list
-  proper_entry (Position v) p =
+  proper_entry None p = P.list
+  proper_entry (Some v) p =
       record {
         below = with_bit P.list.below;
         long = length-set h.list.entries k v ∙ P.list.long;

@@ -1,23 +1,22 @@
 -- What each call answers and what it makes of the record. A refusal gives its number and leaves the record as it was. K is the family of
 -- the ring: a phase of one round (document 02, A9) has round 0 alone, in which heads send positions, as in collection, and which ends the
 -- phase, as confession does.
-use Rattle.std.specs.Prelude.{Bool, true, false, not, cond, ◌&&◌, List, [], ◌∷◌, ℕ, zero, suc, ltb, set, ℤ}
+use Rattle.std.specs.Prelude.{Bool, true, false, not, cond, ◌&&◌, List, [], ◌∷◌, ℕ, zero, suc, ltb, set, ℤ, None, Some, Ok, Err}
 use Rattle.terms.specs.Refusals as refusal
 use Rattle.terms.specs.Refusals.{check}
 use Rattle.terms.specs.Sizes.{check_size, rounds_of, ends_with, is_phase, is_listener}
 use Rattle.terms.specs.Positions.{is_position, rounding}
-use Rattle.terms.specs.declared.Entry.{Entry}
+use Rattle.terms.specs.Entry.{Entry}
 use Rattle.terms.specs.declared.Family.{Family}
 use Rattle.terms.specs.declared.Table.{Table}
 use Rattle.marks.specs.Marks.{bit_of, with_mark}
 use Rattle.convergence.specs.Settling.{rule_of}
 use Rattle.settle_midpoint.specs.Answers.{settling}
 use Rattle.settle_midpoint.specs.declared.Kept.{Kept}
-use Rattle.settle_midpoint.specs.declared.Settled.{Settled}
-use Rattle.settle_midpoint.specs.declared.Settled.TheVariants as settled
+use Rattle.settle_midpoint.specs.Settled.{Settled}
 use Rattle.frame_spec.specs.Said.{Meaning, refused, collected, listed, confessed, refusal_of, said}
 use Rattle.frame_spec.specs.Written.{frame_of, written, buffered}
-use Rattle.frame_spec.specs.declared.Written.{Written}
+use Rattle.frame_spec.specs.Length.{Written}
 use Rattle.settle_trust.specs.declared.Links.{Links}
 use Rattle.head_spec.specs.declared.Row.{Row}
 use Rattle.head_spec.specs.declared.Seat.{Seat}
@@ -25,7 +24,7 @@ use Rattle.head_spec.specs.declared.Head.{Head}
 use Rattle.head_spec.specs.declared.Answer.{Answer}
 use Rattle.head_spec.specs.declared.Closed.{Closed}
 use Rattle.head_spec.specs.declared.Closing.{Closing}
-use Rattle.head_spec.specs.declared.Offer.{Offer}
+use Rattle.head_spec.specs.Kept.{Offer}
 use Rattle.head_spec.specs.Record.{no_entries, opened, entries_by}
 use Rattle.head_spec.specs.Seats.{first_seat, healed_seat, confession_seat, next_seat}
 
@@ -42,7 +41,7 @@ start_refusal K n f i v = check_size K n f (check (ltb i n) refusal.number_too_h
 
 -- the record of a head that is started, whatever it was (P37)
 unfoldable pub started : (K : Family) (n f number : ℕ) (position : ℤ) → Head
-started K n f i v = opened (first_seat K n f i (Entry.Position v)) no_entries
+started K n f i v = opened (first_seat K n f i (Some v)) no_entries
 
 unfoldable pub start : (h : Head) (K : Family) (n f number : ℕ) (position : ℤ) → Answer
 start h K n f i v = answer (start_refusal K n f i v) (started K n f i v) h
@@ -72,7 +71,7 @@ start_listener_refusal K n f i = check_size K n f (check (is_listener i) refusal
 
 -- the record of a listener that is started: phase 1, no position (Q34)
 unfoldable pub started_listener : (K : Family) (n f number : ℕ) → Head
-started_listener K n f i = opened (first_seat K n f i Entry.Null) no_entries
+started_listener K n f i = opened (first_seat K n f i None) no_entries
 
 unfoldable pub start_listener : (h : Head) (K : Family) (n f number : ℕ) → Answer
 start_listener h K n f i = answer (start_listener_refusal K n f i) (started_listener K n f i) h
@@ -107,8 +106,8 @@ hold h k t g l = record { seat = h.seat; heard = with_mark h.heard k; list = t; 
 
 -- entry k of the list that is being filled
 abbrev pub with_entry : Table → ℕ → Entry → Table
-with_entry t k Entry.Null = t
-with_entry t k (Entry.Position v) = record { marks = with_mark t.marks k; entries = set t.entries k v }
+with_entry t k None = t
+with_entry t k (Some v) = record { marks = with_mark t.marks k; entries = set t.entries k v }
 
 abbrev pub with_confession : Links → ℕ → Links
 with_confession g k = record { confessed = with_mark g.confessed k; listed = g.listed; marks = g.marks }
@@ -156,7 +155,7 @@ hear_all h g n = hear_each h (on_links g 0 n)
 -- what a head has to say: in round 0 its position, or silence if it is healed; in confession its list, or a confession if it is healed
 -- (P18)
 abbrev pub spoken_in : ℕ → Head → Meaning
-spoken_in zero h = collected (cond h.seat.healed Entry.Null h.seat.position)
+spoken_in zero h = collected (cond h.seat.healed None h.seat.position)
 spoken_in (suc r) h = cond h.seat.healed confessed (listed h.list)
 
 unfoldable pub spoken : Head → Meaning
@@ -168,8 +167,8 @@ frame_for h = frame_of h.seat.n h.seat.number h.seat.phase (spoken h)
 -- what writing a frame answers, its length or a number; the record is not changed (P20, Q36)
 unfoldable pub write_answer : Head → List ℕ → Written
 write_answer h buffer =
-    cond h.seat.ended (Written.Refused refusal.run_has_ended)
-    (cond (is_listener h.seat.number) (Written.Refused refusal.listener_sends_nothing) (written (frame_for h) buffer))
+    cond h.seat.ended (Err refusal.run_has_ended)
+    (cond (is_listener h.seat.number) (Err refusal.listener_sends_nothing) (written (frame_for h) buffer))
 
 unfoldable pub write_buffer : Head → List ℕ → List ℕ
 write_buffer h buffer = cond h.seat.ended buffer (cond (is_listener h.seat.number) buffer (buffered (frame_for h) buffer))
@@ -193,8 +192,8 @@ settling_of h = settling (rounding h.seat.phase) h.seat.n (rule_of h.seat.family
 
 -- the end of the last round of a phase: refused, and all stays, or the phase has ended (P32)
 abbrev pub end_settled : Settled → Head → Closing
-end_settled (settled.Refused c) h = closing (Closed.Refused c) h
-end_settled (settled.New k) h = closing (Closed.Settled k) (closed_phase h k)
+end_settled (Err c) h = closing (Closed.Refused c) h
+end_settled (Ok k) h = closing (Closed.Settled k) (closed_phase h k)
 
 -- the end of a round in one step, closing and adopting together; is_last: the round is the last of its phase (P29, P31)
 abbrev pub end_by : (is_last : Bool) (h : Head) → Closing
@@ -212,8 +211,8 @@ end_round h = cond h.seat.ended (closing (Closed.Refused refusal.run_has_ended) 
 
 -- closing the last round of a phase: refused, or an offer; the record stays as it is either way (Q69)
 abbrev pub offer_settled : Settled → Head → Closing
-offer_settled (settled.Refused c) h = closing (Closed.Refused c) h
-offer_settled (settled.New k) h = closing (Closed.Settled k) h
+offer_settled (Err c) h = closing (Closed.Refused c) h
+offer_settled (Ok k) h = closing (Closed.Settled k) h
 
 -- closing; is_last: the round is the last of its phase (Q64)
 abbrev pub close_in : (is_last : Bool) (h : Head) → Closing
@@ -228,12 +227,12 @@ close h = cond h.seat.ended (closing (Closed.Refused refusal.run_has_ended) h) (
 
 -- the number that adopting answers: no offer stands, or phase 65,535 has ended (Q67)
 abbrev pub adopt_refusal : Head → Offer → ℕ
-adopt_refusal h Offer.Nothing = refusal.no_offer
-adopt_refusal h (Offer.Standing k) = check (not h.seat.ended) refusal.run_has_ended 0
+adopt_refusal h None = refusal.no_offer
+adopt_refusal h (Some k) = check (not h.seat.ended) refusal.run_has_ended 0
 
 abbrev pub adopted : Head → Offer → Head
-adopted h Offer.Nothing = h
-adopted h (Offer.Standing k) = closed_phase h k
+adopted h None = h
+adopted h (Some k) = closed_phase h k
 
 -- adopting what is offered (Q68)
 unfoldable pub adopt : Head → Offer → Answer

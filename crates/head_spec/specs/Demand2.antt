@@ -1,7 +1,7 @@
 -- Demand 2, a statement for each sentence of it. proofs/Demand2.antt proves `Demand2`.
-use Rattle.std.specs.Prelude.{◌≡◌, ◌↔◌, true, false, cond, List, [], ◌∷◌, ℕ, ◌≤◌, eqb, take, ℤ}
+use Rattle.std.specs.Prelude.{◌≡◌, ◌↔◌, true, false, cond, List, [], ◌∷◌, ℕ, ◌≤◌, eqb, take, ℤ, Some, Ok}
 use Rattle.terms.specs.Sizes.{is_listener}
-use Rattle.terms.specs.declared.Entry.{Entry}
+use Rattle.terms.specs.Entry.{Entry}
 use Rattle.terms.specs.declared.Family.{Family}
 use Rattle.terms.specs.declared.Family.TheVariants.{TwoRounds, OneRound}
 use Rattle.entries.specs.Tables.{table_at}
@@ -10,10 +10,10 @@ use Rattle.convergence.specs.Settling.{rule_of}
 use Rattle.convergence.specs.Trust.{Given, has_confessed, Only, trusted}
 use Rattle.terms.specs.Positions.{rounding}
 use Rattle.settle_midpoint.specs.Answers.{settling}
-use Rattle.settle_midpoint.specs.declared.Settled.{Settled}
+use Rattle.settle_midpoint.specs.Settled.{Settled}
 use Rattle.frame_spec.specs.Said.{Meaning, refused, collected, listed, confessed, said}
 use Rattle.frame_spec.specs.Proper.{AllBytes, AcceptedMeaning}
-use Rattle.frame_spec.specs.declared.Written.{Written}
+use Rattle.frame_spec.specs.Length.{Written}
 use Rattle.head_spec.specs.declared.Seat.{Seat}
 use Rattle.head_spec.specs.declared.Head.{Head}
 use Rattle.head_spec.specs.Record.{heard_entry, given_of}
@@ -44,7 +44,7 @@ ReadsBack =
 -- so do the bytes that writing puts at the front of a lent buffer
 abbrev pub WrittenReadsBack : Type 0
 WrittenReadsBack =
-    (h : Head) → Reachable h → (buffer : List ℕ) (len : ℕ) → write_answer h buffer ≡ Written.Length len
+    (h : Head) → Reachable h → (buffer : List ℕ) (len : ℕ) → write_answer h buffer ≡ Ok len
     → said h.seat.n h.seat.phase h.seat.round h.seat.number (take len (write_buffer h buffer)) ≡ spoken h
 
 -- ---- "each frame accepted at hearing is the only one with its meaning": on link k, in phase p and round r of a ring of n heads
@@ -95,7 +95,7 @@ AlgorithmCC = (h : Head) → Reachable h → h.heard ≡ 0 → h.seat.ended ≡ 
 -- "Trusted entry j is u if exactly one position has support n - f or more and link j has not confessed": link k of n gave G k
 abbrev pub TrustsOnly : Type 0
 TrustsOnly =
-    (n f : ℕ) (G : ℕ → Given) (j : ℕ) (u : ℤ) → (trusted n f G j ≡ Entry.Position u) ↔ (Only n f G j u × (has_confessed (G j) ≡ false))
+    (n f : ℕ) (G : ℕ → Given) (j : ℕ) (u : ℤ) → (trusted n f G j ≡ Some u) ↔ (Only n f G j u × (has_confessed (G j) ≡ false))
 
 pub record Demand2 : Type 0 where
   pub proper : EveryProper

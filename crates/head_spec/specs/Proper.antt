@@ -1,8 +1,8 @@
 -- A proper record: what holds of every record that calls can reach (`EveryProper`, in Demand2.antt).
-use Rattle.std.specs.Prelude.{◌≡◌, ◌≢◌, false, true, List, [], ℕ, ◌^◌, ◌≤◌, ◌<◌, length, get_or}
+use Rattle.std.specs.Prelude.{◌≡◌, ◌≢◌, false, true, List, [], ℕ, ◌^◌, ◌≤◌, ◌<◌, length, get_or, None, Some}
 use Rattle.terms.specs.Sizes.{rounds_of, is_listener}
 use Rattle.terms.specs.Positions.{is_position}
-use Rattle.terms.specs.declared.Entry.{Entry}
+use Rattle.terms.specs.Entry.{Entry}
 use Rattle.terms.specs.declared.Family.{Family}
 use Rattle.terms.specs.declared.Table.{Table}
 use Rattle.marks.specs.Marks.{bit_of}
@@ -14,7 +14,7 @@ use Rattle.frame_spec.specs.Proper.{ProperTable, Proper}
 use Rattle.settle_midpoint.specs.declared.Kept.{Kept}
 use Rattle.settle_trust.specs.declared.Links.{Links}
 use Rattle.head_spec.specs.declared.Row.{Row}
-use Rattle.head_spec.specs.declared.LastKept.{LastKept}
+use Rattle.head_spec.specs.Kept.{LastKept}
 use Rattle.head_spec.specs.declared.Seat.{Seat}
 use Rattle.head_spec.specs.declared.Head.{Head}
 use Rattle.head_spec.specs.Record.{rows}
@@ -34,8 +34,8 @@ pub record ProperKept (f : ℕ) (k : Kept) : Type 0 where
   pub position : is_position k.position ≡ true
 
 abbrev pub ProperLast : ℕ → LastKept → Type 0
-ProperLast f LastKept.Nothing = Unit {0}
-ProperLast f (LastKept.Range k) = ProperKept f k
+ProperLast f None = Unit {0}
+ProperLast f (Some k) = ProperKept f k
 
 -- The position is null or in range. A head in round 0 that is not healed holds one; in a confession round it may have none, and a listener
 -- may have none in either.
@@ -46,7 +46,7 @@ pub record ProperSeat (s : Seat) : Type 0 where
   pub to_last : s.phase ≤ 65535
   pub round : s.round < rounds_of s.family
   pub position : Proper s.n (collected s.position)
-  pub holds : is_listener s.number ≡ false → s.round ≡ 0 → s.healed ≡ false → s.position ≢ Entry.Null
+  pub holds : is_listener s.number ≡ false → s.round ≡ 0 → s.healed ≡ false → s.position ≢ None
   pub kept : ProperLast s.f s.kept
   pub since : s.since ≤ most_counted
 
@@ -68,5 +68,5 @@ pub record ProperHead (h : Head) : Type 0 where
   pub seat : ProperSeat h.seat
   pub heard : h.heard < 2 ^ h.seat.n
   pub list : ProperTable h.seat.n h.list
-  pub blank : h.seat.round ≡ 0 → (k : ℕ) → bit_of h.heard k ≡ false → table_at h.list k ≡ Entry.Null
+  pub blank : h.seat.round ≡ 0 → (k : ℕ) → bit_of h.heard k ≡ false → table_at h.list k ≡ None
   pub links : ProperLinks h.seat.n h.heard h.links h.lists

@@ -1,6 +1,6 @@
 -- The head's record as a round opens, and how what it received is read.
-use Rattle.std.specs.Prelude.{List, map, ℕ, replicate, ℤ}
-use Rattle.terms.specs.declared.Entry.{Entry}
+use Rattle.std.specs.Prelude.{List, map, ℕ, replicate, ℤ, None}
+use Rattle.terms.specs.Entry.{Entry}
 use Rattle.terms.specs.declared.Family.{Family}
 use Rattle.terms.specs.declared.Family.TheVariants.{TwoRounds, OneRound}
 use Rattle.terms.specs.declared.Table.{Table}
@@ -51,10 +51,10 @@ entries_by OneRound h = table_at h.list
 
 -- in a round in which positions are sent: the entry that was said, null if no position was (D16d)
 abbrev pub heard_entry : Meaning → Entry
-heard_entry (refused c) = Entry.Null
+heard_entry (refused c) = None
 heard_entry (collected e) = e
-heard_entry (listed t) = Entry.Null
-heard_entry confessed = Entry.Null
+heard_entry (listed t) = None
+heard_entry confessed = None
 
 -- in a confession round: what the link gave (D16d)
 abbrev pub given_of : Meaning → Given

@@ -1,10 +1,10 @@
 -- The seats that calls make: by a start, a restart and the closing of each round. Calls make a seat here and nowhere else.
-use Rattle.std.specs.Prelude.{Bool, true, false, cond, ℕ, zero, suc, ◌+◌, min, leb}
-use Rattle.terms.specs.declared.Entry.{Entry}
+use Rattle.std.specs.Prelude.{Bool, true, false, cond, ℕ, zero, suc, ◌+◌, min, leb, None, Some}
+use Rattle.terms.specs.Entry.{Entry}
 use Rattle.terms.specs.declared.Family.{Family}
 use Rattle.terms.specs.declared.Family.TheVariants.{TwoRounds, OneRound}
 use Rattle.settle_midpoint.specs.declared.Kept.{Kept}
-use Rattle.head_spec.specs.declared.LastKept.{LastKept}
+use Rattle.head_spec.specs.Kept.{LastKept}
 use Rattle.head_spec.specs.declared.Seat.{Seat}
 
 -- the family that a plain number says: 0 is a ring of two rounds (Q75)
@@ -25,7 +25,7 @@ opening_seat K n f i p r healed e =
       healed = healed;
       ended = false;
       position = e;
-      kept = LastKept.Nothing;
+      kept = None;
       since = 0;
     }
 
@@ -35,7 +35,7 @@ first_seat K n f i e = opening_seat K n f i 1 0 false e
 
 -- a restart, in round r of phase p: the head is healed, with no position and no kept range (document 02, A2; Q11)
 abbrev pub healed_seat : (K : Family) (n f number phase round : ℕ) → Seat
-healed_seat K n f i p r = opening_seat K n f i p r true Entry.Null
+healed_seat K n f i p r = opening_seat K n f i p r true None
 
 -- A seat after the end of a round: the ring and the number stay, and a head that was healed is healthy.
 abbrev pub later_seat : Seat → (phase round : ℕ) (ended : Bool) (position : Entry) (kept : LastKept) (since : ℕ) → Seat
@@ -69,5 +69,5 @@ is_last s = leb 65535 s.phase
 -- bit 2 of its window stays: document 02, A5; P33, P39, Q77, Q89)
 abbrev pub next_seat : Seat → Kept → Seat
 next_seat s k =
-    later_seat s (cond (is_last s) s.phase (s.phase + 1)) (cond (is_last s) s.round 0) (is_last s) (Entry.Position k.position) (LastKept.Range k)
+    later_seat s (cond (is_last s) s.phase (s.phase + 1)) (cond (is_last s) s.round 0) (is_last s) (Some k.position) (Some k)
     (min most_counted (s.since + 1))

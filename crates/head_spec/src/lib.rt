@@ -11,19 +11,11 @@ pub struct Row {
     pub entries: [i32; HEADS],
 }
 
-// What the last phase end since the start or restart settled: the kept range, the trim and the position; nothing before the first.
-#[derive(Clone, Copy)]
-pub enum LastKept {
-    Nothing,
-    Range(Kept),
-}
+// What the last phase end since the start or restart settled: the kept range, the trim and the position; none before the first.
+pub type LastKept = Option<Kept>;
 
-// What closing offered, with its kept range, until it is adopted or lapses (document 02, A8), or nothing. It is kept outside the record.
-#[derive(Clone, Copy)]
-pub enum Offer {
-    Nothing,
-    Standing(Kept),
-}
+// What closing offered, with its kept range, until it is adopted or lapses (document 02, A8), or none. It is kept outside the record.
+pub type Offer = Option<Kept>;
 
 // A head's place in its ring: the ring, its number, the phase and round, the position that it holds, and how many phase ends it has passed.
 // Healed is the field's cured.
@@ -52,14 +44,15 @@ pub struct Head {
     pub lists: [Row; HEADS], // the lists received
 }
 
-// What start, restart and hearing answer: 0 or the refusal's number, and the record.
+// What hearing answers: 0 or the refusal's number, and the record.
 #[derive(Clone, Copy)]
 pub struct Answer {
     pub refusal: u8,
     pub head: Head,
 }
 
-// What closing answers: the collection round is closed, a position is settled and offered, or a refusal.
+// What closing answers: the collection round is closed, a position is settled and offered, or a refusal. No Result with a `Refusal`: what
+// takes it (`head_calls::offered`, `head_window::after_close`) promises for any number.
 #[derive(Clone, Copy)]
 pub enum Closed {
     Refused(u8),

@@ -1,10 +1,9 @@
 -- Document 02, A5: the head as a register window of sixteen bytes, and what it keeps outside the record: pending events and a mask. Of both
 -- only the three low bits count: 0 phase end, 1 refusal 25, 2 strike over.
-use Rattle.std.specs.Prelude.{Bool, true, false, not, cond, ◌&&◌, ◌||◌, List, [], ◌∷◌, ℕ, zero, suc, ◌+◌, ◌*◌, eqb, ltb, get_or}
+use Rattle.std.specs.Prelude.{Bool, true, false, not, cond, ◌&&◌, ◌||◌, List, [], ◌∷◌, ℕ, zero, suc, ◌+◌, ◌*◌, eqb, ltb, get_or, None, Some}
 use Rattle.terms.specs.Refusals as refusal
 use Rattle.terms.specs.Refusals.{check, leaves}
-use Rattle.terms.specs.declared.Entry.{Entry}
-use Rattle.terms.specs.declared.Entry.TheVariants.{Null, Position}
+use Rattle.terms.specs.Entry.{Entry}
 use Rattle.fields.specs.Bytes.{word_of, put2, put4}
 use Rattle.terms.specs.Counting.{bit}
 use Rattle.marks.specs.Marks.{bit_of, with_mark}
@@ -54,13 +53,13 @@ adopted_registers c b = leaves c (with_event phase_over b) b
 -- ---- the sixteen bytes
 
 abbrev pub is_held : Entry → Bool
-is_held Null = false
-is_held (Position v) = true
+is_held None = false
+is_held (Some v) = true
 
 -- the word of a position, 0 if there is none
 abbrev pub position_word : Entry → ℕ
-position_word Null = 0
-position_word (Position v) = word_of v
+position_word None = 0
+position_word (Some v) = word_of v
 
 -- byte 3: position held, healed in this round, confession round. After the last phase end no round is open in which it was healed (Q23,
 -- Q24).

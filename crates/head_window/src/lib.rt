@@ -3,12 +3,13 @@
 
 ghost use Rattle.std.specs.Prelude.{◌≡◌, not, ◌&&◌, ◌+◌, ◌*◌};
 ghost use Rattle.terms.specs.Counting.{bit};
+ghost use Rattle.terms.specs.Refused.{number_of};
 ghost use Rattle.marks.specs.Marks.{bit_of};
 ghost use Rattle.head_window.specs.Window.{with_event, started_registers, restarted_registers, closed_registers, adopted_registers};
 ghost use Rattle.head_window.specs.Window.{three, is_held, position_word, status_bits, window, read_refusal, set_refusal, set_registers, is_line_up};
 
 use head_spec::{Closed, Seat};
-use terms::{Entry, refusal};
+use terms::{Entry, Refusal};
 
 // Pending events and mask; of both the three low bits count: 0 phase end, 1 refusal 25, 2 strike over.
 #[derive(Clone, Copy)]
@@ -45,6 +46,8 @@ fn with_event(k: usize, b: Registers) -> Registers
     }
 }
 
+// The number that a call answered may be any, and `Closed` may hold any: a `Refusal` would be a narrower type than these promise for.
+
 // After a start that answers this number: it clears both.
 pub fn after_start(number: u8, b: Registers) -> Registers
     ensures { result ≡ started_registers number b }
@@ -71,7 +74,7 @@ pub fn after_close(c: Closed, b: Registers) -> Registers
 {
     match c {
         Closed::Refused(number) => {
-            if number == refusal::TOO_FEW_TRUSTED {
+            if number == Refusal::TooFewTrusted.number() {
                 return with_event(TOO_FEW, b);
             }
             b
@@ -115,8 +118,8 @@ fn is_held(e: Entry) -> bool
     ensures { result ≡ is_held e }
 {
     match e {
-        Entry::Null => false,
-        Entry::Position(_) => true,
+        None => false,
+        Some(_) => true,
     }
 }
 
@@ -125,8 +128,8 @@ fn position_word(e: Entry) -> u32
     ensures { result ≡ position_word e }
 {
     match e {
-        Entry::Null => 0,
-        Entry::Position(v) => fields::unsigned(v),
+        None => 0,
+        Some(v) => fields::unsigned(v),
     }
 }
 
@@ -171,28 +174,28 @@ pub fn window(s: Seat, b: Registers) -> Window
 
 // ---- Reading and writing a byte.
 
-// 16 past byte 15.
-pub fn read_refusal(at: u32) -> u8
-    ensures { result ≡ read_refusal at }
+// Refusal 16 past byte 15.
+pub fn read_refusal(at: u32) -> Result<(), Refusal>
+    ensures { number_of result ≡ read_refusal at }
 {
     if at < 16 {
-        0
+        Ok(())
     } else {
-        refusal::NO_SUCH_REGISTER
+        Err(Refusal::NoSuchRegister)
     }
 }
 
-// 16 but for bytes 10 and 11.
-pub fn set_refusal(at: u32) -> u8
-    ensures { result ≡ set_refusal at }
+// Refusal 16 but for bytes 10 and 11.
+pub fn set_refusal(at: u32) -> Result<(), Refusal>
+    ensures { number_of result ≡ set_refusal at }
 {
     if at < EVENTS_BYTE {
-        return refusal::NO_SUCH_REGISTER;
+        return Err(Refusal::NoSuchRegister);
     }
     if MASK_BYTE < at {
-        return refusal::NO_SUCH_REGISTER;
+        return Err(Refusal::NoSuchRegister);
     }
-    0
+    Ok(())
 }
 
 // Whether event k is left when a byte is written over the events: ones clear.

@@ -1,4 +1,5 @@
 -- A script played record by record: what is left of it still leads to the same end.
+use Rattle.std.specs.Prelude.{None}
 use mathlib.Core.Path.{◌≡◌, refl, ◌∙◌}
 use mathlib.Core.Logic.{◌≢◌}
 use mathlib.Core.Bool.{Bool, true, false, cond, ◌&&◌}
@@ -12,7 +13,7 @@ use borrow.Author.Tests.{leb-true, ne_eqb}
 use Rattle.terms.specs.declared.Family.TheVariants.{TwoRounds}
 use Rattle.fields.specs.Bytes.{at2}
 use Rattle.head_spec.specs.declared.Head.{Head}
-use Rattle.head_spec.specs.declared.Offer.{Offer}
+use Rattle.head_spec.specs.Kept.{Offer}
 use Rattle.head_spec.specs.Calls.{started}
 use Rattle.headplay.specs.declared.Outcome.{Outcome}
 use Rattle.headplay.specs.Script.{turn, record_size, played_up_to, played}
@@ -63,5 +64,5 @@ module _ {s : List ℕ} {x y : Outcome} (L : Leads s x y) where
   next e d p q t = rw (t, p, q, e) (goes_on (λ z. d (e ∙ z)))
 
 -- all of it
-pub starts : (script : List ℕ) {h : Head} → h ≡ started TwoRounds 1 0 0 (pos 0) → played_up_to (length script) script (record { number = 0; head = h; offer = Offer.Nothing }) ≡ played script
+pub starts : (script : List ℕ) {h : Head} → h ≡ started TwoRounds 1 0 0 (pos 0) → played_up_to (length script) script (record { number = 0; head = h; offer = None }) ≡ played script
 starts script e = rw e

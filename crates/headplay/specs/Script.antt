@@ -1,12 +1,12 @@
 -- What a record of a script does to the head's record and its offer, and the number that the call answers. src/main.rt has the records.
-use Rattle.std.specs.Prelude.{cond, ◌&&◌, List, ℕ, zero, suc, ltb, leb, eqb, pos, length, get_or, take, drop, replicate}
+use Rattle.std.specs.Prelude.{cond, ◌&&◌, List, ℕ, zero, suc, ltb, leb, eqb, pos, length, get_or, take, drop, replicate, None}
 use Rattle.terms.specs.Refusals.{leaves}
 use Rattle.terms.specs.declared.Family.{Family}
 use Rattle.terms.specs.declared.Family.TheVariants.{TwoRounds}
 use Rattle.fields.specs.Bytes.{at2, at4, signed_at}
 use Rattle.head_spec.specs.declared.Head.{Head}
 use Rattle.head_spec.specs.declared.Answer.{Answer}
-use Rattle.head_spec.specs.declared.Offer.{Offer}
+use Rattle.head_spec.specs.Kept.{Offer}
 use Rattle.head_spec.specs.Seats.{family_in}
 use Rattle.head_spec.specs.Batch.{hear_batch, batch_refusal, deliveries_of}
 use Rattle.head_spec.specs.Calls.{started, start, restart, start_listener, restart_listener, hear, answers_to, write_answer, close, adopt}
@@ -73,4 +73,4 @@ played_up_to (suc m) s x =
 
 -- no script has more records than bytes; at first the head is head 0 of a ring of one, at 0 (D11)
 abbrev pub played : List ℕ → Outcome
-played s = played_up_to (length s) s (record { number = 0; head = started TwoRounds 1 0 0 (pos 0); offer = Offer.Nothing })
+played s = played_up_to (length s) s (record { number = 0; head = started TwoRounds 1 0 0 (pos 0); offer = None })

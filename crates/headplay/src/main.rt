@@ -39,7 +39,7 @@ fn start(h: Head, family: Family, n: u32, f: u32, number: u32, position: i32) ->
     ensures { result ≡ start h family n f number position }
 {
     let mut g = h;
-    let refusal = head_lent::start(&mut g, family, n, f, number, position);
+    let refusal = terms::number_of(head_lent::start(&mut g, family, n, f, number, position));
     Answer { refusal, head: g }
 }
 
@@ -47,7 +47,7 @@ fn restart(h: Head, family: Family, n: u32, f: u32, number: u32, phase: u32, rou
     ensures { result ≡ restart h family n f number phase round }
 {
     let mut g = h;
-    let refusal = head_lent::restart(&mut g, family, n, f, number, phase, round);
+    let refusal = terms::number_of(head_lent::restart(&mut g, family, n, f, number, phase, round));
     Answer { refusal, head: g }
 }
 
@@ -55,7 +55,7 @@ fn start_listener(h: Head, family: Family, n: u32, f: u32, number: u32) -> Answe
     ensures { result ≡ start_listener h family n f number }
 {
     let mut g = h;
-    let refusal = head_lent::start_listener(&mut g, family, n, f, number);
+    let refusal = terms::number_of(head_lent::start_listener(&mut g, family, n, f, number));
     Answer { refusal, head: g }
 }
 
@@ -71,7 +71,7 @@ fn restart_listener(
     ensures { result ≡ restart_listener h family n f number phase round }
 {
     let mut g = h;
-    let refusal = head_lent::restart_listener(&mut g, family, n, f, number, phase, round);
+    let refusal = terms::number_of(head_lent::restart_listener(&mut g, family, n, f, number, phase, round));
     Answer { refusal, head: g }
 }
 
@@ -113,7 +113,7 @@ fn adopt(h: Head, offer: Offer) -> Answer
     ensures { result ≡ adopt h offer }
 {
     let mut g = h;
-    let refusal = head_lent::adopt(&mut g, offer);
+    let refusal = terms::number_of(head_lent::adopt(&mut g, offer));
     Answer { refusal, head: g }
 }
 
@@ -345,13 +345,13 @@ fn show(x: Outcome) {
     count(seat.round as u64);
     let position = seat.position;
     match position {
-        Entry::Null => text(b" none"),
-        Entry::Position(v) => steps(v),
+        None => text(b" none"),
+        Some(v) => steps(v),
     }
     let offer = x.offer;
     match offer {
-        Offer::Nothing => text(b" none"),
-        Offer::Standing(k) => kept(k),
+        None => text(b" none"),
+        Some(k) => kept(k),
     }
     text(b"\n");
 }
@@ -362,7 +362,7 @@ fn show(x: Outcome) {
 fn first() -> Head
     ensures { result ≡ started TwoRounds 1 0 0 (pos 0) }
 {
-    let seat = head_calls::first_seat(Family::TwoRounds, 1, 0, 0, Entry::Position(0));
+    let seat = head_calls::first_seat(Family::TwoRounds, 1, 0, 0, Some(0));
     head_calls::opened(seat, head_calls::no_entries())
 }
 
@@ -387,7 +387,7 @@ fn play(script: &[u8]) -> Outcome
     let mut x = Outcome {
         number: 0,
         head: first(),
-        offer: Offer::Nothing,
+        offer: None,
     };
     let mut rest = script;
     // Records differ in length, so each is cut from the front: the bytes hold no parts of one size that an iterator could give.

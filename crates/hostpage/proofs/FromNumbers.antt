@@ -1,4 +1,5 @@
 -- The bits of each float of a reading are those made from whole numbers, so the two lines are the same.
+use Rattle.std.specs.Prelude.{None, Some}
 use mathlib.Core.Path.{◌≡◌, refl, ap}
 use mathlib.Core.Bool.{Bool, true, false, cond, ◌&&◌}
 use mathlib.Core.List.{List}
@@ -8,7 +9,7 @@ use lib.IntN.{ℤ, nat_abs, ◌+ℤ◌}
 use Rattle.terms.specs.Positions.{is_position, eq_z}
 use Rattle.terms.proofs.Booleans.{and_both}
 use Rattle.texts.specs.Numbers.{decimal, hex, spaced}
-use Rattle.head_spec.specs.declared.LastKept.{LastKept}
+use Rattle.head_spec.specs.Kept.{LastKept}
 use Rattle.reading.specs.declared.Reading.{Reading}
 use Rattle.reading.specs.Exact.{exact}
 use Rattle.reading.specs.Readings.{range_of, reading_between}
@@ -50,5 +51,5 @@ between low high = go (is_position low && is_position high) (and_both (is_positi
 
 pub line_from_numbers : LineFromNumbers
 unfolding reading_line
-line_from_numbers head LastKept.Nothing = refl
-line_from_numbers head (LastKept.Range k) = ap (spaced (decimal head)) (between k.low k.high)
+line_from_numbers head None = refl
+line_from_numbers head (Some k) = ap (spaced (decimal head)) (between k.low k.high)

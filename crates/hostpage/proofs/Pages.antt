@@ -1,4 +1,5 @@
 -- A page grows by a line.
+use Rattle.std.specs.Prelude.{Ok, Err}
 use mathlib.Core.Path.{◌≡◌, refl, sym, ap, ◌∙◌}
 use mathlib.Core.List.{List, ◌++◌}
 use mathlib.Core.Logic.{◌⊎◌, inl, inr}
@@ -13,7 +14,7 @@ use borrow.Author.Tests.{le-leb, lt-leb}
 use Rattle.reading.specs.declared.Reading.{Reading}
 use Rattle.terms.specs.Sizes.{is_count}
 use Rattle.fields.specs.Bytes.{copied}
-use Rattle.frame_spec.specs.declared.Written.{Written}
+use Rattle.frame_spec.specs.Length.{Written}
 use Rattle.frame_spec.specs.Written.{written, buffered}
 use Rattle.hostpage.specs.Page.{reading_line, page_of, page_answer, page_in}
 
@@ -73,28 +74,28 @@ unfolding is_count
 is_count_lem n l h = rw (le-leb 1 n l, le-leb n 32 h)
 
 module _ (n : ℕ) (rs : List Reading) (d : List ℕ) where
-  no_count : is_count n ≡ false → Given n rs d (Written.Refused 1) d
+  no_count : is_count n ≡ false → Given n rs d (Err 1) d
   unfolding page_answer page_in
   no_count e = (rw e, rw e)
 
-  pub no_heads : n ≡ 0 → Given n rs d (Written.Refused 1) d
+  pub no_heads : n ≡ 0 → Given n rs d (Err 1) d
   unfolding is_count
   no_heads e = no_count (rw e)
 
-  pub many_heads : 32 < n → Given n rs d (Written.Refused 1) d
+  pub many_heads : 32 < n → Given n rs d (Err 1) d
   unfolding is_count
   many_heads h = let l : 1 ≤ n = omega arith in no_count (rw (le-leb 1 n l, lt-leb n 32 h))
 
-  pub short : 1 ≤ n → n ≤ 32 → length d < length (page_of n rs) → Given n rs d (Written.Refused 24) d
+  pub short : 1 ≤ n → n ≤ 32 → length d < length (page_of n rs) → Given n rs d (Err 24) d
   unfolding page_answer page_in written buffered
   short l h s = let t = lt-leb (length (page_of n rs)) (length d) s in (rw (is_count_lem n l h, t), rw (is_count_lem n l h, t))
 
   pub fits : {len : ℕ} {b : List ℕ} → 1 ≤ n → n ≤ 32 → length (page_of n rs) ≤ length d → len ≡ length (page_of n rs) → b ≡ buffered (page_of n rs) d
-      → Given n rs d (Written.Length len) b
+      → Given n rs d (Ok len) b
   unfolding page_answer page_in written
   fits l h s e q =
       let t = le-leb (length (page_of n rs)) (length d) s in
-      (rw (is_count_lem n l h, t) (ap Written.Length e), rw (is_count_lem n l h) q)
+      (rw (is_count_lem n l h, t) (ap Ok e), rw (is_count_lem n l h) q)
 
 -- a page that fits, at the front
 pub front_is : (p d : List ℕ) → length p ≤ length d → front p d ≡ buffered p d

@@ -1,9 +1,9 @@
 -- A head's line from whole numbers alone, with no float in it: the digits of `bits_of` (crates/reading/specs/Bits.antt).
 -- proofs/FromNumbers.antt proves that it is the line of the head's reading.
-use Rattle.std.specs.Prelude.{◌≡◌, cond, ◌&&◌, List, ℕ, ℤ, ◌+ℤ◌}
+use Rattle.std.specs.Prelude.{◌≡◌, cond, ◌&&◌, List, ℕ, ℤ, ◌+ℤ◌, None, Some}
 use Rattle.terms.specs.Positions.{is_position, eq_z}
 use Rattle.texts.specs.Numbers.{decimal, hex, spaced}
-use Rattle.head_spec.specs.declared.LastKept.{LastKept}
+use Rattle.head_spec.specs.Kept.{LastKept}
 use Rattle.reading.specs.Readings.{reading_of}
 use Rattle.reading.specs.Bits.{bits_of}
 use Rattle.hostpage.specs.Page.{line_ended, unknown, point, range, reading_line}
@@ -21,8 +21,8 @@ text_between low high =
     (line_ended unknown)
 
 abbrev pub kept_text : LastKept → List ℕ
-kept_text LastKept.Nothing = line_ended unknown
-kept_text (LastKept.Range k) = text_between k.low k.high
+kept_text None = line_ended unknown
+kept_text (Some k) = text_between k.low k.high
 
 abbrev pub LineFromNumbers : Type 0
 LineFromNumbers = (head : ℕ) (kept : LastKept) → reading_line head (reading_of kept) ≡ spaced (decimal head) (kept_text kept)

@@ -1,12 +1,12 @@
 -- A14, the host page: for each head a line with its number, then `unknown`, `point` or `range`, then none, one or three floats, each as its
 -- bits in eight lower-case hexadecimal digits, parted by single spaces. Bytes are ASCII.
-use Rattle.std.specs.Prelude.{cond, List, [], ◌∷◌, ◌++◌, ℕ, zero, suc, get_or, Float}
+use Rattle.std.specs.Prelude.{cond, List, [], ◌∷◌, ◌++◌, ℕ, zero, suc, get_or, Float, Err}
 use Rattle.std.specs.Float.{binary32}
 use Rattle.std.specs.Float.Ieee.{to_bits}
 use Rattle.terms.specs.Refusals as refusal
 use Rattle.terms.specs.Sizes.{is_count}
 use Rattle.texts.specs.Numbers.{decimal, hex, spaced}
-use Rattle.frame_spec.specs.declared.Written.{Written}
+use Rattle.frame_spec.specs.Length.{Written}
 use Rattle.frame_spec.specs.Written.{written, buffered}
 use Rattle.reading.specs.declared.KeptRange.{KeptRange}
 use Rattle.reading.specs.declared.Reading.{Reading}
@@ -52,7 +52,7 @@ page_of (suc k) rs = page_of k rs ++ reading_line k (get_or rs k Reading.Unknown
 
 -- 1, then 24, else the page's length (Q103)
 unfoldable pub page_answer : ℕ → List Reading → List ℕ → Written
-page_answer n rs buffer = cond (is_count n) (written (page_of n rs) buffer) (Written.Refused refusal.bad_head_count)
+page_answer n rs buffer = cond (is_count n) (written (page_of n rs) buffer) (Err refusal.bad_head_count)
 
 -- the page at the front, and the bytes after it as they were; a refusal leaves all as it was (Q104)
 unfoldable pub page_in : ℕ → List Reading → List ℕ → List ℕ

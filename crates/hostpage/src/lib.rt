@@ -4,14 +4,14 @@
 ghost use Rattle.std.specs.Prelude.{◌≡◌, ◌∷◌, [], ◌++◌, ◌+◌, ◌≤◌, length};
 ghost use Rattle.std.specs.Float.{binary32};
 ghost use Rattle.std.specs.Float.Ieee.{to_bits};
+ghost use Rattle.terms.specs.Refused.{numbered};
 ghost use Rattle.texts.specs.Texts.{bytes_of, Longer};
 ghost use Rattle.fields.specs.Bytes.{copied};
 ghost use Rattle.frame_spec.specs.Written.{buffered};
 ghost use Rattle.hostpage.specs.Page.{float_text, range_text, reading_line, page_of, page_answer, page_in};
 
-use frame_spec::Written;
 use reading::{KeptRange, Reading};
-use terms::{HEADS, refusal};
+use terms::{HEADS, Refusal};
 use texts::Text;
 
 // The readings of as many heads as a ring can have.
@@ -94,20 +94,20 @@ fn put_page(n: u8, readings: Readings, buffer: &mut [u8])
 }
 
 // The page of n heads, from 0 up, at the front of the buffer, and its length: refused 1, 24.
-pub fn page(n: u8, readings: Readings, buffer: &mut [u8]) -> Written
-    ensures value { result ≡ page_answer n readings buffer.old }
+pub fn page(n: u8, readings: Readings, buffer: &mut [u8]) -> Result<usize, Refusal>
+    ensures value { numbered result ≡ page_answer n readings buffer.old }
     ensures buffer_after { buffer.new ≡ page_in n readings buffer.old }
 {
     if n == 0 {
-        return Written::Refused(refusal::BAD_HEAD_COUNT);
+        return Err(Refusal::BadHeadCount);
     }
     if 32 < n {
-        return Written::Refused(refusal::BAD_HEAD_COUNT);
+        return Err(Refusal::BadHeadCount);
     }
     let len = page_length(n, readings);
     if buffer.len() < len {
-        return Written::Refused(refusal::BUFFER_TOO_SHORT);
+        return Err(Refusal::BufferTooShort);
     }
     put_page(n, readings, buffer);
-    Written::Length(len)
+    Ok(len)
 }

@@ -190,7 +190,7 @@ fn of_numbers(x: First, b: u8) -> u64 {
     let n = word(x, 0);
     let f = word(x, 1);
     match b {
-        b'S' => show::code(terms::size_refusal(Family::TwoRounds, n, f)),
+        b'S' => show::taken(terms::check_size(Family::TwoRounds, n, f)),
         b'H' => promise(n, f),
         b'L' => list_frame(x),
         b'B' => show::check(&io::large_buffer()),

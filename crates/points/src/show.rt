@@ -1,7 +1,6 @@
 // Answers, printed. Each gives back one number for what it printed: a number's own word, and others for words.
-use settle_midpoint::Settled;
-use steps::Scaled;
-use terms::Entry;
+use settle_midpoint::Kept;
+use terms::{Entry, Refusal};
 
 // Standard output, by its number.
 const STDOUT_FILENO: i32 = 1;
@@ -21,14 +20,20 @@ pub(crate) const WORD: u64 = 4294967296;
 // That something is not promised, a refusal, nothing.
 pub(crate) const OTHER: u64 = 8589934592;
 
-// A refusal number, 0 for none.
-pub(crate) fn code(number: u8) -> u64 {
-    if number == 0 {
-        text(b"taken");
-    } else {
-        text(b"refused ");
-        count(number as u64);
+// Whether something is taken, or why it is refused.
+pub(crate) fn taken<T: Drop>(answer: Result<T, Refusal>) -> u64 {
+    match answer {
+        Ok(_) => text(b"taken"),
+        Err(refusal) => {
+            refused(refusal);
+        }
     }
+    OTHER
+}
+
+fn refused(refusal: Refusal) -> u64 {
+    text(b"refused ");
+    count(refusal.number() as u64);
     OTHER
 }
 
@@ -45,19 +50,19 @@ pub(crate) fn position(v: i32) -> u64 {
 
 pub(crate) fn entry(e: Entry) -> u64 {
     match e {
-        Entry::Null => {
+        None => {
             text(b"null");
             WORD
         }
-        Entry::Position(v) => position(v),
+        Some(v) => position(v),
     }
 }
 
 // The new position.
-pub(crate) fn settled(s: Settled) -> u64 {
+pub(crate) fn settled(s: Result<Kept, Refusal>) -> u64 {
     match s {
-        Settled::Refused(number) => code(number),
-        Settled::New(kept) => position(kept.position),
+        Err(refusal) => refused(refusal),
+        Ok(kept) => position(kept.position),
     }
 }
 
@@ -69,20 +74,19 @@ fn nanometres(x: i64) -> u64 {
     count(x as u64)
 }
 
-pub(crate) fn scaled(s: Scaled) -> u64 {
+pub(crate) fn scaled(s: Result<i64, Refusal>) -> u64 {
     match s {
-        Scaled::Refused(number) => code(number),
-        Scaled::Nanometres(x) => nanometres(x),
+        Err(refusal) => refused(refusal),
+        Ok(x) => nanometres(x),
     }
 }
 
 // A frame, checked.
 pub(crate) fn check(frame: &[u8]) -> u64 {
-    let mut number: u8 = 0;
-    let rest = frame_check::check(frame, &mut number);
-    code(number);
+    let checked = frame_check::check(frame);
+    taken(checked);
     text(b", rest of ");
-    count(rest.len() as u64);
+    count(checked.unwrap_or(&[]).len() as u64);
     text(b" bytes");
     OTHER
 }

@@ -1,15 +1,15 @@
 -- The reading of a head follows what is adopted: only an adoption puts a kept range into the record, and what was kept are positions.
+use Rattle.std.specs.Prelude.{None, Some}
 use mathlib.Core.Path.{◌≡◌, refl, ap, ◌∙◌}
 use mathlib.Core.Bool.{true}
 use Prim.Native.Nat.{ℕ, zero, suc}
 use native.Mathlib.Omega.{arith}
 use lib.IntN.{ℤ}
 use Rattle.terms.specs.Positions.{is_position}
-use Rattle.head_spec.specs.declared.LastKept.{LastKept}
+use Rattle.head_spec.specs.Kept.{LastKept, Offer}
 use Rattle.head_spec.specs.declared.Seat.{Seat}
 use Rattle.head_spec.specs.declared.Head.{Head}
 use Rattle.head_spec.specs.declared.Closed.{Closed}
-use Rattle.head_spec.specs.declared.Offer.{Offer}
 use Rattle.head_spec.specs.Proper.{ProperLast}
 use Rattle.head_spec.specs.Calls.{started, restarted, started_listener, answer, closed_collection, closed_phase, close, adopt_refusal, adopted, adopt}
 use Rattle.head_spec.proofs.Taking.{hear_keeps}
@@ -48,7 +48,7 @@ follows_adoption =
       listening = λ K n f i. refl;
       heard = λ h k s. ap (λ (x : Seat). reading_of x.kept) (hear_keeps h k s);
       closed = λ h. ap reading_of (closing_keeps (close h).closed h (close h).head (closes h));
-      adopted = λ h k e. ap head_reading (accepted (adopt_refusal h (Offer.Standing k)) (closed_phase h k) h e);
+      adopted = λ h k e. ap head_reading (accepted (adopt_refusal h (Some k)) (closed_phase h k) h e);
       refused = λ h o c e. ap head_reading (stays (adopt_refusal h o) c (adopted h o) h e);
     }
 
@@ -59,12 +59,12 @@ unfolding reading_between
 kept_known low high p q = rw (p, q)
 
 reads : (f : ℕ) (x : LastKept) → ProperLast f x → ReadsAdopted x (reading_of x)
-reads f LastKept.Nothing P = refl
-reads f (LastKept.Range k) P = kept_known k.low k.high P.low P.high
+reads f None P = refl
+reads f (Some k) P = kept_known k.low k.high P.low P.high
 
 reads_as : (x : LastKept) {r s : Reading} → r ≡ s → ReadsAdopted x s → ReadsAdopted x r
-reads_as LastKept.Nothing e a = e ∙ a
-reads_as (LastKept.Range k) e a = e ∙ a
+reads_as None e a = e ∙ a
+reads_as (Some k) e a = e ∙ a
 
 pub reading_holds : ReadingHolds
 reading_holds h o x R =

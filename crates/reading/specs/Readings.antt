@@ -1,8 +1,8 @@
 -- A14: a reading is unknown before the first phase end since the start or restart, a point where the two kept entries are equal, and
 -- otherwise a range: the lowest, the highest and their midpoint, which is not rounded to a step.
-use Rattle.std.specs.Prelude.{cond, ◌&&◌, ℤ, ◌+ℤ◌}
+use Rattle.std.specs.Prelude.{cond, ◌&&◌, ℤ, ◌+ℤ◌, None, Some}
 use Rattle.terms.specs.Positions.{is_position, eq_z}
-use Rattle.head_spec.specs.declared.LastKept.{LastKept}
+use Rattle.head_spec.specs.Kept.{LastKept}
 use Rattle.head_spec.specs.declared.Head.{Head}
 use Rattle.reading.specs.declared.KeptRange.{KeptRange}
 use Rattle.reading.specs.declared.Reading.{Reading}
@@ -22,8 +22,8 @@ reading_between low high = cond (is_position low && is_position high) (kept_read
 
 -- of what a head holds of its last phase end
 abbrev pub reading_of : LastKept → Reading
-reading_of LastKept.Nothing = Reading.Unknown
-reading_of (LastKept.Range k) = reading_between k.low k.high
+reading_of None = Reading.Unknown
+reading_of (Some k) = reading_between k.low k.high
 
 -- of a head (Q101)
 abbrev pub head_reading : Head → Reading

@@ -70,7 +70,7 @@ pub fn reading_of(kept: LastKept) -> Reading
     ensures { result ≡ reading_of kept }
 {
     match kept {
-        LastKept::Nothing => Reading::Unknown,
-        LastKept::Range(kept) => reading_between(kept.low, kept.high),
+        None => Reading::Unknown,
+        Some(kept) => reading_between(kept.low, kept.high),
     }
 }

@@ -1,4 +1,5 @@
 -- Cables that carry, and calls that are not refused, of blocks: by what ring_devices has of records.
+use Rattle.std.specs.Prelude.{Ok}
 use mathlib.Core.Path.{◌≡◌, refl, ap, sym, subst, ◌∙◌}
 use mathlib.Core.Bool.{Bool, true, false, cond, true≢false}
 use mathlib.Core.Logic.{inl}
@@ -12,7 +13,7 @@ use Rattle.terms.specs.Sizes.{ends_with}
 use Rattle.terms.specs.declared.Family.{Family}
 use Rattle.marks.specs.Marks.{bit_of}
 use Rattle.terms.specs.Counting.{AtMost}
-use Rattle.frame_spec.specs.declared.Written.{Written}
+use Rattle.frame_spec.specs.Length.{Written}
 use Rattle.head_spec.specs.declared.Head.{Head}
 use Rattle.head_spec.specs.declared.Closed.{Closed}
 use Rattle.head_spec.specs.Calls.{restart, restart_listener, said_to, write_answer, write_buffer, close}
@@ -191,7 +192,7 @@ module _ (K : Family) (n m f : ℕ) (v : ℕ → ℤ) (memory : ℕ → List ℕ
   writes_frame : (w : BlockRound) (k : ℕ) → k < n → bit_of w.marks k ≡ false → (C : List BlockCall) → (last ≡ false → NoneCloses C)
       → (buffer : List ℕ)
       → let s = frames k in length s ≤ length buffer → let h = head_of (block_by (opened_block K n f B k) C) in
-      (write_answer h buffer ≡ Written.Length (length s)) × (take (length s) (write_buffer h buffer) ≡ s)
+      (write_answer h buffer ≡ Ok (length s)) × (take (length s) (write_buffer h buffer) ≡ s)
   writes_frame w k b q C ok buffer room =
       let t = head_receives n m k b in
       let z = opened_head K n m f B R S k t in

@@ -1,5 +1,6 @@
 -- What calls in a round make of a block: its record hears what they bring, an offer that stands beside it is what the round settles
 -- (`Held`), and the call that ends the round makes of the record what ring_spec's rounds do.
+use Rattle.std.specs.Prelude.{None, Some, Ok, Err}
 use mathlib.Core.Path.{◌≡◌, refl, ap, sym, ◌∙◌}
 use mathlib.Core.Bool.{Bool, true, false, cond, true≢false}
 use mathlib.Core.Logic.{◌⊎◌, inl, inr}
@@ -9,13 +10,13 @@ use native.Mathlib.Omega.{arith}
 use Rattle.terms.specs.Refusals as refusal
 use Rattle.terms.specs.Refusals.{leaves}
 use Rattle.settle_midpoint.specs.declared.Kept.{Kept}
-use Rattle.settle_midpoint.specs.declared.Settled.{Settled}
+use Rattle.settle_midpoint.specs.Settled.{Settled}
 use Rattle.head_spec.specs.declared.Seat.{Seat}
 use Rattle.head_spec.specs.declared.Head.{Head}
 use Rattle.head_spec.specs.declared.Answer.{Answer}
 use Rattle.head_spec.specs.declared.Closed.{Closed}
 use Rattle.head_spec.specs.declared.Closing.{Closing}
-use Rattle.head_spec.specs.declared.Offer.{Offer}
+use Rattle.head_spec.specs.Kept.{Offer}
 use Rattle.head_spec.specs.Calls.{answer, hear_refusal, said_to, taken, hear, Delivery, hear_each, answers_to, closing, settling_of, offer_settled, close_in, is_last_round, end_round, close, adopt}
 use Rattle.head_spec.specs.Batch.{deliveries_of, batch_refusal, hear_batch}
 use Rattle.head_spec.specs.Offers.{lapsed, lapsed_by, offered, then_adopt}
@@ -70,8 +71,8 @@ unfolding close
 close_stays h e = go h.seat.ended (is_last_round h.seat) e
   where
     settled : (s : Settled) → (offer_settled s h).head ≡ h
-    settled (Settled.Refused c) = refl
-    settled (Settled.New k) = refl
+    settled (Err c) = refl
+    settled (Ok k) = refl
 
     go : (b r : Bool) → r ≡ true → (cond b (closing (Closed.Refused refusal.run_has_ended) h) (close_in r h)).head ≡ h
     go true r q = refl
@@ -81,7 +82,7 @@ close_stays h e = go h.seat.ended (is_last_round h.seat) e
 -- ---- an offer that stands is what the round settles
 
 abbrev pub Held : Head → Offer → Type 0
-Held h o = (o ≡ Offer.Nothing) ⊎ ((k : Kept) × (o ≡ Offer.Standing k) × Stands h k)
+Held h o = (o ≡ None) ⊎ ((k : Kept) × (o ≡ Some k) × Stands h k)
 
 held_hear : (h : Head) (o : Offer) (k : ℕ) (s : List ℕ) → Held h o → Held (hear h k s).head (lapsed (hear h k s).refusal o)
 unfolding hear
@@ -101,8 +102,8 @@ unfolding close
 held_close h o e H = go h.seat.ended (is_last_round h.seat) e (closes h)
   where
     settled : (s : Settled) → let a = offer_settled s h in Closes a.closed h a.head → Held a.head (offered a.closed o)
-    settled (Settled.Refused c) z = H
-    settled (Settled.New k) z = inr (k, refl, z.1)
+    settled (Err c) z = H
+    settled (Ok k) z = inr (k, refl, z.1)
 
     go : (b r : Bool) → r ≡ true → let a = cond b (closing (Closed.Refused refusal.run_has_ended) h) (close_in r h) in
         Closes a.closed h a.head → Held a.head (offered a.closed o)
@@ -111,7 +112,7 @@ held_close h o e H = go h.seat.ended (is_last_round h.seat) e (closes h)
     go false false q z = absurd (true≢false (sym q))
 
 -- in a collection round none stands
-none_held : (h : Head) (o : Offer) → is_last_round h.seat ≡ false → Held h o → o ≡ Offer.Nothing
+none_held : (h : Head) (o : Offer) → is_last_round h.seat ≡ false → Held h o → o ≡ None
 none_held h o e (inl q) = q
 none_held h o e (inr (k, q, S)) =
     let x : Closed.Listed ≡ Closed.Settled k = ap (λ (c : Closing). c.closed) (sym (ends_collection h S.runs e) ∙ S.ends) in
@@ -220,7 +221,7 @@ module _ (b : List ℕ) (whole : IsBlock b) (H : Held (head_of b) (offer_of b)) 
 
   -- a collection round is closed, and no offer stands
   pub ends_collecting : InRound false T
-      → (head_of (block_after b call.closes) ≡ round_ended T) × (offer_of (block_after b call.closes) ≡ Offer.Nothing)
+      → (head_of (block_after b call.closes) ≡ round_ended T) × (offer_of (block_after b call.closes) ≡ None)
   ends_collecting I =
       let e : (close T).closed ≡ Closed.Listed = ap (λ (c : Closing). c.closed) (closes_collection T I.runs I.now) in (
         head_closed b whole I.proper ∙ sym (ap (λ (c : Closed). (then_adopt c (close T).head).head) e),
@@ -230,13 +231,13 @@ module _ (b : List ℕ) (whole : IsBlock b) (H : Held (head_of b) (offer_of b)) 
 
   -- an adoption that is not refused ends the phase
   pub ends_adopting : InRound true T → number_after b call.adopts ≡ 0
-      → (head_of (block_after b call.adopts) ≡ round_ended T) × (offer_of (block_after b call.adopts) ≡ Offer.Nothing)
+      → (head_of (block_after b call.adopts) ≡ round_ended T) × (offer_of (block_after b call.adopts) ≡ None)
   ends_adopting I e = go H
     where
-      ended : offer_of (block_after b call.adopts) ≡ Offer.Nothing
+      ended : offer_of (block_after b call.adopts) ≡ None
       ended = (only_these_change b call.adopts whole).1 I.proper ∙ ap (λ (c : ℕ). lapsed c (offer_of b)) e
 
-      go : Held T (offer_of b) → (head_of (block_after b call.adopts) ≡ round_ended T) × (offer_of (block_after b call.adopts) ≡ Offer.Nothing)
+      go : Held T (offer_of b) → (head_of (block_after b call.adopts) ≡ round_ended T) × (offer_of (block_after b call.adopts) ≡ None)
       go (inl q) =
           let x : refusal.no_offer ≡ 0 = sym (ap (λ (a : Answer). a.refusal) (adopts_nothing T))
           ∙ ap (λ (o : Offer). (adopt T o).refusal) (sym q) ∙ e in
@@ -255,19 +256,19 @@ module _ (b : List ℕ) (whole : IsBlock b) (H : Held (head_of b) (offer_of b)) 
       → number_after (block_after b call.closes) call.adopts ≡ 0
   adopts_then I {k} e =
       let head₁ : head_of (block_after b call.closes) ≡ T = head_closed b whole I.proper ∙ close_stays T I.now in
-      let offer₁ : offer_of (block_after b call.closes) ≡ Offer.Standing k =
+      let offer₁ : offer_of (block_after b call.closes) ≡ Some k =
       (only_these_change b call.closes whole).1 I.proper ∙ ap (λ (c : Closed). offered c (offer_of b)) e in
       (λ x. (adopt (head₁ x) (offer₁ x)).refusal) ∙ ap (λ (a : Answer). a.refusal) (adopts_offer T k I.runs)
 
 -- ---- a round
 
-module _ (b : List ℕ) (whole : IsBlock b) (none : offer_of b ≡ Offer.Nothing) (C : List BlockCall) where
+module _ (b : List ℕ) (whole : IsBlock b) (none : offer_of b ≡ None) (C : List BlockCall) where
   abbrev b' : List ℕ
   b' = block_by b C
 
   -- the record hears what the calls bring, and ends the round
   pub round_ends : (last : Bool) → InRound last (head_of b) → EndsBy last b C → let e = block_after b' (end_call last) in
-      (head_of e ≡ round_ended (heard_by (head_of b) (hearings C))) × (offer_of e ≡ Offer.Nothing)
+      (head_of e ≡ round_ended (heard_by (head_of b) (hearings C))) × (offer_of e ≡ None)
   round_ends false I E =
       let (x, y, z) = calls_left C b whole I (inl none) (λ e. E) in
       let (p, q) = ends_collecting b' x z (rw y (stays_in (hearings C) I)) in

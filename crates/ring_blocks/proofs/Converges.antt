@@ -1,5 +1,6 @@
 -- A ring of blocks is a ring of devices: every call on a block does to its record what the call by value does, and so the blocks of all
 -- receivers are the records of the devices (`blocks_same`).
+use Rattle.std.specs.Prelude.{None}
 use mathlib.Core.Path.{◌≡◌, refl, ap, ap₂, sym, ◌∙◌}
 use mathlib.Core.Bool.{Bool, true, false, cond}
 use mathlib.Core.List.{List, [], ◌∷◌}
@@ -12,7 +13,7 @@ use Rattle.terms.specs.Sizes.{ends_with}
 use Rattle.terms.specs.declared.Family.{Family}
 use Rattle.marks.specs.Marks.{bit_of}
 use Rattle.head_spec.specs.declared.Head.{Head}
-use Rattle.head_spec.specs.declared.Offer.{Offer}
+use Rattle.head_spec.specs.Kept.{Offer}
 use Rattle.head_spec.specs.Calls.{start, restart, start_listener, restart_listener, frame_for, close}
 use Rattle.head_spec.specs.Offers.{lapsed}
 use Rattle.head_c.specs.Blocks.{IsBlock, head_of, offer_of}
@@ -40,7 +41,7 @@ pub record SameRing (n m : ℕ) (B : BlockRing) (R : Ring) : Type 0 where
   pub before : B.before ≡ R.before
   pub heads : (i : ℕ) → is_receiver n m i ≡ true → head_of (B.blocks i) ≡ R.heads i
   pub blocks : (i : ℕ) → IsBlock (B.blocks i)
-  pub offers : (i : ℕ) → is_receiver n m i ≡ true → bit_of R.before i ≡ false → offer_of (B.blocks i) ≡ Offer.Nothing
+  pub offers : (i : ℕ) → is_receiver n m i ≡ true → bit_of R.before i ≡ false → offer_of (B.blocks i) ≡ None
 
 -- ---- one round
 
@@ -67,14 +68,14 @@ module _ (K : Family) (n m f : ℕ) (B : BlockRing) (R : Ring) (S : SameRing n m
             ∙ ap (λ (h : Head). (restart_listener h K n f i R.phase R.round).head) (S.heads i t)
 
     restart_ends_offer : (again K n f (R.heads i) i R.phase R.round).refusal ≡ 0
-        → offer_of (block_after x (again_call K n f i R.phase R.round)) ≡ Offer.Nothing
+        → offer_of (block_after x (again_call K n f i R.phase R.round)) ≡ None
     unfolding block_after
     restart_ends_offer = go (ltb i 32)
       where
         go : (c : Bool) → (cond c (restart (R.heads i) K n f i R.phase R.round)
             (restart_listener (R.heads i) K n f i R.phase R.round)).refusal ≡ 0
             → offer_of (block_after x (cond c (restarts K n f i R.phase R.round) (restarts_listener K n f i R.phase R.round)))
-            ≡ Offer.Nothing
+            ≡ None
         go true e =
             offer_after_lem x (S.blocks i) _ (restart (head_of x) K n f i R.phase R.round)
             ∙ ap (λ (h : Head). lapsed (restart h K n f i R.phase R.round).refusal (offer_of x)) (S.heads i t)
@@ -93,12 +94,12 @@ module _ (K : Family) (n m f : ℕ) (B : BlockRing) (R : Ring) (S : SameRing n m
         go true = restart_head
         go false = S.heads i t
 
-    pub opened_offer : (again K n f (R.heads i) i R.phase R.round).refusal ≡ 0 → offer_of (opened_block K n f B i) ≡ Offer.Nothing
+    pub opened_offer : (again K n f (R.heads i) i R.phase R.round).refusal ≡ 0 → offer_of (opened_block K n f B i) ≡ None
     unfolding opened_block
     opened_offer taken = rw (S.before, S.phase, S.round) (go (bit_of R.before i) refl)
       where
         go : (b : Bool) → bit_of R.before i ≡ b
-            → offer_of (cond b (block_after x (again_call K n f i R.phase R.round)) x) ≡ Offer.Nothing
+            → offer_of (cond b (block_after x (again_call K n f i R.phase R.round)) x) ≡ None
         go true e = restart_ends_offer taken
         go false e = S.offers i t e
 
@@ -123,7 +124,7 @@ module _ (K : Family) (n m f : ℕ) (B : BlockRing) (R : Ring) (S : SameRing n m
 
     -- a device that is not marked ends the round
     ends_round : Opens K n f B.round R i → EndsBy (ends_with K B.round) opened (w.calls i) → bit_of w.marks i ≡ false
-        → (head_of (closed_block K n f B w i) ≡ closed_by K n f R (as_device w) i) × (offer_of (closed_block K n f B w i) ≡ Offer.Nothing)
+        → (head_of (closed_block K n f B w i) ≡ closed_by K n f R (as_device w) i) × (offer_of (closed_block K n f B w i) ≡ None)
     unfolding closed_block closed_by
     ends_round O E q =
         let e = opened_head i t in
@@ -225,12 +226,12 @@ module _ (K : Family) (n f : ℕ) (v : ℕ → ℤ) (memory : ℕ → List ℕ) 
         go false = listener_started (memory i) whole K n f i
 
     started_offer : (cond (ltb i 32) (start (held i) K n f i (v i)) (start_listener (held i) K n f i)).refusal ≡ 0
-        → offer_of (started_block K n f v memory i) ≡ Offer.Nothing
+        → offer_of (started_block K n f v memory i) ≡ None
     unfolding started_block block_after
     started_offer = go (ltb i 32)
       where
         go : (c : Bool) → (cond c (start (held i) K n f i (v i)) (start_listener (held i) K n f i)).refusal ≡ 0
-            → offer_of (block_after (memory i) (cond c (starts K n f i (v i)) (starts_listener K n f i))) ≡ Offer.Nothing
+            → offer_of (block_after (memory i) (cond c (starts K n f i (v i)) (starts_listener K n f i))) ≡ None
         go true e =
             offer_after_lem (memory i) whole _ (start (held i) K n f i (v i)) ∙ ap (λ (c : ℕ). lapsed c (offer_of (memory i))) e
         go false e =

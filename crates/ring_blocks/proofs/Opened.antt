@@ -1,4 +1,5 @@
 -- A start, a restart or an adoption that is not refused makes a record with nothing heard.
+use Rattle.std.specs.Prelude.{None, Some}
 use mathlib.Core.Path.{◌≡◌, refl}
 use Prim.Native.Nat.{ℕ, zero, suc}
 use native.Mathlib.Omega.{arith}
@@ -6,7 +7,7 @@ use lib.IntN.{ℤ}
 use Rattle.terms.specs.declared.Family.{Family}
 use Rattle.head_spec.specs.declared.Head.{Head}
 use Rattle.head_spec.specs.declared.Answer.{Answer}
-use Rattle.head_spec.specs.declared.Offer.{Offer}
+use Rattle.head_spec.specs.Kept.{Offer}
 use Rattle.head_spec.specs.Record.{opened}
 use Rattle.head_spec.specs.Calls.{answer, start_refusal, started, start, restart_refusal, restarted, restart}
 use Rattle.head_spec.specs.Calls.{start_listener_refusal, started_listener, start_listener, restart_listener_refusal, restart_listener}
@@ -37,5 +38,5 @@ restart_listener_opens h K n f i p r = answer_opens (restart_listener_refusal K 
 
 pub adopt_opens : (h : Head) (o : Offer) → Opens (adopt h o)
 unfolding adopt closed_phase
-adopt_opens h Offer.Nothing z = absurd (omega arith)
-adopt_opens h (Offer.Standing k) z = answer_opens (adopt_refusal h (Offer.Standing k)) (closed_phase h k) h refl z
+adopt_opens h None z = absurd (omega arith)
+adopt_opens h (Some k) z = answer_opens (adopt_refusal h (Some k)) (closed_phase h k) h refl z

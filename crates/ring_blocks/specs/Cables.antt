@@ -1,14 +1,14 @@
 -- No call that a round asks for is refused, and what `RoundWithin` asks of a cable can be met, whoever is marked: by one that brings each
 -- unmarked head's frame, with whatever else is refused on that link. As ring_devices' Devices.antt and Cables.antt have it, of blocks.
 -- proofs/Cables.antt proves it.
-use Rattle.std.specs.Prelude.{◌≡◌, Bool, true, false, List, [], ◌∷◌, ℕ, ◌≤◌, ◌<◌, length, take, ℤ}
+use Rattle.std.specs.Prelude.{◌≡◌, Bool, true, false, List, [], ◌∷◌, ℕ, ◌≤◌, ◌<◌, length, take, ℤ, Ok}
 use Rattle.terms.specs.Positions.{is_position}
 use Rattle.terms.specs.Sizes.{ends_with}
 use Rattle.terms.specs.declared.Family.{Family}
 use Rattle.marks.specs.Marks.{bit_of}
 use Rattle.terms.specs.Counting.{Each, AtMost}
 use Rattle.convergence.specs.Demand3.{AcceptedSize}
-use Rattle.frame_spec.specs.declared.Written.{Written}
+use Rattle.frame_spec.specs.Length.{Written}
 use Rattle.head_spec.specs.Calls.{write_answer, write_buffer}
 use Rattle.head_c.specs.Blocks.{IsBlock, head_of}
 use Rattle.head_c.specs.Events.{closes, adopts, number_after, block_after}
@@ -66,7 +66,7 @@ pub record CablesCarryTo (K : Family) (n m f : ℕ) (R : BlockRing) : Type 0 whe
       → (ends_with K R.round ≡ false → NoneCloses C)
       → (buffer : List ℕ) → let s = frame_of_block K n f R k in length s ≤ length buffer
       → let h = head_of (block_by (opened_block K n f R k) C) in
-      (write_answer h buffer ≡ Written.Length (length s)) × (take (length s) (write_buffer h buffer) ≡ s)
+      (write_answer h buffer ≡ Ok (length s)) × (take (length s) (write_buffer h buffer) ≡ s)
 
 abbrev pub BlockCableThere : Type 0
 BlockCableThere =

@@ -1,5 +1,6 @@
 -- Cables that carry. A frame that an unmarked head writes is acceptable to every unmarked device (`frames_taken`); so the first acceptable
 -- one on its link is that frame, if no other is acceptable there. Hearing changes nothing of what a head has to say.
+use Rattle.std.specs.Prelude.{None, Ok, Err}
 use mathlib.Core.Path.{◌≡◌, refl, ap, sym, ◌∙◌}
 use mathlib.Core.Bool.{Bool, true, false, cond, ◌&&◌, true≢false}
 use mathlib.Core.List.{List, [], ◌∷◌, ◌++◌}
@@ -13,7 +14,7 @@ use lib.ListN.{length, take, drop}
 use lib.Seq.{take-append_seam}
 use lib.IntN.{ℤ}
 use Rattle.terms.specs.Refusals as refusal
-use Rattle.terms.specs.declared.Entry.{Entry}
+use Rattle.terms.specs.Entry.{Entry}
 use Rattle.terms.specs.declared.Family.{Family}
 use Rattle.terms.specs.Sizes.{is_listener}
 use Rattle.marks.specs.Marks.{bit_of}
@@ -21,7 +22,7 @@ use Rattle.frame_spec.specs.Said.{Meaning, refused, collected, listed, confessed
 use Rattle.frame_spec.specs.Proper.{AcceptedMeaning}
 use Rattle.frame_spec.proofs.Accepting.{accepted}
 use Rattle.frame_spec.specs.Written.{frame_of, fits_in, written, buffered}
-use Rattle.frame_spec.specs.declared.Written.{Written}
+use Rattle.frame_spec.specs.Length.{Written}
 use Rattle.frame_spec.proofs.OneMeaning.{said_round}
 use Rattle.head_spec.specs.declared.Seat.{Seat}
 use Rattle.head_spec.specs.declared.Head.{Head}
@@ -117,7 +118,7 @@ module _ (D : List Delivery) (h : Head) (l : h.seat.round < 2) where
   speaks_same = ap (λ (x : Seat). spoken_in x.round T) kept ∙ go h.seat.round refl
     where
       go : (r : ℕ) → h.seat.round ≡ r → spoken_in r T ≡ spoken_in r h
-      go zero e = ap (λ (x : Seat). collected (cond x.healed Entry.Null x.position)) kept
+      go zero e = ap (λ (x : Seat). collected (cond x.healed None x.position)) kept
       go (suc r) e = let o : h.seat.round ≡ 1 = omega arith in λ t. cond (kept t).healed confessed (listed (lists_kept D h o t))
 
   frame_same : frame_for T ≡ frame_for h
@@ -126,16 +127,16 @@ module _ (D : List Delivery) (h : Head) (l : h.seat.round < 2) where
 -- with room for it, a head that runs writes its frame
 writes_frame : (T : Head) (s buffer : List ℕ) → frame_for T ≡ s → T.seat.ended ≡ false → is_listener T.seat.number ≡ false
     → length s ≤ length buffer
-    → (write_answer T buffer ≡ Written.Length (length s)) × (take (length s) (write_buffer T buffer) ≡ s)
+    → (write_answer T buffer ≡ Ok (length s)) × (take (length s) (write_buffer T buffer) ≡ s)
 unfolding write_answer write_buffer written buffered
 writes_frame T s buffer e runs head room =
     go T.seat.ended (is_listener T.seat.number) (fits_in (frame_for T) buffer) (frame_for T) runs head
     (le-leb (length (frame_for T)) (length buffer) (omega (arith, ap length e))) e
   where
     go : (a b c : Bool) (u : List ℕ) → a ≡ false → b ≡ false → c ≡ true → u ≡ s
-        → (cond a (Written.Refused refusal.run_has_ended)
-        (cond b (Written.Refused refusal.listener_sends_nothing) (cond c (Written.Length (length u)) (Written.Refused refusal.buffer_too_short)))
-        ≡ Written.Length (length s)) × (take (length s) (cond a buffer (cond b buffer (cond c (u ++ drop (length u) buffer) buffer))) ≡ s)
+        → (cond a (Err refusal.run_has_ended)
+        (cond b (Err refusal.listener_sends_nothing) (cond c (Ok (length u)) (Err refusal.buffer_too_short)))
+        ≡ Ok (length s)) × (take (length s) (cond a buffer (cond b buffer (cond c (u ++ drop (length u) buffer) buffer))) ≡ s)
     go a b c u p q r z = rw (p, q, r, z) (refl, take-append_seam s (drop (length s) buffer))
 
 no_listener : (k : ℕ) → k < 32 → is_listener k ≡ false
@@ -163,7 +164,7 @@ module _ (K : Family) (n m f : ℕ) (v : ℕ → ℤ) (memory : ℕ → Head) (w
   written_by : (w : DeviceRound) (k : ℕ) → k < n → bit_of w.marks k ≡ false → (C : List HearCall) (buffer : List ℕ)
       → length (frames k) ≤ length buffer
       → let T = heard_by (opened_by K n f R k) C in
-      (write_answer T buffer ≡ Written.Length (length (frames k))) × (take (length (frames k)) (write_buffer T buffer) ≡ frames k)
+      (write_answer T buffer ≡ Ok (length (frames k))) × (take (length (frames k)) (write_buffer T buffer) ≡ frames k)
   written_by w k b q C buffer room =
       let h = opened_by K n f R k in
       let D = brought_by C in

@@ -1,5 +1,6 @@
 -- What a round makes of a record depends on the first acceptable frame of each link alone: not on the order of the links, nor on what else
 -- is delivered.
+use Rattle.std.specs.Prelude.{Ok}
 use mathlib.Core.Path.{◌≡◌, refl, ap, sym, ◌∙◌}
 use mathlib.Core.Bool.{Bool, true, false, cond, ◌&&◌}
 use mathlib.Core.List.{List, [], ◌∷◌, ◌++◌}
@@ -19,7 +20,7 @@ use Rattle.convergence.specs.Trust.{trusted}
 use Rattle.terms.specs.Positions.{rounding}
 use Rattle.convergence.proofs.Same.{trusted_same, nulls_same}
 use Rattle.settle_midpoint.specs.Answers.{settling}
-use Rattle.settle_midpoint.specs.declared.Settled.{Settled}
+use Rattle.settle_midpoint.specs.Settled.{Settled}
 use Rattle.settle_midpoint.proofs.Middle.{settling_same}
 use Rattle.frame_spec.specs.Said.{Meaning, refused, collected, listed, confessed}
 use Rattle.frame_spec.specs.Proper.{ProperTable}
@@ -109,11 +110,11 @@ module _ (T T' : Head) (seat : T.seat ≡ T'.seat) (P : ProperHead T) (P' : Prop
 
   -- what the last round of a phase settles
   module _ (same : Each n (λ k. entries_by K T k ≡ entries_by K T' k)) (calm : enough_trusted T' ≡ true) where
-    settles : settling_of T' ≡ Settled.New (settled_by T')
+    settles : settling_of T' ≡ Ok (settled_by T')
     unfolding settling
     settles = rw calm
 
-    pub settles_same : settling_of T ≡ Settled.New (settled_by T')
+    pub settles_same : settling_of T ≡ Ok (settled_by T')
     settles_same =
         ap (λ (x : Seat). settling (rounding x.phase) x.n (rule_of x.family x.f) (entries_by x.family T)) seat
         ∙ settling_same (rounding T'.seat.phase) n (rule_of K T'.seat.f) (entries_by K T) (entries_by K T') same
@@ -199,7 +200,7 @@ module _ (h : Head) (F : Fresh h) (D : List Delivery) (g : ℕ → List ℕ)
       (sym (ap (λ (x : Seat). enough x.n (rule_of x.family x.f) (entries_by x.family T)) kept) ∙ e)
 
   module _ (calm : enough_trusted L ≡ true) where
-    pub settles_alike : settling_of T ≡ Settled.New (settled_by L)
+    pub settles_alike : settling_of T ≡ Ok (settled_by L)
     settles_alike = settles_same T L kept proper-T proper-L runs_on entries_alike calm
 
     pub confession_alike : is_last_round h.seat ≡ true → round_ended T ≡ round_ended L

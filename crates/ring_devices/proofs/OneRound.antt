@@ -15,7 +15,7 @@ use Rattle.marks.specs.Marks.{bit_of}
 use Rattle.terms.specs.Counting.{Each}
 use Rattle.convergence.specs.Settling.{rule_of, enough}
 use Rattle.frame_spec.specs.Said.{listed, confessed}
-use Rattle.settle_midpoint.specs.declared.Settled.{Settled}
+use Rattle.settle_midpoint.specs.Settled.{Settled}
 use Rattle.head_spec.specs.declared.Seat.{Seat}
 use Rattle.head_spec.specs.declared.Head.{Head}
 use Rattle.head_spec.specs.declared.Answer.{Answer}

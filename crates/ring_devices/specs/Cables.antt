@@ -1,10 +1,10 @@
 -- Which cables bring what they owe (`Carries`, in Devices.antt). proofs/Cables.antt proves that these do, so that the hypothesis of
 -- `DevicesConverge` can be met in every round, whoever is marked.
-use Rattle.std.specs.Prelude.{◌≡◌, ◌⊎◌, true, false, List, [], ◌∷◌, ℕ, zero, suc, ◌≤◌, ◌<◌, length, take, ℤ}
+use Rattle.std.specs.Prelude.{◌≡◌, ◌⊎◌, true, false, List, [], ◌∷◌, ℕ, zero, suc, ◌≤◌, ◌<◌, length, take, ℤ, Ok}
 use Rattle.terms.specs.declared.Family.{Family}
 use Rattle.marks.specs.Marks.{bit_of}
 use Rattle.frame_spec.specs.Said.{said}
-use Rattle.frame_spec.specs.declared.Written.{Written}
+use Rattle.frame_spec.specs.Length.{Written}
 use Rattle.head_spec.specs.declared.Seat.{Seat}
 use Rattle.head_spec.specs.declared.Head.{Head}
 use Rattle.head_spec.specs.Proper.{ProperHead}
@@ -57,7 +57,7 @@ pub record CablesCarry (K : Family) (n m f : ℕ) (R : Ring) : Type 0 where
   -- an unmarked head writes its frame, whenever in the round it is asked to and whatever it has heard till then
   pub writes : (w : DeviceRound) (k : ℕ) → k < n → bit_of w.marks k ≡ false → (C : List HearCall) (buffer : List ℕ)
       → let s = frame_for (opened_by K n f R k) in length s ≤ length buffer → let T = heard_by (opened_by K n f R k) C in
-      (write_answer T buffer ≡ Written.Length (length s)) × (take (length s) (write_buffer T buffer) ≡ s)
+      (write_answer T buffer ≡ Ok (length s)) × (take (length s) (write_buffer T buffer) ≡ s)
 
 abbrev pub CableThere : Type 0
 CableThere =

@@ -1,8 +1,8 @@
 -- What a ring of devices is promised: the theorems of ring_spec's Converges.antt, of n heads and m listeners on boards of their own. marks:
 -- the mark words of the rounds so far; es: their phase ends; both have the latest first. now: the records after these rounds.
-use Rattle.std.specs.Prelude.{◌≡◌, true, false, List, [], ◌∷◌, ℕ, ◌+◌, ◌/◌, ◌≤◌, ◌<◌, length, get_or, ℤ, pos, ◌+ℤ◌, ◌≤ℤ◌}
+use Rattle.std.specs.Prelude.{◌≡◌, true, false, List, [], ◌∷◌, ℕ, ◌+◌, ◌/◌, ◌≤◌, ◌<◌, length, get_or, ℤ, pos, ◌+ℤ◌, ◌≤ℤ◌, Some}
 use Rattle.terms.specs.Sizes.{rounds_of}
-use Rattle.terms.specs.declared.Entry.{Entry}
+use Rattle.terms.specs.Entry.{Entry}
 use Rattle.terms.specs.declared.Family.{Family}
 use Rattle.marks.specs.Marks.{bit_of}
 use Rattle.terms.specs.Counting.{Each}
@@ -39,7 +39,7 @@ AnyPair K n m f es =
     (i k : ℕ) → i + k < length es → Halves K n f
     → let e = get_or es i no_end in let s = spread receivers (as_end n m (get_or es (i + k) no_end)) in
     (a b : ℕ) → is_receiver n m a ≡ true → is_receiver n m b ≡ true → bit_of e.struck a ≡ false → bit_of e.struck b ≡ false
-    → (x : ℤ) × (y : ℤ) × ((e.heads a).seat.position ≡ Entry.Position x) × ((e.heads b).seat.position ≡ Entry.Position y)
+    → (x : ℤ) × (y : ℤ) × ((e.heads a).seat.position ≡ Some x) × ((e.heads b).seat.position ≡ Some y)
     × (y ≤ℤ (x +ℤ pos (halved k s)))
 
 abbrev pub PairsClose : Type 0

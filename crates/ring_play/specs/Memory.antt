@@ -1,7 +1,7 @@
 -- A round played on the heads' memory, which a player keeps apart from the records: the positions at the last phase end, and after a
 -- collection round the list of each head. Each definition says what the head records would hear and make of it.
-use Rattle.std.specs.Prelude.{◌≡◌, ℕ, ◌+◌, ◌-◌, ◌<◌, min, Bool, true, cond, not, ◌&&◌, List, [], ℤ, pos, ◌==◌, nat_lt, slice_index, slice_index_or}
-use Rattle.terms.specs.declared.Entry.{Entry}
+use Rattle.std.specs.Prelude.{◌≡◌, ℕ, ◌+◌, ◌-◌, ◌<◌, min, Bool, true, cond, not, ◌&&◌, List, [], ℤ, pos, ◌==◌, nat_lt, slice_index, slice_index_or, None, Some, Ok, Err}
+use Rattle.terms.specs.Entry.{Entry}
 use Rattle.terms.specs.declared.Table.{Table}
 use Rattle.marks.specs.Marks.{bit_of}
 use Rattle.terms.specs.Counting.{Each}
@@ -12,8 +12,7 @@ use Rattle.frame_spec.specs.Said.{Meaning, collected, listed, confessed, said}
 use Rattle.frame_spec.specs.Written.{frame_of}
 use Rattle.frame_spec.specs.Proper.{Proper}
 use Rattle.settle_midpoint.specs.Answers.{settling}
-use Rattle.settle_midpoint.specs.declared.Settled.{Settled}
-use Rattle.settle_midpoint.specs.declared.Settled.TheVariants.{Refused, New}
+use Rattle.settle_midpoint.specs.Settled.{Settled}
 use Rattle.head_spec.specs.Record.{heard_entry, given_of}
 use Rattle.ring_spec.specs.Rounds.{is_receiver}
 use Rattle.ring_play.specs.declared.Stage.{Stage}
@@ -55,7 +54,7 @@ SamePlanted s plant i m = (k : ℕ) → k < heads s → bit_of s.struck k ≡ tr
 
 -- a healed head sends silence, a healthy one its position
 abbrev pub sends : Stage → List ℤ → ℕ → Meaning
-sends s positions k = collected (cond (bit_of s.before k) Entry.Null (Entry.Position (slice_index_or positions k (pos 0))))
+sends s positions k = collected (cond (bit_of s.before k) None (Some (slice_index_or positions k (pos 0))))
 
 -- what each head sends is what a frame can say: a position is in range (D12)
 abbrev pub InRange : Stage → List ℤ → Type 0
@@ -86,8 +85,8 @@ given_entry s marks lists plant i k =
 
 -- a refusal leaves no position: 0 is none, and no ring within its limits comes to it (P65)
 abbrev pub position_of : Settled → ℤ
-position_of (Refused c) = pos 0
-position_of (New k) = k.position
+position_of (Err c) = pos 0
+position_of (Ok k) = k.position
 
 -- the new position of receiver i
 unfoldable pub new_position : (s : Stage) (marks : List ℕ) (lists : List (List ℤ)) (plant : ℕ → ℕ → List ℕ) (i : ℕ) → ℤ

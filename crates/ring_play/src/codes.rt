@@ -262,9 +262,9 @@ fn entry_of(c: i32) -> Entry
     ensures { result ≡ entry_of c }
 {
     if c == NONE {
-        return Entry::Null;
+        return None;
     }
-    Entry::Position(c)
+    Some(c)
 }
 
 // The position that a receiver settles from the codes of its trusted entries; 0 if it is refused. They are put in order one by one, as a

@@ -42,10 +42,10 @@ fn entry_in(frame: &[u8], phase: u16, k: u8) -> Entry
     if is_position_frame(frame, phase, k) {
         let word = fields::word_at(frame, 7);
         if entries::is_position_word(word) {
-            return Entry::Position(fields::signed(word));
+            return Some(fields::signed(word));
         }
     }
-    Entry::Null
+    None
 }
 
 // What head k sends: a healed head silence, a healthy one its position.
@@ -54,9 +54,9 @@ fn own_entry(s: Stage, positions: &Positions, k: usize) -> Entry
     ensures { result ≡ own_entry s positions.now k }
 {
     if marks::marked(s.before, k) {
-        return Entry::Null;
+        return None;
     }
-    Entry::Position(positions[k])
+    Some(positions[k])
 }
 
 // The mark of an entry.
@@ -64,8 +64,8 @@ fn mark_of(e: Entry) -> u32
     ensures { result ≡ mark e }
 {
     match e {
-        Entry::Null => 0,
-        Entry::Position(_) => 1,
+        None => 0,
+        Some(_) => 1,
     }
 }
 
@@ -74,8 +74,8 @@ fn value_of(e: Entry) -> i32
     ensures { result ≡ value_of e }
 {
     match e {
-        Entry::Null => 0,
-        Entry::Position(v) => v,
+        None => 0,
+        Some(v) => v,
     }
 }
 
@@ -88,7 +88,7 @@ fn entries_sent(s: Stage, positions: &Positions) -> Table
     let mut entries = [0i32; HEADS];
     for k in 0..n {
         let e = if marks::marked(s.struck, k) {
-            Entry::Null
+            None
         } else {
             own_entry(s, positions, k)
         };

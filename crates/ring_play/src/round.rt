@@ -1,5 +1,6 @@
 // What all kinds of rounds need: how many heads and listeners are played, who settles, and to whom the same is planted.
 ghost use Rattle.std.specs.Prelude.{◌≡◌, ℕ, ◌-◌, ◌<◌, ◌≤◌, true, ◌↔◌, length, pos, if◌then◌else◌, slice_index_or};
+ghost use Rattle.terms.specs.Refused.{numbered};
 ghost use Rattle.frame_slots.specs.Slots.{planted_in};
 ghost use Rattle.ring_play.specs.Memory.{heads, listeners, receiver_end, settles, SamePlanted, position_of};
 ghost use Rattle.ring_play.specs.declared.Stage.{Stage};
@@ -8,7 +9,8 @@ ghost use Rattle.ring_play.specs.Inner.Before.{SettlesBefore, AsBefore};
 ghost use Rattle.ring_play.specs.Inner.Struck.{NextStruck};
 
 use crate::Stage;
-use settle_midpoint::Settled;
+use settle_midpoint::Kept;
+use terms::Refusal;
 
 // How many heads are played.
 pub(crate) fn head_count(s: Stage) -> u8
@@ -84,12 +86,12 @@ impl Iterator for StruckHeads {
 }
 
 // The position that settling answers; 0 if it refuses.
-pub(crate) fn position_in(answer: Settled) -> i32
-    ensures { result ≡ position_of answer }
+pub(crate) fn position_in(answer: Result<Kept, Refusal>) -> i32
+    ensures { result ≡ position_of (numbered answer) }
 {
     match answer {
-        Settled::Refused(_) => 0,
-        Settled::New(kept) => kept.position,
+        Err(_) => 0,
+        Ok(kept) => kept.position,
     }
 }
 

@@ -24,8 +24,8 @@ fn with_entry(c: Counts, e: Entry, lowest: i32, highest: i32) -> Counts
     ensures { result ≡ counts_with lowest highest e c }
 {
     match e {
-        Entry::Null => c,
-        Entry::Position(v) => Counts {
+        None => c,
+        Some(v) => Counts {
             all: c.all + 1,
             low: c.low + (v <= lowest) as usize,
             high: c.high + (highest <= v) as usize,

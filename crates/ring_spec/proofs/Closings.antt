@@ -1,18 +1,19 @@
 -- What an unstruck receiver's record is when the round is closed: after collection its list stands, and after confession, if enough entries are
 -- trusted, it holds the midpoint of what it trusts, with the range that was kept. Either way the next round can open, up to the last phase.
+use Rattle.std.specs.Prelude.{Some}
 use mathlib.Core.Path.{◌≡◌, refl, ap, ap₂, sym, subst, ◌∙◌}
 use mathlib.Core.Bool.{Bool, true, false}
 use Prim.Native.Nat.{ℕ, ◌+◌, ◌<◌}
 use native.Mathlib.Omega.{arith}
 use borrow.Author.Tests.{lt-leb}
 use Rattle.terms.specs.Sizes.{rounds_of, ends_with}
-use Rattle.terms.specs.declared.Entry.{Entry}
+use Rattle.terms.specs.Entry.{Entry}
 use Rattle.terms.specs.declared.Family.{Family}
 use Rattle.marks.specs.Marks.{bit_of}
 use Rattle.convergence.specs.Settling.{nulls, rule_of, ordered, midpoint, enough}
 use Rattle.terms.specs.Positions.{rounding}
 use Rattle.settle_midpoint.specs.Answers.{kept}
-use Rattle.head_spec.specs.declared.LastKept.{LastKept}
+use Rattle.head_spec.specs.Kept.{LastKept}
 use Rattle.head_spec.specs.declared.Head.{Head}
 use Rattle.head_spec.specs.declared.Closed.{Closed}
 use Rattle.head_spec.specs.declared.Closing.{Closing}
@@ -67,19 +68,19 @@ module _ (K : Family) (n f : ℕ) (R : Ring) (w : Round) (S : RingReady K n f R)
       pub confession_closed : closed_at K n f R w i ≡ closed_phase T (settled_by T)
       confession_closed = closed_is (Closed.Settled (settled_by T)) (closed_phase T (settled_by T)) confession_closes
 
-      pub confession_settles : (closed_at K n f R w i).seat.position ≡ Entry.Position (midpoint (rounding R.phase) n (rule_of K f) (entries_by K T))
+      pub confession_settles : (closed_at K n f R w i).seat.position ≡ Some (midpoint (rounding R.phase) n (rule_of K f) (entries_by K T))
       unfolding closed_phase
       confession_settles =
-          ap (λ (x : Head). x.seat.position) confession_closed ∙ ap Entry.Position (settled_midpoint T)
-          ∙ (λ t. Entry.Position (midpoint (rounding (A.phase t)) (A.count t) (rule_of (A.family t) (A.limit t)) (entries_by (A.family t) T)))
+          ap (λ (x : Head). x.seat.position) confession_closed ∙ ap Some (settled_midpoint T)
+          ∙ (λ t. Some (midpoint (rounding (A.phase t)) (A.count t) (rule_of (A.family t) (A.limit t)) (entries_by (A.family t) T)))
 
       -- with the kept range and the trim
       pub confession_keeps : let E = entries_by K T in
-          (closed_at K n f R w i).seat.kept ≡ LastKept.Range (kept (rounding R.phase) ((rule_of K f).trim (nulls n E)) (ordered n E))
+          (closed_at K n f R w i).seat.kept ≡ Some (kept (rounding R.phase) ((rule_of K f).trim (nulls n E)) (ordered n E))
       unfolding closed_phase
       confession_keeps = ap (λ (x : Head). x.seat.kept) confession_closed
           ∙ (λ t. let E = entries_by (A.family t) T in
-          LastKept.Range (kept (rounding (A.phase t)) ((rule_of (A.family t) (A.limit t)).trim (nulls (A.count t) E)) (ordered (A.count t) E)))
+          Some (kept (rounding (A.phase t)) ((rule_of (A.family t) (A.limit t)).trim (nulls (A.count t) E)) (ordered (A.count t) E)))
 
       pub confession_ready : R.phase < 65535 → Ready K n f i (R.phase + 1) 0 false (closed_at K n f R w i)
       unfolding closed_phase

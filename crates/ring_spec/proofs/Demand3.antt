@@ -1,6 +1,7 @@
 -- Demand 3 of a ring of records and frames. After any rounds within the limits the next round can be played (`playable`). So at each phase end the ring of
 -- records agrees on the sound heads and listeners with the ring of messages, for the faults that its rounds amount to (`refines`). Any two ends of messages are as
 -- `converges` says, and so are any two of records (`ring_converges`).
+use Rattle.std.specs.Prelude.{None, Some}
 use mathlib.Core.Path.{◌≡◌, refl, ap, sym, ◌∙◌}
 use mathlib.Core.Bool.{Bool, true, false, not, true≢false}
 use mathlib.Core.Logic.{inl, inr}
@@ -14,7 +15,6 @@ use lib.ListN.{length, get_or, drop, length-drop, drop_of_length-le}
 use lib.Seq.{drop-cons}
 use lib.IntN.{ℤ}
 use Rattle.terms.specs.Positions.{is_position}
-use Rattle.terms.specs.declared.Entry.TheVariants.{Position}
 use Rattle.terms.specs.declared.Family.{Family}
 use Rattle.terms.specs.declared.Family.TheVariants.{TwoRounds, OneRound}
 use Rattle.terms.specs.Sizes.{rounds_of, ends_with}
@@ -28,7 +28,7 @@ use Rattle.terms.proofs.Sums.{sum_same, sum_none}
 use Rattle.convergence.proofs.Same.{SameEnd, same_bounds, demand3_same}
 use Rattle.convergence.proofs.Demand3.{size_large, few_struck, kept_between_in_ring, converges}
 use Rattle.convergence.proofs.Quiet.{quiet_agrees}
-use Rattle.head_spec.specs.declared.LastKept.{LastKept}
+use Rattle.head_spec.specs.Kept.{LastKept}
 use Rattle.head_spec.specs.Record.{entries_by}
 use Rattle.head_spec.specs.Calls.{started, started_listener}
 use Rattle.head_spec.proofs.Proper.{Sized, first_round, start_accepted, start_listener_accepted}
@@ -214,7 +214,7 @@ module _ (K : Family) (n f : ℕ) (v : ℕ → ℤ) (S : Sized K n f) (range : E
         go {i} true e q = ltb-true i n e
         go false e q = absurd (true≢false q)
 
-        sent : (i : ℕ) → i < n → (first_heads K n f v i).seat.position ≡ Position (v i)
+        sent : (i : ℕ) → i < n → (first_heads K n f v i).seat.position ≡ Some (v i)
         sent i l = rw (lt-ltb i 32 (omega (arith, S.most)))
 
 -- ---- the ends
@@ -366,8 +366,8 @@ ring_converges K n m f v ws X i k h =
 
 pub kept_same : {e d : End} → SameEnd receivers e d → (x : LastKept) → HoldsBetween (lowest receivers d) (highest receivers d) x
     → HoldsBetween (lowest receivers e) (highest receivers e) x
-kept_same s LastKept.Nothing a = a
-kept_same s (LastKept.Range y) a = let (p, q) = same_bounds s in rw (p, q) a
+kept_same s None a = a
+kept_same s (Some y) a = let (p, q) = same_bounds s in rw (p, q) a
 
 pub ring_keeps_between : RingKeepsBetween
 ring_keeps_between K n m f v ws X i h k t q =

@@ -2,6 +2,7 @@
 -- something or nothing, and from an end that agrees on the sound heads each unstruck record, a listener's too, comes to hold what a receiver of `convergence`
 -- holds (`phase_same`). So no closing is refused. What is heard in a round in which positions are sent is the same in both families (`said_entry`); what a phase end
 -- makes of its entries, too (`calm`, `settles_as`, `keeps_as`); between them is what the entries are (`entries_two`, `entries_one`).
+use Rattle.std.specs.Prelude.{None, Some}
 use mathlib.Core.Path.{◌≡◌, refl, ap, ap₂, sym, subst, ◌∙◌}
 use mathlib.Core.Logic.{◌≢◌, inl}
 use mathlib.Core.Bool.{Bool, true, false, cond}
@@ -10,8 +11,7 @@ use Prim.Native.Nat.{ℕ, ◌≤◌, ◌<◌}
 use native.Mathlib.Omega.{arith}
 use lib.IntN.{ℤ}
 use borrow.Author.Tests.{le-leb}
-use Rattle.terms.specs.declared.Entry.{Entry}
-use Rattle.terms.specs.declared.Entry.TheVariants.{Null, Position}
+use Rattle.terms.specs.Entry.{Entry}
 use Rattle.terms.specs.declared.Family.{Family}
 use Rattle.terms.specs.declared.Family.TheVariants.{TwoRounds, OneRound}
 use Rattle.terms.specs.Sizes.{ends_with, is_listener}
@@ -29,7 +29,7 @@ use Rattle.convergence.proofs.Same.{SameOf, nulls_same, ordered_same, midpoint_s
 use Rattle.convergence.proofs.Demand3.{Limits, settled_is, few_nulls_in_phase}
 use Rattle.frame_spec.specs.Said.{collected, listed, confessed, said}
 use Rattle.settle_midpoint.specs.Answers.{kept}
-use Rattle.head_spec.specs.declared.LastKept.{LastKept}
+use Rattle.head_spec.specs.Kept.{LastKept}
 use Rattle.head_spec.specs.declared.Head.{Head}
 use Rattle.head_spec.specs.Record.{given, entries_by, heard_entry, given_of}
 use Rattle.head_spec.specs.Calls.{closed_collection}
@@ -65,9 +65,9 @@ end_at R = record { struck = bit_of R.before; at = λ i. (R.heads i).seat.positi
 abbrev pub marked_end : ℕ → (ℕ → Head) → PhaseEnd
 marked_end marks heads = record { collect = 0; confess = 0; struck = marks; heads = heads }
 
-held : (x : Entry) → x ≢ Null → x ≡ Position (number x)
-held Null d = absurd (d refl)
-held (Position u) d = refl
+held : (x : Entry) → x ≢ None → x ≡ Some (number x)
+held None d = absurd (d refl)
+held (Some u) d = refl
 
 -- two links that gave the same
 same_given : {j : ℕ} {g g₁ g₂ : Given} → g ≡ g₁ → SameOf j g₁ g₂ → SameOf j g g₂
@@ -85,21 +85,21 @@ module _ (K : Family) (n f : ℕ) (R : Ring) (a : Round) (S : RingReady K n f R)
       held (e.at i) (λ z. H.fresh.proper.seat.holds head (H.seat.round ∙ sends) H.seat.healed (same.at i l p ∙ z))
 
   -- what receiver i hears of head j
-  said_entry : (i j : ℕ) → j < n → heard_entry (said_in K n f R a i j) ≡ gives (bit_of a.struck j) (e.struck j) (told_in n R.phase a j i) Null (e.at j)
+  said_entry : (i j : ℕ) → j < n → heard_entry (said_in K n f R a i j) ≡ gives (bit_of a.struck j) (e.struck j) (told_in n R.phase a j i) None (e.at j)
   said_entry i j l = rw (← same.struck j l) (go (bit_of a.struck j) (bit_of R.before j) refl refl)
     where
-      spoke : bit_of a.struck j ≡ false → said_in K n f R a i j ≡ collected (cond (bit_of R.before j) Null (opened_at K n f R a j).seat.position)
+      spoke : bit_of a.struck j ≡ false → said_in K n f R a i j ≡ collected (cond (bit_of R.before j) None (opened_at K n f R a j).seat.position)
       spoke q = said_spoken K n f R a S i j l q ∙ says_entry (opened_in K n f R a S j (inl l) q sends)
 
       go : (c p : Bool) → bit_of a.struck j ≡ c → bit_of R.before j ≡ p
-          → heard_entry (said_in K n f R a i j) ≡ gives c p (told_in n R.phase a j i) Null (e.at j)
+          → heard_entry (said_in K n f R a i j) ≡ gives c p (told_in n R.phase a j i) None (e.at j)
       go true p q t = ap heard_entry (said_planted K n f R a i j q) ∙ rw sends
       go false true q t = ap heard_entry (spoke q) ∙ rw t
       go false false q t = ap heard_entry (spoke q) ∙ rw (t, opened_same K n f R a j q t) (same.at j l t)
 
   -- entry j of the list that receiver i fills
   table_entry : (i : ℕ) → Hears n i → bit_of a.struck i ≡ false
-      → Each n (λ j. table_at (heard_at K n f R a i).list j ≡ gives (bit_of a.struck j) (e.struck j) (told_in n R.phase a j i) Null (e.at j))
+      → Each n (λ j. table_at (heard_at K n f R a i).list j ≡ gives (bit_of a.struck j) (e.struck j) (told_in n R.phase a j i) None (e.at j))
   table_entry i l q j t = heard_list K n f R a S i l q sends j t ∙ said_entry i j t
 
 -- ---- the last round w of a phase, if the entries from which each receiver settles are those of `convergence`
@@ -123,15 +123,15 @@ module _ (K : Family) (n m f : ℕ) (R : Ring) (w : Round) (S : RingReady K n f 
     unfolding after_round after
     settles_as =
         confession_settles K n f R w S i l q last ends_calm
-        ∙ ap Position (midpoint_same (rounding R.phase) n (rule_of K f) _ _ (entries i l q))
+        ∙ ap Some (midpoint_same (rounding R.phase) n (rule_of K f) _ _ (entries i l q))
         ∙ sym (settled_is (rounding R.phase) n (rule_of K f) E few)
 
     -- with what `convergence` keeps
-    ends_keeping : ((after_round K n f R w).heads i).seat.kept ≡ LastKept.Range (kept (rounding R.phase) ((rule_of K f).trim (nulls n E)) (ordered n E))
+    ends_keeping : ((after_round K n f R w).heads i).seat.kept ≡ Some (kept (rounding R.phase) ((rule_of K f).trim (nulls n E)) (ordered n E))
     unfolding after_round
     ends_keeping =
         confession_keeps K n f R w S i l q last ends_calm
-        ∙ ap₂ (λ (z : ℕ) (o : List ℤ). LastKept.Range (kept (rounding R.phase) ((rule_of K f).trim z) o)) (nulls_same n _ _ (entries i l q))
+        ∙ ap₂ (λ (z : ℕ) (o : List ℤ). Some (kept (rounding R.phase) ((rule_of K f).trim z) o)) (nulls_same n _ _ (entries i l q))
         (ordered_same n _ _ (entries i l q))
 
   -- the end of the phase, with the listeners
@@ -216,7 +216,7 @@ module _ (n m f : ℕ) (R : Ring) (a b : Round) (S : RingReady TwoRounds n f R) 
     phase₁ = (after_collection TwoRounds n f R a S first).0
 
     pub keeps_as : (i : ℕ) → Hears n i → bit_of b.struck i ≡ false → let E = entries_at TwoRounds n f e F i in
-        ((after_round TwoRounds n f R₁ b).heads i).seat.kept ≡ LastKept.Range (kept (rounding R₁.phase) ((rule_of TwoRounds f).trim (nulls n E)) (ordered n E))
+        ((after_round TwoRounds n f R₁ b).heads i).seat.kept ≡ Some (kept (rounding R₁.phase) ((rule_of TwoRounds f).trim (nulls n E)) (ordered n E))
     keeps_as = ends_keeping TwoRounds n m f R₁ b S₁ second e F H limits entries_two
 
     pub phase_same : SameEnd receivers (as_end n m (marked_end b.struck (after_round TwoRounds n f R₁ b).heads)) (after TwoRounds (rounding R.phase) n f e F)
@@ -247,7 +247,7 @@ module _ (n m f : ℕ) (R : Ring) (a : Round) (S : RingReady OneRound n f R) (se
     calm_one = ends_calm OneRound n m f R a S refl e G H₁ limits_one entries_one
 
     pub keeps_one : (i : ℕ) → Hears n i → bit_of a.struck i ≡ false → let E = entries_at OneRound n f e G i in
-        ((after_round OneRound n f R a).heads i).seat.kept ≡ LastKept.Range (kept (rounding R.phase) ((rule_of OneRound f).trim (nulls n E)) (ordered n E))
+        ((after_round OneRound n f R a).heads i).seat.kept ≡ Some (kept (rounding R.phase) ((rule_of OneRound f).trim (nulls n E)) (ordered n E))
     keeps_one = ends_keeping OneRound n m f R a S refl e G H₁ limits_one entries_one
 
     pub round_same : SameEnd receivers (as_end n m (marked_end a.struck (after_round OneRound n f R a).heads)) (after OneRound (rounding R.phase) n f e G)

@@ -1,12 +1,13 @@
 -- One round of a ring. Every unstruck head opens it with nothing heard and says what its record has to say, and every receiver, head or listener, hears it say
 -- so; a struck head says what is planted, if anything. So these alone tell what an unstruck record holds when all is heard.
+use Rattle.std.specs.Prelude.{None}
 use mathlib.Core.Path.{◌≡◌, refl, sym, subst, ◌∙◌}
 use mathlib.Core.Bool.{Bool, true, false, cond}
 use mathlib.Core.List.{List}
 use mathlib.Core.Logic.{inl, inr}
 use Prim.Native.Nat.{ℕ, ◌≤◌, ◌<◌}
 use Rattle.terms.specs.Sizes.{rounds_of}
-use Rattle.terms.specs.declared.Entry.{Entry}
+use Rattle.terms.specs.Entry.{Entry}
 use Rattle.terms.specs.declared.Family.{Family}
 use Rattle.marks.specs.Marks.{bit_of}
 use Rattle.entries.specs.Tables.{table_at}
@@ -48,7 +49,7 @@ pub record RingReady (K : Family) (n f : ℕ) (R : Ring) : Type 0 where
 
 -- what a record says, by its round
 module _ {K : Family} {n f i p : ℕ} {b : Bool} {h : Head} where
-  pub says_entry : Ready K n f i p 0 b h → spoken h ≡ collected (cond b Entry.Null h.seat.position)
+  pub says_entry : Ready K n f i p 0 b h → spoken h ≡ collected (cond b None h.seat.position)
   unfolding spoken
   says_entry H = rw (H.seat.round, H.seat.healed)
 

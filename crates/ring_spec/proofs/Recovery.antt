@@ -1,5 +1,6 @@
 -- More heads struck than f (specs/Recovery.antt). As long as everyone who is not struck ends its rounds, the ring stays in step (`ready_after`), and
 -- who ends a phase holds a position. From an end with at most f struck on, each phase is one of `convergence`, as after the start (`stands_from`).
+use Rattle.std.specs.Prelude.{None, Some}
 use mathlib.Core.Path.{◌≡◌, refl, ap, ap₂, sym, subst, ◌∙◌}
 use mathlib.Core.Bool.{Bool, true, false, cond, true≢false}
 use mathlib.Core.Logic.{◌≢◌, inl}
@@ -13,8 +14,7 @@ use lib.IntN.{ℤ, pos, negsuc}
 use lib.Signed.{◌≤ℤ◌}
 use Rattle.terms.specs.Refusals.{run_has_ended, too_few_trusted}
 use Rattle.terms.specs.Positions.{is_position, rounding}
-use Rattle.terms.specs.declared.Entry.{Entry}
-use Rattle.terms.specs.declared.Entry.TheVariants.{Null, Position}
+use Rattle.terms.specs.Entry.{Entry}
 use Rattle.terms.specs.declared.Family.{Family}
 use Rattle.terms.specs.declared.Family.TheVariants.{TwoRounds, OneRound}
 use Rattle.terms.specs.Sizes.{rounds_of, ends_with, is_listener}
@@ -87,14 +87,14 @@ module _ (K : Family) (n f : ℕ) (R : Ring) (w : Round) (S : RingReady K n f R)
       ∙ closed_enough T A.runs ((λ t. ends_with (A.family t) (A.round t)) ∙ last) X
 
   -- and then a position is held
-  ends_holding : ((after_round K n f R w).heads i).seat.position ≢ Null
+  ends_holding : ((after_round K n f R w).heads i).seat.position ≢ None
   unfolding after_round
   ends_holding z = not_null z (confession_settles K n f R w S i l q last ends_enough)
 
 -- a position that a record holds is a position
-held_in : (n : ℕ) (x : Entry) → Proper n (collected x) → x ≢ Null → HeldBetween (Position (negsuc 999_999)) (Position (pos 1_000_000)) x
-held_in n Null p d = absurd (d refl)
-held_in n (Position u) p d = position_within u p
+held_in : (n : ℕ) (x : Entry) → Proper n (collected x) → x ≢ None → HeldBetween (Some (negsuc 999_999)) (Some (pos 1_000_000)) x
+held_in n None p d = absurd (d refl)
+held_in n (Some u) p d = position_within u p
 
 -- ---- the ring stays in step, however many are struck
 
@@ -166,7 +166,7 @@ module _ (K : Family) (n f : ℕ) (v : ℕ → ℤ) (S : Sized K n f) (range : E
           ends_holding K n f (R us) w (ready_after us X.1 (omega arith)) i h u last (X.0 i h u)
 
       first_within : length early < most_rounds K
-          → Each receivers (λ i. (ended []).struck i ≡ false → HeldBetween (Position (negsuc 999_999)) (Position (pos 1_000_000)) ((ended []).at i))
+          → Each receivers (λ i. (ended []).struck i ≡ false → HeldBetween (Some (negsuc 999_999)) (Some (pos 1_000_000)) ((ended []).at i))
       unfolding ring_after after_round
       first_within l i b q =
           let (h, u) = hears n m w.struck i b q in
@@ -443,11 +443,11 @@ counts_anyway K n m f v ws small size range most X i l e q = since_of_lem K n f 
 -- ---- a phase in which no head is struck is ended by everyone
 
 -- what comes to a position had enough entries
-held_enough : (r n : ℕ) (R : Rule) (E : ℕ → Entry) (m M : ℤ) → HeldBetween (Position m) (Position M) (settled r n R E) → enough n R E ≡ true
+held_enough : (r n : ℕ) (R : Rule) (E : ℕ → Entry) (m M : ℤ) → HeldBetween (Some m) (Some M) (settled r n R E) → enough n R E ≡ true
 unfolding settled
 held_enough r n R E m M h = go (enough n R E) refl h
   where
-    go : (b : Bool) → enough n R E ≡ b → HeldBetween (Position m) (Position M) (cond b (Position (midpoint r n R E)) Null) → b ≡ true
+    go : (b : Bool) → enough n R E ≡ b → HeldBetween (Some m) (Some M) (cond b (Some (midpoint r n R E)) None) → b ≡ true
     go true e k = refl
     go false e k = absurd k
 
@@ -455,7 +455,7 @@ module _ (K : Family) (n f : ℕ) (v : ℕ → ℤ) (S : Sized K n f) (R : Ring)
   abbrev start : End
   start = end_at R
 
-  start_in : Each n (λ j. start.struck j ≡ false → HeldBetween (Position (negsuc 999_999)) (Position (pos 1_000_000)) (start.at j))
+  start_in : Each n (λ j. start.struck j ≡ false → HeldBetween (Some (negsuc 999_999)) (Some (pos 1_000_000)) (start.at j))
   start_in j l q =
       let H = T.heads j (inl l) q in
       let head = ap is_listener H.seat.number ∙ member_not_listener j n l S.most in
@@ -466,9 +466,9 @@ module _ (K : Family) (n f : ℕ) (v : ℕ → ℤ) (S : Sized K n f) (R : Ring)
   start_holds : EachHolds n start
   start_holds j l q z = go (start.at j) (start_in j l q) z
     where
-      go : (x : Entry) → HeldBetween (Position (negsuc 999_999)) (Position (pos 1_000_000)) x → x ≡ Null → ⊥
-      go Null h e = h
-      go (Position u) h e = not_null e refl
+      go : (x : Entry) → HeldBetween (Some (negsuc 999_999)) (Some (pos 1_000_000)) x → x ≡ None → ⊥
+      go None h e = h
+      go (Some u) h e = not_null e refl
 
   quiet_enough : AtMost (rule_of K f).most n (bit_of R.before) → (F : Faults) → Each n (λ j. F.struck_in_collection j ≡ false) → Each n (λ j. F.struck_in_confession j ≡ false) → (i : ℕ)
       → enough n (rule_of K f) (entries_at K n f start F i) ≡ true
@@ -594,11 +594,11 @@ module _ (K : Family) (n f : ℕ) (R : Ring) where
             absurd (rw z at x)
 
 -- what comes to none had too few entries
-none_few : (r n : ℕ) (R : Rule) (E : ℕ → Entry) → settled r n R E ≡ Null → enough n R E ≡ false
+none_few : (r n : ℕ) (R : Rule) (E : ℕ → Entry) → settled r n R E ≡ None → enough n R E ≡ false
 unfolding settled
 none_few r n R E h = go (enough n R E) h
   where
-    go : (b : Bool) → cond b (Position (midpoint r n R E)) Null ≡ Null → b ≡ false
+    go : (b : Bool) → cond b (Some (midpoint r n R E)) None ≡ None → b ≡ false
     go true e = absurd (not_null e refl)
     go false e = refl
 
@@ -717,10 +717,10 @@ module _ (h : Head) (P : ProperHead h) where
   abbrev rule : Rule
   rule = rule_of h.seat.family h.seat.f
 
-  entries_between : (m M : ℤ) → HeardBetween h.seat.family h m M → Each h.seat.n (λ j. (u : ℤ) → entries j ≡ Position u → (m ≤ℤ u) × (u ≤ℤ M))
+  entries_between : (m M : ℤ) → HeardBetween h.seat.family h m M → Each h.seat.n (λ j. (u : ℤ) → entries j ≡ Some u → (m ≤ℤ u) × (u ≤ℤ M))
   entries_between m M H = go h.seat.family H
     where
-      go : (K : Family) → HeardBetween K h m M → Each h.seat.n (λ j. (u : ℤ) → entries_by K h j ≡ Position u → (m ≤ℤ u) × (u ≤ℤ M))
+      go : (K : Family) → HeardBetween K h m M → Each h.seat.n (λ j. (u : ℤ) → entries_by K h j ≡ Some u → (m ≤ℤ u) × (u ≤ℤ M))
       go TwoRounds H j l u q = let (k, b, e) = trusted_is_said h.seat.n h.seat.f (given h) j u q in H j l k b u e
       go OneRound H j l u q = H j l u q
 

@@ -1,13 +1,13 @@
 -- Demand 3, of a ring of records and frames: any first positions, any rounds within the limits, any planted bytes.
-use Rattle.std.specs.Prelude.{false, true, List, [], ◌∷◌, ◌≡◌, ℕ, ◌+◌, ◌≤◌, ◌<◌, min, length, get_or, ℤ}
+use Rattle.std.specs.Prelude.{false, true, List, [], ◌∷◌, ◌≡◌, ℕ, ◌+◌, ◌≤◌, ◌<◌, min, length, get_or, ℤ, None, Some}
 use Rattle.terms.specs.Positions.{is_position}
-use Rattle.terms.specs.declared.Entry.{Entry}
+use Rattle.terms.specs.Entry.{Entry}
 use Rattle.terms.specs.declared.Family.{Family}
 use Rattle.marks.specs.Marks.{bit_of}
 use Rattle.terms.specs.Counting.{Each, AtMost}
 use Rattle.convergence.specs.Phases.{End, lowest, highest}
 use Rattle.convergence.specs.Demand3.{KeptBetween, Demand3, AcceptedSize, Halves}
-use Rattle.head_spec.specs.declared.LastKept.{LastKept}
+use Rattle.head_spec.specs.Kept.{LastKept}
 use Rattle.head_spec.specs.Seats.{most_counted}
 use Rattle.ring_spec.specs.Rounds.{Round, lost, most_rounds, PhaseEnd, receivers, is_receiver, as_end, ring_after, ends_after, ends_since}
 
@@ -42,8 +42,8 @@ RingConverges = (K : Family) (n m f : ℕ) (v : ℕ → ℤ) (ws : List Round) �
 
 -- a record holds a kept range, and it lies between the lowest and the highest
 abbrev pub HoldsBetween : Entry → Entry → LastKept → Type 0
-HoldsBetween low high LastKept.Nothing = ⊥
-HoldsBetween low high (LastKept.Range k) = KeptBetween low high k.low k.high
+HoldsBetween low high None = ⊥
+HoldsBetween low high (Some k) = KeptBetween low high k.low k.high
 
 -- at each phase end, for each head and listener that is sound there: between the sound positions that the phase started from
 abbrev pub RingKeepsBetween : Type 0

@@ -3,11 +3,10 @@
 -- and as long as no later round strikes more, all is as after a start from that end on (`HoldsSince`): nothing of the time before is left. (Late.antt says
 -- what a late receiver is; here it is struck, with what it said planted.) When a ring does not get out of it by itself (`LostStaysLost`). And how long
 -- it takes until all sound positions lie within one step. proofs/Recovery.antt proves them.
-use Rattle.std.specs.Prelude.{◌≡◌, true, false, List, [], ◌∷◌, ◌++◌, ◌⊎◌, ℕ, ◌+◌, ◌≤◌, ◌<◌, length, get_or, ℤ, ◌≤ℤ◌}
+use Rattle.std.specs.Prelude.{◌≡◌, true, false, List, [], ◌∷◌, ◌++◌, ◌⊎◌, ℕ, ◌+◌, ◌≤◌, ◌<◌, length, get_or, ℤ, ◌≤ℤ◌, Some}
 use Rattle.terms.specs.Refusals.{too_few_trusted}
 use Rattle.terms.specs.Positions.{is_position}
 use Rattle.terms.specs.Sizes.{ends_with, is_listener}
-use Rattle.terms.specs.declared.Entry.TheVariants.{Position}
 use Rattle.terms.specs.declared.Family.{Family}
 use Rattle.terms.specs.declared.Family.TheVariants.{TwoRounds, OneRound}
 use Rattle.terms.specs.Counting.{Each, sum, bit, AtMost}
@@ -144,8 +143,8 @@ LostStaysLost =
 -- those that were sent
 abbrev pub HeardBetween : Family → Head → ℤ → ℤ → Type 0
 HeardBetween TwoRounds h m M =
-    Each h.seat.n (λ j. Each h.seat.n (λ k. (u : ℤ) → says_of j (given h k) ≡ Position u → (m ≤ℤ u) × (u ≤ℤ M)))
-HeardBetween OneRound h m M = Each h.seat.n (λ j. (u : ℤ) → table_at h.list j ≡ Position u → (m ≤ℤ u) × (u ≤ℤ M))
+    Each h.seat.n (λ j. Each h.seat.n (λ k. (u : ℤ) → says_of j (given h k) ≡ Some u → (m ≤ℤ u) × (u ≤ℤ M)))
+HeardBetween OneRound h m M = Each h.seat.n (λ j. (u : ℤ) → table_at h.list j ≡ Some u → (m ≤ℤ u) × (u ≤ℤ M))
 
 -- and then so does what its closing offers: nobody comes to a position that lies beyond all that it was told
 pub record OfferBetween (m M : ℤ) (k : Kept) : Type 0 where

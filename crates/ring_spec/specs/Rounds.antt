@@ -1,7 +1,7 @@
 -- Document 01, "Strikes", for the records of a whole ring: memory lost, healed heads restarted, frames sent and delivered, rounds closed.
-use Rattle.std.specs.Prelude.{Bool, true, false, not, cond, ◌&&◌, ◌||◌, List, [], ◌∷◌, ℕ, ◌+◌, ◌*◌, ◌/◌, ◌%◌, ◌^◌, eqb, ltb, leb, length, ℤ}
+use Rattle.std.specs.Prelude.{Bool, true, false, not, cond, ◌&&◌, ◌||◌, List, [], ◌∷◌, ℕ, ◌+◌, ◌*◌, ◌/◌, ◌%◌, ◌^◌, eqb, ltb, leb, length, ℤ, None}
 use Rattle.terms.specs.Sizes.{ends_with, first_listener}
-use Rattle.terms.specs.declared.Entry.{Entry}
+use Rattle.terms.specs.Entry.{Entry}
 use Rattle.terms.specs.declared.Family.{Family}
 use Rattle.terms.specs.declared.Family.TheVariants.{TwoRounds, OneRound}
 use Rattle.marks.specs.Marks.{bit_of}
@@ -33,7 +33,7 @@ planted (x ∷ xs) k i = cond (eqb x.from k && eqb x.to i) x.bytes (planted xs k
 
 -- the record of a head or listener as long as it is struck: nothing that it holds is used (P60)
 unfoldable pub lost : Head
-lost = opened (opening_seat TwoRounds 0 0 0 0 0 false Entry.Null) no_entries
+lost = opened (opening_seat TwoRounds 0 0 0 0 0 false None) no_entries
 
 -- the ring as the next round finds it: that round's phase and its number in the phase (0 is collection and 1 confession, and 0 the one
 -- round of a phase of one round), who was struck in the round before, and the records of heads and listeners by their numbers

@@ -1,12 +1,13 @@
-// The records of a run file, judged: whether one is allowed here, and the number of its first fault, 0 for none.
+// The records of a run file, judged: whether one is allowed here, and its first fault.
 #![tactic(auto)]
 
 ghost use Rattle.std.specs.Prelude.{◌≡◌, ◌&&◌, leb, ℕ, ◌<◌, get_or, pos};
+ghost use Rattle.terms.specs.Refused.{number_of};
 ghost use Rattle.ring_spec.specs.Rounds.{is_receiver, most_rounds};
 ghost use Rattle.run_spec.specs.RunFile.{record_kind, is_plant_length, allowed_when, position_in, positions_fit, start_fault, few_marks, round_fault, listeners_fault, strikes_fault, rises, pair_fits, plant_fault};
 
 use run_spec::Pair;
-use terms::{Family, Numbers, refusal};
+use terms::{Family, Numbers, Refusal};
 
 // The kinds of records.
 pub const START: u16 = 0x10;
@@ -76,22 +77,19 @@ fn positions_fit(bytes: &[u8], n: u8) -> bool
 }
 
 // A whole start record of a ring of either family: 13, 1, 2 or 18, 4.
-pub fn start_fault(family: Family, bytes: &[u8]) -> u8
-    ensures { result ≡ start_fault family bytes.now }
+pub fn start_fault(family: Family, bytes: &[u8]) -> Result<(), Refusal>
+    ensures { number_of result ≡ start_fault family bytes.now }
 {
     let n = fields::byte_at(bytes, 4);
     let f = fields::byte_at(bytes, 5);
     if bytes.len() != 6 + 4 * (n as usize) {
-        return refusal::BAD_RUN_RECORD;
+        return Err(Refusal::BadRunRecord);
     }
-    let size = terms::size_refusal(family, n as u32, f as u32);
-    if size != 0 {
-        return size;
-    }
+    terms::check_size(family, n as u32, f as u32)?;
     if !positions_fit(bytes, n) {
-        return refusal::POSITION_OUT_OF_RANGE;
+        return Err(Refusal::PositionOutOfRange);
     }
-    0
+    Ok(())
 }
 
 // The positions of a start record.
@@ -123,40 +121,40 @@ fn most_rounds(family: Family) -> u32
 }
 
 // A whole round record, after a number of rounds: 14, 26.
-pub fn round_fault(family: Family, bytes: &[u8], n: u8, f: u8, rounds: u32) -> u8
-    ensures { result ≡ round_fault family n f rounds bytes.now }
+pub fn round_fault(family: Family, bytes: &[u8], n: u8, f: u8, rounds: u32) -> Result<(), Refusal>
+    ensures { number_of result ≡ round_fault family n f rounds bytes.now }
 {
     if !few_marks(n, f, fields::word_at(bytes, 4)) {
-        return refusal::TOO_MANY_STRUCK;
+        return Err(Refusal::TooManyStruck);
     }
     if most_rounds(family) <= rounds {
-        return refusal::RUN_HAS_ENDED;
+        return Err(Refusal::RunHasEnded);
     }
-    0
+    Ok(())
 }
 
 // A whole record with the number of listeners: 13.
-pub fn listeners_fault(bytes: &[u8]) -> u8
-    ensures { result ≡ listeners_fault bytes.now }
+pub fn listeners_fault(bytes: &[u8]) -> Result<(), Refusal>
+    ensures { number_of result ≡ listeners_fault bytes.now }
 {
     let number = fields::byte_at(bytes, 4);
     if number < 1 {
-        return refusal::BAD_RUN_RECORD;
+        return Err(Refusal::BadRunRecord);
     }
     if 16 < number {
-        return refusal::BAD_RUN_RECORD;
+        return Err(Refusal::BadRunRecord);
     }
-    0
+    Ok(())
 }
 
 // A whole record with the struck ones of m listeners: 13.
-pub fn strikes_fault(bytes: &[u8], m: u8) -> u8
-    ensures { result ≡ strikes_fault m bytes.now }
+pub fn strikes_fault(bytes: &[u8], m: u8) -> Result<(), Refusal>
+    ensures { number_of result ≡ strikes_fault m bytes.now }
 {
     if marks::marks_below(fields::half_at(bytes, 4) as u32, m as usize) {
-        return 0;
+        return Ok(());
     }
-    refusal::BAD_RUN_RECORD
+    Err(Refusal::BadRunRecord)
 }
 
 // Whether a pair comes after the last of its round: by sender, then by receiver.
@@ -207,13 +205,13 @@ fn pair_fits(n: u8, m: u8, struck: u64, previous: Pair, from: u8, to: u8) -> boo
 }
 
 // A whole planted record, after the last pair of its round: 13.
-pub fn plant_fault(bytes: &[u8], n: u8, m: u8, struck: u64, previous: Pair) -> u8
-    ensures { result ≡ plant_fault n m struck previous bytes.now }
+pub fn plant_fault(bytes: &[u8], n: u8, m: u8, struck: u64, previous: Pair) -> Result<(), Refusal>
+    ensures { number_of result ≡ plant_fault n m struck previous bytes.now }
 {
     let from = fields::byte_at(bytes, 4);
     let to = fields::byte_at(bytes, 5);
     if pair_fits(n, m, struck, previous, from, to) {
-        return 0;
+        return Ok(());
     }
-    refusal::BAD_RUN_RECORD
+    Err(Refusal::BadRunRecord)
 }

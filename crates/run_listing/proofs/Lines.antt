@@ -1,6 +1,7 @@
 -- The line of a phase end: its fields, each put behind the one before, with a space or the line's end after it, are the line. Of a phase end's records
 -- the line says only the positions of the receivers that are not struck, so it is that of any array that holds these (`line_is`). At the start all listeners
 -- count as struck, so its line is the same however many there are (`first_line_as`), and that of the heads' positions (`first_line_is`).
+use Rattle.std.specs.Prelude.{None, Some}
 use mathlib.Core.Path.{◌≡◌, ap, sym, ◌∙◌}
 use mathlib.Core.Bool.{Bool, true, false, not, cond, or-false}
 use mathlib.Core.List.{List, [], ◌∷◌, ◌++◌}
@@ -12,7 +13,7 @@ use lib.IntN.{ℤ, pos}
 use borrow.Author.Tests.{ltb-true}
 use Rattle.texts.specs.Numbers.{decimal, hex}
 use Rattle.texts.proofs.Digits.{hex_low}
-use Rattle.terms.specs.declared.Entry.{Entry}
+use Rattle.terms.specs.Entry.{Entry}
 use Rattle.terms.specs.declared.Family.{Family}
 use Rattle.marks.specs.Marks.{bit_of}
 use Rattle.marks.proofs.Marks.{bit_none}
@@ -48,7 +49,7 @@ unfolding end_line spread
 found_line n m p collect confess struck ps f = rw (← f.is_low, ← f.is_high)
 
 pub line_is : (n m p : ℕ) (e : PhaseEnd) (positions : List ℤ)
-    → Each receivers (λ i. is_receiver n m i ≡ true → bit_of e.struck i ≡ false → (e.heads i).seat.position ≡ Entry.Position (get_or positions i (pos 0)))
+    → Each receivers (λ i. is_receiver n m i ≡ true → bit_of e.struck i ≡ false → (e.heads i).seat.position ≡ Some (get_or positions i (pos 0)))
     → line n m p e ≡ end_line n m p positions e.collect e.confess e.struck
 unfolding line end_line fields spread
 line_is n m p e positions h =
@@ -64,12 +65,12 @@ module _ (K : Family) (n f : ℕ) (v : ℕ → ℤ) where
   first_line_as m k p =
       let e = first_end K n f v in
       let s = found_same (as_end n m e) (as_end n k e) receivers
-      (λ i l. ap (λ (o : Bool). cond o Entry.Null (e.heads i).seat.position) (first_out_as n m k i l)) in
+      (λ i l. ap (λ (o : Bool). cond o None (e.heads i).seat.position) (first_out_as n m k i l)) in
       rw (s.is_low, s.is_high)
 
   -- the heads' positions alone, as a player without listeners holds them
   pub first_line_is : (m p : ℕ) (positions : List ℤ) → n ≤ 32
-      → Each n (λ i. (first_heads K n f v i).seat.position ≡ Entry.Position (get_or positions i (pos 0)))
+      → Each n (λ i. (first_heads K n f v i).seat.position ≡ Some (get_or positions i (pos 0)))
       → line n m p (first_end K n f v) ≡ end_line n 0 p positions 0 0 0
   unfolding line end_line fields spread
   first_line_is m p positions most h =
@@ -81,5 +82,5 @@ module _ (K : Family) (n f : ℕ) (v : ℕ → ℤ) where
       none_out : (i : ℕ) → is_out n 0 0 i ≡ not (ltb i n)
       none_out i = rw (bit_none i, no_listener n i) (or-false (not (ltb i n)))
 
-      held : Each receivers (λ i. is_receiver n 0 i ≡ true → bit_of all_listeners i ≡ false → (first_heads K n f v i).seat.position ≡ Entry.Position (get_or positions i (pos 0)))
+      held : Each receivers (λ i. is_receiver n 0 i ≡ true → bit_of all_listeners i ≡ false → (first_heads K n f v i).seat.position ≡ Some (get_or positions i (pos 0)))
       held i l r o = h i (ltb-true i n (sym (no_listener n i) ∙ r))

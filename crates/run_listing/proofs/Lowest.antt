@@ -1,5 +1,6 @@
 -- The lowest and the highest position, found one receiver at a time. One that is struck or not there leaves both as they are, and any other is compared
 -- with each: which of two positions lies further out is one test, whose answer is turned for the lowest.
+use Rattle.std.specs.Prelude.{None, Some}
 use mathlib.Core.Path.{◌≡◌, refl, ap, sym, ◌∙◌}
 use mathlib.Core.Bool.{Bool, true, false, not, cond, ◌&&◌, ◌||◌, or-false, beq}
 use mathlib.Core.List.{List}
@@ -13,8 +14,7 @@ use lib.ListN.{get_or}
 use lib.IntN.{ℤ, pos}
 use lib.Signed.{le_z}
 use borrow.Author.Tests.{le-ltb, le-leb, lt-leb}
-use Rattle.terms.specs.declared.Entry.{Entry}
-use Rattle.terms.specs.declared.Entry.TheVariants.{Null, Position}
+use Rattle.terms.specs.Entry.{Entry}
 use Rattle.marks.specs.Marks.{bit_of}
 use Rattle.terms.specs.Counting.{Each}
 use Rattle.convergence.specs.Phases.{End, join, sound_at, lowest, highest}
@@ -47,7 +47,7 @@ no_listener n i = ap (λ (b : Bool). ltb i n || b) (go (dec_lt i 32)) ∙ or-fal
 
 -- ---- one receiver more
 
-pub found_none : (e : End) → LowestHighest 0 e Null Null
+pub found_none : (e : End) → LowestHighest 0 e None None
 unfolding lowest highest
 found_none e = record { is_low = refl; is_high = refl }
 
@@ -66,7 +66,7 @@ module _ (n m struck : ℕ) (ps : List ℤ) {j : ℕ} {low high : Entry} (f : Lo
   found_struck o = rw (add-one j) (found_out j o f)
 
   pub found_sound : {v : ℤ} {x y : Entry} → is_out n m struck j ≡ false → v ≡ get_or ps j (pos 0)
-      → x ≡ join (outward false) (Position v) low → y ≡ join (outward true) (Position v) high → LowestHighest (j + 1) (end_in n m struck ps) x y
+      → x ≡ join (outward false) (Some v) low → y ≡ join (outward true) (Some v) high → LowestHighest (j + 1) (end_in n m struck ps) x y
   unfolding lowest highest end_in
   found_sound o e p q = rw (add-one j) record { is_low = p ∙ rw (o, e, f.is_low); is_high = q ∙ rw (o, e, f.is_high) }
 
@@ -77,30 +77,30 @@ module _ (n m struck : ℕ) (ps : List ℤ) {j : ℕ} {low high : Entry} (f : Lo
 
 -- ---- the first that is sound
 
-first_none : (e : End) → first_sound 0 e ≡ Null
+first_none : (e : End) → first_sound 0 e ≡ None
 unfolding first_sound
 first_none e = refl
 
-first_stays : (e : End) (k : ℕ) {u : ℤ} → first_sound k e ≡ Position u → first_sound (suc k) e ≡ Position u
+first_stays : (e : End) (k : ℕ) {u : ℤ} → first_sound k e ≡ Some u → first_sound (suc k) e ≡ Some u
 unfolding first_sound
 first_stays e k h = rw h refl
 
-module _ (n m struck : ℕ) (ps : List ℤ) (j : ℕ) (none : first_sound j (end_in n m struck ps) ≡ Null) where
-  first_struck : is_out n m struck j ≡ true → first_sound (j + 1) (end_in n m struck ps) ≡ Null
+module _ (n m struck : ℕ) (ps : List ℤ) (j : ℕ) (none : first_sound j (end_in n m struck ps) ≡ None) where
+  first_struck : is_out n m struck j ≡ true → first_sound (j + 1) (end_in n m struck ps) ≡ None
   unfolding first_sound end_in
   first_struck o = rw (add-one j, none, o) refl
 
-  first_here : {v : ℤ} → is_out n m struck j ≡ false → v ≡ get_or ps j (pos 0) → first_sound (j + 1) (end_in n m struck ps) ≡ Position v
+  first_here : {v : ℤ} → is_out n m struck j ≡ false → v ≡ get_or ps j (pos 0) → first_sound (j + 1) (end_in n m struck ps) ≡ Some v
   unfolding first_sound end_in
   first_here o e = rw (add-one j, none, o, e) refl
 
-  pub first_sound_lem : {v : ℤ} → j < receivers → is_out n m struck j ≡ false → v ≡ get_or ps j (pos 0) → Position v ≡ first_sound receivers (end_in n m struck ps)
+  pub first_sound_lem : {v : ℤ} → j < receivers → is_out n m struck j ≡ false → v ≡ get_or ps j (pos 0) → Some v ≡ first_sound receivers (end_in n m struck ps)
   first_sound_lem {v} l o e =
       sym
-      (le_ind (λ k. first_sound k (end_in n m struck ps) ≡ Position v) (rw (add-one j) at (first_here o e)) (λ k i h. first_stays _ k h) receivers (omega arith))
+      (le_ind (λ k. first_sound k (end_in n m struck ps) ≡ Some v) (rw (add-one j) at (first_here o e)) (λ k i h. first_stays _ k h) receivers (omega arith))
 
 -- none of the first k is sound
-pub first_of_none : (n m struck : ℕ) (ps : List ℤ) (k : ℕ) → Each k (λ i. is_out n m struck i ≡ true) → first_sound k (end_in n m struck ps) ≡ Null
+pub first_of_none : (n m struck : ℕ) (ps : List ℤ) (k : ℕ) → Each k (λ i. is_out n m struck i ≡ true) → first_sound k (end_in n m struck ps) ≡ None
 first_of_none n m struck ps zero h = first_none _
 first_of_none n m struck ps (suc k) h = rw (add-one k) at (first_struck n m struck ps k (first_of_none n m struck ps k (each_less h)) (each_last h))
 
@@ -114,14 +114,14 @@ outward_same : (high : Bool) (u : ℤ) → outward high u u ≡ u
 outward_same high u = outward_is high u u ∙ either_same (beq (le_z u u) high) u
 
 module _ (n m struck : ℕ) (ps : List ℤ) {u : ℤ} (h : Each receivers (λ i. get_or ps i (pos 0) ≡ u)) where
-  one_more_level : (k : ℕ) → k < receivers → LowestHighest k (end_in n m struck ps) (Position u) (Position u) → LowestHighest (suc k) (end_in n m struck ps) (Position u) (Position u)
+  one_more_level : (k : ℕ) → k < receivers → LowestHighest k (end_in n m struck ps) (Some u) (Some u) → LowestHighest (suc k) (end_in n m struck ps) (Some u) (Some u)
   one_more_level k l f = go (is_out n m struck k) refl
     where
-      go : (b : Bool) → is_out n m struck k ≡ b → LowestHighest (suc k) (end_in n m struck ps) (Position u) (Position u)
+      go : (b : Bool) → is_out n m struck k ≡ b → LowestHighest (suc k) (end_in n m struck ps) (Some u) (Some u)
       go true o = rw (add-one k) at (found_struck n m struck ps f o)
       go false o =
           rw (add-one k) at
-          (found_sound n m struck ps f {v = u} {x = Position u} {y = Position u} o (sym (h k l)) (ap Position (sym (outward_same false u))) (ap Position (sym (outward_same true u))))
+          (found_sound n m struck ps f {v = u} {x = Some u} {y = Some u} o (sym (h k l)) (ap Some (sym (outward_same false u))) (ap Some (sym (outward_same true u))))
 
   abbrev One : ℕ → Entry → Type 0
   One k x = LowestHighest k (end_in n m struck ps) x x × (first_sound k (end_in n m struck ps) ≡ x)
@@ -130,16 +130,16 @@ module _ (n m struck : ℕ) (ps : List ℤ) {u : ℤ} (h : Each receivers (λ i.
   pub found_first : {x : Entry} → x ≡ first_sound receivers (end_in n m struck ps) → LowestHighest receivers (end_in n m struck ps) x x
   found_first {x} e = rw e (⊎_elim (λ w. rw w.1 w.0) (λ w. rw w.1 w.0) (go receivers (omega arith)))
     where
-      go : (k : ℕ) → k ≤ receivers → One k Null ⊎ One k (Position u)
+      go : (k : ℕ) → k ≤ receivers → One k None ⊎ One k (Some u)
       go zero l = inl (found_none _, first_none _)
       go (suc k) l = ⊎_elim (λ w. none w.0 w.1 (is_out n m struck k) refl) (λ w. inr (one_more_level k (omega arith) w.0, first_stays _ k w.1)) (go k (omega arith))
         where
-          none : LowestHighest k (end_in n m struck ps) Null Null → first_sound k (end_in n m struck ps) ≡ Null → (b : Bool) → is_out n m struck k ≡ b
-              → One (suc k) Null ⊎ One (suc k) (Position u)
+          none : LowestHighest k (end_in n m struck ps) None None → first_sound k (end_in n m struck ps) ≡ None → (b : Bool) → is_out n m struck k ≡ b
+              → One (suc k) None ⊎ One (suc k) (Some u)
           none f z true o = inl (rw (add-one k) at (found_struck n m struck ps f o), rw (add-one k) at (first_struck n m struck ps k z o))
           none f z false o =
               inr (
-                rw (add-one k) at (found_sound n m struck ps f {v = u} {x = Position u} {y = Position u} o (sym (h k (omega arith))) refl refl),
+                rw (add-one k) at (found_sound n m struck ps f {v = u} {x = Some u} {y = Some u} o (sym (h k (omega arith))) refl refl),
                 rw (add-one k) at (first_here n m struck ps k z o (sym (h k (omega arith)))),
               )
 
@@ -153,13 +153,13 @@ found_same e e' (suc n) h =
     record { is_low = cc (each_last h); is_high = cc (each_last h) }
 
 -- b: the receiver is there; c: it is struck
-sound_same : (b c : Bool) {o : Bool} {x y : Entry} → (not b || c) ≡ o → (b ≡ true → c ≡ false → x ≡ y) → cond (not b || c) Null x ≡ cond o Null y
+sound_same : (b c : Bool) {o : Bool} {x y : Entry} → (not b || c) ≡ o → (b ≡ true → c ≡ false → x ≡ y) → cond (not b || c) None x ≡ cond o None y
 sound_same true true e h = rw (← e) refl
 sound_same true false e h = rw (← e) (h refl refl)
 sound_same false c e h = rw (← e) refl
 
 module _ (n m struck : ℕ) (at : ℕ → Entry) (positions : List ℤ)
-    (h : Each receivers (λ i. is_receiver n m i ≡ true → bit_of struck i ≡ false → at i ≡ Position (get_or positions i (pos 0)))) where
+    (h : Each receivers (λ i. is_receiver n m i ≡ true → bit_of struck i ≡ false → at i ≡ Some (get_or positions i (pos 0)))) where
   abbrev whole : End
   whole = record { struck = is_out n m struck; at = at }
 

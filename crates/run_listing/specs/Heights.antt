@@ -1,7 +1,6 @@
 -- The lowest and the highest as they are found, the first position that is held, and how far a number lies above the lowest of 32 bits.
-use Rattle.std.specs.Prelude.{◌≡◌, Bool, true, false, ℕ, zero, suc, ◌+◌, ◌-◌, ℤ, pos, negsuc}
-use Rattle.terms.specs.declared.Entry.{Entry}
-use Rattle.terms.specs.declared.Entry.TheVariants.{Null}
+use Rattle.std.specs.Prelude.{◌≡◌, Bool, true, false, ℕ, zero, suc, ◌+◌, ◌-◌, ℤ, pos, negsuc, None}
+use Rattle.terms.specs.Entry.{Entry}
 use Rattle.convergence.specs.Phases.{End, sound_at, lesser, greater, lowest, highest}
 use Rattle.ring_spec.specs.Agreed.{first_held}
 
@@ -22,5 +21,5 @@ pub record LowestHighest (n : ℕ) (e : End) (low high : Entry) : Type 0 where
 
 -- the position of the first of n receivers that is sound; null if none is
 unfoldable pub first_sound : ℕ → End → Entry
-first_sound zero e = Null
+first_sound zero e = None
 first_sound (suc n) e = first_held (first_sound n e) (sound_at e n)

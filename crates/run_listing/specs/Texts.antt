@@ -1,6 +1,6 @@
 -- The texts of the listing as the code makes them.
 use Rattle.std.specs.Prelude.{List, [], ◌∷◌, ◌++◌, ℕ, ℤ}
-use Rattle.terms.specs.declared.Entry.{Entry}
+use Rattle.terms.specs.Entry.{Entry}
 use Rattle.convergence.specs.Phases.{lowest, highest, spread}
 use Rattle.texts.specs.Numbers.{decimal, hex, spaced}
 use Rattle.run_spec.specs.Listing.{text_of}

@@ -47,15 +47,15 @@ pub fn position_at(positions: &[i32], j: usize) -> i32
 
 // Of v and an entry's position, the lower one, or the higher.
 fn outer(v: i32, e: Entry, high: bool) -> Entry
-    ensures { result ≡ join (outward high) (Entry.Position v) e }
+    ensures { result ≡ join (outward high) (Some v) e }
 {
-    let Entry::Position(w) = e else {
-        return Entry::Position(v);
+    let Some(w) = e else {
+        return Some(v);
     };
     if (v <= w) == high {
-        Entry::Position(w)
+        Some(w)
     } else {
-        Entry::Position(v)
+        Some(v)
     }
 }
 
@@ -83,8 +83,8 @@ fn is_sound(n: u8, m: u8, struck: u64, j: usize) -> bool
 pub fn extremes_of(n: u8, m: u8, struck: u64, positions: &Positions) -> Extremes
     ensures { LowestHighest receivers (end_in n m struck positions.now) result.low result.high }
 {
-    let mut low = Entry::Null;
-    let mut high = Entry::Null;
+    let mut low = None;
+    let mut high = None;
     for j in 0..reach(n, m) {
         if is_sound(n, m, struck, j) {
             let v = position_at(positions, j);
@@ -100,8 +100,8 @@ pub fn first_sound(n: u8, m: u8, struck: u64, positions: &Positions) -> Entry
     ensures { result ≡ first_sound receivers (end_in n m struck positions.now) }
 {
     match (0..RECEIVERS).find(|j| is_sound(n, m, struck, *j)) {
-        Some(first) => Entry::Position(positions[first]),
-        None => Entry::Null,
+        Some(first) => Some(positions[first]),
+        None => None,
     }
 }
 
@@ -110,10 +110,10 @@ pub fn first_sound(n: u8, m: u8, struck: u64, positions: &Positions) -> Entry
 fn spread_of(low: Entry, high: Entry) -> u32
     ensures { result ≡ apart low high }
 {
-    let Entry::Position(a) = low else {
+    let Some(a) = low else {
         return 0;
     };
-    let Entry::Position(b) = high else {
+    let Some(b) = high else {
         return 0;
     };
     b.abs_diff(a)
@@ -127,10 +127,10 @@ pub fn level(n: u8, m: u8, struck: u64, positions: &mut Positions) -> bool
     let extremes = extremes_of(n, m, struck, positions);
     let low = extremes.low;
     let high = extremes.high;
-    let Entry::Position(a) = low else {
+    let Some(a) = low else {
         return false;
     };
-    let Entry::Position(b) = high else {
+    let Some(b) = high else {
         return false;
     };
     if a != b {
@@ -162,8 +162,8 @@ fn put_entry(line: &mut Line, at: usize, e: Entry) -> usize
     ensures { Longer (text_in at line.old) (text_of e ++ (32 ∷ [])) 12 (text_in result line.new) }
 {
     match e {
-        Entry::Null => texts::put_at(line, at, b" "),
-        Entry::Position(v) => put_position(line, at, v),
+        None => texts::put_at(line, at, b" "),
+        Some(v) => put_position(line, at, v),
     }
 }
 

@@ -13,7 +13,7 @@ use frame_slots::{PlantedBytes, PlantedLengths};
 use run_record::RecordResult;
 use run_spec::Pair;
 use run_state::{CARRY, Carry, Player};
-use terms::{Lists, Positions, Words, refusal};
+use terms::{Lists, Positions, Words, Refusal};
 use texts::Text;
 
 // What comes of a piece: the player after it, how many of its bytes were taken, and the line that they show, if any.
@@ -73,7 +73,7 @@ fn headed(p: Player, bytes: &[u8]) -> Player
     if run_record::stands(p, bytes) {
         return holding(p, 4);
     }
-    run_state::stop(p, refusal::BAD_RUN_RECORD)
+    run_state::stop(p, Refusal::BadRunRecord.number())
 }
 
 // Bytes that show nothing.
@@ -196,7 +196,7 @@ pub fn pass_plant(
             pair: previous,
         };
     }
-    if run_judge::plant_fault(rest, n, m, struck, previous) != 0 {
+    if run_judge::plant_fault(rest, n, m, struck, previous).is_err() {
         return PlantResult {
             used: 0,
             pair: previous,
@@ -272,5 +272,5 @@ pub fn is_calm(p: Player, bytes: &[u8]) -> bool
         return false;
     }
     let family = p.family;
-    run_judge::round_fault(family, bytes, p.n, p.f, p.given) == 0
+    run_judge::round_fault(family, bytes, p.n, p.f, p.given).is_ok()
 }

@@ -1,4 +1,5 @@
 -- What a record changes: what is told of the file, what the memory holds of it, and what is shown. A record with a fault changes the fault alone.
+use Rattle.std.specs.Prelude.{Some}
 use mathlib.Core.Path.{◌≡◌, refl, ap, sym, ◌∙◌}
 use mathlib.Core.Bool.{Bool, true, false, not, cond, ◌&&◌, true≢false}
 use mathlib.Core.List.{List, [], ◌∷◌, ◌++◌, append_assoc, append-nil}
@@ -10,7 +11,7 @@ use lib.IntN.{ℤ, pos}
 use borrow.Author.Tests.{leb-true, ltb-true, eqb-true, not-true, eq-eqb}
 use Rattle.terms.specs.Refusals as refusal
 use Rattle.terms.specs.Sizes.{is_count}
-use Rattle.terms.specs.declared.Entry.{Entry}
+use Rattle.terms.specs.Entry.{Entry}
 use Rattle.terms.specs.declared.Family.{Family}
 use Rattle.terms.specs.Counting.{Each}
 use Rattle.terms.proofs.Booleans.{and_both}
@@ -230,7 +231,7 @@ module _ {F : File} {p : Player} {M : Memory} {r : RecordResult} where
         recounted (w ∷ ws) z K = absurd (omega arith)
 
         -- no end but the start is there
-        not_yet : (ws : List Round) → length ws ≡ 0 → {A : Type 0} {u : ℤ} → agreed_on F.setup.n (listener_count_in s) (ends_from F.setup ws) ≡ Entry.Position u → A
+        not_yet : (ws : List Round) → length ws ≡ 0 → {A : Type 0} {u : ℤ} → agreed_on F.setup.n (listener_count_in s) (ends_from F.setup ws) ≡ Some u → A
         not_yet [] z a = no_position a
         not_yet (w ∷ ws) z a = absurd (omega arith)
 

@@ -2,6 +2,7 @@
 #![tactic(auto)]
 
 ghost use Rattle.std.specs.Prelude.{true, false, List, ◌≡◌, ℕ, ◌≤◌, ◌<◌, length, get_or, drop, pos};
+ghost use Rattle.terms.specs.Refused.{number};
 ghost use Rattle.run_spec.specs.RunFile.{File, read_file, start, round, plant, listeners, strikes, is_first, is_bare, kind_in, length_in, is_allowed, judged, stopped, sender_in, receiver_in};
 ghost use Rattle.frame_slots.specs.Slots.{with_planted, with_length, PlantedThen, slot_size};
 ghost use Rattle.run_state.specs.Memory.{Memory, memory_lent, with_positions, with_slots};
@@ -13,7 +14,7 @@ ghost use Rattle.run_record.specs.Inner.{due_to, PendingPlayed};
 use frame_slots::{PlantedBytes, PlantedLengths};
 use run_spec::Pair;
 use run_state::Player;
-use terms::{Family, HEADS, Lists, Numbers, Positions, Words, refusal};
+use terms::{Family, HEADS, Lists, Numbers, Positions, Refusal, Words};
 use texts::Text;
 
 // What comes of a record: the player after it, and the line that it shows, if any.
@@ -24,12 +25,12 @@ pub struct RecordResult {
 }
 
 // A record with a fault: the file stops, and nothing is shown.
-fn refuse(p: Player, number: u8) -> RecordResult
-    ensures next { (F : File) (M : Memory) → PlayerOf p F → MemoryOf F M → Next F (stopped F number) p M result M }
+fn refuse(p: Player, refusal: Refusal) -> RecordResult
+    ensures next { (F : File) (M : Memory) → PlayerOf p F → MemoryOf F M → Next F (stopped F (number refusal)) p M result M }
     ensures len_bound { result.text.len ≤ 64 }
 {
     RecordResult {
-        player: run_state::stop(p, number),
+        player: run_state::stop(p, refusal.number()),
         text: texts::empty(),
     }
 }
@@ -48,16 +49,17 @@ fn take_start(family: Family, p: Player, bytes: &[u8], positions: &mut Positions
         → Next F (judged (start family) F bytes.now) p (with_positions M positions.old) result (with_positions M positions.new) }
     ensures len_bound { result.text.len ≤ 64 }
 {
-    let number = run_judge::start_fault(family, bytes);
-    if number != 0 {
-        return refuse(p, number);
-    }
-    let n = fields::byte_at(bytes, 4);
-    let first = run_judge::first_positions(bytes);
-    store_heads(&first, positions);
-    RecordResult {
-        player: run_state::fresh(true, family, n, fields::byte_at(bytes, 5)),
-        text: run_listing::end_line(0, run_listing::extremes_of(n, 0, 0, positions), 0, 0),
+    match run_judge::start_fault(family, bytes) {
+        Err(refusal) => refuse(p, refusal),
+        Ok(()) => {
+            let n = fields::byte_at(bytes, 4);
+            let first = run_judge::first_positions(bytes);
+            store_heads(&first, positions);
+            RecordResult {
+                player: run_state::fresh(true, family, n, fields::byte_at(bytes, 5)),
+                text: run_listing::end_line(0, run_listing::extremes_of(n, 0, 0, positions), 0, 0),
+            }
+        }
     }
 }
 
@@ -66,13 +68,14 @@ fn take_listeners(p: Player, bytes: &[u8]) -> RecordResult
     ensures next { (F : File) (M : Memory) → is_first F ≡ true → PlayerOf p F → MemoryOf F M → Next F (judged listeners F bytes.now) p M result M }
     ensures len_bound { result.text.len ≤ 64 }
 {
-    let fault = run_judge::listeners_fault(bytes);
-    if fault != 0 {
-        return refuse(p, fault);
-    }
-    RecordResult {
-        player: run_state::given_listeners(p, fields::byte_at(bytes, 4)),
-        text: texts::empty(),
+    match run_judge::listeners_fault(bytes) {
+        Err(refusal) => refuse(p, refusal),
+        Ok(()) => {
+            RecordResult {
+                player: run_state::given_listeners(p, fields::byte_at(bytes, 4)),
+                text: texts::empty(),
+            }
+        }
     }
 }
 
@@ -82,13 +85,14 @@ fn take_strikes(p: Player, bytes: &[u8]) -> RecordResult
         → Next (read_file a) (judged strikes (read_file a) bytes.now) p M result M }
     ensures len_bound { result.text.len ≤ 64 }
 {
-    let fault = run_judge::strikes_fault(bytes, p.listeners);
-    if fault != 0 {
-        return refuse(p, fault);
-    }
-    RecordResult {
-        player: run_state::given_strikes(p, fields::half_at(bytes, 4)),
-        text: texts::empty(),
+    match run_judge::strikes_fault(bytes, p.listeners) {
+        Err(refusal) => refuse(p, refusal),
+        Ok(()) => {
+            RecordResult {
+                player: run_state::given_strikes(p, fields::half_at(bytes, 4)),
+                text: texts::empty(),
+            }
+        }
     }
 }
 
@@ -128,16 +132,17 @@ fn take_round(
     ensures len_bound { result.text.len ≤ 64 }
 {
     let family = p.family;
-    let fault = run_judge::round_fault(family, bytes, p.n, p.f, p.given);
-    if fault != 0 {
-        return refuse(p, fault);
-    }
-    let text = play_waiting(p, positions, marks, lists, planted, lengths);
-    let agreed = run_round::agree(p, positions);
-    frame_slots::clear(lengths, p.n);
-    RecordResult {
-        player: run_state::given_round(p, fields::word_at(bytes, 4), agreed),
-        text,
+    match run_judge::round_fault(family, bytes, p.n, p.f, p.given) {
+        Err(refusal) => refuse(p, refusal),
+        Ok(()) => {
+            let text = play_waiting(p, positions, marks, lists, planted, lengths);
+            let agreed = run_round::agree(p, positions);
+            frame_slots::clear(lengths, p.n);
+            RecordResult {
+                player: run_state::given_round(p, fields::word_at(bytes, 4), agreed),
+                text,
+            }
+        }
     }
 }
 
@@ -172,14 +177,15 @@ fn take_plant(
         → Next F (judged plant F bytes.now) p (with_slots M planted.old lengths.old) result (with_slots M planted.new lengths.new) }
     ensures len_bound { result.text.len ≤ 64 }
 {
-    let fault = run_judge::plant_fault(bytes, p.n, p.listeners, p.struck, p.pair);
-    if fault != 0 {
-        return refuse(p, fault);
-    }
-    let pair = plant_in(bytes, planted, lengths);
-    RecordResult {
-        player: run_state::planted_pair(p, pair),
-        text: texts::empty(),
+    match run_judge::plant_fault(bytes, p.n, p.listeners, p.struck, p.pair) {
+        Err(refusal) => refuse(p, refusal),
+        Ok(()) => {
+            let pair = plant_in(bytes, planted, lengths);
+            RecordResult {
+                player: run_state::planted_pair(p, pair),
+                text: texts::empty(),
+            }
+        }
     }
 }
 
@@ -208,7 +214,7 @@ fn take_allowed(
         run_judge::LISTENERS => take_listeners(p, bytes),
         run_judge::STRIKES => take_strikes(p, bytes),
         run_judge::START_ONE => take_start(Family::OneRound, p, bytes, positions),
-        _ => refuse(p, refusal::BAD_RUN_RECORD),
+        _ => refuse(p, Refusal::BadRunRecord),
     }
 }
 
@@ -253,7 +259,7 @@ pub fn take_record(
     ensures len_bound { result.text.len ≤ 64 }
 {
     if !is_due(p, bytes) {
-        return refuse(p, refusal::BAD_RUN_RECORD);
+        return refuse(p, Refusal::BadRunRecord);
     }
     take_allowed(p, bytes, positions, marks, lists, planted, lengths)
 }

@@ -1,5 +1,6 @@
 -- A ring that has agreed: at the end of the phase that the pending round ends, each receiver that it does not strike holds the position on which the ring agreed,
 -- by demand 3 of every run file. Whether it agrees at that end is seen in the positions that the memory holds.
+use Rattle.std.specs.Prelude.{None, Some}
 use mathlib.Core.Path.{◌≡◌, refl, ap, sym, ◌∙◌}
 use mathlib.Core.Bool.{Bool, true, false}
 use mathlib.Core.List.{List, [], ◌∷◌}
@@ -8,7 +9,6 @@ use native.Mathlib.Omega.{arith}
 use lib.ListN.{length, get_or}
 use lib.IntN.{ℤ, pos}
 use Rattle.terms.specs.Sizes.{ends_with}
-use Rattle.terms.specs.declared.Entry.TheVariants.{Null, Position}
 use Rattle.terms.specs.declared.Family.{Family}
 use Rattle.terms.specs.Counting.{Each}
 use Rattle.head_spec.specs.declared.Head.{Head}
@@ -25,13 +25,13 @@ use Rattle.run_round.proofs.Keeping.{no_position, EndHeld}
 use Rattle.run_round.proofs.Converging.{phase_end_as}
 
 -- what was agreed stays, whatever end comes
-pub agreed_next : (n m : ℕ) (e : PhaseEnd) (es : List PhaseEnd) {u : ℤ} → agreed_on n m es ≡ Position u → agreed_on n m (e ∷ es) ≡ Position u
+pub agreed_next : (n m : ℕ) (e : PhaseEnd) (es : List PhaseEnd) {u : ℤ} → agreed_on n m es ≡ Some u → agreed_on n m (e ∷ es) ≡ Some u
 unfolding agreed_on
 agreed_next n m e [] a = no_position a
 agreed_next n m e (d ∷ es) a = rw a
 
 -- and before, the end that comes decides
-agreed_here : (n m : ℕ) (e : PhaseEnd) (es : List PhaseEnd) → 0 < length es → agreed_on n m es ≡ Null → agreed_on n m (e ∷ es) ≡ held_by_all (as_end n m e)
+agreed_here : (n m : ℕ) (e : PhaseEnd) (es : List PhaseEnd) → 0 < length es → agreed_on n m es ≡ None → agreed_on n m (e ∷ es) ≡ held_by_all (as_end n m e)
 unfolding agreed_on
 agreed_here n m e [] some a = absurd (omega arith)
 agreed_here n m e (d ∷ es) some a = rw a
@@ -55,15 +55,15 @@ module _ (F : File) where
   abbrev pub e : PhaseEnd
   e = phase_end F.setup.family (ring_before F).before F.rounds.last.struck (ring_from F.setup (F.rounds.last ∷ F.rounds.played)).heads
 
-  pub agreed_stays : {u : ℤ} → agreed_before F ≡ Position u → agreed_after_all F ≡ Position u
+  pub agreed_stays : {u : ℤ} → agreed_before F ≡ Some u → agreed_after_all F ≡ Some u
   unfolding ends_after
   agreed_stays {u} a = all F.rounds.pending
     where
-      ended : (b : Bool) → agreed_on F.setup.n F.setup.listeners (with_end b e es) ≡ Position u
+      ended : (b : Bool) → agreed_on F.setup.n F.setup.listeners (with_end b e es) ≡ Some u
       ended false = a
       ended true = agreed_next F.setup.n F.setup.listeners e es a
 
-      all : (b : Bool) → agreed_on F.setup.n F.setup.listeners (ends_from F.setup (then_played b F.rounds.played F.rounds.last)) ≡ Position u
+      all : (b : Bool) → agreed_on F.setup.n F.setup.listeners (ends_from F.setup (then_played b F.rounds.played F.rounds.last)) ≡ Some u
       all false = a
       all true = ended (ends_with F.setup.family (ring_before F).round)
 
@@ -82,12 +82,12 @@ module _ (F : File) where
     ends_with_lem = rw (pending, last)
 
     -- it agrees at this end if its receivers do
-    pub agreed_there : agreed_before F ≡ Null → agreed_after_all F ≡ held_by_all (as_end F.setup.n F.setup.listeners e)
+    pub agreed_there : agreed_before F ≡ None → agreed_after_all F ≡ held_by_all (as_end F.setup.n F.setup.listeners e)
     agreed_there none =
         ap (agreed_on F.setup.n F.setup.listeners) ends_with_lem
         ∙ agreed_here F.setup.n F.setup.listeners e es (some_end F.setup.family F.setup.n F.setup.f F.setup.first F.rounds.played) none
 
-    pub agreed_end : (M : Memory) {u : ℤ} → agreed_after_all F ≡ Position u → Each receivers (λ i. get_or M.positions i (pos 0) ≡ u)
+    pub agreed_end : (M : Memory) {u : ℤ} → agreed_after_all F ≡ Some u → Each receivers (λ i. get_or M.positions i (pos 0) ≡ u)
         → EndHeld F.setup.family F.setup.n F.setup.listeners F.setup.f (ring_before F) F.rounds.last M
     unfolding ring_after
     agreed_end M a level i l r q =
@@ -95,4 +95,4 @@ module _ (F : File) where
         let held = agreed_held F.setup.family F.setup.n F.setup.listeners F.setup.f (e ∷ es) A (rw ends_with_lem at a) in
         let (heads, struck) = phase_end_as F.setup.family (ring_before F).before F.rounds.last.struck (ring_from F.setup (F.rounds.last ∷ F.rounds.played)).heads in
         let at_end = held i l (rw (struck, r, q) refl) in
-        sym (ap (λ (h : ℕ → Head). (h i).seat.position) heads) ∙ at_end ∙ ap Position (sym (level i l))
+        sym (ap (λ (h : ℕ → Head). (h i).seat.position) heads) ∙ at_end ∙ ap Some (sym (level i l))

@@ -1,5 +1,6 @@
 -- Whether the ring has agreed when the pending round is played: as before, if no end was played or it had agreed before; else as the positions at that end are one, and
 -- then these are made one in all places.
+use Rattle.std.specs.Prelude.{None, Some}
 use mathlib.Core.Path.{◌≡◌, refl, ap, ap₂, sym, subst, ◌∙◌}
 use mathlib.Core.Bool.{Bool, true, false, true≢false}
 use mathlib.Core.List.{List, ◌∷◌}
@@ -7,8 +8,7 @@ use Prim.Native.Nat.{ℕ}
 use lib.ListN.{get_or, get_or-replicate}
 use lib.IntN.{ℤ, pos}
 use Rattle.terms.specs.Sizes.{ends_with}
-use Rattle.terms.specs.declared.Entry.{Entry}
-use Rattle.terms.specs.declared.Entry.TheVariants.{Null, Position}
+use Rattle.terms.specs.Entry.{Entry}
 use Rattle.terms.specs.Counting.{Each}
 use Rattle.ring_spec.specs.Rounds.{receivers, as_end, ends_phase, after_round, ring_after}
 use Rattle.ring_spec.specs.Agreed.{common, held_by_all, is_agreed}
@@ -28,7 +28,7 @@ use Rattle.run_round.proofs.Agreeing.{agreed_stays, unplayed_same, opened_same, 
 use Rattle.run_round.proofs.Rounds.{not_agreed}
 
 -- two names of a position
-same_position : {u v : ℤ} → Entry.Position u ≡ Entry.Position v → u ≡ v
+same_position : {u v : ℤ} → Some u ≡ Some v → u ≡ v
 same_position p = cc
 
 module _ (a : List ℕ) {p : Player} (M : Memory) {positions : List ℤ} (begun : (read_file a).setup.begun ≡ true) (T : PlayerOf p (read_file a))
@@ -45,8 +45,8 @@ module _ (a : List ℕ) {p : Player} (M : Memory) {positions : List ℤ} (begun 
   still_agreed agreed = as_before (go (agreed_before F) refl (T.agreed ∙ agreed)) agreed
     where
       go : (A : Entry) → agreed_before F ≡ A → is_agreed A ≡ true → agreed_after_all F ≡ agreed_before F
-      go Null b t = absurd (true≢false (sym t))
-      go (Position u) b t = agreed_stays F b ∙ sym b
+      go None b t = absurd (true≢false (sym t))
+      go (Some u) b t = agreed_stays F b ∙ sym b
 
   module _ (fresh : p.agreed ≡ false) where
     pub none_pending : p.pending ≡ false → Agrees F false (with_positions M positions)
@@ -91,15 +91,15 @@ module _ (a : List ℕ) {p : Player} (M : Memory) {positions : List ℤ} (begun 
             }
           where
             go : (x : Entry) → E ≡ x → new ≡ levelled x positions → HoldsAll F x (with_positions M new)
-            go Null z same =
+            go None z same =
                 rw same (subst (λ (A : Entry). HoldsAll F A (with_positions M positions)) (not_agreed (agreed_before F) (T.agreed ∙ fresh)) H)
-            go (Position u) z same =
+            go (Some u) z same =
                 let level : Each receivers (λ i. get_or new i (pos 0) ≡ u) = λ i l. rw same (get_or-replicate receivers i u (pos 0) l) in
                 let held = agreed_end F (taken a begun) waits last (with_positions M new) (agreed_is ∙ z) level in
                 record {
                   keeps =
                       rw waits
                       (end_keeps F.setup.family F.setup.n F.setup.listeners F.setup.f (ring_before F) F.rounds.last (with_positions M new)
-                      (waiting_playable F (taken a begun) waits).ready last held (Position u));
+                      (waiting_playable F (taken a begun) waits).ready last held (Some u));
                   level = λ v q i l. level i l ∙ same_position q;
                 }

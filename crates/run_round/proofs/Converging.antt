@@ -1,5 +1,6 @@
 -- Demand 3 of the positions in memory. Before the first round of a phase the ring stands at the latest phase end, and the memory holds the position of each receiver that
 -- is not out there, so it keeps demand 3 with each end as the latest end does. What it holds of all listeners it holds of the first ones.
+use Rattle.std.specs.Prelude.{None, Some}
 use mathlib.Core.Path.{◌≡◌, refl, ap, sym, ◌∙◌}
 use mathlib.Core.Bool.{Bool, true, false, not, ◌&&◌, ◌||◌, true≢false}
 use mathlib.Core.List.{List, [], ◌∷◌}
@@ -10,8 +11,7 @@ use lib.Dec.{ltb, leb}
 use lib.ListN.{length, get_or}
 use lib.IntN.{ℤ, pos}
 use borrow.Author.Tests.{ltb-true, lt-ltb}
-use Rattle.terms.specs.declared.Entry.{Entry}
-use Rattle.terms.specs.declared.Entry.TheVariants.{Null, Position}
+use Rattle.terms.specs.Entry.{Entry}
 use Rattle.terms.specs.declared.Family.{Family}
 use Rattle.terms.specs.declared.Family.TheVariants.{TwoRounds, OneRound}
 use Rattle.terms.specs.Sizes.{ends_with}
@@ -33,15 +33,15 @@ use Rattle.run_state.specs.Heads.{HeadsOf}
 use Rattle.run_round.specs.Converged.{ConvergedIn}
 
 -- what lies between is a position
-held_at : (low high : Entry) {u : ℤ} (x : Entry) → HeldBetween low high x → ((v : ℤ) → x ≡ Entry.Position v → u ≡ v) → x ≡ Entry.Position u
-held_at low high Null b same = absurd (none low high b)
+held_at : (low high : Entry) {u : ℤ} (x : Entry) → HeldBetween low high x → ((v : ℤ) → x ≡ Some v → u ≡ v) → x ≡ Some u
+held_at low high None b same = absurd (none low high b)
   where
-    none : (low high : Entry) → HeldBetween low high Entry.Null → ⊥
-    none Null Null b = b
-    none Null (Position h) b = b
-    none (Position l) Null b = b
-    none (Position l) (Position h) b = b
-held_at low high (Position v) b same = rw (same v refl)
+    none : (low high : Entry) → HeldBetween low high None → ⊥
+    none None None b = b
+    none None (Some h) b = b
+    none (Some l) None b = b
+    none (Some l) (Some h) b = b
+held_at low high (Some v) b same = rw (same v refl)
 
 -- neither missing nor struck
 not_out : (r c : Bool) → (not r || c) ≡ false → (r ≡ true) × (c ≡ false)
@@ -101,7 +101,7 @@ module _ (K : Family) (n m f : ℕ) (v : ℕ → ℤ) where
 
     -- whoever is not out at the latest end holds a position, and the memory holds it
     pub held_here : 0 < length (ends_after K n f v ws)
-        → Each receivers (λ i. is_out n m e.struck i ≡ false → (e.heads i).seat.position ≡ Entry.Position (get_or M.positions i (pos 0)))
+        → Each receivers (λ i. is_out n m e.struck i ≡ false → (e.heads i).seat.position ≡ Some (get_or M.positions i (pos 0)))
     held_here some i h o =
         let S = latest ws c in
         let (r, q) = not_out (is_receiver n m i) _ o in
@@ -135,7 +135,7 @@ module _ (b : Bool) (a : List ℕ) where
   pub held_at_end : {A : Entry} {M : Memory} → F.setup.begun ≡ true → HeadsOf F.setup.n F.setup.listeners A (ring_from F.setup (played_with b F)) M
       → (ring_from F.setup (played_with b F)).round ≡ 0 → (x : PhaseEnd) {es : List PhaseEnd} → ends_from F.setup (played_with b F) ≡ x ∷ es
       → Each receivers (λ i. is_out F.setup.n F.setup.listeners x.struck i ≡ false
-      → (x.heads i).seat.position ≡ Entry.Position (get_or M.positions i (pos 0)))
+      → (x.heads i).seat.position ≡ Some (get_or M.positions i (pos 0)))
   held_at_end begun K c x e =
       rw e at
       (held_here F.setup.family F.setup.n F.setup.listeners F.setup.f F.setup.first (played_with b F) (played_converges F (taken a begun) b) K c

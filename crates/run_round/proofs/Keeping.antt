@@ -1,6 +1,7 @@
 -- The memory keeps step with the ring. Before a round it settles what each record that is neither struck nor healed has to say, so that each unstruck
 -- receiver, head or listener, hears the same in both, and makes the same of it: in collection its list, its position left as it is, in the last round of a phase its
 -- new position, since no closing is refused (`ends_positions`): in a phase of two rounds from what it trusts, in one of one round from what it hears.
+use Rattle.std.specs.Prelude.{None, Some}
 use mathlib.Core.Path.{◌≡◌, refl, ap, ap₂, sym, ◌∙◌}
 use mathlib.Core.Bool.{Bool, true, false, cond, true≢false}
 use mathlib.Core.List.{List, []}
@@ -10,7 +11,7 @@ use native.Mathlib.Omega.{arith}
 use borrow.Author.Tests.{lt-ltb, le-ltb}
 use lib.ListN.{get_or}
 use lib.IntN.{ℤ, pos}
-use Rattle.terms.specs.declared.Entry.{Entry}
+use Rattle.terms.specs.Entry.{Entry}
 use Rattle.terms.specs.declared.Family.{Family}
 use Rattle.terms.specs.declared.Family.TheVariants.{TwoRounds, OneRound}
 use Rattle.terms.specs.Sizes.{ends_with}
@@ -44,10 +45,10 @@ use Rattle.frame_spec.proofs.Tables.{table_of_entries}
 use Rattle.run_round.proofs.Carried.{StagePlays, heads_are, hears_unstruck, settles_unstruck, said_same}
 
 -- a record holds one position at most
-pub one_position : {e : Entry} {u v : ℤ} → e ≡ Entry.Position u → e ≡ Entry.Position v → u ≡ v
+pub one_position : {e : Entry} {u v : ℤ} → e ≡ Some u → e ≡ Some v → u ≡ v
 one_position p q = cc
 
-pub no_position : {A : Type 0} {v : ℤ} → Entry.Null ≡ Entry.Position v → A
+pub no_position : {A : Type 0} {v : ℤ} → None ≡ Some v → A
 no_position p = let z : ◌≡◌ {A = ℕ} 0 1 = cc in absurd (omega arith)
 
 -- a receiver that is not struck hears
@@ -57,11 +58,11 @@ hearer n m marks i l r q = (hears-in n m marks i l (rw (r, q) refl)).0
 -- ---- the start, with the positions of the start record: a listener holds none
 
 module _ (K : Family) (n m f : ℕ) (most : n ≤ 32) (v : ℕ → ℤ) (M : Memory) (same : Each n (λ i. get_or M.positions i (pos 0) ≡ v i)) where
-  pub start_positions : Each n (λ i. (first_heads K n f v i).seat.position ≡ Entry.Position (get_or M.positions i (pos 0)))
+  pub start_positions : Each n (λ i. (first_heads K n f v i).seat.position ≡ Some (get_or M.positions i (pos 0)))
   unfolding first_heads started
-  start_positions i l = rw (lt-ltb i 32 (omega arith)) (ap Entry.Position (sym (same i l)))
+  start_positions i l = rw (lt-ltb i 32 (omega arith)) (ap Some (sym (same i l)))
 
-  start_always : (i : ℕ) → Hears n i → (u : ℤ) → (first_heads K n f v i).seat.position ≡ Entry.Position u → get_or M.positions i (pos 0) ≡ u
+  start_always : (i : ℕ) → Hears n i → (u : ℤ) → (first_heads K n f v i).seat.position ≡ Some u → get_or M.positions i (pos 0) ≡ u
   unfolding first_heads started_listener
   start_always i (inl l) u e = one_position (start_positions i l) e
   start_always i (inr h) u e = no_position (rw (le-ltb i 32 (listener_large i h)) at e)
@@ -82,7 +83,7 @@ unfolding ring_after first_heads started_listener
 start_keeps_any K n m k f v B {M} H =
     record { collection = H.collection; confession = λ r. absurd (omega arith); always = λ i l r q. held i l q (hearer n k 0 i l r q) }
   where
-    held : (i : ℕ) → i < receivers → bit_of 0 i ≡ false → Hears n i → (u : ℤ) → (first_heads K n f v i).seat.position ≡ Entry.Position u
+    held : (i : ℕ) → i < receivers → bit_of 0 i ≡ false → Hears n i → (u : ℤ) → (first_heads K n f v i).seat.position ≡ Some u
         → get_or M.positions i (pos 0) ≡ u
     held i l q (inl b) u e = H.always i l (rw (lt-ltb i n b)) q u e
     held i l q (inr h) u e = no_position (rw (le-ltb i 32 (listener_large i h)) at e)
@@ -104,20 +105,20 @@ module _ {n m f : ℕ} {R : Ring} {w : Round} {s : Stage} {plant : ℕ → ℕ �
     pub in_range : InRange s positions
     in_range k l = go (bit_of s.before k) refl
       where
-        go : (b : Bool) → bit_of s.before k ≡ b → Proper (heads s) (collected (cond b Entry.Null (Entry.Position (get_or positions k (pos 0)))))
+        go : (b : Bool) → bit_of s.before k ≡ b → Proper (heads s) (collected (cond b None (Some (get_or positions k (pos 0)))))
         go true e = tt
         go false e =
             let l' : k < n = rw (heads_are P S) at l in
             let q : bit_of R.before k ≡ false = sym (P.before k (omega arith)) ∙ e in
-            let T : Proper (R.heads k).seat.n (collected (Entry.Position (get_or positions k (pos 0)))) = rw (H.collection sending k l' q) at (S.heads k (inl l') q).fresh.proper.seat.position in
+            let T : Proper (R.heads k).seat.n (collected (Some (get_or positions k (pos 0)))) = rw (H.collection sending k l' q) at (S.heads k (inl l') q).fresh.proper.seat.position in
             T
 
     says_position : (k : ℕ) → k < n → bit_of w.struck k ≡ false → spoken (opened_at K n f R w k) ≡ sends s positions k
     says_position k l q = says_entry (opened_in K n f R w S k (inl l) q sending) ∙ rw (P.before k (omega (arith, S.size.most))) (go (bit_of R.before k) refl)
       where
         go : (b : Bool) → bit_of R.before k ≡ b
-            → collected (cond b Entry.Null (opened_at K n f R w k).seat.position)
-            ≡ collected (cond b Entry.Null (Entry.Position (get_or positions k (pos 0))))
+            → collected (cond b None (opened_at K n f R w k).seat.position)
+            ≡ collected (cond b None (Some (get_or positions k (pos 0))))
         go true e = refl
         go false e = rw (opened_same K n f R w k q e, H.collection sending k l e)
 
@@ -151,20 +152,20 @@ module _ {n m f : ℕ} {R : Ring} {w : Round} {s : Stage} {plant : ℕ → ℕ �
 
     -- a receiver's position, which one that is healed in this round does not have
     position_stays : (i : ℕ) → i < receivers → is_receiver n m i ≡ true → bit_of w.struck i ≡ false
-        → (v : ℤ) → ((after_round K n f R w).heads i).seat.position ≡ Entry.Position v → get_or positions i (pos 0) ≡ v
+        → (v : ℤ) → ((after_round K n f R w).heads i).seat.position ≡ Some v → get_or positions i (pos 0) ≡ v
     unfolding after_round closed_collection opened_at restarted
     position_stays i l r q v e =
         go (bit_of R.before i) refl
         (sym (ap (λ (h : Head). h.seat.position) (collection_closed K n f R w S i (hearer n m w.struck i l r q) q first)
         ∙ ap (λ (x : Seat). x.position) (heard_seat K n f R w S i (hearer n m w.struck i l r q) q)) ∙ e)
       where
-        go : (b : Bool) → bit_of R.before i ≡ b → (opened_at K n f R w i).seat.position ≡ Entry.Position v → get_or positions i (pos 0) ≡ v
+        go : (b : Bool) → bit_of R.before i ≡ b → (opened_at K n f R w i).seat.position ≡ Some v → get_or positions i (pos 0) ≡ v
         go true b e = no_position (rw (q, b) at e)
         go false b e = H.always i l r b v (rw (opened_same K n f R w i q b) at e)
 
     -- the lists are kept as long as the ring has not agreed
     pub collection_keeps : {M' : Memory} → M'.positions ≡ positions
-        → (A ≡ Entry.Null → (i : ℕ) → row_in M'.marks M'.lists i ≡ cond (hears s i) (table_of (heads s) (list_entry s positions plant i)) (row_in M.marks M.lists i))
+        → (A ≡ None → (i : ℕ) → row_in M'.marks M'.lists i ≡ cond (hears s i) (table_of (heads s) (list_entry s positions plant i)) (row_in M.marks M.lists i))
         → HeadsOf n m A (after_round K n f R w) M'
     unfolding after_round
     collection_keeps same new =
@@ -196,25 +197,25 @@ module _ {n m f : ℕ} {R : Ring} {w : Round} {s : Stage} {plant : ℕ → ℕ �
       unfolding enough
       still_calm = rw (← nulls_same n _ _ (same i l hear q)) calm
 
-      position_kept : ((after_round K n f R w).heads i).seat.position ≡ Entry.Position (u i)
+      position_kept : ((after_round K n f R w).heads i).seat.position ≡ Some (u i)
       unfolding after_round
       position_kept =
           confession_settles K n f R w D.ready i hear q last calm
-          ∙ ap Entry.Position (midpoint_same (rounding R.phase) n (rule_of K f) _ _ (same i l hear q)
+          ∙ ap Some (midpoint_same (rounding R.phase) n (rule_of K f) _ _ (same i l hear q)
           ∙ sym (makes i ∙ settles_midpoint (rounding R.phase) n (rule_of K f) (E i) still_calm))
 
     module _ (M' : Memory) (new : (i : ℕ) → get_or M'.positions i (pos 0) ≡ cond (settles s i) (u i) (get_or positions i (pos 0))) where
       -- in phase 65,535 too, where the ring ends
       pub ends_positions : Each receivers (λ i. is_receiver n m i ≡ true → bit_of w.struck i ≡ false
-          → ((after_round K n f R w).heads i).seat.position ≡ Entry.Position (get_or M'.positions i (pos 0)))
-      ends_positions i l r q = position_kept i l r q ∙ ap Entry.Position (sym (new i ∙ rw (settles_unstruck P D.ready i l r q)))
+          → ((after_round K n f R w).heads i).seat.position ≡ Some (get_or M'.positions i (pos 0)))
+      ends_positions i l r q = position_kept i l r q ∙ ap Some (sym (new i ∙ rw (settles_unstruck P D.ready i l r q)))
 
 -- after the last round of a phase the memory holds the positions, and no list is kept
 module _ (K : Family) (n m f : ℕ) (R : Ring) (w : Round) (M : Memory) where
   abbrev pub EndHeld : Type 0
   EndHeld =
       Each receivers (λ i. is_receiver n m i ≡ true → bit_of w.struck i ≡ false
-      → ((after_round K n f R w).heads i).seat.position ≡ Entry.Position (get_or M.positions i (pos 0)))
+      → ((after_round K n f R w).heads i).seat.position ≡ Some (get_or M.positions i (pos 0)))
 
   pub end_keeps : RingReady K n f R → ends_with K R.round ≡ true → EndHeld → (A : Entry) → HeadsOf n m A (after_round K n f R w) M
   unfolding after_round
@@ -229,7 +230,7 @@ module _ (K : Family) (n m f : ℕ) (R : Ring) (w : Round) (M : Memory) where
 -- ---- a confession round
 
 module _ {n m f : ℕ} {R : Ring} {w : Round} {s : Stage} {plant : ℕ → ℕ → List ℕ} (P : StagePlays n m f R w s plant) {A : Entry} {M : Memory} (H : HeadsOf n m A R M)
-    (fresh : A ≡ Entry.Null) (D : Playable TwoRounds n f R) (few : AtMost f n (bit_of w.struck)) (last : ends_with TwoRounds R.round ≡ true) where
+    (fresh : A ≡ None) (D : Playable TwoRounds n f R) (few : AtMost f n (bit_of w.struck)) (last : ends_with TwoRounds R.round ≡ true) where
   abbrev S : RingReady TwoRounds n f R
   S = D.ready
 

@@ -1,5 +1,6 @@
 -- The pending round, played. What the player tells of the file is the stage that its round needs, and the memory holds the planted bytes and the records, so
 -- the memory keeps step with the ring; by its number it is the last of its phase, whose line is made of the new positions, or not, and then it shows nothing.
+use Rattle.std.specs.Prelude.{None, Some}
 use mathlib.Core.Path.{◌≡◌, refl, ap, sym, subst, ◌∙◌}
 use mathlib.Core.Bool.{Bool, true, false, cond, true≢false}
 use mathlib.Core.List.{List, [], ◌∷◌, ◌++◌}
@@ -8,8 +9,7 @@ use native.Mathlib.Omega.{arith}
 use lib.ListN.{length, get_or}
 use lib.IntN.{pos}
 use Rattle.terms.specs.Sizes.{ends_with}
-use Rattle.terms.specs.declared.Entry.{Entry}
-use Rattle.terms.specs.declared.Entry.TheVariants.{Null, Position}
+use Rattle.terms.specs.Entry.{Entry}
 use Rattle.terms.specs.declared.Family.{Family}
 use Rattle.terms.specs.declared.Family.TheVariants.{TwoRounds, OneRound}
 use Rattle.marks.specs.Marks.{bit_of}
@@ -46,7 +46,7 @@ use Rattle.run_round.proofs.Shown.{no_line, last_line}
 
 -- by the family, whatever it is called
 module _ {n m f : ℕ} {R : Ring} {w : Round} {s : Stage} {plant : ℕ → ℕ → List ℕ} {A : Entry} {M : Memory} where
-  in_two : (K : Family) → K ≡ TwoRounds → StagePlays n m f R w s plant → HeadsOf n m A R M → A ≡ Null → Playable K n f R → AtMost f n (bit_of w.struck)
+  in_two : (K : Family) → K ≡ TwoRounds → StagePlays n m f R w s plant → HeadsOf n m A R M → A ≡ None → Playable K n f R → AtMost f n (bit_of w.struck)
       → ends_with K R.round ≡ true → (M' : Memory)
       → (Sayable s M.marks M.lists → (i : ℕ) → get_or M'.positions i (pos 0)
       ≡ cond (settles s i) (new_position s M.marks M.lists plant i) (get_or M.positions i (pos 0)))
@@ -68,9 +68,9 @@ end_shown TwoRounds before struck heads = refl
 end_shown OneRound before struck heads = refl
 
 -- by the flag
-pub not_agreed : (A : Entry) → is_agreed A ≡ false → A ≡ Null
-not_agreed Null e = refl
-not_agreed (Position u) e = absurd (true≢false e)
+pub not_agreed : (A : Entry) → is_agreed A ≡ false → A ≡ None
+not_agreed None e = refl
+not_agreed (Some u) e = absurd (true≢false e)
 
 -- 16 bits hold the phase
 phase_here : (K : Family) (k g p : ℕ) → k + 1 ≡ g → g ≤ most_rounds K → p ≡ phase_of K (k + 1) → phase_of K g % 65536 ≡ p
@@ -168,14 +168,14 @@ module _ {F : File} {p : Player} {s : Stage} {M : Memory}
   agreed_kept agreed = go (agreed_before F) refl (T.agreed ∙ agreed) (ends_with K R.round) refl
     where
       go : (A : Entry) → agreed_before F ≡ A → is_agreed A ≡ true → (b : Bool) → ends_with K R.round ≡ b → Kept F M
-      go Null a e b last = absurd (true≢false (sym e))
-      go (Position u) a e false last =
+      go None a e b last = absurd (true≢false (sym e))
+      go (Some u) a e false last =
           record {
             keeps = collection_keeps plays (H.keeps begun) ready.ready last refl (λ z. no_position (sym z ∙ a));
             level = H.level begun;
             ends = λ l. absurd (true≢false (sym l ∙ last));
           }
-      go (Position u) a e true last =
+      go (Some u) a e true last =
           let held = agreed_end F I pending last M (agreed_stays F a) (H.level begun u a) in
           record {
             keeps = end_keeps K F.setup.n F.setup.listeners F.setup.f R F.rounds.last M ready.ready last held (agreed_before F);

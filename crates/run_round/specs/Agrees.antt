@@ -1,6 +1,6 @@
 -- Whether the ring of a file has agreed once the rounds given are all played, and what the memory then holds.
 use Rattle.std.specs.Prelude.{Bool, ◌≡◌}
-use Rattle.terms.specs.declared.Entry.{Entry}
+use Rattle.terms.specs.Entry.{Entry}
 use Rattle.ring_spec.specs.Rounds.{Ring}
 use Rattle.ring_spec.specs.Agreed.{agreed_on, is_agreed}
 use Rattle.run_spec.specs.RunFile.{File, all_rounds, ends_from, ring_from}

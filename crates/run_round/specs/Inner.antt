@@ -1,7 +1,7 @@
 -- What the private functions promise each other. Readers of the public promises do not need this file.
-use Rattle.std.specs.Prelude.{cond, true, false, List, [], ◌≡◌, ℕ, ◌/◌, ◌%◌, ◌^◌, get_or, ℤ, pos}
+use Rattle.std.specs.Prelude.{cond, true, false, List, [], ◌≡◌, ℕ, ◌/◌, ◌%◌, ◌^◌, get_or, ℤ, pos, Some}
 use Rattle.terms.specs.Sizes.{ends_with}
-use Rattle.terms.specs.declared.Entry.{Entry}
+use Rattle.terms.specs.Entry.{Entry}
 use Rattle.marks.specs.Marks.{bit_of}
 use Rattle.terms.specs.Counting.{Each}
 use Rattle.ring_spec.specs.Rounds.{Ring, lost, receivers, is_receiver, phase_of, ends_phase, phase_end, after_round}
@@ -42,4 +42,4 @@ pub record Kept (F : File) (M : Memory) : Type 0 where
   pub keeps : HeadsOf F.setup.n F.setup.listeners (agreed_before F) (ring_played F) M
   pub level : Level (agreed_before F) M.positions
   pub ends : ends_with F.setup.family (ring_before F).round ≡ true → Each receivers (λ i. is_receiver F.setup.n F.setup.listeners i ≡ true
-      → bit_of F.rounds.last.struck i ≡ false → ((ring_played F).heads i).seat.position ≡ Entry.Position (get_or M.positions i (pos 0)))
+      → bit_of F.rounds.last.struck i ≡ false → ((ring_played F).heads i).seat.position ≡ Some (get_or M.positions i (pos 0)))

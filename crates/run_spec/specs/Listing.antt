@@ -1,14 +1,14 @@
 -- The listing: a function of the phase ends played and of how the file ended. Bytes are ASCII.
-use Rattle.std.specs.Prelude.{List, [], ◌∷◌, ◌++◌, ℕ, zero, suc, length}
-use Rattle.terms.specs.declared.Entry.{Entry}
+use Rattle.std.specs.Prelude.{List, [], ◌∷◌, ◌++◌, ℕ, zero, suc, length, None, Some}
+use Rattle.terms.specs.Entry.{Entry}
 use Rattle.texts.specs.Numbers.{decimal, whole, hex, spaced}
 use Rattle.convergence.specs.Phases.{lowest, highest, spread}
 use Rattle.ring_spec.specs.Rounds.{PhaseEnd, receivers, as_end}
 use Rattle.run_spec.specs.RunFile.{File, read_file, ends_so_far, ending, ends_played}
 
 abbrev pub text_of : Entry → List ℕ
-text_of Entry.Null = []
-text_of (Entry.Position v) = whole v
+text_of None = []
+text_of (Some v) = whole v
 
 -- "phase low high spread collect confess" (P54)
 unfoldable pub title : List ℕ

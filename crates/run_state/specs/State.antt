@@ -1,7 +1,6 @@
 -- What the player and the memory lent to it hold of the file read so far.
-use Rattle.std.specs.Prelude.{true, List, ◌≡◌, ℕ, ◌≤◌, ◌<◌, length, get_or, ℤ, pos}
-use Rattle.terms.specs.declared.Entry.{Entry}
-use Rattle.terms.specs.declared.Entry.TheVariants.{Position}
+use Rattle.std.specs.Prelude.{true, List, ◌≡◌, ℕ, ◌≤◌, ◌<◌, length, get_or, ℤ, pos, Some}
+use Rattle.terms.specs.Entry.{Entry}
 use Rattle.terms.specs.Counting.{Each}
 use Rattle.ring_spec.specs.Rounds.{Ring, planted, receivers}
 use Rattle.ring_spec.specs.Agreed.{agreed_on, is_agreed}
@@ -22,7 +21,7 @@ agreed_before F = agreed_on F.setup.n F.setup.listeners (ends_from F.setup F.rou
 
 -- in a ring that has agreed every position is the one on which it did
 abbrev pub Level : Entry → List ℤ → Type 0
-Level agreed positions = (u : ℤ) → agreed ≡ Position u → Each receivers (λ i. get_or positions i (pos 0) ≡ u)
+Level agreed positions = (u : ℤ) → agreed ≡ Some u → Each receivers (λ i. get_or positions i (pos 0) ≡ u)
 
 -- the player's numbers are those of the file F; since: the counts when the rounds before the pending one are played (document 02, A10)
 pub record PlayerOf (p : Player) (F : File) : Type 0 where

@@ -84,7 +84,7 @@ pub fn unread() -> Player
     fresh(false, Family::TwoRounds, 0, 0)
 }
 
-// The player at a fault, which ends the file.
+// The player at a fault, which ends the file. The number may be any: a `Refusal` would be a narrower type.
 pub fn stop(p: Player, number: u8) -> Player
     ensures { result ≡ halted p 0 number }
 {

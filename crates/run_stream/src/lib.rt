@@ -16,7 +16,7 @@ use frame_slots::{PlantedBytes, PlantedLengths};
 use run_piece::{FeedResult, PassResult};
 use run_spec::Pair;
 use run_state::{Carry, Counts, Player};
-use terms::{Lists, Positions, Words, refusal};
+use terms::{Lists, Positions, Words, Refusal};
 use texts::Text;
 
 // A page of the listing, of 256 lines at least.
@@ -171,7 +171,7 @@ fn ending(p: Player) -> u8
     if p.begun && p.have == 0 && run_state::ends_phase(family, p.given) {
         return 0;
     }
-    refusal::BAD_RUN_RECORD
+    Refusal::BadRunRecord.number()
 }
 
 // The end of the file: the pending round is played if it ends well.

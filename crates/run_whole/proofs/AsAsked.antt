@@ -1,4 +1,5 @@
 -- The request's sentence about a quiet phase (document 02, A11): in a ring of two rounds the word of a phase end is that of its confession round.
+use Rattle.std.specs.Prelude.{None, Some}
 use mathlib.Core.Path.{◌≡◌, refl, ap, sym, subst, ◌∙◌}
 use mathlib.Core.Bool.{Bool, true, false, not, cond, ◌||◌}
 use mathlib.Core.List.{List, [], ◌∷◌}
@@ -8,8 +9,7 @@ use borrow.Author.Tests.{lt-ltb}
 use lib.ListN.{length, get_or}
 use lib.IntN.{ℤ, pos}
 use Rattle.terms.specs.Sizes.{ends_with}
-use Rattle.terms.specs.declared.Entry.{Entry}
-use Rattle.terms.specs.declared.Entry.TheVariants.{Null, Position}
+use Rattle.terms.specs.Entry.{Entry}
 use Rattle.terms.specs.declared.Family.{Family}
 use Rattle.terms.specs.declared.Family.TheVariants.{TwoRounds}
 use Rattle.marks.specs.Marks.{bit_of}
@@ -61,8 +61,8 @@ head_there : (n m i : ℕ) → i < n → is_receiver n m i ≡ true
 head_there n m i l = rw (lt-ltb i n l)
 
 abbrev number_in : Entry → ℤ
-number_in Null = pos 0
-number_in (Position v) = v
+number_in None = pos 0
+number_in (Some v) = v
 
 pub quiet_phase : QuietPhase
 unfolding end_in

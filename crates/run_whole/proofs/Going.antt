@@ -1,6 +1,7 @@
 -- From place to place through a file. What a piece shows is put behind the text that is there, and if it is the line of a phase end the ring stands there, with
 -- its positions in memory, and these are kept. So at the end the buffers hold the listing and every phase end, and any two of these keep demand 3, since the
 -- ends of the file do.
+use Rattle.std.specs.Prelude.{Some}
 use mathlib.Core.Path.{◌≡◌, refl, ap, sym, ◌∙◌}
 use mathlib.Core.Bool.{Bool, true, false, not, cond, ◌&&◌, ◌||◌, true≢false}
 use mathlib.Core.List.{List, [], ◌∷◌, ◌++◌, append_assoc}
@@ -12,7 +13,7 @@ use lib.Dec.{eqb}
 use lib.ListN.{length, get_or, take}
 use lib.Seq.{length-take-le, take_all}
 use lib.IntN.{ℤ, pos}
-use Rattle.terms.specs.declared.Entry.{Entry}
+use Rattle.terms.specs.Entry.{Entry}
 use Rattle.terms.specs.Counting.{Each}
 use Rattle.convergence.specs.Phases.{spread}
 use Rattle.convergence.specs.Demand3.{Demand3}
@@ -221,7 +222,7 @@ last_held : (s : List ℕ) {M : Memory} {es : List PhaseEnd} → let F = read_fi
     F.setup.begun ≡ true → HeadsOf F.setup.n F.setup.listeners (agreed_before F) (ring_at_end F) M → (ring_at_end F).round ≡ 0 → (x : PhaseEnd)
     → ends_played F ≡ x ∷ es
     → Each receivers (λ i. is_out F.setup.n F.setup.listeners x.struck i ≡ false
-    → (x.heads i).seat.position ≡ Entry.Position (get_or M.positions i (pos 0)))
+    → (x.heads i).seat.position ≡ Some (get_or M.positions i (pos 0)))
 unfolding ends_played rounds_played
 last_held s begun K z x e = held_at_end (eqb (ending (read_file s)) 0) s begun K z x (started (ends_from (read_file s).setup (rounds_played (read_file s))) begun ∙ e)
 

@@ -1,4 +1,5 @@
 -- Rows of a table, and the phase ends that they hold. A row is written behind the rows that are there, so that these stay what they were.
+use Rattle.std.specs.Prelude.{Some}
 use mathlib.Core.Path.{◌≡◌, refl, ap, sym, ◌∙◌}
 use mathlib.Core.Bool.{Bool, true, false, not, cond, ◌&&◌, ◌||◌, true≢false}
 use mathlib.Core.List.{List, [], ◌∷◌, ◌++◌, append_assoc}
@@ -8,7 +9,7 @@ use native.Mathlib.Decide.{dec_lt}
 use lib.ListN.{length, get_or, take, drop, length-append, get_or-append}
 use lib.Seq.{take-add, take-take, take_at, drop_at, take-length, length-take-le, get_or_at, paste}
 use lib.IntN.{ℤ, pos}
-use Rattle.terms.specs.declared.Entry.{Entry}
+use Rattle.terms.specs.Entry.{Entry}
 use Rattle.terms.specs.declared.Family.{Family}
 use Rattle.terms.specs.Counting.{Each}
 use Rattle.ring_spec.specs.Rounds.{Round, PhaseEnd, receivers, is_receiver, is_out, all_listeners, ends_after}
@@ -56,12 +57,12 @@ module _ (n m word : ℕ) (positions : List ℤ) where
 
   -- it holds a phase end whose sound receivers hold these positions
   pub row_holds : (x : PhaseEnd) → word ≡ x.struck
-      → Each receivers (λ i. is_out n m x.struck i ≡ false → (x.heads i).seat.position ≡ Entry.Position (get_or positions i (pos 0)))
+      → Each receivers (λ i. is_out n m x.struck i ≡ false → (x.heads i).seat.position ≡ Some (get_or positions i (pos 0)))
       → HoldsEnd n m x (sound_row n m word positions 48) word
   row_holds x e held =
       record {
         marks = e;
-        held = λ i l s. held i l (out_unsound (is_receiver n m i) _ s) ∙ ap Entry.Position (sym (number i l s));
+        held = λ i l s. held i l (out_unsound (is_receiver n m i) _ s) ∙ ap Some (sym (number i l s));
         others = λ i l s. number i l s;
       }
     where

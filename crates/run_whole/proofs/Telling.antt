@@ -1,4 +1,5 @@
 -- What the buffers tell, as a text is put behind the text that is there, and a phase end behind the ends.
+use Rattle.std.specs.Prelude.{Some}
 use mathlib.Core.Path.{◌≡◌, refl, ap, sym, ◌∙◌}
 use mathlib.Core.Bool.{Bool, true, false, not}
 use mathlib.Core.List.{List, [], ◌∷◌, ◌++◌}
@@ -9,7 +10,7 @@ use lib.ListN.{length, get_or, set, take, drop, length-append, length-drop, leng
 use lib.Seq.{take_at, take-length, drop-append-add, drop-drop, drop-set-lt, get_or-set_same, get_or-set_other, paste, length-paste, drop-paste}
 use lib.IntN.{ℤ, pos}
 use borrow.Author.Tests.{leb-true, eq-eqb, ne_eqb}
-use Rattle.terms.specs.declared.Entry.{Entry}
+use Rattle.terms.specs.Entry.{Entry}
 use Rattle.terms.specs.Counting.{Each}
 use Rattle.terms.proofs.Booleans.{and_both}
 use Rattle.ring_spec.specs.Rounds.{Ring, PhaseEnd, receivers, is_out}
@@ -38,7 +39,7 @@ roomy k B h =
 -- a phase end x of n heads and m listeners at which the ring R stands: those struck in its last round are these, and the positions are those of its sound receivers
 pub record AtEnd (n m : ℕ) (x : PhaseEnd) (R : Ring) (struck : ℕ) (positions : List ℤ) : Type 0 where
   pub is : struck ≡ R.before
-  pub held : Each receivers (λ i. is_out n m x.struck i ≡ false → (x.heads i).seat.position ≡ Entry.Position (get_or positions i (pos 0)))
+  pub held : Each receivers (λ i. is_out n m x.struck i ≡ false → (x.heads i).seat.position ≡ Some (get_or positions i (pos 0)))
 
 -- the word of the next end
 word_here : (es : List PhaseEnd) (R : Ring) {c struck : ℕ} → c ≡ length es → struck ≡ R.before → word_at c struck ≡ struck_here es R
@@ -77,7 +78,7 @@ module _ {n m : ℕ} {text : List ℕ} {es : List PhaseEnd} {l c : ℕ} {B₀ B 
   -- ---- a phase end more
 
   module _ (x : PhaseEnd) (word : ℕ) (positions : List ℤ) (is : word ≡ x.struck)
-      (held : Each receivers (λ i. is_out n m x.struck i ≡ false → (x.heads i).seat.position ≡ Entry.Position (get_or positions i (pos 0))))
+      (held : Each receivers (λ i. is_out n m x.struck i ≡ false → (x.heads i).seat.position ≡ Some (get_or positions i (pos 0))))
       (ends-room : 48 * c + 48 ≤ length B.rows) (words-room : c < length B.words) where
     abbrev s : List ℤ
     s = sound_row n m word positions 48

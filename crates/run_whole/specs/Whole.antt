@@ -1,7 +1,7 @@
 -- The promise of playing a whole file: one record about all of it, and demand 3 of what the buffers hold.
-use Rattle.std.specs.Prelude.{Bool, true, false, not, ◌&&◌, List, ◌++◌, ◌≡◌, ℕ, ◌+◌, ◌-◌, ◌*◌, ◌≤◌, ◌<◌, length, get_or, drop, replicate, ℤ, pos}
+use Rattle.std.specs.Prelude.{Bool, true, false, not, ◌&&◌, List, ◌++◌, ◌≡◌, ℕ, ◌+◌, ◌-◌, ◌*◌, ◌≤◌, ◌<◌, length, get_or, drop, replicate, ℤ, pos, Some}
 use Rattle.terms.specs.Refusals as refusal
-use Rattle.terms.specs.declared.Entry.{Entry}
+use Rattle.terms.specs.Entry.{Entry}
 use Rattle.marks.specs.Marks.{bit_of}
 use Rattle.terms.specs.Counting.{Each}
 use Rattle.convergence.specs.Phases.{End}
@@ -27,7 +27,7 @@ is_sound n m word i = is_receiver n m i && not (bit_of word i)
 -- all listeners, which hold no position yet; the row has for each sound receiver the position that its record holds, and 0 elsewhere.
 pub record HoldsEnd (n m : ℕ) (x : PhaseEnd) (row : List ℤ) (word : ℕ) : Type 0 where
   pub marks : word ≡ x.struck
-  pub held : Each receivers (λ i. is_sound n m x.struck i ≡ true → (x.heads i).seat.position ≡ Entry.Position (get_or row i (pos 0)))
+  pub held : Each receivers (λ i. is_sound n m x.struck i ≡ true → (x.heads i).seat.position ≡ Some (get_or row i (pos 0)))
   pub others : Each receivers (λ i. is_sound n m x.struck i ≡ false → get_or row i (pos 0) ≡ pos 0)
 
 -- the phase end of n heads and m listeners that row e and word e are

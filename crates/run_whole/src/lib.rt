@@ -12,7 +12,7 @@ ghost use Rattle.run_whole.specs.Inner.{Put, sound_number, sound_row, word_at, E
 use frame_slots::{PlantedBytes, PlantedLengths};
 use run_judge::HEAD_MARKS;
 use run_state::{Carry, Counts, Player};
-use terms::{HEADS, Lists, Positions, RECEIVERS, Words, refusal};
+use terms::{HEADS, Lists, Positions, RECEIVERS, Words, Refusal};
 use texts::Text;
 
 // How the file ends, or 24 if a buffer is too short; how many bytes the listing has; how many phase ends were played, the start among them;
@@ -286,7 +286,7 @@ pub fn play(file: &[u8], out: &mut [u8], rows: &mut [i32], words: &mut [u64]) ->
     if !has_room(file, out.len(), rows.len(), words.len()) {
         let since = [0u8; RECEIVERS];
         return PlayResult {
-            number: refusal::BUFFER_TOO_SHORT,
+            number: Refusal::BufferTooShort.number(),
             len: 0,
             ends: 0,
             since,
@@ -330,7 +330,7 @@ pub extern "C" fn focus_play(
         since.old since.new (lent out rows words) (left out rows words) }
 {
     if !has_room(file, out.len(), rows.len(), words.len()) {
-        return refusal::BUFFER_TOO_SHORT;
+        return Refusal::BufferTooShort.number();
     }
     let played = play(file, out, rows, words);
     let counts = played.since;

@@ -1,5 +1,6 @@
 -- The new position from positions in order. Of n entries each is a position or null, so the nulls are the n entries less the positions: the
 -- positions in order say all that settling asks of a table.
+use Rattle.std.specs.Prelude.{Ok, Err}
 use mathlib.Core.Path.{◌≡◌, refl, ap, sym, ◌∙◌}
 use mathlib.Core.List.{List}
 use Prim.Native.Nat.{ℕ, ◌-◌, ◌≤◌, ◌<◌, min}
@@ -11,13 +12,13 @@ use lib.IntN.{ℤ, pos, ◌+ℤ◌}
 use borrow.Author.Tests.{le-leb, lt-leb}
 use Rattle.terms.specs.Refusals as refusal
 use Rattle.terms.specs.Positions.{half}
-use Rattle.terms.specs.declared.Entry.{Entry}
+use Rattle.terms.specs.Entry.{Entry}
 use Rattle.terms.specs.Counting.{Each}
 use Rattle.convergence.specs.Settling.{Rule, nulls, ordered, low_kept, high_kept, middle, enough}
 use Rattle.convergence.proofs.Order.{length_ordered}
 use Rattle.convergence.proofs.Same.{ordered_same}
 use Rattle.settle_midpoint.specs.declared.Order.{Order}
-use Rattle.settle_midpoint.specs.declared.Settled.{Settled}
+use Rattle.settle_midpoint.specs.Settled.{Settled}
 use Rattle.settle_midpoint.specs.Answers.{settling, settling_from}
 use Rattle.settle_midpoint.specs.Orders.{OrderAfter, order_of, in_order}
 use Rattle.settle_midpoint.proofs.Ordering.{padded_front}
@@ -57,7 +58,7 @@ module _ (a : List ℤ) (L n r : ℕ) (R : Rule) {c z : ℕ} (counted : c ≡ mi
       go (yes h) = take_all c a (omega arith) ∙ sym (take_all L a (omega arith))
       go (no h) = let e : c ≡ L = omega arith in rw e
 
-  pub too_few_refuses : R.most < z → Settled.Refused refusal.too_few_trusted ≡ settling_from r n R l
+  pub too_few_refuses : R.most < z → Err refusal.too_few_trusted ≡ settling_from r n R l
   unfolding settling_from
   too_few_refuses h = rw (front_length, ← nulls_are, lt-leb z R.most h)
 
@@ -72,7 +73,7 @@ module _ (a : List ℤ) (L n r : ℕ) (R : Rule) {c z : ℕ} (counted : c ≡ mi
   -- t: the trim; x and y: the lowest and the highest kept, y at place k; m: the new position
   pub enough_settles : {t k : ℕ} {x y m : ℤ} → z ≤ R.most → t ≡ R.trim z → x ≡ get_or (take c a) t (pos 0) → k ≡ c - 1 - t
       → y ≡ get_or (take c a) k (pos 0) → m ≡ half r (x +ℤ y)
-      → Settled.New (record { low = x; high = y; trim = t; position = m }) ≡ settling_from r n R l
+      → Ok (record { low = x; high = y; trim = t; position = m }) ≡ settling_from r n R l
   unfolding settling_from middle
   enough_settles {t} few trim-is at-t top at_k is-half =
       rw (is-half, at_k, top, at-t, low_is t, high_is t, trim-is, front_length, ← nulls_are, le-leb z R.most few)

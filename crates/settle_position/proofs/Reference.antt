@@ -1,5 +1,6 @@
 -- What the list of one link, the reference, decides by itself. A list with the reference's marks and its number at entry j says of head j what the reference says; a list with
 -- no marks says nothing; so any other position stands in the remaining lists alone. Where these are fewer than `need`, no other position reaches it.
+use Rattle.std.specs.Prelude.{None, Some}
 use mathlib.Core.Path.{◌≡◌, refl, ap, sym, ◌∙◌}
 use mathlib.Core.Logic.{◌≢◌}
 use mathlib.Core.Bool.{Bool, true, false, not, cond, ◌&&◌}
@@ -12,8 +13,7 @@ use mir.Val.{bool_byte}
 use lib.ListN.{get_or, replicate, get_or-replicate}
 use borrow.Author.Tests.{eq-eqb, ne_eqb, le-leb, lt-leb, leb-true}
 use Rattle.terms.specs.Positions.{eq_z}
-use Rattle.terms.specs.declared.Entry.{Entry}
-use Rattle.terms.specs.declared.Entry.TheVariants.{Null, Position}
+use Rattle.terms.specs.Entry.{Entry}
 use Rattle.terms.proofs.Whole.{eqZ→eq, eq_z_refl}
 use Rattle.marks.specs.Marks.{bit_of}
 use Rattle.entries.specs.Entries.{entry_at}
@@ -35,7 +35,7 @@ use Rattle.settle_trust.proofs.Trusted.{decided_confessed, decided_by_lists}
 -- ---- one list, with the mark word m and the number a, beside the reference's, v and b
 
 abbrev said : ℕ → ℕ → ℤ → Entry
-said j m a = cond (bit_of m j) (Position a) Null
+said j m a = cond (bit_of m j) (Some a) None
 
 module _ (j m v : ℕ) (a b : ℤ) where
   abbrev same : Bool
@@ -45,7 +45,7 @@ module _ (j m v : ℕ) (a b : ℤ) where
   said_same p q = rw (eqb→eq m v p, eqZ→eq a b q)
 
   -- the reference says u: so do those that agree with it
-  agree_is : {u : ℤ} → said j v b ≡ Position u → bit same ≤ is u (said j m a)
+  agree_is : {u : ℤ} → said j v b ≡ Some u → bit same ≤ is u (said j m a)
   agree_is {u} e = go (eqb m v) (eq_z a b) said_same
     where
       go : (s t : Bool) → (T s → T t → said j m a ≡ said j v b) → bit (s && t) ≤ is u (said j m a)
@@ -53,51 +53,51 @@ module _ (j m v : ℕ) (a b : ℤ) where
       go true false h = omega arith
       go false t h = omega arith
 
-  unmarked_says : T (eqb m 0) → said j m a ≡ Null
+  unmarked_says : T (eqb m 0) → said j m a ≡ None
   unmarked_says p = rw (eqb→eq m 0 p, bit_none j)
 
   -- and another position stands in others
-  other_is : {u : ℤ} (w : ℤ) → w ≢ u → said j v b ≡ Position u → is w (said j m a) + bit same ≤ bit (eqb m v) + bit (is_apart m v)
+  other_is : {u : ℤ} (w : ℤ) → w ≢ u → said j v b ≡ Some u → is w (said j m a) + bit same ≤ bit (eqb m v) + bit (is_apart m v)
   other_is {u} w d e = go (eqb m v) (eq_z a b) (eqb m 0) said_same unmarked_says
     where
-      go : (s t z : Bool) → (T s → T t → said j m a ≡ said j v b) → (T z → said j m a ≡ Null) → is w (said j m a) + bit (s && t) ≤ bit s + bit (not s && not z)
+      go : (s t z : Bool) → (T s → T t → said j m a ≡ said j v b) → (T z → said j m a ≡ None) → is w (said j m a) + bit (s && t) ≤ bit s + bit (not s && not z)
       go true true z h n = omega (arith, is_other w (said j m a) (λ q. d (same_position (h tt tt ∙ e) q)))
       go true false z h n = omega (arith, is_le w (said j m a))
       go false t true h n = rw (n tt) (omega arith)
       go false t false h n = omega (arith, is_le w (said j m a))
 
   -- with the reference's marks, the position that it says is its number
-  number_same : {u : ℤ} (s : Bool) → cond s (Position a) Null ≡ Position u → cond s (Position b) Null ≡ Position u → a ≡ b
+  number_same : {u : ℤ} (s : Bool) → cond s (Some a) None ≡ Some u → cond s (Some b) None ≡ Some u → a ≡ b
   number_same true p q = sym (same_position (sym p) (sym q))
   number_same false p q = absurd (not_null refl p)
 
-  agree_says : {u : ℤ} → said j v b ≡ Position u → T (eqb m v) → said j m a ≡ Position u → T (eq_z a b)
+  agree_says : {u : ℤ} → said j v b ≡ Some u → T (eqb m v) → said j m a ≡ Some u → T (eq_z a b)
   agree_says {u} e p q =
       let z : a ≡ b = number_same (bit_of v j) (rw (eqb→eq m v p) at q) e in
       rw z (eq_z_refl b)
 
   -- the reference says u: it stands in those that agree with it, and in some that have other marks
-  more_is : {u : ℤ} → said j v b ≡ Position u → is u (said j m a) ≤ bit same + bit (is_apart m v)
+  more_is : {u : ℤ} → said j v b ≡ Some u → is u (said j m a) ≤ bit same + bit (is_apart m v)
   more_is {u} e = go (eqb m v) (eq_z a b) (eqb m 0) (agree_says e) unmarked_says
     where
-      go : (s t z : Bool) → (T s → said j m a ≡ Position u → T t) → (T z → said j m a ≡ Null) → is u (said j m a) ≤ bit (s && t) + bit (not s && not z)
+      go : (s t z : Bool) → (T s → said j m a ≡ Some u → T t) → (T z → said j m a ≡ None) → is u (said j m a) ≤ bit (s && t) + bit (not s && not z)
       go true true z h n = omega (arith, is_le u (said j m a))
       go true false z h n = omega (arith, is_other u (said j m a) (h tt))
       go false t true h n = rw (n tt) (omega arith)
       go false t false h n = omega (arith, is_le u (said j m a))
 
   -- the reference says nothing: so do those that have its marks
-  null_says : said j v b ≡ Null → T (eqb m v) → said j m a ≡ Null
+  null_says : said j v b ≡ None → T (eqb m v) → said j m a ≡ None
   null_says e p = rw (eqb→eq m v p) (go (bit_of v j) e)
     where
-      go : (s : Bool) → cond s (Position b) Null ≡ Null → cond s (Position a) Null ≡ Null
+      go : (s : Bool) → cond s (Some b) None ≡ None → cond s (Some a) None ≡ None
       go true q = absurd (not_null q refl)
       go false q = refl
 
-  apart_is : (w : ℤ) → said j v b ≡ Null → is w (said j m a) ≤ bit (is_apart m v)
+  apart_is : (w : ℤ) → said j v b ≡ None → is w (said j m a) ≤ bit (is_apart m v)
   apart_is w e = go (eqb m v) (eqb m 0) (null_says e) unmarked_says
     where
-      go : (s z : Bool) → (T s → said j m a ≡ Null) → (T z → said j m a ≡ Null) → is w (said j m a) ≤ bit (not s && not z)
+      go : (s z : Bool) → (T s → said j m a ≡ None) → (T z → said j m a ≡ None) → is w (said j m a) ≤ bit (not s && not z)
       go true z h n = rw (h tt) (omega arith)
       go false true h n = rw (n tt) (omega arith)
       go false false h n = is_le w (said j m a)
@@ -177,7 +177,7 @@ module _ (n need : ℕ) (marks : List ℕ) (lists : List (List ℤ)) (reference 
   leads : E reference ≡ said j (m reference) (a reference)
   leads = sym (says reference)
 
-  module _ {u : ℤ} (e : column_of marks lists j reference ≡ Position u) where
+  module _ {u : ℤ} (e : column_of marks lists j reference ≡ Some u) where
     agree_le : agreeing n marks lists reference j ≤ count u
     agree_le =
         omega (arith, sums_le n (agree ∷ []) ((λ k. is u (E k)) ∷ []) (λ k l. omega (arith, rw (says k) at (agree_is j (m k) (m reference) (a k) (a reference) (sym leads ∙ e)))))
@@ -195,7 +195,7 @@ module _ (n need : ℕ) (marks : List ℕ) (lists : List (List ℤ)) (reference 
         omega (arith, sums_le n (agree ∷ []) (alikes ∷ []) (λ k l. omega (arith, and_le (eqb (m k) (m reference)) (same_number (get_or lists k []) (get_or lists reference []) j))))
 
     led_position : need ≤ agreeing n marks lists reference j → alike_to n marks reference + apart_from n marks reference < agreeing n marks lists reference j + need
-        → decided false n need E ≡ Position u
+        → decided false n need E ≡ Some u
     led_position p q =
         decided_by_lists n need E refl (λ z. omega (arith, agree_alike))
         ∙ ap (choose false false)
@@ -213,7 +213,7 @@ module _ (n need : ℕ) (marks : List ℕ) (lists : List (List ℤ)) (reference 
         )
 
     led_lacking : agreeing n marks lists reference j + apart_from n marks reference < need
-        → alike_to n marks reference + apart_from n marks reference < agreeing n marks lists reference j + need → decided false n need E ≡ Null
+        → alike_to n marks reference + apart_from n marks reference < agreeing n marks lists reference j + need → decided false n need E ≡ None
     led_lacking p q =
         decided_by_lists n need E refl (λ z. omega arith)
         ∙ ap (choose false false) (none_seen (stands_in n need E) E (λ w. lt-leb need (count w) (few w (ℤ_discrete w u))) n)
@@ -222,7 +222,7 @@ module _ (n need : ℕ) (marks : List ℕ) (lists : List (List ℤ)) (reference 
         few w (yes z) = rw z (omega (arith, more_le))
         few w (no z) = omega (arith, other_le w z)
 
-  led_null : column_of marks lists j reference ≡ Null → apart_from n marks reference < need → decided false n need E ≡ Null
+  led_null : column_of marks lists j reference ≡ None → apart_from n marks reference < need → decided false n need E ≡ None
   led_null e q =
       decided_by_lists n need E refl (λ z. omega arith)
       ∙ ap (choose false false) (none_seen (stands_in n need E) E (λ w. lt-leb need (count w) (few w)) n)
@@ -234,19 +234,19 @@ module _ (n need : ℕ) (marks : List ℕ) (lists : List (List ℤ)) (reference 
   -- by what the reference says
   led : (e : Entry) → column_of marks lists j reference ≡ e
       → Decides (cell_for e) need (alike_to n marks reference) (apart_from n marks reference) (agreeing n marks lists reference j) → decided false n need E ≡ e
-  led Null q d = led_null q d
-  led (Position u) q d = led_position q d.0 d.1
+  led None q d = led_null q d
+  led (Some u) q d = led_position q d.0 d.1
 
   lacking : (e : Entry) → column_of marks lists j reference ≡ e
-      → Lacks (cell_for e) need (alike_to n marks reference) (apart_from n marks reference) (agreeing n marks lists reference j) → decided false n need E ≡ Null
-  lacking Null q d = absurd (omega (arith, d.0))
-  lacking (Position u) q d = led_lacking q d.1 d.2
+      → Lacks (cell_for e) need (alike_to n marks reference) (apart_from n marks reference) (agreeing n marks lists reference j) → decided false n need E ≡ None
+  lacking None q d = absurd (omega (arith, d.0))
+  lacking (Some u) q d = led_lacking q d.1 d.2
 
 -- ---- what deciding looks at, if the lists stand so to that of the link `reference`, and they and their marks decide the entries E
 
 pub prepared : (E : ℕ → Entry) (lists : List (List ℤ)) (marks : List ℕ) (reference : ℕ) (r : Comparison) (d : Deciding)
     → Compares d.count marks lists reference r → d.alike ≡ r.alike → d.apart ≡ r.apart → d.word ≡ get_or marks reference 0
-    → ((j : ℕ) → decided (bit_of d.confessed j) d.count d.need (column_of marks lists j) ≡ E j) → ((j : ℕ) → 32 ≤ j → E j ≡ Null) → d.count ≤ 32
+    → ((j : ℕ) → decided (bit_of d.confessed j) d.count d.need (column_of marks lists j) ≡ E j) → ((j : ℕ) → 32 ≤ j → E j ≡ None) → d.count ≤ 32
     → Prepared E lists marks (get_or lists reference []) r.same d
 prepared E lists marks reference r d C alike apart word decides past few =
     record {

@@ -3,6 +3,8 @@
 
 ghost use Rattle.std.specs.Prelude.{◌≡◌, true, false, [], ℕ, ◌+◌, ◌%◌, ◌≤◌, ◌<◌, length, get_or};
 ghost use Rattle.terms.specs.Counting.{Each, bit};
+ghost use Rattle.terms.specs.Entry.{Entry};
+ghost use Rattle.terms.specs.Refused.{numbered};
 ghost use Rattle.convergence.specs.Settling.{two_round_rule};
 ghost use Rattle.convergence.specs.Trust.{trusted};
 ghost use Rattle.settle_trust.specs.Received.{given_by};
@@ -12,9 +14,9 @@ ghost use Rattle.settle_trust.specs.Cells.{CellOf};
 ghost use Rattle.settle_midpoint.specs.Orders.{OrderAfter};
 ghost use Rattle.settle_midpoint.specs.Answers.{settling};
 
-use settle_midpoint::Order;
+use settle_midpoint::{Kept, Order};
 use settle_trust::Links;
-use terms::{Entry, Family, HEADS, Lists, Numbers, Words};
+use terms::{Family, HEADS, Lists, Numbers, Refusal, Words};
 
 // How n lists compare with the list of one link, the reference: how many have its mark word, how many another one that is not 0, and for
 // each entry how many of the first have its number.
@@ -201,9 +203,9 @@ pub fn settle_entries(
     n: u8,
     f: u8,
     up: bool,
-) -> settle_midpoint::Settled
+) -> Result<Kept, Refusal>
     ensures { (E : ℕ → Entry) → Prepared E lists.now marks.now reference.now same.now d
-        → result ≡ settling (bit up) n (two_round_rule f) E }
+        → numbered result ≡ settling (bit up) n (two_round_rule f) E }
 {
     let count = terms::at_most_32(n as usize);
     let mut positions = [0i32; HEADS];
@@ -222,8 +224,8 @@ pub fn settle_by(
     n: u8,
     f: u8,
     up: bool,
-) -> settle_midpoint::Settled
-    ensures { result ≡ settling (bit up) n (two_round_rule f) (trusted n f (given_by links lists.now)) }
+) -> Result<Kept, Refusal>
+    ensures { numbered result ≡ settling (bit up) n (two_round_rule f) (trusted n f (given_by links lists.now)) }
 {
     let mut marks = [0u32; HEADS];
     let mut same = [0u32; HEADS];
@@ -232,8 +234,8 @@ pub fn settle_by(
 }
 
 // The same of lists by value.
-pub fn settle(lists: Lists, links: Links, n: u8, f: u8, up: bool) -> settle_midpoint::Settled
-    ensures { result ≡ settling (bit up) n (two_round_rule f) (trusted n f (given_by links lists)) }
+pub fn settle(lists: Lists, links: Links, n: u8, f: u8, up: bool) -> Result<Kept, Refusal>
+    ensures { numbered result ≡ settling (bit up) n (two_round_rule f) (trusted n f (given_by links lists)) }
 {
     settle_by(&lists, links, 0, n, f, up)
 }

@@ -1,4 +1,5 @@
 -- Cells: a position of 32 bits is read back from its cell, and so two cells are equal just if their entries are.
+use Rattle.std.specs.Prelude.{None, Some}
 use mathlib.Core.Path.{◌≡◌, refl, ap, sym, ◌∙◌}
 use mathlib.Core.Bool.{true, false}
 use mathlib.Core.List.{List}
@@ -16,8 +17,7 @@ use mir.Facts.{to_z-of_z, Fits-of_z}
 use borrow.Author.Count.{below_more}
 use Rattle.std.proofs.lemmas.List.{get_or-take, length-take}
 use Rattle.terms.specs.Positions.{eq_z}
-use Rattle.terms.specs.declared.Entry.{Entry}
-use Rattle.terms.specs.declared.Entry.TheVariants.{Null, Position}
+use Rattle.terms.specs.Entry.{Entry}
 use Rattle.terms.proofs.Whole.{eqZ→eq, eq_z_refl}
 use Rattle.fields.specs.Bytes.{word_of}
 use Rattle.marks.specs.Marks.{bit_of}
@@ -31,13 +31,13 @@ use Rattle.settle_trust.specs.Cells.{cell_for, cell_entry, CellOf, HoldsEach, eq
 use Rattle.settle_trust.proofs.Tests.{same_test}
 
 -- a position of 32 bits, as the machine reads it, is read back from its cell
-pub holds_position : {v : ℤ} {x : ℕ} → SFits w32 v → x ≡ cell_for (Position (to_z w32 (of_z w32 v))) → CellOf x (Position v)
+pub holds_position : {v : ℤ} {x : ℕ} → SFits w32 v → x ≡ cell_for (Some (to_z w32 (of_z w32 v))) → CellOf x (Some v)
 holds_position {v} {x} f e =
-    let q : x ≡ cell_for (Position v) = e ∙ ap (λ (u : ℤ). cell_for (Position u)) (to_z-of_z f) in
+    let q : x ≡ cell_for (Some v) = e ∙ ap (λ (u : ℤ). cell_for (Some u)) (to_z-of_z f) in
     let below : word_of v < 4294967296 = omega (arith, (Fits-of_z f).fits, of_z_word v) in
-    record { cell = q; entry = rw (q, mod-eq_of_lt below) (ap Position (sym (to_z_signed (word_of v)) ∙ ap (to_z w32) (sym (of_z_word v)) ∙ to_z-of_z f)) }
+    record { cell = q; entry = rw (q, mod-eq_of_lt below) (ap Some (sym (to_z_signed (word_of v)) ∙ ap (to_z w32) (sym (of_z_word v)) ∙ to_z-of_z f)) }
 
-pub holds_null : CellOf 0 Null
+pub holds_null : CellOf 0 None
 holds_null = record { cell = refl; entry = refl }
 
 -- ---- an entry of a list
@@ -46,21 +46,21 @@ pub holds_same : {x : ℕ} {d e : Entry} → CellOf x d → d ≡ e → CellOf x
 holds_same h q = record { cell = h.cell ∙ ap cell_for q; entry = h.entry ∙ q }
 
 module _ (m : ℕ) (E : List ℤ) (j : ℕ) where
-  pub entry_marked : bit_of m j ≡ true → entry_at m E j ≡ Position (get_or E j (pos 0))
+  pub entry_marked : bit_of m j ≡ true → entry_at m E j ≡ Some (get_or E j (pos 0))
   unfolding entry_at
   entry_marked e = rw e
 
-  pub entry_unmarked : bit_of m j ≡ false → entry_at m E j ≡ Null
+  pub entry_unmarked : bit_of m j ≡ false → entry_at m E j ≡ None
   unfolding entry_at
   entry_unmarked e = rw e
 
 -- ---- equal cells
 
-pub same_cells : {x y : ℕ} {u v : ℤ} → CellOf x (Position u) → CellOf y (Position v) → eqb y x ≡ eq_z u v
+pub same_cells : {x y : ℕ} {u v : ℤ} → CellOf x (Some u) → CellOf y (Some v) → eqb y x ≡ eq_z u v
 same_cells {x} {y} {u} {v} p q =
     same_test (eqb y x) (eq_z u v)
     (λ t. let e : v ≡ u = same_position p.entry (ap cell_entry (sym (eqb→eq y x t)) ∙ q.entry) in rw e (eq_z_refl u))
-    (λ t. let e : y ≡ x = q.cell ∙ ap (λ (w : ℤ). cell_for (Position w)) (sym (eqZ→eq u v t)) ∙ sym p.cell in rw e (eqb_refl x))
+    (λ t. let e : y ≡ x = q.cell ∙ ap (λ (w : ℤ). cell_for (Some w)) (sym (eqZ→eq u v t)) ∙ sym p.cell in rw e (eqb_refl x))
 
 -- the machine compares the words of two numbers
 pub same_bits : {x y : ℤ} → SFits w32 x → SFits w32 y → eqb (of_z w32 x) (of_z w32 y) ≡ eq_z x y
@@ -69,9 +69,9 @@ same_bits {x} {y} f g =
     (λ t. let e : x ≡ y = sym (to_z-of_z f) ∙ ap (to_z w32) (eqb→eq (of_z w32 x) (of_z w32 y) t) ∙ to_z-of_z g in rw e (eq_z_refl y))
     (λ t. rw (eqZ→eq x y t) (eqb_refl (of_z w32 y)))
 
-is_held : {x y : ℕ} {u : ℤ} {e : Entry} → CellOf x (Position u) → CellOf y e → bit (eqb y x) ≡ is u e
-is_held {u = u} {e = Null} p q = rw (q.cell, p.cell) (ap bit (eqb-zero-suc (word_of u)))
-is_held {e = Position v} p q = ap bit (same_cells p q)
+is_held : {x y : ℕ} {u : ℤ} {e : Entry} → CellOf x (Some u) → CellOf y e → bit (eqb y x) ≡ is u e
+is_held {u = u} {e = None} p q = rw (q.cell, p.cell) (ap bit (eqb-zero-suc (word_of u)))
+is_held {e = Some v} p q = ap bit (same_cells p q)
 
 -- ---- a column
 
@@ -80,7 +80,7 @@ pub read_first : (n : ℕ) (cells : List ℕ) (k : ℕ) → k < length (take n c
 read_first n cells k l = get_or-take n cells k 0 (omega (arith, length-take n cells))
 
 -- the cell x is as often among the first n as its position is among the entries that they hold
-pub equal_held : {x : ℕ} {u : ℤ} (n : ℕ) (cells : List ℕ) (E : ℕ → Entry) → CellOf x (Position u) → HoldsEach n cells E → equal_to n cells x ≡ sum n (λ k. is u (E k))
+pub equal_held : {x : ℕ} {u : ℤ} (n : ℕ) (cells : List ℕ) (E : ℕ → Entry) → CellOf x (Some u) → HoldsEach n cells E → equal_to n cells x ≡ sum n (λ k. is u (E k))
 equal_held n cells E p h = sum_same n _ _ (λ k l. is_held p (h k l))
 
 -- a column is filled from cell 0 up

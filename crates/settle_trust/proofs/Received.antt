@@ -1,5 +1,6 @@
 -- What the links gave, by their marks: a link that gave no list says of every head what a list with no marks does. A link from 32 on gave nothing, and
 -- no list says anything of a head from 32 on, since a word has no such bit.
+use Rattle.std.specs.Prelude.{None}
 use mathlib.Core.Path.{◌≡◌, refl, ap, sym, ◌∙◌}
 use mathlib.Core.Bool.{Bool, true, false, cond}
 use mathlib.Core.List.{List, []}
@@ -11,8 +12,7 @@ use denote.Laws.{Is}
 use borrow.Author.Rules.{elem_Fits}
 use lib.IntN.{ℤ}
 use lib.ListN.{length, get_or, length-set}
-use Rattle.terms.specs.declared.Entry.{Entry}
-use Rattle.terms.specs.declared.Entry.TheVariants.{Null}
+use Rattle.terms.specs.Entry.{Entry}
 use Rattle.marks.specs.Marks.{bit_of}
 use Rattle.entries.specs.Entries.{entry_at}
 use Rattle.marks.proofs.Marks.{bit_none, bit_above}
@@ -41,7 +41,7 @@ module _ (g : Links) (lists : List (List ℤ)) (k : ℕ) where
   unfolding given_by
   says_given j = go (bit_of g.confessed k) (bit_of g.listed k)
     where
-      no_marks : entry_at 0 (get_or lists k []) j ≡ Null
+      no_marks : entry_at 0 (get_or lists k []) j ≡ None
       no_marks = entry_unmarked 0 (get_or lists k []) j (bit_none j)
 
       go : (a b : Bool) → entry_at (marks_given a b (get_or g.marks k 0)) (get_or lists k []) j ≡ says_of j (cond a confessed (cond b (gave list) nothing))
@@ -88,7 +88,7 @@ module _ (g : Links) (lists : List (List ℤ)) (w : Words g) where
   unfolding given_by
   given_past k h = rw (bit_above g.confessed 32 k w.confessed h, bit_above g.listed 32 k w.listed h)
 
-  pub says_past : (j k : ℕ) → 32 ≤ j → says_of j (given_by g lists k) ≡ Null
+  pub says_past : (j k : ℕ) → 32 ≤ j → says_of j (given_by g lists k) ≡ None
   says_past j k h =
       sym (says_given g lists k j) ∙ entry_unmarked (marks_of_link g k) (get_or lists k []) j (bit_above (marks_of_link g k) 32 j (go (bit_of g.confessed k) (bit_of g.listed k)) h)
     where

@@ -1,5 +1,6 @@
 -- The search of a column for the only cell that is in `need` lists or more. What is in so many is among the first k if fewer than `need` are left, so the later ones
 -- need no look. What the cells agree on is the cell of what the entries that they hold decide.
+use Rattle.std.specs.Prelude.{None, Some}
 use mathlib.Core.Path.{◌≡◌, refl, ap, sym, ◌∙◌}
 use mathlib.Core.Bool.{Bool, true, false, not, true≢false}
 use mathlib.Core.List.{List}
@@ -13,8 +14,7 @@ use lib.IntN.{ℤ}
 use lib.ListN.{get_or}
 use denote.Floats.{passes, is_true}
 use borrow.Author.Tests.{eqb-false, leb-true, not-true, eq-eqb, ne_eqb, le-leb}
-use Rattle.terms.specs.declared.Entry.{Entry}
-use Rattle.terms.specs.declared.Entry.TheVariants.{Null, Position}
+use Rattle.terms.specs.Entry.{Entry}
 use Rattle.terms.specs.Counting.{sum, bit}
 use Rattle.terms.proofs.Booleans.{and_both}
 use Rattle.terms.proofs.Sums.{bit_le, some_of}
@@ -147,7 +147,7 @@ module _ (ok : ℤ → Bool) (E : ℕ → Entry) where
 
 -- ---- cells that hold entries
 
-not_zero : {x : ℕ} {u : ℤ} → CellOf x (Position u) → x ≢ 0
+not_zero : {x : ℕ} {u : ℤ} → CellOf x (Some u) → x ≢ 0
 not_zero c z = omega (arith, c.cell)
 
 module _ (n need : ℕ) (cells : List ℕ) (E : ℕ → Entry) (held : HoldsEach n cells E) where
@@ -155,19 +155,19 @@ module _ (n need : ℕ) (cells : List ℕ) (E : ℕ → Entry) (held : HoldsEach
   times u = sum n (λ k. is u (E k))
 
   -- a position among the entries has its cell among the cells, and back
-  cell_with : (u : ℤ) → 1 ≤ times u → (x : ℕ) × CellOf x (Position u)
+  cell_with : (u : ℤ) → 1 ≤ times u → (x : ℕ) × CellOf x (Some u)
   cell_with u h = let (k, l, p) = some_of n (λ i. is u (E i)) h in (get_or cells k 0, holds_same (held k l) (is_yes u (E k) p))
 
-  held_by : (x : ℕ) → x ≢ 0 → 1 ≤ equal_to n cells x → (u : ℤ) × CellOf x (Position u)
+  held_by : (x : ℕ) → x ≢ 0 → 1 ≤ equal_to n cells x → (u : ℤ) × CellOf x (Some u)
   held_by x s h =
       let (k, l, p) = some_of n (λ i. bit (eqb (get_or cells i 0) x)) h in
       go k (ℕ_discrete (get_or cells k 0) x) p (held k l)
     where
-      entry : (e : Entry) → CellOf x e → (u : ℤ) × CellOf x (Position u)
-      entry Null c = absurd (s c.cell)
-      entry (Position u) c = (u, c)
+      entry : (e : Entry) → CellOf x e → (u : ℤ) × CellOf x (Some u)
+      entry None c = absurd (s c.cell)
+      entry (Some u) c = (u, c)
 
-      go : (k : ℕ) → Dec (get_or cells k 0 ≡ x) → 1 ≤ bit (eqb (get_or cells k 0) x) → CellOf (get_or cells k 0) (E k) → (u : ℤ) × CellOf x (Position u)
+      go : (k : ℕ) → Dec (get_or cells k 0 ≡ x) → 1 ≤ bit (eqb (get_or cells k 0) x) → CellOf (get_or cells k 0) (E k) → (u : ℤ) × CellOf x (Some u)
       go k (yes q) p c = entry (E k) (rw q at c)
       go k (no d) p c = absurd (omega (arith, ap bit (ne_eqb (get_or cells k 0) x d)))
 
@@ -181,17 +181,17 @@ module _ (n need : ℕ) (cells : List ℕ) (E : ℕ → Entry) (held : HoldsEach
         let reach : need ≤ times u = omega (arith, o.reaches, equal_held n cells E c held) in
         holds_same c (sym (ap (choose false false) (only_seen ok E u (alone u c) n (le-leb need (times u) reach) (omega arith))))
       where
-        alone : (u : ℤ) → CellOf x (Position u) → (w : ℤ) → ok w ≡ true → w ≡ u
+        alone : (u : ℤ) → CellOf x (Some u) → (w : ℤ) → ok w ≡ true → w ≡ u
         alone u c w t =
             let reach : need ≤ times w = leb-true need (times w) t in
             let (y, d) = cell_with w (omega arith) in
             let e : y ≡ x = o.alone y (not_zero d) (omega (arith, equal_held n cells E d held)) in
             same_position c.entry (ap cell_entry (sym e) ∙ d.entry)
 
-    none_chosen : ((x : ℕ) → OnlyCell n need cells x → ⊥) → choose false false (agreed n need E) ≡ Null
+    none_chosen : ((x : ℕ) → OnlyCell n need cells x → ⊥) → choose false false (agreed n need E) ≡ None
     none_chosen h = go (seen ok n E) (says ok n E)
       where
-        go : (s : Seen) → Says ok n E s → choose false false s ≡ Null
+        go : (s : Seen) → Says ok n E s → choose false false s ≡ None
         go none q = refl
         go many q = refl
         go (one u) q =
@@ -199,13 +199,13 @@ module _ (n need : ℕ) (cells : List ℕ) (E : ℕ → Entry) (held : HoldsEach
             let (x, c) = cell_with u (omega arith) in
             absurd (h x (record { some = not_zero c; reaches = omega (arith, equal_held n cells E c held); alone = alone x c }))
           where
-            alone : (x : ℕ) → CellOf x (Position u) → (y : ℕ) → y ≢ 0 → need ≤ equal_to n cells y → y ≡ x
+            alone : (x : ℕ) → CellOf x (Some u) → (y : ℕ) → y ≢ 0 → need ≤ equal_to n cells y → y ≡ x
             alone x c y s r =
                 let (w, d) = held_by y s (omega arith) in
                 let reach : need ≤ times w = omega (arith, equal_held n cells E d held) in
                 let (k, l, p) = some_of n (λ i. is w (E i)) (omega arith) in
                 let e : w ≡ u = q.1 k l w (is_yes w (E k) p) (passes _ (le-leb need (times w) reach)) in
-                d.cell ∙ ap (λ (v : ℤ). cell_for (Position v)) e ∙ sym c.cell
+                d.cell ∙ ap (λ (v : ℤ). cell_for (Some v)) e ∙ sym c.cell
 
   -- what the cells agree on is the cell of what the entries decide
   pub agreed_decided : {x : ℕ} → AgreedCell n need cells x → CellOf x (decided false n need E)

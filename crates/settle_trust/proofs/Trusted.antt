@@ -1,5 +1,6 @@
 -- What the code counts is the support and the trusted entry. A link supports a position by a confession or by its list, so the lists have to make up
 -- what n - f exceeds the confessions by. Links from 32 on gave nothing, so the first 32 are enough.
+use Rattle.std.specs.Prelude.{None}
 use mathlib.Core.Path.{◌≡◌, refl, ap, sym, ◌∙◌, fun_ext}
 use mathlib.Core.Bool.{Bool, true, false}
 use mathlib.Core.List.{List, [], ◌∷◌}
@@ -8,8 +9,7 @@ use native.Mathlib.Omega.{arith}
 use lib.Dec.{eqb, leb}
 use lib.IntN.{ℤ}
 use borrow.Author.Tests.{ne_eqb}
-use Rattle.terms.specs.declared.Entry.{Entry}
-use Rattle.terms.specs.declared.Entry.TheVariants.{Null}
+use Rattle.terms.specs.Entry.{Entry}
 use Rattle.marks.specs.Marks.{bit_of, count_below}
 use Rattle.terms.specs.Counting.{Each, sum, bit}
 use Rattle.convergence.specs.Trust.{Given, nothing, confessed, gave, is, supports, support, has_confessed, confessions, says_of, none, seen, choose, trusted}
@@ -51,7 +51,7 @@ decided_trusted n f G j =
 -- ---- the cases of a decision
 
 module _ {confesses : Bool} (n need : ℕ) (E : ℕ → Entry) where
-  pub decided_confessed : confesses ≡ true → decided confesses n need E ≡ Null
+  pub decided_confessed : confesses ≡ true → decided confesses n need E ≡ None
   decided_confessed e = rw e
 
   pub decided_by_lists : confesses ≡ false → (need ≡ 0 → ⊥) → decided confesses n need E ≡ choose false false (agreed n need E)
@@ -75,20 +75,20 @@ sum_first_32 : (g : ℕ → ℕ) → ((k : ℕ) → 32 ≤ k → g k ≡ 0) → 
 unfolding sum
 sum_first_32 g h n = first_32 (λ k. sum k g) (λ k l. omega (arith, h k l)) n
 
-seen_first_32 : (ok : ℤ → Bool) (E : ℕ → Entry) → ((k : ℕ) → 32 ≤ k → E k ≡ Null) → (n : ℕ) → seen ok (min n 32) E ≡ seen ok n E
+seen_first_32 : (ok : ℤ → Bool) (E : ℕ → Entry) → ((k : ℕ) → 32 ≤ k → E k ≡ None) → (n : ℕ) → seen ok (min n 32) E ≡ seen ok n E
 unfolding seen
 seen_first_32 ok E h n = first_32 (λ k. seen ok k E) (λ k l. rw (h k l)) n
 
-seen_none : (ok : ℤ → Bool) (E : ℕ → Entry) → ((k : ℕ) → E k ≡ Null) → (n : ℕ) → seen ok n E ≡ none
+seen_none : (ok : ℤ → Bool) (E : ℕ → Entry) → ((k : ℕ) → E k ≡ None) → (n : ℕ) → seen ok n E ≡ none
 unfolding seen
 seen_none ok E h zero = refl
 seen_none ok E h (suc n) = rw (h n) (seen_none ok E h n)
 
-none_chosen : (b : Bool) → choose false b none ≡ Null
+none_chosen : (b : Bool) → choose false b none ≡ None
 none_chosen true = refl
 none_chosen false = refl
 
-agreed_first_32 : (need : ℕ) (E : ℕ → Entry) → ((k : ℕ) → 32 ≤ k → E k ≡ Null) → (n : ℕ) → agreed (min n 32) need E ≡ agreed n need E
+agreed_first_32 : (need : ℕ) (E : ℕ → Entry) → ((k : ℕ) → 32 ≤ k → E k ≡ None) → (n : ℕ) → agreed (min n 32) need E ≡ agreed n need E
 agreed_first_32 need E h n =
     let ok : stands_in (min n 32) need E ≡ stands_in n need E =
     fun_ext (λ u. ap (leb need) (sum_first_32 (λ k. is u (E k)) (λ k l. ap (is u) (h k l)) n)) in
@@ -106,7 +106,7 @@ module _ (g : Links) (lists : List (List ℤ)) (w : Words g) where
       sum_first_32 (λ k. bit (bit_of g.confessed k)) (λ k l. ap bit (bit_above g.confessed 32 k w.confessed l)) n
       ∙ sum_same n (λ k. bit (bit_of g.confessed k)) (λ k. bit (has_confessed (G k))) (λ k l. ap bit (sym (confessed_given g lists k)))
 
-  says_nothing : (j k : ℕ) → 32 ≤ k → says_of j (G k) ≡ Null
+  says_nothing : (j k : ℕ) → 32 ≤ k → says_of j (G k) ≡ None
   says_nothing j k l = ap (says_of j) (given_past g lists w k l)
 
   pub support_counted : {m : ℕ} (n j : ℕ) (u : ℤ) → m ≡ min n 32 → count_below g.confessed m + sum m (λ k. is u (says_of j (G k))) ≡ support n G j u
@@ -125,7 +125,7 @@ module _ (g : Links) (lists : List (List ℤ)) (w : Words g) where
       decided_same (bit_of g.confessed j) m need _ _ (column_given g lists m j (omega arith) (h ∙ ap (marks_to g) (sym e))) ∙ trusted_decided n f j e q
 
   -- no entry of a head from 32 on is trusted
-  pub trusted_past : (n f j : ℕ) → 32 ≤ j → trusted n f G j ≡ Null
+  pub trusted_past : (n f j : ℕ) → 32 ≤ j → trusted n f G j ≡ None
   unfolding trusted
   trusted_past n f j h =
       rw (given_past g lists w j h, seen_none (λ u. leb (n - f) (support n G j u)) (λ k. says_of j (G k)) (λ k. says_past g lists w j k h) n) (none_chosen (leb (n - f) (confessions n G)))

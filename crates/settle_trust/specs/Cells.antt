@@ -1,8 +1,7 @@
 -- How the search for a trusted entry holds what the links gave: a mark word for each list, and each entry of a column as one number, 0 for
 -- null. Nothing here is needed to read what `support`, `trusted_entry` and `trusted_table` promise.
-use Rattle.std.specs.Prelude.{◌≡◌, Bool, true, false, not, ◌&&◌, ◌≢◌, List, [], ℕ, zero, suc, ◌%◌, ◌≤◌, ◌^◌, eqb, leb, ℤ, get_or, set, replicate}
-use Rattle.terms.specs.declared.Entry.{Entry}
-use Rattle.terms.specs.declared.Entry.TheVariants.{Null, Position}
+use Rattle.std.specs.Prelude.{◌≡◌, Bool, true, false, not, ◌&&◌, ◌≢◌, List, [], ℕ, zero, suc, ◌%◌, ◌≤◌, ◌^◌, eqb, leb, ℤ, get_or, set, replicate, None, Some}
+use Rattle.terms.specs.Entry.{Entry}
 use Rattle.fields.specs.Bytes.{signed_of, word_of}
 use Rattle.marks.specs.Marks.{bit_of}
 use Rattle.entries.specs.Entries.{entry_at}
@@ -30,13 +29,13 @@ column_of marks lists j k = entry_at (get_or marks k 0) (get_or lists k []) j
 
 -- the cell of an entry: 0 for null, else one more than the word of the position
 abbrev pub cell_for : Entry → ℕ
-cell_for Null = 0
-cell_for (Position v) = suc (word_of v)
+cell_for None = 0
+cell_for (Some v) = suc (word_of v)
 
 -- the entry that a cell holds
 abbrev pub cell_entry : ℕ → Entry
-cell_entry zero = Null
-cell_entry (suc w) = Position (signed_of (w % 2 ^ 32))
+cell_entry zero = None
+cell_entry (suc w) = Some (signed_of (w % 2 ^ 32))
 
 -- x is the cell of the entry e, and e is read back from it, as is every position of 32 bits
 pub record CellOf (x : ℕ) (e : Entry) : Type 0 where

@@ -35,7 +35,7 @@ pub fn lists_needed(confessed: u32, n: u8, f: u8) -> usize
 
 // The cell of a position: one more than its word. The cell of a null entry is 0.
 fn cell_of(v: i32) -> u64
-    ensures { result ≡ cell_for (Entry.Position v) }
+    ensures { result ≡ cell_for (Some v) }
 {
     1 + fields::unsigned(v) as u64
 }
@@ -99,9 +99,9 @@ pub fn entry_of(x: u64) -> Entry
     ensures { result ≡ cell_entry x }
 {
     if x == 0 {
-        return Entry::Null;
+        return None;
     }
-    Entry::Position(value_of(x))
+    Some(value_of(x))
 }
 
 // ---- From what the links gave in a confession round to the trusted entries: support, and the one position that enough links support.

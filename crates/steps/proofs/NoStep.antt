@@ -1,5 +1,6 @@
 -- Where the code answers none: no step in range reads farther from zero than 10^12, and where only w can read x, none does if w is out of range or
 -- reads otherwise.
+use Rattle.std.specs.Prelude.{None, Ok}
 use mathlib.Core.Path.{◌≡◌, sym, ◌∙◌, ap, subst}
 use mathlib.Core.Bool.{Bool, true, false, true≢false, not, and-false}
 use Prim.Native.Nat.{ℕ}
@@ -9,7 +10,6 @@ use borrow.Author.Tests.{ltb-true, ltb-false, le-leb, lt-leb}
 use denote.Floats.{passes}
 use Rattle.terms.specs.Positions.{is_position, Within}
 use Rattle.steps.specs.Scale.{is_scale, nanometres}
-use Rattle.steps.specs.declared.Unscaled.{Unscaled}
 use Rattle.steps.specs.Unscale.{OnlyOne, UnscaleAnswer}
 use Rattle.steps.specs.Unscale.UnscaleAnswer.{none}
 use Rattle.steps.proofs.Floor.{nanometres_bound}
@@ -44,19 +44,19 @@ near x t u = (le_z_yes (passes _ (at_least (negsuc 999_999_999_999) x false t)),
 -- ---- none
 
 module _ (x : ℤ) (a d : ℕ) (s : is_scale a d ≡ true) where
-  far : (Within 1_000_000_000_000 x → ⊥) → UnscaleAnswer x a d Unscaled.None
+  far : (Within 1_000_000_000_000 x → ⊥) → UnscaleAnswer x a d (Ok None)
   far n = none s (λ v r. n (subst (Within 1_000_000_000_000) r.1 (nanometres_bound v a d r.0 s)))
 
-  pub far_below : lt_z x (negsuc 999_999_999_999) ≡ true → UnscaleAnswer x a d Unscaled.None
+  pub far_below : lt_z x (negsuc 999_999_999_999) ≡ true → UnscaleAnswer x a d (Ok None)
   far_below t = far (λ w. clash_ℤ (lt_z_yes (passes _ t)) w.0)
 
-  pub far_above : lt_z (pos 1_000_000_000_000) x ≡ true → UnscaleAnswer x a d Unscaled.None
+  pub far_above : lt_z (pos 1_000_000_000_000) x ≡ true → UnscaleAnswer x a d (Ok None)
   far_above t = far (λ w. clash_ℤ (lt_z_yes (passes _ t)) w.1)
 
   -- w is the only number of steps that can read x
   module _ (w : ℤ) (only : OnlyOne x a d w) where
-    pub out_of_range : is_position w ≡ false → UnscaleAnswer x a d Unscaled.None
+    pub out_of_range : is_position w ≡ false → UnscaleAnswer x a d (Ok None)
     out_of_range e = none s (λ v r. true≢false (sym r.0 ∙ ap is_position (only v r.1) ∙ e))
 
-    pub reads_otherwise : (nanometres w a d ≡ x → ⊥) → UnscaleAnswer x a d Unscaled.None
+    pub reads_otherwise : (nanometres w a d ≡ x → ⊥) → UnscaleAnswer x a d (Ok None)
     reads_otherwise n = none s (λ v r. n (sym (ap (λ (z : ℤ). nanometres z a d) (only v r.1)) ∙ r.1))

@@ -1,9 +1,9 @@
 -- Document 01, "The step scale".
-use Rattle.std.specs.Prelude.{Bool, ◌&&◌, ℕ, leb, ℤ, pos, ◌*ℤ◌}
+use Rattle.std.specs.Prelude.{Bool, ◌&&◌, ℕ, leb, ℤ, pos, ◌*ℤ◌, Ok, Err}
 use Rattle.terms.specs.Refusals as refusal
 use Rattle.terms.specs.Refusals.{check, unless_refused}
 use Rattle.terms.specs.Positions.{is_position, floor_div}
-use Rattle.steps.specs.declared.Scaled.{Scaled}
+use Rattle.steps.specs.Answers.{Scaled}
 
 -- from 1 to 1,000,000
 abbrev pub in_scale : ℕ → Bool
@@ -23,4 +23,4 @@ scale_refusal v a d = check (is_scale a d) refusal.bad_scale (check (is_position
 
 -- a refusal gives only its number
 unfoldable pub scaled : ℤ → ℕ → ℕ → Scaled
-scaled v a d = unless_refused Scaled.Refused (scale_refusal v a d) (Scaled.Nanometres (nanometres v a d))
+scaled v a d = unless_refused Err (scale_refusal v a d) (Ok (nanometres v a d))

@@ -2,26 +2,12 @@
 #![tactic(auto)]
 
 ghost use Rattle.std.specs.Prelude.{◌≡◌, true, ◌<◌};
+ghost use Rattle.terms.specs.Refused.{numbered};
 ghost use Rattle.terms.specs.Positions.{is_position, Within, floor_div};
 ghost use Rattle.steps.specs.Scale.{is_scale, nanometres, scaled};
 ghost use Rattle.steps.specs.Unscale.{OnlyOne, UnscaleAnswer};
 
-use terms::refusal;
-
-// What the scale answers.
-#[derive(Clone, Copy)]
-pub enum Scaled {
-    Refused(u8),
-    Nanometres(i64),
-}
-
-// What is answered for a reading: the step whose reading it is, or none.
-#[derive(Clone, Copy)]
-pub enum Unscaled {
-    Refused(u8),
-    None,
-    Step(i32),
-}
+use terms::Refusal;
 
 // Whether numerator and denominator make a scale: from 1 to 1,000,000, the numerator at least the denominator.
 fn is_scale(numerator: u32, denominator: u32) -> bool
@@ -54,16 +40,16 @@ fn nanometres_of(steps: i32, numerator: u32, denominator: u32) -> i64
 }
 
 // Refusals 12, then 4.
-pub fn scale(steps: i32, numerator: u32, denominator: u32) -> Scaled
-    ensures { result ≡ scaled steps numerator denominator }
+pub fn scale(steps: i32, numerator: u32, denominator: u32) -> Result<i64, Refusal>
+    ensures { numbered result ≡ scaled steps numerator denominator }
 {
-    if is_scale(numerator, denominator) {
-        if terms::is_position(steps) {
-            return Scaled::Nanometres(nanometres_of(steps, numerator, denominator));
-        }
-        return Scaled::Refused(refusal::POSITION_OUT_OF_RANGE);
+    if !is_scale(numerator, denominator) {
+        return Err(Refusal::BadScale);
     }
-    Scaled::Refused(refusal::BAD_SCALE)
+    if !terms::is_position(steps) {
+        return Err(Refusal::PositionOutOfRange);
+    }
+    Ok(nanometres_of(steps, numerator, denominator))
 }
 
 // The only number of steps that can read so: the lowest that reads so or more, which is reading times denominator, divided by numerator,
@@ -77,37 +63,34 @@ fn candidate(reading: i64, numerator: u32, denominator: u32) -> i64
 }
 
 // The step in range whose reading it is, or none, for a reading no farther from zero than 10^12.
-fn step_near(reading: i64, numerator: u32, denominator: u32) -> Unscaled
+fn step_near(reading: i64, numerator: u32, denominator: u32) -> Option<i32>
     requires { Within 1_000_000_000_000 reading × (is_scale numerator denominator ≡ true) }
-    ensures { UnscaleAnswer reading numerator denominator result }
+    ensures { UnscaleAnswer reading numerator denominator (Ok result) }
 {
     let only = candidate(reading, numerator, denominator);
     if only < -1000000 {
-        return Unscaled::None;
+        return None;
     }
     if 1000000 < only {
-        return Unscaled::None;
+        return None;
     }
     let steps = only as i32;
     let reads = nanometres_of(steps, numerator, denominator);
-    if reads == reading {
-        return Unscaled::Step(steps);
-    }
-    Unscaled::None
+    if reads == reading { Some(steps) } else { None }
 }
 
 // The step in range whose reading it is, or none. Refused 12 for a bad scale, and nothing else is refused.
-pub fn unscale(nanometres: i64, numerator: u32, denominator: u32) -> Unscaled
-    ensures { UnscaleAnswer nanometres numerator denominator result }
+pub fn unscale(nanometres: i64, numerator: u32, denominator: u32) -> Result<Option<i32>, Refusal>
+    ensures { UnscaleAnswer nanometres numerator denominator (numbered result) }
 {
     if is_scale(numerator, denominator) {
         if nanometres < -1000000000000 {
-            return Unscaled::None;
+            return Ok(None);
         }
         if 1000000000000 < nanometres {
-            return Unscaled::None;
+            return Ok(None);
         }
-        return step_near(nanometres, numerator, denominator);
+        return Ok(step_near(nanometres, numerator, denominator));
     }
-    Unscaled::Refused(refusal::BAD_SCALE)
+    Err(Refusal::BadScale)
 }

@@ -4,4 +4,5 @@ pub mod Booleans
 pub mod Checks
 pub mod Sizes
 pub mod Refusals
+pub mod Refused
 pub mod Sums

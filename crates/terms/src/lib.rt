@@ -4,10 +4,13 @@
 
 ghost use Rattle.std.specs.Prelude.{◌≡◌, min, ◌+ℤ◌};
 ghost use Rattle.terms.specs.Positions.{is_position, half, rounding};
-ghost use Rattle.terms.specs.Sizes.{is_listener, is_limit, limit_number, size_refusal, is_phase};
+ghost use Rattle.terms.specs.Sizes.{is_count, is_listener, is_limit, limit_number, size_refusal, is_phase};
 ghost use Rattle.terms.specs.Counting.{bit};
+ghost use Rattle.terms.specs.Refused.{number, number_of};
 
 pub mod refusal;
+
+pub use refusal::{Refusal, number_of};
 
 // A ring has 32 heads at most.
 pub const HEADS: usize = 32;
@@ -45,6 +48,13 @@ pub enum Family {
     OneRound,
 }
 
+// Whether a ring has so many heads: from 1 to 32.
+fn is_count(n: u32) -> bool
+    ensures { result ≡ is_count n }
+{
+    1 <= n && n <= 32
+}
+
 // Whether f is a struck limit for n heads: 2n at least 7f + 2, and in a ring of one round n at least 4f + 1.
 fn is_limit(family: Family, n: u32, f: u32) -> bool
     ensures { result ≡ is_limit family n f }
@@ -56,30 +66,27 @@ fn is_limit(family: Family, n: u32, f: u32) -> bool
 }
 
 // Its refusal.
-fn limit_number(family: Family) -> u8
-    ensures { result ≡ limit_number family }
+fn limit_refusal(family: Family) -> Refusal
+    ensures { number result ≡ limit_number family }
 {
     match family {
-        Family::TwoRounds => refusal::STRUCK_LIMIT_TOO_HIGH,
-        Family::OneRound => refusal::ONE_ROUND_LIMIT_TOO_HIGH,
+        Family::TwoRounds => Refusal::StruckLimitTooHigh,
+        Family::OneRound => Refusal::OneRoundLimitTooHigh,
     }
 }
 
-// Whether a ring of n heads with the struck limit f is taken: 0, or 1 for the head count, or for the limit 2, and 18 in a ring of one
+// Whether a ring of n heads with the struck limit f is taken: refusals 1 for the head count, and for the limit 2, or 18 in a ring of one
 // round.
-pub fn size_refusal(family: Family, n: u32, f: u32) -> u8
-    ensures { result ≡ size_refusal family n f }
+pub fn check_size(family: Family, n: u32, f: u32) -> Result<(), Refusal>
+    ensures { number_of result ≡ size_refusal family n f }
 {
-    if n == 0 {
-        return refusal::BAD_HEAD_COUNT;
-    }
-    if 32 < n {
-        return refusal::BAD_HEAD_COUNT;
+    if !is_count(n) {
+        return Err(Refusal::BadHeadCount);
     }
     if !is_limit(family, n, f) {
-        return limit_number(family);
+        return Err(limit_refusal(family));
     }
-    0
+    Ok(())
 }
 
 // Whether there is such a phase: from 1 to 65,535.
@@ -120,12 +127,8 @@ pub type Words = [u32; HEADS];
 
 pub type Lists = [Numbers; HEADS];
 
-// An entry is either null (no value) or a position (the value of a node, in the field's terms); zero steps is a position.
-#[derive(Clone, Copy)]
-pub enum Entry {
-    Null,
-    Position(i32),
-}
+// An entry is either null (no value), which is `None`, or a position (the value of a node, in the field's terms); zero steps is a position.
+pub type Entry = Option<i32>;
 
 // A table of entries, one for each head: bit j of marks is set if entry j is a position; entries holds 0 if it is null.
 #[derive(Clone, Copy)]

@@ -1,20 +1,21 @@
 -- `camera::put_kept` meets its contract, case by case.
-use mathlib.Core.Path.{refl}
+use mathlib.Core.Path.{refl, ap}
 use native.Mathlib.Omega.{arith}
 use borrow.Author.Rules.{rules}
 use Rattle.settle_midpoint.proofs.Stored.{stored}
 use Rattle.settle_midpoint.specs.Answers.{settled_number}
 use Rattle.camera.specs.Out.{kept_or}
 use Rattle.terms.proofs.Refusals.{given_out}
+use Rattle.terms.specs.Refused.{numbered}
 use Rattle.camera.proofs.put_kept.Goals as goal
 
-pub returns-in-Refused : goal.returns-in-Refused
-returns-in-Refused c = given_out settled_number kept_or refl refl refl c.in-Refused.is
+pub returns-in-Err : goal.returns-in-Err
+returns-in-Err c = given_out settled_number kept_or c.number.ensures refl refl (ap numbered c.in-Err.is)
 
-pub returns-in-New : goal.returns-in-New
-returns-in-New c =
-    let k = c.in-New.k in
+pub returns-in-Ok : goal.returns-in-Ok
+returns-in-Ok c =
+    let k = c.in-Ok.k in
     given_out settled_number kept_or refl
     (stored {low = k.low} {high = k.high} {position = k.position} k.trim (record { sfits = omega arith }) (record { sfits = omega arith }) (search rules) (record { sfits = omega arith }))
     refl
-    c.in-New.is
+    (ap numbered c.in-Ok.is)

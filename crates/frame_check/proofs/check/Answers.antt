@@ -14,25 +14,16 @@ to_the_end : (s : List ℕ) (a : ℕ) → take (length s - a) (drop a s) ≡ dro
 to_the_end s a = take_all (length s - a) (drop a s) (simp length-drop (le_refl _))
 
 pub slice_bounds-result-count : goal.slice_bounds-result-count
-slice_bounds-result-count c = accepted_long _ (sym c.frame_refusal-refused.ensures ∙ c.if-refused-eq0.true)
+slice_bounds-result-count c = accepted_long _ (sym c.in_ok-frame_refusal.ensures)
 
 pub slice_bounds-result-start : goal.slice_bounds-result-start
-slice_bounds-result-start c = accepted_long _ (sym c.frame_refusal-refused.ensures ∙ c.if-refused-eq0.true)
-
-pub returns-then-refused-eq0 : goal.returns-then-refused-eq0
-returns-then-refused-eq0 c =
-    let e = c.frame_refusal-refused.ensures in
-    record {
-      number = e;
-      rest = to_the_end c.args.frame.now 7 ∙ sym (accepted_rest _ (sym e ∙ c.if-refused-eq0.true));
-      place = λ _. (refl, omega arith);
-    }
+slice_bounds-result-start c = accepted_long _ (sym c.in_ok-frame_refusal.ensures)
 
 pub returns : goal.returns
 returns c =
-    let e = c.frame_refusal-refused.ensures in
+    let e = c.in_ok-frame_refusal.ensures in
     record {
       number = e;
-      rest = sym (refused_rest _ (λ q. c.if-refused-eq0.false (e ∙ q)));
-      place = λ q. absurd (c.if-refused-eq0.false (e ∙ q));
+      rest = to_the_end c.args.frame.now 7 ∙ sym (accepted_rest _ (sym e));
+      place = (refl, omega arith);
     }

@@ -14,13 +14,13 @@ returns-in-Refused c =
     let w = fits_front [] c.args.buffer.now refl (omega arith) refl in
     rw c.in-Refused.is (record { answer = w.0; bytes = w.1 })
 
-pub returns-in-Null : goal.returns-in-Null
-returns-in-Null c =
-    rw (c.in-Collection.is ∙ ap Said.Collection c.in-Null.is) c.write_bare.ensures
+pub returns-in-None : goal.returns-in-None
+returns-in-None c =
+    rw (c.in-Collection.is ∙ ap Said.Collection c.in-None.is) c.write_bare.ensures
 
-pub returns-in-Position : goal.returns-in-Position
-returns-in-Position c =
-    rw (c.in-Collection.is ∙ ap Said.Collection c.in-Position.is) (rw (to_z-of_z {w = w32} {z = c.in-Position.v} (record { sfits = search rules })) at c.write_position.ensures)
+pub returns-in-Some : goal.returns-in-Some
+returns-in-Some c =
+    rw (c.in-Collection.is ∙ ap Said.Collection c.in-Some.is) (rw (to_z-of_z {w = w32} {z = c.in-Some.v} (record { sfits = search rules })) at c.write_position.ensures)
 
 pub returns-in-List : goal.returns-in-List
 returns-in-List c =

@@ -1,4 +1,5 @@
 -- Refusal 27 comes first, then 26; else the phase ends with what was offered.
+use Rattle.std.specs.Prelude.{Some}
 use mathlib.Core.Path.{◌≡◌, ap, sym, ◌∙◌}
 use mathlib.Core.Logic.{◌≢◌}
 use mathlib.Core.Bool.{false}
@@ -8,7 +9,7 @@ use native.Mathlib.Omega.{arith}
 use Rattle.settle_midpoint.specs.declared.Kept.{Kept}
 use Rattle.head_spec.specs.declared.Seat.{Seat}
 use Rattle.head_spec.specs.declared.Answer.{Answer}
-use Rattle.head_spec.specs.declared.Offer.{Offer}
+use Rattle.head_spec.specs.Kept.{Offer}
 use Rattle.head_spec.specs.Record.{no_entries, opened}
 use Rattle.head_spec.specs.Seats.{next_seat}
 use Rattle.head_spec.specs.Calls.{closed_phase, adopt}
@@ -26,7 +27,7 @@ refused : (w : List ℕ) (c : ℕ) → (adopt (head_of w) (offer_of w)).refusal 
 refused w c e d t = (sym e, sym ((refused_leaves w adopts (λ z. d (sym e ∙ z))).1 (λ z. t (sym e ∙ z))))
 
 -- taken: the record is opened in the next seat
-taken : (w : List ℕ) (k : Kept) {s : Seat} {b : Registers} {w' : List ℕ} → offer_of w ≡ Offer.Standing k → (head_of w).seat.ended ≡ false
+taken : (w : List ℕ) (k : Kept) {s : Seat} {b : Registers} {w' : List ℕ} → offer_of w ≡ Some k → (head_of w).seat.ended ≡ false
     → s ≡ next_seat (head_of w).seat k → b ≡ adopted_registers 0 (registers_of w)
     → w' ≡ without_offer 0 (with_registers b (with_head (opened s no_entries) w)) → (0 ≡ (adopt (head_of w) (offer_of w)).refusal) × (w' ≡ block_after w adopts)
 unfolding block_after with_answer closed_phase
@@ -42,23 +43,23 @@ pub returns-then-seat : goal.returns-then-seat
 unfolding head_of
 returns-then-seat c =
     let w = c.args.h.now in
-    let o = sym c.offer_in.ensures ∙ c.in-Standing.is in
+    let o = sym c.offer_in.ensures ∙ c.in-Some.is in
     let over = ap (λ (x : Seat). x.ended) (sym c.seat_in-seat.ensures) ∙ c.if-seat.true in
-    refused w 26 (ap (λ (x : Offer). (adopt (head_of w) x).refusal) o ∙ ap (λ (x : Answer). x.refusal) (ended_adopts (head_of w) over _)) (omega arith) (omega arith)
+    rw c.number-then-seat.ensures (refused w 26 (ap (λ (x : Offer). (adopt (head_of w) x).refusal) o ∙ ap (λ (x : Answer). x.refusal) (ended_adopts (head_of w) over _)) (omega arith) (omega arith))
 
-pub returns-in-Nothing : goal.returns-in-Nothing
-returns-in-Nothing c =
+pub returns-in-None : goal.returns-in-None
+returns-in-None c =
     let w = c.args.h.now in
-    let o = sym c.offer_in.ensures ∙ c.in-Nothing.is in
-    refused w 27 (ap (λ (x : Offer). (adopt (head_of w) x).refusal) o ∙ ap (λ (x : Answer). x.refusal) (adopts_nothing (head_of w))) (omega arith) (omega arith)
+    let o = sym c.offer_in.ensures ∙ c.in-None.is in
+    rw c.number.ensures (refused w 27 (ap (λ (x : Offer). (adopt (head_of w) x).refusal) o ∙ ap (λ (x : Answer). x.refusal) (adopts_nothing (head_of w))) (omega arith) (omega arith))
 
 pub returns-else-seat : goal.returns-else-seat
 unfolding head_of
 returns-else-seat c =
     let w = c.args.h.now in
-    let o = sym c.offer_in.ensures ∙ c.in-Standing.is in
+    let o = sym c.offer_in.ensures ∙ c.in-Some.is in
     let s = c.seat_in-seat.ensures in
     let runs = ap (λ (x : Seat). x.ended) (sym s) ∙ c.if-seat.false in
-    let k = c.in-Standing.kept in
+    let k = c.in-Some.kept in
     taken w k o runs (c.next_seat.ensures ∙ ap (λ (x : Seat). next_seat x k) s) (c.after_adopt-b.ensures ∙ ap (adopted_registers 0) c.registers_in.ensures)
     c.put_fresh.ensures

@@ -4,7 +4,7 @@ use mathlib.Core.List.{List}
 use Prim.Native.Nat.{ℕ}
 use lib.IntN.{ℤ}
 use Rattle.settle_midpoint.proofs.Stored.{stored}
-use Rattle.head_spec.specs.declared.LastKept.{LastKept}
+use Rattle.head_spec.specs.Kept.{LastKept}
 use Rattle.head_spec.specs.declared.Seat.{Seat}
 use Rattle.head_lent.specs.Answers.{range_number, range_or}
 use Rattle.head_c.specs.Blocks.{head_of}
@@ -18,13 +18,13 @@ found old p q a b =
     let same = sym q ∙ ap (λ (y : Seat). y.kept) p in
     (a ∙ ap range_number same, b ∙ ap (λ (y : LastKept). range_or y old) same)
 
-pub returns-in-Nothing : goal.returns-in-Nothing
+pub returns-in-None : goal.returns-in-None
 unfolding head_of
-returns-in-Nothing c = found _ c.seat_in-seat.ensures c.in-Nothing.is refl refl
+returns-in-None c = found _ c.seat_in-seat.ensures c.in-None.is refl refl
 
-pub returns-in-Range : goal.returns-in-Range
+pub returns-in-Some : goal.returns-in-Some
 unfolding head_of
-returns-in-Range c =
-    let k = c.in-Range.k in
-    found _ c.seat_in-seat.ensures c.in-Range.is refl
+returns-in-Some c =
+    let k = c.in-Some.k in
+    found _ c.seat_in-seat.ensures c.in-Some.is refl
     (stored {low = k.low} {high = k.high} {position = k.position} k.trim (record { sfits = search rules }) (record { sfits = search rules }) (search rules) (record { sfits = search rules }))

@@ -6,12 +6,12 @@ use Rattle.head_lent.specs.Answers.{offer_number, offer_or}
 use borrow.Author.Rules.{rules}
 use Rattle.head_c.proofs.focus_head_has_offer.Goals as goal
 
-pub returns-in-Nothing : goal.returns-in-Nothing
-returns-in-Nothing c = given_out offer_number offer_or refl refl c.offer_in.ensures c.in-Nothing.is
+pub returns-in-None : goal.returns-in-None
+returns-in-None c = given_out offer_number offer_or refl refl c.offer_in.ensures c.in-None.is
 
-pub returns-in-Standing : goal.returns-in-Standing
-returns-in-Standing c =
-    let k = c.in-Standing.o in
+pub returns-in-Some : goal.returns-in-Some
+returns-in-Some c =
+    let k = c.in-Some.o in
     given_out offer_number offer_or refl
     (stored {low = k.low} {high = k.high} {position = k.position} k.trim (record { sfits = search rules }) (record { sfits = search rules }) (search rules) (record { sfits = search rules }))
-    c.offer_in.ensures c.in-Standing.is
+    c.offer_in.ensures c.in-Some.is

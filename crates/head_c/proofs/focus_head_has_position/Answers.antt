@@ -4,7 +4,7 @@ use mir.Syntax.{w32}
 use mir.Facts.{to_z-of_z}
 use lib.IntN.{ℤ}
 use Prim.Native.Nat.{ℕ}
-use Rattle.terms.specs.declared.Entry.{Entry}
+use Rattle.terms.specs.Entry.{Entry}
 use Rattle.head_spec.specs.declared.Seat.{Seat}
 use Rattle.head_lent.specs.Answers.{held_number, held_or}
 use Rattle.head_c.specs.Blocks.{head_of}
@@ -18,11 +18,11 @@ found old p q a b =
     let same = sym q ∙ ap (λ (x : Seat). x.position) p in
     (a ∙ ap held_number same, b ∙ ap (λ (x : Entry). held_or x old) same)
 
-pub returns-in-Null : goal.returns-in-Null
+pub returns-in-None : goal.returns-in-None
 unfolding head_of
-returns-in-Null c = found _ c.seat_in-seat.ensures c.in-Null.is refl refl
+returns-in-None c = found _ c.seat_in-seat.ensures c.in-None.is refl refl
 
-pub returns-in-Position : goal.returns-in-Position
+pub returns-in-Some : goal.returns-in-Some
 unfolding head_of
-returns-in-Position c =
-    found _ c.seat_in-seat.ensures c.in-Position.is refl (to_z-of_z {w = w32} {z = c.in-Position.v} (record { sfits = search rules }))
+returns-in-Some c =
+    found _ c.seat_in-seat.ensures c.in-Some.is refl (to_z-of_z {w = w32} {z = c.in-Some.v} (record { sfits = search rules }))

@@ -1,4 +1,5 @@
 -- What a head writes depends on its seat and its list alone.
+use Rattle.std.specs.Prelude.{Err}
 use mathlib.Core.Path.{◌≡◌, refl, ap, ◌∙◌}
 use mathlib.Core.Bool.{cond}
 use mathlib.Core.List.{List}
@@ -7,7 +8,7 @@ use Rattle.terms.specs.Refusals as refusal
 use Rattle.terms.specs.Sizes.{is_listener}
 use Rattle.frame_spec.specs.Said.{Meaning}
 use Rattle.frame_spec.specs.Written.{frame_of, written, buffered}
-use Rattle.frame_spec.specs.declared.Written.{Written}
+use Rattle.frame_spec.specs.Length.{Written}
 use Rattle.head_spec.specs.declared.Head.{Head}
 use Rattle.head_spec.specs.Calls.{spoken_in, spoken, write_answer, write_buffer}
 use Rattle.head_lent.specs.Answers.{written_number, written_or}
@@ -34,8 +35,8 @@ module _ (h : Head) (buffer : List ℕ) where
   unfolding write_answer frame
   same_answer =
       ap
-      (λ (m : Meaning). cond h.seat.ended (Written.Refused refusal.run_has_ended)
-      (cond (is_listener h.seat.number) (Written.Refused refusal.listener_sends_nothing) (written (frame m) buffer))) same_spoken
+      (λ (m : Meaning). cond h.seat.ended (Err refusal.run_has_ended)
+      (cond (is_listener h.seat.number) (Err refusal.listener_sends_nothing) (written (frame m) buffer))) same_spoken
 
   same_buffer : write_buffer seated buffer ≡ write_buffer h buffer
   unfolding write_buffer frame

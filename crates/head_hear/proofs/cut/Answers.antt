@@ -63,7 +63,7 @@ loop-rest-init c = record { few = omega arith; told = refl; count = omega arith 
 pub returns-then-size-eq0 : goal.returns-then-size-eq0
 returns-then-size-eq0 c =
     let (a, b) = torn c.loop-rest.invariant c.entry_size-size.ensures (grind (arith, nat_tests)) c.if-size-eq0.true c.args.room in
-    rw (a, b)
+    rw (c.number.ensures, a, b)
 
 pub slice_bounds-rest-start : goal.slice_bounds-rest-start
 slice_bounds-rest-start c = omega (arith, fits c.loop-rest.invariant c.entry_size-size.ensures c.if-size-eq0.false)
@@ -85,7 +85,7 @@ pub returns-then-room-entries : goal.returns-then-room-entries
 returns-then-room-entries c =
     let l = c.loop-rest.invariant in
     let none = nothing_left c.loop-rest.rest.now (grind (arith, nat_tests)) in
-    rw (short l none _ c.if-room-entries.true, all l none)
+    rw (c.number-then-room-entries.ensures, short l none _ c.if-room-entries.true, all l none)
 
 pub returns : goal.returns
 returns c =

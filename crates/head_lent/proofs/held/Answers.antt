@@ -6,8 +6,8 @@ use Rattle.head_lent.specs.Answers.{held_number, held_or}
 use Rattle.terms.proofs.Refusals.{given_out}
 use Rattle.head_lent.proofs.held.Goals as goal
 
-pub returns-in-Null : goal.returns-in-Null
-returns-in-Null c = given_out held_number held_or refl refl refl c.in-Null.is
+pub returns-in-None : goal.returns-in-None
+returns-in-None c = given_out held_number held_or refl refl refl c.in-None.is
 
-pub returns-in-Position : goal.returns-in-Position
-returns-in-Position c = given_out held_number held_or refl (search rules) refl c.in-Position.is
+pub returns-in-Some : goal.returns-in-Some
+returns-in-Some c = given_out held_number held_or refl (search rules) refl c.in-Some.is

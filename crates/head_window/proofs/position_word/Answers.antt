@@ -7,7 +7,7 @@ use Rattle.head_window.specs.Window.{position_word}
 use borrow.Author.Rules.{rules}
 use Rattle.head_window.proofs.position_word.Goals as goal
 
-pub returns-in-Position : goal.returns-in-Position
-returns-in-Position c =
-    let v = to_z-of_z {w = w32} {z = c.in-Position.v} (record { sfits = search rules }) in
-    c.unsigned.ensures ∙ ap word_of v ∙ ap position_word (sym c.in-Position.is)
+pub returns-in-Some : goal.returns-in-Some
+returns-in-Some c =
+    let v = to_z-of_z {w = w32} {z = c.in-Some.v} (record { sfits = search rules }) in
+    c.unsigned.ensures ∙ ap word_of v ∙ ap position_word (sym c.in-Some.is)

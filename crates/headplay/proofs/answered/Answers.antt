@@ -1,6 +1,6 @@
 -- The offer lapses if nothing was refused.
 use mathlib.Core.Path.{ap}
-use Rattle.head_spec.specs.declared.Offer.{Offer}
+use Rattle.head_spec.specs.Kept.{Offer}
 use Rattle.headplay.proofs.answered.Goals as goal
 
 pub returns : goal.returns

@@ -7,7 +7,7 @@ use lib.Seq.{take_at}
 use Rattle.terms.specs.Refusals.{leaves}
 use Rattle.head_spec.specs.declared.Head.{Head}
 use Rattle.head_spec.specs.declared.Answer.{Answer}
-use Rattle.head_spec.specs.declared.Offer.{Offer}
+use Rattle.head_spec.specs.Kept.{Offer}
 use Rattle.head_spec.specs.Batch.{hear_batch, batch_refusal, batch_answers, batch_count, deliveries_of}
 use Rattle.head_spec.specs.Calls.{Delivery, answers_to}
 use Rattle.head_spec.specs.Offers.{lapsed_by}

@@ -3,7 +3,7 @@ use mathlib.Core.Path.{◌≡◌}
 use Prim.Native.Nat.{ℕ}
 use Rattle.head_spec.specs.declared.Head.{Head}
 use Rattle.head_spec.specs.declared.Closing.{Closing}
-use Rattle.head_spec.specs.declared.Offer.{Offer}
+use Rattle.head_spec.specs.Kept.{Offer}
 use Rattle.head_spec.specs.Calls.{close}
 use Rattle.head_spec.specs.Offers.{offered}
 use Rattle.head_lent.specs.Answers.{closed_number}

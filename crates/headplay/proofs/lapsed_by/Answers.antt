@@ -2,7 +2,7 @@
 use Rattle.std.proofs.Common.{◌≡◌, refl, ◌∙◌, sym, ap, ℕ, List, [], ◌∷◌, ◌++◌, rules}
 use Rattle.std.proofs.lemmas.Fn.{fold_over, fronts}
 use Rattle.std.proofs.lemmas.Iterator.{YieldsList-from_slice}
-use Rattle.head_spec.specs.declared.Offer.{Offer}
+use Rattle.head_spec.specs.Kept.{Offer}
 use Rattle.head_spec.specs.Offers.{lapsed, lapsed_by}
 use Rattle.headplay.proofs.lapsed_by.Goals as goal
 

@@ -10,7 +10,7 @@ use borrow.Author.Tests.{lt-ltb, le-ltb, ne_eqb}
 use Rattle.fields.specs.Bytes.{at4}
 use Rattle.head_spec.specs.declared.Head.{Head}
 use Rattle.head_spec.specs.declared.Answer.{Answer}
-use Rattle.head_spec.specs.declared.Offer.{Offer}
+use Rattle.head_spec.specs.Kept.{Offer}
 use Rattle.head_spec.specs.Calls.{hear, adopt}
 use Rattle.headplay.specs.declared.Outcome.{Outcome}
 use Rattle.headplay.specs.Script.{answered, opening, batched, write_outcome, closed, turn_of, turn}

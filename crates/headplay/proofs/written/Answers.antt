@@ -5,7 +5,7 @@ use Prim.Native.Nat.{ℕ}
 use lib.ListN.{length, replicate, length-replicate}
 use Rattle.frame_spec.specs.Written.{written}
 use Rattle.head_spec.specs.declared.Head.{Head}
-use Rattle.head_spec.specs.declared.Offer.{Offer}
+use Rattle.head_spec.specs.Kept.{Offer}
 use Rattle.head_spec.specs.Calls.{write_answer}
 use Rattle.head_lent.specs.Answers.{written_number}
 use Rattle.headplay.specs.Script as script

@@ -9,12 +9,12 @@ use Rattle.terms.proofs.Machine.{read}
 use Rattle.reading.specs.Readings.{reading_between, reading_of}
 use Rattle.reading.proofs.reading_of.Goals as goal
 
-pub returns-in-Range : goal.returns-in-Range
-returns-in-Range c =
-    let k = c.in-Range.kept in
+pub returns-in-Some : goal.returns-in-Some
+returns-in-Some c =
+    let k = c.in-Some.kept in
     let low : SFits w32 k.low = record { sfits = search rules } in
     let high : SFits w32 k.high = record { sfits = search rules } in
     c.reading_between.ensures
     ∙ ap (λ (z : ℤ). reading_between z (read w32 k.high)) (to_z-of_z low)
     ∙ ap (reading_between k.low) (to_z-of_z high)
-    ∙ ap reading_of (sym c.in-Range.is)
+    ∙ ap reading_of (sym c.in-Some.is)

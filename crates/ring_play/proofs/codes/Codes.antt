@@ -1,10 +1,10 @@
 -- Entries as codes. The code of a position is the position, so a list holds a position just if it has its code; and no position that a list can hold has the
 -- code of a null entry.
+use Rattle.std.specs.Prelude.{None, Some}
 use Rattle.std.proofs.Common.{◌≡◌, ℕ, ◌+◌, ◌%◌, ◌≤◌, Bool, true, false, cond, eqb, ◌≢◌, List, get_or, ℤ, pos, sym, refl, ap, ◌∙◌, arith, to_z-of_z, w32, SFits, to_z, of_z}
 use mir.Val.{bool_byte}
 use Rattle.terms.specs.Positions.{is_position, eq_z}
-use Rattle.terms.specs.declared.Entry.{Entry}
-use Rattle.terms.specs.declared.Entry.TheVariants.{Null, Position}
+use Rattle.terms.specs.Entry.{Entry}
 use Rattle.terms.proofs.Whole.{eqZ→eq, eq_z_refl}
 use Rattle.marks.specs.Marks.{bit_of}
 use Rattle.entries.specs.Entries.{entry_at}
@@ -32,14 +32,14 @@ pub code_entry : (m : ℕ) (E : List ℤ) (j : ℕ) → code_at m E j ≡ code_o
 unfolding entry_at
 code_entry m E j = go (bit_of m j)
   where
-    go : (b : Bool) → cond b (get_or E j (pos 0)) no_code ≡ code_of (cond b (Position (get_or E j (pos 0))) Null)
+    go : (b : Bool) → cond b (get_or E j (pos 0)) no_code ≡ code_of (cond b (Some (get_or E j (pos 0))) None)
     go true = refl
     go false = refl
 
-pub entry_null : {c : ℤ} → c ≡ no_code → entry_of c ≡ Null
+pub entry_null : {c : ℤ} → c ≡ no_code → entry_of c ≡ None
 entry_null e = rw (eq_z_yes e)
 
-pub entry_position : {c : ℤ} → c ≢ no_code → entry_of c ≡ Position c
+pub entry_position : {c : ℤ} → c ≢ no_code → entry_of c ≡ Some c
 entry_position d = rw (eq_z_no d)
 
 -- a position is no code of a null entry
@@ -58,8 +58,8 @@ is_holds j u confessed d = refl
 is_holds j u (gave l) d = go (l j)
   where
     go : (e : Entry) → is u e ≡ bit (eq_z (code_of e) u)
-    go Null = ap bit (sym (eq_z_no (λ q. d (sym q))))
-    go (Position w) = ap bit (eq_z_turned u w)
+    go None = ap bit (sym (eq_z_no (λ q. d (sym q))))
+    go (Some w) = ap bit (eq_z_turned u w)
 
 pub is_le_holds : (j : ℕ) (u : ℤ) (g : Given) → is u (says_of j g) ≤ holds j u g
 is_le_holds j u nothing = omega arith
@@ -67,8 +67,8 @@ is_le_holds j u confessed = omega arith
 is_le_holds j u (gave l) = go (l j)
   where
     go : (e : Entry) → is u e ≤ bit (eq_z (code_of e) u)
-    go Null = omega arith
-    go (Position w) = omega (arith, ap bit (eq_z_turned u w))
+    go None = omega arith
+    go (Some w) = omega (arith, ap bit (eq_z_turned u w))
 
 pub holds_le : (j : ℕ) (c : ℤ) (g : Given) → holds j c g ≤ 1
 holds_le j c nothing = omega arith

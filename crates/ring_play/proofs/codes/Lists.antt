@@ -1,7 +1,7 @@
 -- The lists that all receivers hear, link by link: a link that gives a list adds its code at entry j, and any other adds nothing.
 use Rattle.std.proofs.Common.{◌≡◌, ℕ, ◌+◌, ◌%◌, ◌<◌, ◌≤◌, Bool, true, false, cond, not, ◌&&◌, List, [], ◌∷◌, get_or, ℤ, sym, refl, ap, ◌∙◌, true≢false, add-one, arith}
 use Rattle.terms.specs.Positions.{eq_z}
-use Rattle.terms.specs.declared.Entry.{Entry}
+use Rattle.terms.specs.Entry.{Entry}
 use Rattle.marks.specs.Marks.{bit_of}
 use Rattle.entries.specs.Entries.{entry_at}
 use Rattle.terms.specs.Counting.{sum, bit}

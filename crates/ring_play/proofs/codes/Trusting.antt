@@ -1,11 +1,11 @@
 -- The trusted entries of a receiver, from what all receivers share. No position but the shared one can reach the support; so the entry is that one if it does,
 -- and else null.
+use Rattle.std.specs.Prelude.{None, Some}
 use Rattle.std.proofs.Common.{◌≡◌, ℕ, ◌+◌, ◌-◌, ◌<◌, ◌≤◌, Bool, true, false, cond, ◌&&◌, leb, ◌≢◌, List, [], ◌∷◌, get_or, ℤ, pos, ◌+ℤ◌, sym, refl, ap, ◌∙◌, true≢false, arith, le-leb}
 use native.Mathlib.Decide.{dec_le}
 use lib.IntN.{ℤ_discrete}
 use borrow.Author.Tests.{lt-leb}
-use Rattle.terms.specs.declared.Entry.{Entry}
-use Rattle.terms.specs.declared.Entry.TheVariants.{Null, Position}
+use Rattle.terms.specs.Entry.{Entry}
 use Rattle.terms.proofs.Whole.{other}
 use Rattle.terms.specs.Counting.{Each, sum, bit}
 use Rattle.convergence.specs.Trust.{Given, nothing, is, supports, support, has_confessed, confessions, says_of, trusted}
@@ -21,30 +21,30 @@ use Rattle.ring_play.proofs.codes.Codes.{entry_null, entry_position, is_holds}
 
 module _ (n f : ℕ) (G : ℕ → Given) (j : ℕ) where
   -- no position has it
-  trusted_none : ((u : ℤ) → support n G j u < n - f) → trusted n f G j ≡ Null
+  trusted_none : ((u : ℤ) → support n G j u < n - f) → trusted n f G j ≡ None
   trusted_none h = go (trusted n f G j) refl
     where
-      go : (e : Entry) → trusted n f G j ≡ e → trusted n f G j ≡ Null
-      go Null q = q
-      go (Position u) q = absurd (omega (arith, h u, (trusted_only n f G j u q).0.reaches))
+      go : (e : Entry) → trusted n f G j ≡ e → trusted n f G j ≡ None
+      go None q = q
+      go (Some u) q = absurd (omega (arith, h u, (trusted_only n f G j u q).0.reaches))
 
-  trusted_healed : has_confessed (G j) ≡ true → trusted n f G j ≡ Null
+  trusted_healed : has_confessed (G j) ≡ true → trusted n f G j ≡ None
   trusted_healed c = go (trusted n f G j) refl
     where
-      go : (e : Entry) → trusted n f G j ≡ e → trusted n f G j ≡ Null
-      go Null q = q
-      go (Position u) q = absurd (true≢false (sym c ∙ (trusted_only n f G j u q).1))
+      go : (e : Entry) → trusted n f G j ≡ e → trusted n f G j ≡ None
+      go None q = q
+      go (Some u) q = absurd (true≢false (sym c ∙ (trusted_only n f G j u q).1))
 
   -- c alone can have it
   module _ (c : ℤ) (few : (w : ℤ) → w ≢ c → support n G j w < n - f) where
-    trusted_reached : has_confessed (G j) ≡ false → n - f ≤ support n G j c → trusted n f G j ≡ Position c
+    trusted_reached : has_confessed (G j) ≡ false → n - f ≤ support n G j c → trusted n f G j ≡ Some c
     trusted_reached unhealed r = trusted_is n f G j c (record { reaches = r; alone = λ w h. go w h (ℤ_discrete w c) }) unhealed
       where
         go : (w : ℤ) → n - f ≤ support n G j w → Dec (w ≡ c) → w ≡ c
         go w h (yes e) = e
         go w h (no d) = absurd (omega (arith, few w d))
 
-    trusted_missed : support n G j c < n - f → trusted n f G j ≡ Null
+    trusted_missed : support n G j c < n - f → trusted n f G j ≡ None
     trusted_missed m = trusted_none (λ w. go w (ℤ_discrete w c))
       where
         go : (w : ℤ) → Dec (w ≡ c) → support n G j w < n - f
@@ -58,7 +58,7 @@ module _ (n f : ℕ) (G : ℕ → Given) (j : ℕ) where
 
 module _ (n f p : ℕ) (G G' : ℕ → Given) (struck : ℕ → Bool) (codes : List ℤ) (same : List ℕ) (S : Shares n f p G codes same)
     (counted : sum n (λ k. bit (struck k)) ≡ p) (untold : Each n (λ k. struck k ≡ true → G k ≡ nothing)) (kept : Each n (λ k. struck k ≡ false → G' k ≡ G k))
-    (tidy : Each n (λ k. Each n (λ j. says_of j (G' k) ≡ Position no_code → ⊥))) where
+    (tidy : Each n (λ k. Each n (λ j. says_of j (G' k) ≡ Some no_code → ⊥))) where
   support_le : (j : ℕ) (w : ℤ) → support n G' j w ≤ support n G j w + p
   unfolding support
   support_le j w =
@@ -113,7 +113,7 @@ module _ (n f p : ℕ) (G G' : ℕ → Given) (struck : ℕ → Bool) (codes : L
       -- no list holds the code of a null entry
       support_none : c ≡ no_code → support n G' j c < n - f
       support_none e =
-          let z : sum n (λ k. is c (says_of j (G' k))) ≡ 0 = sum_same n _ (λ k. 0) (λ k m. is_other c (says_of j (G' k)) (λ q. tidy k m j l (q ∙ ap Position e))) ∙ sum_none n in
+          let z : sum n (λ k. is c (says_of j (G' k))) ≡ 0 = sum_same n _ (λ k. 0) (λ k m. is_other c (says_of j (G' k)) (λ q. tidy k m j l (q ∙ ap Some e))) ∙ sum_none n in
           omega (arith, support_parts n G' j c, few_confessions n f G' j c few)
 
       entry_shared : {need : ℕ} {v : ℤ} → need ≡ n - f - confessions n G' → v ≡ cond (leb need (get_or same j 0 + sum n added)) c no_code → entry_of v ≡ trusted n f G' j

@@ -1,8 +1,8 @@
 -- The list that a head fills: what head i hears of head k is what is planted, or what head k sent. Two tables of n entries are the same if their entries below n
 -- are, and an entry is put into a table where there was none by its mark and its number.
+use Rattle.std.specs.Prelude.{None}
 use Rattle.std.proofs.Common.{◌≡◌, ℕ, ◌+◌, ◌*◌, ◌%◌, ◌^◌, ◌<◌, Bool, true, false, cond, List, [], length, set, ℤ, sym, refl, ap, ◌∙◌, ap₂, arith, get_or-set_other, get_or-set_same, lt-ltb}
-use Rattle.terms.specs.declared.Entry.{Entry}
-use Rattle.terms.specs.declared.Entry.TheVariants.{Null}
+use Rattle.terms.specs.Entry.{Entry}
 use Rattle.terms.specs.declared.Table.{Table}
 use Rattle.marks.specs.Marks.{bit_of}
 use Rattle.entries.specs.Tables.{mark, value_of, marks_of, values_of, table_of}
@@ -15,7 +15,7 @@ use Rattle.ring_play.specs.declared.Stage.{Stage}
 use Rattle.convergence.specs.Settling.{one_round_rule}
 use Rattle.terms.specs.Positions.{rounding}
 use Rattle.settle_midpoint.specs.Answers.{settling}
-use Rattle.settle_midpoint.specs.declared.Settled.{Settled}
+use Rattle.settle_midpoint.specs.Settled.{Settled}
 use Rattle.settle_midpoint.proofs.Middle.{settling_same}
 use Rattle.entries.specs.Tables.{table_at}
 use Rattle.entries.proofs.TableAt.{table_at_lem}
@@ -31,7 +31,7 @@ pub sent_as_is : (s : Stage) (positions : List ℤ) → s.phase < 65536 → InRa
 sent_as_is s positions small fit k l =
     sym (ap heard_entry (reads_back (heads s) k s.phase (collected (own_entry s positions k)) (omega arith) small (fit k l)))
 
-pub sent_none : (s : Stage) (positions : List ℤ) (k : ℕ) → bit_of s.struck k ≡ true → sent_by s positions k ≡ Null
+pub sent_none : (s : Stage) (positions : List ℤ) (k : ℕ) → bit_of s.struck k ≡ true → sent_by s positions k ≡ None
 unfolding sent_by
 sent_none s positions k b = rw b
 
@@ -44,7 +44,7 @@ unfolding heard_with heard_of sent_by list_entry
 heard_list s positions small fit plant i = table_same (heads s) _ _ (λ k l. go k (bit_of s.struck k) (sent_as_is s positions small fit k l))
   where
     go : (k : ℕ) (b : Bool) → own_entry s positions k ≡ heard_entry (said (heads s) s.phase 0 k (frame_of (heads s) k s.phase (sends s positions k)))
-        → cond b (heard_entry (said (heads s) s.phase 0 k (plant k i))) (cond b Null (own_entry s positions k))
+        → cond b (heard_entry (said (heads s) s.phase 0 k (plant k i))) (cond b None (own_entry s positions k))
         ≡ heard_entry (said (heads s) s.phase 0 k (cond b (plant k i) (frame_of (heads s) k s.phase (sends s positions k))))
     go k true e = refl
     go k false e = e
@@ -83,7 +83,7 @@ module _ (s : Stage) (plant : ℕ → ℕ → List ℕ) (i : ℕ) where
     -- the entry e of head k, with its mark r and its number v
     module _ (k : ℕ) {m : ℕ} {l : List ℤ} (h : ListTo t₀ m l k) {e : Entry} {r : ℕ} (below : k < heads s) (b : bit_of s.struck k ≡ true)
         (is : e ≡ heard_of s (plant k i) k) (q : r ≡ mark e) where
-      yet : (S : Shared s t₀) → heard_to S.entry k k ≡ Null
+      yet : (S : Shared s t₀) → heard_to S.entry k k ≡ None
       yet S = filled_yet (bit_of s.struck) (λ j. heard_of s (plant j i) j) S.entry k (λ j. refl) ∙ S.none k b
 
       pub list_room : Shared s t₀ → m + r * 2 ^ k % 4294967296 < 4294967296

@@ -1,13 +1,13 @@
 -- What a receiver settles in a confession round: the unstruck heads give all alike, and the struck ones what is planted.
+use Rattle.std.specs.Prelude.{Some}
 use Rattle.std.proofs.Common.{◌≡◌, ℕ, ◌<◌, Bool, true, false, cond, not, ◌&&◌, ltb, List, ℤ, sym, refl, ap, ◌∙◌, true≢false, arith, lt-ltb}
 use Rattle.terms.specs.Positions.{is_position, rounding}
-use Rattle.terms.specs.declared.Entry.TheVariants.{Position}
 use Rattle.marks.specs.Marks.{bit_of}
 use Rattle.convergence.specs.Settling.{two_round_rule}
 use Rattle.convergence.specs.Trust.{Given, nothing, says_of, trusted}
 use Rattle.convergence.proofs.Support.{not_null}
 use Rattle.settle_midpoint.specs.Answers.{settling}
-use Rattle.settle_midpoint.specs.declared.Settled.{Settled}
+use Rattle.settle_midpoint.specs.Settled.{Settled}
 use Rattle.frame_spec.specs.Said.{said}
 use Rattle.frame_spec.specs.Written.{frame_of}
 use Rattle.settle_trust.specs.declared.Links.{Links}
@@ -50,7 +50,7 @@ module _ (s : Stage) (marks : List ℕ) (lists : List (List ℤ)) (g : Links) (r
   unfolding given_alike replied
   alike_given = record { untold = untold_given; ranged = λ k l j m u q. go k j m u (hears s k) (sym (ap (says_of j) (gives k)) ∙ q) }
     where
-      go : (k j : ℕ) → j < heads s → (u : ℤ) (b : Bool) → says_of j (cond b (given_of (replied s marks lists k)) nothing) ≡ Position u → is_position u ≡ true
+      go : (k j : ℕ) → j < heads s → (u : ℤ) (b : Bool) → says_of j (cond b (given_of (replied s marks lists k)) nothing) ≡ Some u → is_position u ≡ true
       go k j m u true q = given_positions (heads s) s.phase 1 k _ (omega arith) j m u q
       go k j m u false q = absurd (not_null refl q)
 

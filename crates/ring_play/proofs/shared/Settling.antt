@@ -1,7 +1,7 @@
 -- What a receiver settles in a confession round depends on what links 0 .. n - 1 give alone, and on that by its trusted entries. So receivers to which the same is
 -- planted settle the same, and so do receivers with the same codes.
 use Rattle.std.proofs.Common.{◌≡◌, ℕ, ◌<◌, Bool, true, false, cond, List, get_or, ℤ, pos, refl, ap, ◌∙◌, lt-ltb}
-use Rattle.terms.specs.declared.Entry.{Entry}
+use Rattle.terms.specs.Entry.{Entry}
 use Rattle.marks.specs.Marks.{bit_of}
 use Rattle.terms.specs.Counting.{Each}
 use Rattle.convergence.specs.Settling.{two_round_rule}
@@ -10,7 +10,7 @@ use Rattle.terms.specs.Positions.{rounding}
 use Rattle.convergence.proofs.Same.{trusted_same}
 use Rattle.frame_spec.specs.Said.{said}
 use Rattle.settle_midpoint.specs.Answers.{settling}
-use Rattle.settle_midpoint.specs.declared.Settled.{Settled}
+use Rattle.settle_midpoint.specs.Settled.{Settled}
 use Rattle.settle_midpoint.proofs.Middle.{settling_same}
 use Rattle.ring_play.specs.Inner.Codes.{entry_of}
 use Rattle.head_spec.specs.Record.{given_of}

@@ -1,8 +1,8 @@
 -- The trusted entries of a receiver, from what is given all alike and what is planted to it. The struck links give nothing alike, so each of them adds what is planted: to the
 -- lists that have a code, or to the confessions.
+use Rattle.std.specs.Prelude.{Some}
 use Rattle.std.proofs.Common.{◌≡◌, ℕ, ◌+◌, ◌-◌, ◌≤◌, min, Bool, true, false, cond, ◌&&◌, List, [], ◌∷◌, get_or, ℤ, pos, sym, refl, ap, ◌∙◌, arith, lt-ltb}
 use Rattle.terms.specs.Positions.{is_position}
-use Rattle.terms.specs.declared.Entry.TheVariants.{Position}
 use Rattle.marks.specs.Marks.{bit_of, count_below}
 use Rattle.terms.specs.Counting.{Each, sum, bit}
 use Rattle.convergence.specs.Trust.{Given, has_confessed, confessions, says_of, trusted}
@@ -26,10 +26,10 @@ use Rattle.ring_play.specs.Inner.Told.{planted_given, Told, SharedBy, settled_by
 use Rattle.ring_play.proofs.shared.Settling.{settled_trusted}
 
 -- a list that a frame gives holds positions in range
-pub given_positions : (n p r k : ℕ) (bytes : List ℕ) → n ≤ 32 → Each n (λ j. (u : ℤ) → says_of j (given_of (said n p r k bytes)) ≡ Position u → is_position u ≡ true)
+pub given_positions : (n p r k : ℕ) (bytes : List ℕ) → n ≤ 32 → Each n (λ j. (u : ℤ) → says_of j (given_of (said n p r k bytes)) ≡ Some u → is_position u ≡ true)
 given_positions n p r k bytes size j l u q = go (said n p r k bytes) refl q
   where
-    go : (m : Meaning) → said n p r k bytes ≡ m → says_of j (given_of m) ≡ Position u → is_position u ≡ true
+    go : (m : Meaning) → said n p r k bytes ≡ m → says_of j (given_of m) ≡ Some u → is_position u ≡ true
     go (refused c) e h = absurd (not_null refl h)
     go (collected x) e h = absurd (not_null refl h)
     go (listed t) e h = listed_position n t (said_proper n p r k bytes e tt size) j l u h
@@ -69,7 +69,7 @@ module _ (s : Stage) (plant : ℕ → ℕ → List ℕ) (i : ℕ) {need : ℕ} {
   n = heads s
 
   module _ (A : Alike s G) where
-    tidy : Each (heads s) (λ k. Each (heads s) (λ j. says_of j (G' k) ≡ Position no_code → ⊥))
+    tidy : Each (heads s) (λ k. Each (heads s) (λ j. says_of j (G' k) ≡ Some no_code → ⊥))
     tidy k l j m q = go (is_struck s k) refl
       where
         go : (b : Bool) → is_struck s k ≡ b → ⊥

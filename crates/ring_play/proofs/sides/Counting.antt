@@ -1,8 +1,8 @@
 -- Planted positions, counted head by head. A head that is not struck adds nothing.
+use Rattle.std.specs.Prelude.{None, Some}
 use Rattle.std.proofs.Common.{◌≡◌, ℕ, zero, suc, ◌+◌, ◌≤◌, Bool, true, false, List, ℤ, sym, refl, ap, ◌∙◌, add-one, arith}
 use lib.Signed.{le_z}
-use Rattle.terms.specs.declared.Entry.{Entry}
-use Rattle.terms.specs.declared.Entry.TheVariants.{Null, Position}
+use Rattle.terms.specs.Entry.{Entry}
 use Rattle.marks.specs.Marks.{bit_of}
 use Rattle.marks.proofs.Counts.{sum_next}
 use Rattle.terms.specs.Counting.{sum}
@@ -13,8 +13,8 @@ use Rattle.ring_play.specs.Inner.Collection.{heard_of}
 use Rattle.ring_play.specs.Inner.Sides.{planted_entry, tested, counts_with, SidesCounted}
 
 pub tested_le : (q : ℤ → Bool) (e : Entry) → tested q e ≤ 1
-tested_le q Null = omega arith
-tested_le q (Position u) = bit_le (q u)
+tested_le q None = omega arith
+tested_le q (Some u) = bit_le (q u)
 
 pub sum_tested_le : (n : ℕ) (q : ℤ → Bool) (E : ℕ → Entry) → sum n (λ k. tested q (E k)) ≤ n
 unfolding sum
@@ -23,7 +23,7 @@ sum_tested_le (suc n) q E = omega (arith, tested_le q (E n), sum_tested_le n q E
 
 -- ---- head by head
 
-told_none : (s : Stage) (plant : ℕ → ℕ → List ℕ) (i k : ℕ) → bit_of s.struck k ≡ false → planted_entry s plant i k ≡ Null
+told_none : (s : Stage) (plant : ℕ → ℕ → List ℕ) (i k : ℕ) → bit_of s.struck k ≡ false → planted_entry s plant i k ≡ None
 unfolding planted_entry
 told_none s plant i k b = rw b
 
@@ -52,7 +52,7 @@ module _ (E : ℕ → Entry) (lowest highest : ℤ) where
           high = sum_next _ k h.high (ap (tested (λ u. le_z highest u)) (sym q));
         }
 
-    counts_passed : E k ≡ Null → SidesCounted (k + 1) E lowest highest c
+    counts_passed : E k ≡ None → SidesCounted (k + 1) E lowest highest c
     unfolding sum
     counts_passed e = record { all = h.all ∙ next (λ u. true); low = h.low ∙ next (λ u. le_z u lowest); high = h.high ∙ next (λ u. le_z highest u) }
       where

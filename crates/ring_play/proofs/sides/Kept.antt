@@ -1,11 +1,11 @@
 -- What is kept of the entries E, which are those that all hear, H, and those that are planted, T, where H has none. What is kept is told by counts alone: the
 -- lowest kept is the only one with more than f positions no higher and all but f no lower, and so at the other end (`kept_only`). A position kept of H has these
 -- counts in E, if each planted one is no higher than the lowest of H, or no lower than the highest.
+use Rattle.std.specs.Prelude.{None, Some}
 use Rattle.std.proofs.Common.{◌≡◌, ℕ, ◌+◌, ◌-◌, ◌*◌, ◌<◌, ◌≤◌, Bool, true, false, T, List, [], ◌∷◌, length, get_or, ℤ, pos, ◌+ℤ◌, ◌≤ℤ◌, ◌<ℤ◌, refl, arith, le-leb}
 use lib.Signed.{le_z, le_z_yes}
 use Rattle.terms.specs.Positions.{half}
-use Rattle.terms.specs.declared.Entry.{Entry}
-use Rattle.terms.specs.declared.Entry.TheVariants.{Null, Position}
+use Rattle.terms.specs.Entry.{Entry}
 use Rattle.terms.proofs.Whole.{arithZ, not_le, dec_le_z}
 use Rattle.terms.specs.Counting.{Each, sum, bit}
 use Rattle.convergence.specs.Settling.{is_null, nulls, ordered, low_kept, high_kept, middle, enough, one_round_rule}
@@ -20,8 +20,8 @@ use Rattle.ring_play.specs.Inner.Sides.{tested, SidesCounted, SidesDecide}
 
 -- a position is not both no higher than p and no lower than q, if q is higher
 apart_at : (p q : ℤ) → p <ℤ q → (e : Entry) → passes (λ u. le_z u p) e + passes (λ u. le_z q u) e + is_null e ≤ 1
-apart_at p q h Null = omega arith
-apart_at p q h (Position u) = go (le_z u p) (λ t. le_z_yes {a = u} {b = p} t)
+apart_at p q h None = omega arith
+apart_at p q h (Some u) = go (le_z u p) (λ t. le_z_yes {a = u} {b = p} t)
   where
     go : (b : Bool) → (T b → u ≤ℤ p) → bit b + bit (le_z q u) + 0 ≤ 1
     go true w = omega (arith, gt_fails {a = q} {b = u} (let k = w tt in omega arithZ))
@@ -62,25 +62,25 @@ module _ (n : ℕ) (E : ℕ → Entry) where
 -- ---- positions planted on the two sides
 
 tested_passes : (q : ℤ → Bool) (e : Entry) → tested q e ≡ passes q e
-tested_passes q Null = refl
-tested_passes q (Position u) = refl
+tested_passes q None = refl
+tested_passes q (Some u) = refl
 
 position_or_null : (e : Entry) → passes (λ u. true) e + is_null e ≡ 1
-position_or_null Null = refl
-position_or_null (Position u) = refl
+position_or_null None = refl
+position_or_null (Some u) = refl
 
 -- what is no higher than x is no higher than y
 upto_more : (x y : ℤ) → x ≤ℤ y → (e : Entry) → tested (λ u. le_z u x) e ≤ passes (λ u. le_z u y) e
-upto_more x y h Null = omega arith
-upto_more x y h (Position u) = go (le_z u x) (λ t. le_z_yes {a = u} {b = x} t)
+upto_more x y h None = omega arith
+upto_more x y h (Some u) = go (le_z u x) (λ t. le_z_yes {a = u} {b = x} t)
   where
     go : (b : Bool) → (T b → u ≤ℤ x) → bit b ≤ bit (le_z u y)
     go true w = let k : u ≤ℤ y = (let k = w tt in omega arithZ) in omega (arith, bit_yes (le_z u y) k.le)
     go false w = omega arith
 
 from_more : (x y : ℤ) → x ≤ℤ y → (e : Entry) → tested (λ u. le_z y u) e ≤ passes (λ u. le_z x u) e
-from_more x y h Null = omega arith
-from_more x y h (Position u) = go (le_z y u) (λ t. le_z_yes {a = y} {b = u} t)
+from_more x y h None = omega arith
+from_more x y h (Some u) = go (le_z y u) (λ t. le_z_yes {a = y} {b = u} t)
   where
     go : (b : Bool) → (T b → y ≤ℤ u) → bit b ≤ bit (le_z x u)
     go true w = let k : x ≤ℤ u = (let k = w tt in omega arithZ) in omega (arith, bit_yes (le_z x u) k.le)

@@ -1,10 +1,10 @@
 -- What a receiver hears are the positions that all hear, with what is planted where these have none. If the planted ones lie outside, it settles on the middle of
 -- two positions that all hear.
+use Rattle.std.specs.Prelude.{None}
 use Rattle.std.proofs.Common.{◌≡◌, ℕ, ◌+◌, ◌-◌, ◌<◌, ◌≤◌, Bool, true, false, cond, List, length, get_or, ℤ, pos, ◌+ℤ◌, refl, ap, ◌∙◌, ap₂, arith}
 use lib.ListN.{get_or-append}
 use Rattle.terms.specs.Positions.{half, rounding}
-use Rattle.terms.specs.declared.Entry.{Entry}
-use Rattle.terms.specs.declared.Entry.TheVariants.{Null}
+use Rattle.terms.specs.Entry.{Entry}
 use Rattle.terms.specs.declared.Table.{Table}
 use Rattle.marks.specs.Marks.{bit_of}
 use Rattle.entries.specs.Tables.{table_at, table_of}
@@ -45,8 +45,8 @@ module _ (s : Stage) {t : Table} (S : Shared s t) (plant : ℕ → ℕ → List 
   split q j h =
       rw (sent_at j h, table_at_lem (heads s) (heard_with s S.entry plant i) (omega arith) j h) (go (bit_of s.struck j) (S.none j))
     where
-      go : (b : Bool) → (b ≡ true → S.entry j ≡ Null)
-          → passes q (cond b (heard_of s (plant j i) j) (S.entry j)) ≡ passes q (S.entry j) + passes q (cond b (heard_of s (plant j i) j) Null)
+      go : (b : Bool) → (b ≡ true → S.entry j ≡ None)
+          → passes q (cond b (heard_of s (plant j i) j) (S.entry j)) ≡ passes q (S.entry j) + passes q (cond b (heard_of s (plant j i) j) None)
       go true e = rw (e refl) (omega arith)
       go false e = omega arith
 

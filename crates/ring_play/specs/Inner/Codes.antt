@@ -1,8 +1,7 @@
 -- Entries as codes: one number for each, so that two entries are the same if their codes are.
-use Rattle.std.specs.Prelude.{◌≡◌, ℕ, ◌+◌, ◌%◌, ◌^◌, cond, List, length, ℤ, pos, nat_le, slice_index, slice_index_or}
+use Rattle.std.specs.Prelude.{◌≡◌, ℕ, ◌+◌, ◌%◌, ◌^◌, cond, List, length, ℤ, pos, nat_le, slice_index, slice_index_or, None, Some}
 use Rattle.terms.specs.Positions.{eq_z}
-use Rattle.terms.specs.declared.Entry.{Entry}
-use Rattle.terms.specs.declared.Entry.TheVariants.{Null, Position}
+use Rattle.terms.specs.Entry.{Entry}
 use Rattle.marks.specs.Marks.{bit_of}
 use Rattle.terms.specs.Counting.{Each, bit}
 use Rattle.convergence.specs.Trust.{Given, nothing, confessed, gave}
@@ -12,12 +11,12 @@ abbrev pub no_code : ℤ
 no_code = pos 1000001
 
 abbrev pub code_of : Entry → ℤ
-code_of Null = no_code
-code_of (Position u) = u
+code_of None = no_code
+code_of (Some u) = u
 
 -- the entry of a code
 abbrev pub entry_of : ℤ → Entry
-entry_of c = cond (eq_z c no_code) Null (Position c)
+entry_of c = cond (eq_z c no_code) None (Some c)
 
 -- the entry whose code stands at place j
 abbrev pub entry_in : List ℤ → ℕ → Entry

@@ -1,6 +1,6 @@
 -- What head i hears in a collection round: of the unstruck heads what all hear, of the struck ones what is planted to it.
-use Rattle.std.specs.Prelude.{◌≡◌, ℕ, Bool, true, cond, ◌&&◌, List, length, ℤ, pos, ◌==◌, slice_index_or}
-use Rattle.terms.specs.declared.Entry.{Entry}
+use Rattle.std.specs.Prelude.{◌≡◌, ℕ, Bool, true, cond, ◌&&◌, List, length, ℤ, pos, ◌==◌, slice_index_or, None, Some}
+use Rattle.terms.specs.Entry.{Entry}
 use Rattle.terms.specs.declared.Table.{Table}
 use Rattle.marks.specs.Marks.{bit_of}
 use Rattle.entries.specs.Tables.{table_of}
@@ -16,7 +16,7 @@ use Rattle.ring_play.specs.Memory.{heads, position_of}
 
 -- what head k sends
 abbrev pub own_entry : Stage → List ℤ → ℕ → Entry
-own_entry s positions k = cond (bit_of s.before k) Entry.Null (Entry.Position (slice_index_or positions k (pos 0)))
+own_entry s positions k = cond (bit_of s.before k) None (Some (slice_index_or positions k (pos 0)))
 
 -- the frame of a position from head k in phase p; the position may be out of range
 unfoldable pub is_position_frame : ℕ → ℕ → List ℕ → Bool
@@ -28,7 +28,7 @@ heard_of s bytes k = heard_entry (said (heads s) s.phase 0 k bytes)
 
 -- what all hear: of the unstruck heads what they sent, of the struck ones nothing
 unfoldable pub sent_by : Stage → List ℤ → ℕ → Entry
-sent_by s positions k = cond (bit_of s.struck k) Entry.Null (own_entry s positions k)
+sent_by s positions k = cond (bit_of s.struck k) None (own_entry s positions k)
 
 -- what head i hears of head k, with E for the unstruck heads
 unfoldable pub heard_with : (s : Stage) (E : ℕ → Entry) (plant : ℕ → ℕ → List ℕ) (i k : ℕ) → Entry
@@ -38,7 +38,7 @@ heard_with s E plant i k = cond (bit_of s.struck k) (heard_of s (plant k i) k) (
 pub record Shared (s : Stage) (t : Table) : Type 0 where
   pub entry : ℕ → Entry
   pub is : t ≡ table_of (heads s) entry
-  pub none : (k : ℕ) → bit_of s.struck k ≡ true → entry k ≡ Entry.Null
+  pub none : (k : ℕ) → bit_of s.struck k ≡ true → entry k ≡ None
 
 -- the position that a receiver settles from these entries, in a phase of one round
 unfoldable pub position_from : Stage → (ℕ → Entry) → ℤ

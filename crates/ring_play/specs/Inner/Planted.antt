@@ -1,7 +1,6 @@
 -- What a receiver settles in a confession round, from what the links give all unstruck receivers and what is planted to it.
-use Rattle.std.specs.Prelude.{◌≡◌, ℕ, Bool, true, false, cond, ◌&&◌, List, ℤ, pos, nat_lt, slice_index_or}
+use Rattle.std.specs.Prelude.{◌≡◌, ℕ, Bool, true, false, cond, ◌&&◌, List, ℤ, pos, nat_lt, slice_index_or, Some}
 use Rattle.terms.specs.Positions.{is_position, rounding}
-use Rattle.terms.specs.declared.Entry.TheVariants.{Position}
 use Rattle.marks.specs.Marks.{bit_of}
 use Rattle.terms.specs.Counting.{Each}
 use Rattle.convergence.specs.Settling.{two_round_rule}
@@ -27,7 +26,7 @@ position_settled s G = position_of (settling (rounding s.phase) (heads s) (two_r
 -- G is what unstruck heads can give all: nothing comes from struck heads, and lists hold positions in range
 pub record Alike (s : Stage) (G : ℕ → Given) : Type 0 where
   pub untold : (k : ℕ) → is_struck s k ≡ true → G k ≡ nothing
-  pub ranged : Each (heads s) (λ k. Each (heads s) (λ j. (u : ℤ) → says_of j (G k) ≡ Position u → is_position u ≡ true))
+  pub ranged : Each (heads s) (λ k. Each (heads s) (λ j. (u : ℤ) → says_of j (G k) ≡ Some u → is_position u ≡ true))
 
 -- each unstruck receiver has settled, and the other positions are as they were
 abbrev pub AllSettled : (s : Stage) (G : ℕ → Given) (plant : ℕ → ℕ → List ℕ) (before after : List ℤ) → Type 0

@@ -1,7 +1,6 @@
 -- What is planted to a receiver in a phase of one round, counted on both sides of the positions that all hear.
-use Rattle.std.specs.Prelude.{◌≡◌, ℕ, ◌+◌, ◌*◌, ◌<◌, ◌≤◌, Bool, true, cond, List, ℤ, int_le}
-use Rattle.terms.specs.declared.Entry.{Entry}
-use Rattle.terms.specs.declared.Entry.TheVariants.{Null, Position}
+use Rattle.std.specs.Prelude.{◌≡◌, ℕ, ◌+◌, ◌*◌, ◌<◌, ◌≤◌, Bool, true, cond, List, ℤ, int_le, None, Some}
+use Rattle.terms.specs.Entry.{Entry}
 use Rattle.marks.specs.Marks.{bit_of}
 use Rattle.terms.specs.Counting.{sum, bit}
 use Rattle.ring_play.specs.declared.Stage.{Stage}
@@ -10,12 +9,12 @@ use Rattle.ring_play.specs.Inner.Collection.{heard_of}
 
 -- what receiver i hears of head k, if it is struck
 unfoldable pub planted_entry : (s : Stage) (plant : ℕ → ℕ → List ℕ) (i k : ℕ) → Entry
-planted_entry s plant i k = cond (bit_of s.struck k) (heard_of s (plant k i) k) Null
+planted_entry s plant i k = cond (bit_of s.struck k) (heard_of s (plant k i) k) None
 
 -- 1 for a position that passes a test
 abbrev pub tested : (ℤ → Bool) → Entry → ℕ
-tested q Null = 0
-tested q (Position u) = bit (q u)
+tested q None = 0
+tested q (Some u) = bit (q u)
 
 -- an entry more
 abbrev pub counts_with : (lowest highest : ℤ) (e : Entry) (c : Counts) → Counts

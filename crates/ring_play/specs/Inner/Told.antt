@@ -1,6 +1,6 @@
 -- What a receiver counts and settles, from what is shared and what is planted to it.
 use Rattle.std.specs.Prelude.{◌≡◌, ℕ, ◌+◌, ◌-◌, ◌<◌, false, cond, List, ℤ, pos, slice_index, slice_index_or}
-use Rattle.terms.specs.declared.Entry.{Entry}
+use Rattle.terms.specs.Entry.{Entry}
 use Rattle.marks.specs.Marks.{bit_of, with_mark, count_below}
 use Rattle.terms.specs.Counting.{Each, sum}
 use Rattle.convergence.specs.Settling.{two_round_rule}

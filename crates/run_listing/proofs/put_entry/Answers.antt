@@ -11,10 +11,10 @@ use Rattle.texts.specs.Numbers.{whole}
 use Rattle.texts.proofs.Writing.{longer_as, put_fits}
 use Rattle.run_listing.proofs.put_entry.Goals as goal
 
-pub returns-in-Null : goal.returns-in-Null
-returns-in-Null c = rw c.in-Null.is (put_fits 12 (omega arith) (omega arith) c.put_at.ensures)
+pub returns-in-None : goal.returns-in-None
+returns-in-None c = rw c.in-None.is (put_fits 12 (omega arith) (omega arith) c.put_at.ensures)
 
-pub returns-in-Position : goal.returns-in-Position
-returns-in-Position c =
-    let v : SFits w32 c.in-Position.v = search rules in
-    rw c.in-Position.is (longer_as (ap (λ (z : ℤ). whole z ++ (32 ∷ [])) (to_z-of_z v)) (omega arith) c.put_position.ensures)
+pub returns-in-Some : goal.returns-in-Some
+returns-in-Some c =
+    let v : SFits w32 c.in-Some.v = search rules in
+    rw c.in-Some.is (longer_as (ap (λ (z : ℤ). whole z ++ (32 ∷ [])) (to_z-of_z v)) (omega arith) c.put_position.ensures)

@@ -6,4 +6,4 @@ pub returns-then-stands : goal.returns-then-stands
 returns-then-stands c = rw (sym c.stands.ensures ∙ c.if-stands.true) c.holding.ensures
 
 pub returns : goal.returns
-returns c = rw (sym c.stands.ensures ∙ c.if-stands.false) c.stop.ensures
+returns c = rw (sym c.stands.ensures ∙ c.if-stands.false) (rw c.number.ensures at c.stop.ensures)

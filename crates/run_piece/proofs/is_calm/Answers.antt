@@ -2,6 +2,7 @@
 use mathlib.Core.Path.{sym, ◌∙◌}
 use mathlib.Core.Bool.{true}
 use borrow.Author.Tests.{eq-eqb, ne_eqb, le-leb, lt-leb}
+use Rattle.terms.proofs.Refused.{taken_number}
 use Rattle.run_piece.specs.Steps.{is_settled}
 use Rattle.run_piece.proofs.is_calm.Goals as goal
 
@@ -21,4 +22,4 @@ returns-then-half_at-ne-ROUND c =
 
 pub returns : goal.returns
 returns c =
-    rw (sym c.is_settled.ensures ∙ c.if-not-is_settled.false, le-leb _ _ c.if-bytes-lt8.false, ← c.half_at.ensures, eq-eqb _ _ c.if-half_at-ne8.false, ← c.half_at-2.ensures, eq-eqb _ _ c.if-half_at-ne-ROUND.false, ← c.round_fault.ensures)
+    rw (sym c.is_settled.ensures ∙ c.if-not-is_settled.false, le-leb _ _ c.if-bytes-lt8.false, ← c.half_at.ensures, eq-eqb _ _ c.if-half_at-ne8.false, ← c.half_at-2.ensures, eq-eqb _ _ c.if-half_at-ne-ROUND.false, ← c.round_fault.ensures) (c.is_ok.ensures.value ∙ taken_number c.round_fault.result)

@@ -1,11 +1,11 @@
 -- `run_round::play_agreed` meets its contract: a ring that has agreed is as it was, and all places hold the position on which it did.
+use Rattle.std.specs.Prelude.{None, Some}
 use mathlib.Core.Path.{◌≡◌, refl, sym, ◌∙◌}
 use mathlib.Core.Bool.{true, true≢false}
 use Prim.Native.Nat.{◌≤◌}
 use native.Mathlib.Omega.{arith}
 use lib.IntN.{ℤ}
-use Rattle.terms.specs.declared.Entry.{Entry}
-use Rattle.terms.specs.declared.Entry.TheVariants.{Null, Position}
+use Rattle.terms.specs.Entry.{Entry}
 use Rattle.texts.proofs.Writing.{empty_text}
 use Rattle.ring_spec.specs.Agreed.{is_agreed}
 use Rattle.run_spec.proofs.Reached.{taken}
@@ -14,9 +14,9 @@ use Rattle.run_round.proofs.Rounds.{agreed_kept, kept_played}
 use Rattle.run_round.proofs.play_agreed.Goals as goal
 
 -- what is agreed is a position
-agreed_position : (A : Entry) {P : Type 0} → is_agreed A ≡ true → ((u : ℤ) → A ≡ Position u → P) → P
-agreed_position Null e f = absurd (true≢false (sym e))
-agreed_position (Position u) e f = f u refl
+agreed_position : (A : Entry) {P : Type 0} → is_agreed A ≡ true → ((u : ℤ) → A ≡ Some u → P) → P
+agreed_position None e f = absurd (true≢false (sym e))
+agreed_position (Some u) e f = f u refl
 
 pub returns-then-not-ends_phase : goal.returns-then-not-ends_phase
 returns-then-not-ends_phase c =

@@ -1,7 +1,7 @@
 -- `settle_position::settle_entries` meets its contract: before entry j the order holds the positions among the entries below j. After the last entry
 -- these are all that settling asks of the entries.
 use Prim.Native.Nat.{ℕ}
-use Rattle.terms.specs.declared.Entry.{Entry}
+use Rattle.terms.specs.Entry.{Entry}
 use Rattle.settle_midpoint.specs.Orders.{OrderAfter}
 use Rattle.settle_position.specs.Deciding.{Prepared}
 use Rattle.settle_position.proofs.settle_entries.Given as goal

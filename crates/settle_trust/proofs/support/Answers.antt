@@ -6,7 +6,7 @@ use Prim.Native.Nat.{ℕ, ◌+◌}
 use native.Mathlib.Omega.{arith}
 use lib.Dec.{eqb}
 use lib.ListN.{get_or}
-use Rattle.terms.specs.declared.Entry.{Entry}
+use Rattle.terms.specs.Entry.{Entry}
 use Rattle.convergence.specs.Trust.{says_of}
 use Rattle.settle_trust.specs.Received.{given_by}
 use Rattle.settle_trust.specs.Cells.{marks_to}

@@ -54,8 +54,8 @@ returns-then-reads-reading c =
           ∙ to_z-of_z c.ranges.reading,
     )
 
-pub returns : goal.returns
-returns c =
+pub returns-else-reads-reading : goal.returns-else-reads-reading
+returns-else-reads-reading c =
     reads_otherwise _ _ _ c.requires.1 _
     (only_steps (read w64 c.candidate-only.result) (in_range _ c.if-only-ltminus1000000.false c.if-only-gt1000000.false) _ _ _
     (only_read _ _ c.ranges.reading (record { sfits = c.candidate-only.type_inv }) c.candidate-only.ensures))

@@ -7,7 +7,7 @@ use mir.Val.{SFits}
 use mir.Facts.{to_z-of_z}
 use Rattle.steps.specs.Unscale.{UnscaleAnswer}
 use Rattle.steps.specs.Unscale.UnscaleAnswer.{refused}
-use Rattle.steps.specs.declared.Unscaled.{Unscaled}
+use Rattle.steps.specs.Answers.{Unscaled}
 use Rattle.terms.proofs.Machine.{read}
 use Rattle.steps.proofs.NoStep.{near, far_below, far_above}
 use Rattle.steps.proofs.unscale.Goals as goal

@@ -1,5 +1,5 @@
 -- Case by case.
 use Rattle.head_c.proofs.block.kept_of.Goals as goal
 
-pub returns-in-Nothing : goal.returns-in-Nothing
-returns-in-Nothing c = rw c.in-Nothing.is
+pub returns-in-None : goal.returns-in-None
+returns-in-None c = rw c.in-None.is

@@ -1,16 +1,17 @@
 -- A word that is not 0 says that an offer stands.
+use Rattle.std.specs.Prelude.{Some}
 use mathlib.Core.Path.{◌≡◌, refl, sym, ◌∙◌}
 use Prim.Native.Nat.{ℕ, zero, suc}
 use lib.IntN.{ℤ}
 use mir.Syntax.{w32}
 use mir.Facts.{to_z-of_z}
-use Rattle.head_spec.specs.declared.Offer.{Offer}
+use Rattle.head_spec.specs.Kept.{Offer}
 use Rattle.head_c.specs.Blocks.{offer_in, offer_of}
 use Rattle.head_c.proofs.Offers.{no_offer}
 use Rattle.head_c.proofs.block.offer_in.Goals as goal
 
 stands : (b : ℕ) {low high position low' high' position' : ℤ} (trim : ℕ) → (b ≡ 0 → ⊥) → low ≡ low' → high ≡ high' → position ≡ position'
-    → Offer.Standing (record { low = low; high = high; trim = trim; position = position }) ≡ offer_in b low' high' trim position'
+    → Some (record { low = low; high = high; trim = trim; position = position }) ≡ offer_in b low' high' trim position'
 stands zero trim n p q r = absurd (n refl)
 stands (suc b) trim n p q r = rw (p, q, r)
 

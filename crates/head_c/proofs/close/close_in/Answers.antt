@@ -17,7 +17,7 @@ pub returns-then-h-ne0 : goal.returns-then-h-ne0
 unfolding head_of seat_of
 returns-then-h-ne0 c =
     let w = c.args.h.now in
-    ended_stays w (head_of w) (ap not (ne_eqb (get_or w 6 0) 0 c.if-h-ne0.true))
+    rw c.number.ensures (ended_stays w (head_of w) (ap not (ne_eqb (get_or w 6 0) 0 c.if-h-ne0.true)))
 
 pub returns-then-not-is_last_round : goal.returns-then-not-is_last_round
 unfolding head_of seat_of

@@ -1,9 +1,10 @@
 -- An entry that is marked is read from its word, and one that is not marked is null.
+use Rattle.std.specs.Prelude.{Some}
 use mathlib.Core.Path.{ap, sym, ◌∙◌}
 use Prim.Native.Nat.{◌+◌, ◌*◌, ◌<◌}
 use native.Mathlib.Omega.{arith}
 use lib.ListN.{get_or}
-use Rattle.terms.specs.declared.Entry.{Entry}
+use Rattle.terms.specs.Entry.{Entry}
 use Rattle.settle_trust.proofs.Cells.{holds_null, holds_same, entry_marked, entry_unmarked}
 use Rattle.head_c.proofs.Rows.{row_number, word_cell}
 use Rattle.head_c.proofs.settle.cell_at.Goals as goal
@@ -24,7 +25,7 @@ returns-then-marked c =
     let a = c.args in
     holds_same (word_cell _ (word c))
     (sym (entry_marked a.marks _ a.j (sym c.marked.ensures ∙ c.if-marked.true)
-    ∙ ap Entry.Position (row_number a.h.now a.k a.j c.requires.1 c.requires.2)))
+    ∙ ap Some (row_number a.h.now a.k a.j c.requires.1 c.requires.2)))
 
 pub returns : goal.returns
 returns c =

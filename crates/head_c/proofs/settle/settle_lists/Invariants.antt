@@ -3,7 +3,7 @@ use mathlib.Core.Path.{◌≡◌}
 use mathlib.Core.List.{[]}
 use Prim.Native.Nat.{ℕ}
 use lib.ListN.{length, get_or}
-use Rattle.terms.specs.declared.Entry.{Entry}
+use Rattle.terms.specs.Entry.{Entry}
 use Rattle.settle_midpoint.specs.Orders.{OrderAfter}
 use Rattle.settle_position.specs.Deciding.{Prepared}
 use Rattle.head_c.specs.Steps.{rows_in}

@@ -1,12 +1,11 @@
 -- The checks are those of the call by value, and so is the seat where they pass.
 use mathlib.Core.Path.{ap, ◌∙◌}
-use mathlib.Core.Bool.{Bool, true}
+use mathlib.Core.Bool.{true}
 use Prim.Native.Nat.{ℕ}
 use Rattle.terms.specs.Refusals as refusal
 use Rattle.terms.specs.Refusals.{check}
 use Rattle.head_spec.specs.Seats.{healed_seat}
 use Rattle.head_spec.specs.Calls.{restart_listener_refusal, restarted, restart_listener}
-use Rattle.head_calls.specs.Steps.{check_member}
 use Rattle.head_window.specs.Window.{restarted_registers}
 use Rattle.head_c.specs.Blocks.{head_of, registers_of}
 use Rattle.head_c.specs.Events.{block_after}
@@ -18,9 +17,8 @@ unfolding block_after restart_listener restart_listener_refusal restarted
 returns c =
     let a = c.args in
     let w = a.h.now in
-    let time = c.check-later.ensures ∙ ap (λ (b : Bool). check b refusal.phase_out_of_range 0) c.is_time.ensures in
-    let checks = c.member_refusal-refused.ensures ∙ ap (check_member a.family true a.n a.f a.number) time in
+    let checks = c.number_of-refused.ensures ∙ c.check_restart-checked.ensures in
     fresh_left w c.restart_seat-seat.result (healed_seat a.family a.n a.f a.number a.phase a.round) (head_of w)
     (λ (x : ℕ). restarted_registers x (registers_of w)) checks
-    (c.after_restart-b.ensures ∙ ap (restarted_registers c.member_refusal-refused.result) c.registers_in.ensures) c.put_fresh.ensures
+    (c.after_restart-b.ensures ∙ ap (restarted_registers c.number_of-refused.result) c.registers_in.ensures) c.put_fresh.ensures
     (λ z. c.restart_seat-seat.ensures ∙ restart_seat a.family true a.n a.f a.number a.phase a.round z)

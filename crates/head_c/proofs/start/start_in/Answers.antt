@@ -1,16 +1,16 @@
 -- The checks are those of the call by value, and so is the seat where they pass.
+use Rattle.std.specs.Prelude.{Some}
 use mathlib.Core.Path.{ap, ◌∙◌}
-use mathlib.Core.Bool.{Bool, false}
+use mathlib.Core.Bool.{false}
 use Prim.Native.Nat.{ℕ}
 use lib.IntN.{ℤ}
 use mir.Facts.{to_z-of_z}
 use Rattle.terms.specs.Refusals as refusal
 use Rattle.terms.specs.Refusals.{check}
 use Rattle.terms.specs.Positions.{is_position}
-use Rattle.terms.specs.declared.Entry.{Entry}
+use Rattle.terms.specs.Entry.{Entry}
 use Rattle.head_spec.specs.Seats.{first_seat}
 use Rattle.head_spec.specs.Calls.{start_refusal, started, start}
-use Rattle.head_calls.specs.Steps.{check_member}
 use Rattle.head_window.specs.Window.{started_registers}
 use Rattle.head_c.specs.Blocks.{head_of, registers_of}
 use Rattle.head_c.specs.Events.{block_after}
@@ -23,11 +23,10 @@ returns c =
     let a = c.args in
     let w = a.h.now in
     let v = to_z-of_z c.ranges.position in
-    let range = c.check-later.ensures ∙ ap (λ (b : Bool). check b refusal.position_out_of_range 0) (c.is_position.ensures ∙ ap is_position v) in
-    let checks = c.member_refusal-refused.ensures ∙ ap (check_member a.family false a.n a.f a.number) range in
-    fresh_left w c.first_seat-seat.result (first_seat a.family a.n a.f a.number (Entry.Position a.position)) (head_of w) (λ (x : ℕ). started_registers x (registers_of w)) checks
-    (c.after_start-b.ensures ∙ ap (started_registers c.member_refusal-refused.result) c.registers_in.ensures) c.put_fresh.ensures
+    let checks = c.number_of-refused.ensures ∙ c.check_start.ensures ∙ ap (start_refusal a.family a.n a.f a.number) v in
+    fresh_left w c.first_seat-seat.result (first_seat a.family a.n a.f a.number (Some a.position)) (head_of w) (λ (x : ℕ). started_registers x (registers_of w)) checks
+    (c.after_start-b.ensures ∙ ap (started_registers c.number_of-refused.result) c.registers_in.ensures) c.put_fresh.ensures
     (λ z.
     c.first_seat-seat.ensures
     ∙ first_seat_lem a.family false a.n a.f a.number (check (is_position a.position) refusal.position_out_of_range 0) _ z
-    ∙ ap (λ (x : ℤ). first_seat a.family a.n a.f a.number (Entry.Position x)) v)
+    ∙ ap (λ (x : ℤ). first_seat a.family a.n a.f a.number (Some x)) v)

@@ -7,6 +7,7 @@ use native.Mathlib.Omega.{arith}
 use native.Mathlib.Decide.{dec_lt}
 use lib.ListN.{get_or}
 use borrow.Author.Tests.{le-ltb}
+use Rattle.terms.proofs.Refused.{number_ne}
 use Rattle.terms.proofs.Refusals.{unchanged, changed}
 use Rattle.head_window.specs.Window.{read_refusal}
 use Rattle.head_c.proofs.window.focus_head_register.Goals as goal
@@ -18,17 +19,16 @@ below_16 at e = by_cases (dec_lt at 16) (λ l. l) (λ g. absurd (go (rw (le-ltb 
     go : ◌≡◌ {A = ℕ} 16 0 → ⊥
     go q = omega arith
 
-pub returns-then-refused-ne0 : goal.returns-then-refused-ne0
-returns-then-refused-ne0 c =
-    let e = c.read_refusal-refused.ensures in
-    (e, unchanged _ _ _ (λ z. c.if-refused-ne0.true (e ∙ z)))
+pub returns-in-Err : goal.returns-in-Err
+returns-in-Err c =
+    let e = c.in-Err.ensures in
+    (c.number.ensures ∙ e, unchanged _ _ _ (λ z. number_ne c.in-Err.refusal (e ∙ z)))
 
 pub bounds-bytes-at : goal.bounds-bytes-at
 bounds-bytes-at c =
-    below_16 _ (sym c.read_refusal-refused.ensures ∙ c.if-refused-ne0.false)
+    below_16 _ (sym c.in-Ok.ensures)
 
-pub returns : goal.returns
-returns c =
-    let e = c.read_refusal-refused.ensures in
-    let z = sym e ∙ c.if-refused-ne0.false in
-    (sym z, ap (λ (l : List ℕ). get_or l c.args.at 0) c.window_in-bytes.ensures ∙ sym (changed _ _ _ z))
+pub returns-in-Ok : goal.returns-in-Ok
+returns-in-Ok c =
+    let e = c.in-Ok.ensures in
+    (e, ap (λ (l : List ℕ). get_or l c.args.at 0) c.window_in-bytes.ensures ∙ sym (changed _ _ _ (sym e)))

@@ -11,4 +11,4 @@ unfolding block_after
 returns c =
     let a = c.args in
     let b = c.set_register-b.ensures ∙ ap (set_registers a.at a.byte) c.registers_in.ensures in
-    (c.set_refusal.ensures, c.put_registers.ensures ∙ ap (λ (x : Registers). with_registers x a.h.now) b)
+    (c.number_of.ensures ∙ c.set_refusal.ensures, c.put_registers.ensures ∙ ap (λ (x : Registers). with_registers x a.h.now) b)

@@ -5,7 +5,7 @@ use Rattle.head_spec.proofs.RoundClose.{closes_collection, closes_last}
 use Rattle.head_calls.proofs.closing.close.Goals as goal
 
 pub returns-then-seat : goal.returns-then-seat
-returns-then-seat c = sym (ended_closes _ c.if-seat.true)
+returns-then-seat c = rw c.number.ensures (sym (ended_closes _ c.if-seat.true))
 
 pub returns-then-not-is_last_round : goal.returns-then-not-is_last_round
 returns-then-not-is_last_round c =

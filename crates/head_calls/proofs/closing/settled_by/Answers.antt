@@ -9,7 +9,7 @@ use Rattle.terms.specs.Positions.{rounding}
 use Rattle.convergence.specs.Settling.{rule_of}
 use Rattle.convergence.specs.Trust.{trusted}
 use Rattle.settle_midpoint.specs.Answers.{settling}
-use Rattle.settle_midpoint.specs.declared.Settled.{Settled}
+use Rattle.settle_midpoint.specs.Settled.{Settled}
 use Rattle.settle_trust.specs.Received.{given_by}
 use Rattle.head_spec.specs.declared.Head.{Head}
 use Rattle.head_spec.specs.Record.{rows}

@@ -4,13 +4,13 @@ use Rattle.head_spec.specs.Calls.{adopt}
 use Rattle.head_spec.proofs.Stops.{takes, adopts_nothing, adopts_offer, ended_adopts}
 use Rattle.head_calls.proofs.offers.adopt.Goals as goal
 
-pub returns-then-seat : goal.returns-then-seat
-returns-then-seat c = sym (ap (adopt _) c.in-Standing.is ∙ ended_adopts _ c.if-seat.true _)
+pub returns-in-None : goal.returns-in-None
+returns-in-None c = sym (ap (adopt _) c.in-None.is ∙ adopts_nothing _)
 
-pub returns-in-Nothing : goal.returns-in-Nothing
-returns-in-Nothing c = sym (ap (adopt _) c.in-Nothing.is ∙ adopts_nothing _)
+pub returns-then-seat : goal.returns-then-seat
+returns-then-seat c = sym (ap (adopt _) c.in-Some.is ∙ ended_adopts _ c.if-seat.true _)
 
 pub returns-else-seat : goal.returns-else-seat
 returns-else-seat c =
-    ap takes c.closed_phase-head.ensures
-    ∙ sym (ap (adopt _) c.in-Standing.is ∙ adopts_offer _ _ c.if-seat.false)
+    ap takes c.closed_phase.ensures
+    ∙ sym (ap (adopt _) c.in-Some.is ∙ adopts_offer _ _ c.if-seat.false)

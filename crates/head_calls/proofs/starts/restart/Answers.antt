@@ -4,5 +4,5 @@ use Rattle.head_calls.specs.Steps.{restart_as}
 use Rattle.head_calls.proofs.starts.restart.Goals as goal
 
 pub returns : goal.returns
-unfolding restart restart_refusal restart_as
-returns c = c.restart_as.ensures
+unfolding restart_refusal restart restart_as
+returns c h = c.restart_as.ensures h

@@ -6,7 +6,7 @@ use mathlib.Core.List.{List}
 use Prim.Native.Nat.{ℕ, zero, suc}
 use Rattle.terms.specs.Sizes.{is_listener}
 use Rattle.frame_spec.specs.declared.Said.{Said}
-use Rattle.frame_spec.specs.declared.Written.{Written}
+use Rattle.frame_spec.specs.Length.{Written}
 use Rattle.frame_spec.specs.Said.{listed, confessed, meant}
 use Rattle.frame_spec.specs.Written.{frame_of, written, buffered}
 use Rattle.head_spec.specs.declared.Head.{Head}

@@ -1,7 +1,7 @@
 -- `ring_play::collection::conclude_quiet` meets its contract: if no head is struck, what is planted is heard by no one.
 use Rattle.std.proofs.Common.{◌≡◌, ℕ, Bool, false, cond, List, get_or, ℤ, pos, refl, ap, ◌∙◌, to_z-of_z, w32}
 use mathlib.Core.Path.{fun_ext}
-use Rattle.terms.specs.declared.Entry.{Entry}
+use Rattle.terms.specs.Entry.{Entry}
 use Rattle.terms.specs.declared.Table.{Table}
 use Rattle.marks.specs.Marks.{bit_of}
 use Rattle.marks.proofs.Marks.{bit_none}

@@ -1,2 +1,0 @@
--- What other crates may cite: the record as it is lent.
-pub mod Lendings

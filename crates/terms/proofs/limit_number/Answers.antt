@@ -1,8 +1,0 @@
--- `terms::limit_number` meets its contract: arm by arm.
-use Rattle.terms.proofs.limit_number.Goals as goal
-
-pub returns-in-TwoRounds : goal.returns-in-TwoRounds
-returns-in-TwoRounds c = rw c.in-TwoRounds.is
-
-pub returns-in-OneRound : goal.returns-in-OneRound
-returns-in-OneRound c = rw c.in-OneRound.is
