@@ -18,7 +18,6 @@ use Rattle.convergence.specs.Settling.{Rule, nulls, ordered, low_kept, high_kept
 use Rattle.convergence.proofs.Order.{length_ordered}
 use Rattle.convergence.proofs.Same.{ordered_same}
 use Rattle.settle_midpoint.specs.declared.Order.{Order}
-use Rattle.settle_midpoint.specs.Settled.{Settled}
 use Rattle.settle_midpoint.specs.Answers.{settling, settling_from}
 use Rattle.settle_midpoint.specs.Orders.{OrderAfter, order_of, in_order}
 use Rattle.settle_midpoint.proofs.Ordering.{padded_front}
