@@ -17,7 +17,7 @@ use Rattle.terms.specs.declared.Family.{Family}
 use Rattle.terms.specs.declared.Family.TheVariants.{TwoRounds, OneRound}
 use Rattle.terms.specs.Counting.{bit, AtMost}
 use Rattle.convergence.specs.Settling.{nulls, Rule, rule_of, midpoint, enough, settled}
-use Rattle.convergence.specs.Phases.{End, start_end, Faults, sound_at, lowest, highest, given_to, entries_at, after, end_after}
+use Rattle.convergence.specs.Phases.{End, start_end, Faults, sound_at, lowest, highest, entries_at, after, end_after}
 use Rattle.terms.specs.Positions.{rounding}
 use Rattle.convergence.specs.Demand3.{KeptBetween, AcceptedSize, Halves, FewStruck, Converges}
 use Rattle.terms.proofs.Sums.{sum_same, sum_none}

@@ -7,7 +7,7 @@ use mathlib.Core.Bool.{false, cond, ◌||◌}
 use Prim.Native.Nat.{ℕ}
 use lib.Dec.{eqb, lit≤}
 use lib.ListN.{get_or}
-use lib.IntN.{ℤ, pos}
+use lib.IntN.{pos}
 use Rattle.terms.specs.Positions.{gap, half, floor_div, eq_z, rounding}
 use Rattle.terms.specs.declared.Family.TheVariants.{TwoRounds}
 use Rattle.terms.specs.Counting.{sum}

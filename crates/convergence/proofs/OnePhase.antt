@@ -6,15 +6,14 @@ use mathlib.Core.Path.{◌≡◌, refl, sym, ◌∙◌}
 use mathlib.Core.List.{[], ◌∷◌}
 use mathlib.Core.Logic.{◌≢◌, by_cases}
 use mathlib.Core.Bool.{Bool, true, false}
-use Prim.Native.Nat.{ℕ, ◌+◌, ◌*◌, ◌/◌, ◌≤◌, ◌<◌}
+use Prim.Native.Nat.{ℕ, ◌+◌, ◌*◌, ◌≤◌, ◌<◌}
 use native.Mathlib.Omega.{arith}
 use native.Mathlib.Decide.{dec_le}
 use borrow.Author.Tests.{le-leb, lt-leb}
-use lib.IntN.{ℤ, pos, ◌+ℤ◌, ℤ_discrete}
-use lib.Signed.{le_z, ◌≤ℤ◌, ◌<ℤ◌, ≤ℤ_refl}
-use Rattle.terms.specs.Positions.{gap}
+use lib.IntN.{ℤ, ℤ_discrete}
+use lib.Signed.{le_z, ◌≤ℤ◌, ◌<ℤ◌}
 use Rattle.terms.specs.Entry.{Entry}
-use Rattle.terms.proofs.Whole.{arithZ, not_le, dec_le_z, half_between, half_closer}
+use Rattle.terms.proofs.Whole.{arithZ, not_le, dec_le_z}
 use Rattle.terms.specs.Counting.{Each, sum, bit, AtMost}
 use Rattle.terms.specs.declared.Family.TheVariants.{TwoRounds}
 use Rattle.convergence.specs.Settling.{is_null, nulls, trim, two_round_rule}

@@ -8,7 +8,7 @@ use mathlib.Core.Bool.{Bool, true, false}
 use Prim.Native.Nat.{ℕ, ◌+◌, ◌*◌, ◌≤◌, ◌<◌}
 use native.Mathlib.Omega.{arith}
 use lib.IntN.{ℤ}
-use lib.Signed.{le_z, ◌≤ℤ◌, ◌<ℤ◌}
+use lib.Signed.{le_z, ◌<ℤ◌}
 use Rattle.terms.specs.Entry.{Entry}
 use Rattle.terms.specs.declared.Family.TheVariants.{OneRound}
 use Rattle.terms.specs.Counting.{Each, sum, bit, AtMost}

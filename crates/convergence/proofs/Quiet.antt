@@ -1,14 +1,13 @@
 -- A quiet phase (document 02, A11). What a link gives depends on the receiver only if its head is struck; so if none is struck in the round that ends the phase,
 -- all receivers are given the same, and settle the same.
-use mathlib.Core.Path.{◌≡◌, refl, ap, ap₂}
-use mathlib.Core.Bool.{Bool, true, false, cond, true≢false}
-use Prim.Native.Nat.{ℕ, suc, ◌<◌}
-use lib.Dec.{leb}
+use mathlib.Core.Path.{◌≡◌, refl}
+use mathlib.Core.Bool.{Bool, true, false}
+use Prim.Native.Nat.{ℕ, suc}
 use Rattle.terms.specs.Entry.{Entry}
 use Rattle.terms.specs.declared.Family.{Family}
 use Rattle.terms.specs.declared.Family.TheVariants.{TwoRounds, OneRound}
 use Rattle.terms.specs.Counting.{Each}
-use Rattle.convergence.specs.Settling.{Rule, rule_of, midpoint, enough, settled}
+use Rattle.convergence.specs.Settling.{Rule, rule_of, enough, settled}
 use Rattle.convergence.specs.Phases.{End, Faults, gives, given_to, entries_at, after, end_after}
 use Rattle.terms.specs.Positions.{rounding}
 use Rattle.convergence.specs.Demand3.{QuietAgrees}

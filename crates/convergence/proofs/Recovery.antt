@@ -3,7 +3,7 @@ use Rattle.std.specs.Prelude.{None, Some}
 use mathlib.Core.Path.{◌≡◌, refl, ap, sym, subst, ◌∙◌}
 use mathlib.Core.Bool.{Bool, true, false, not, cond, true≢false}
 use mathlib.Core.Logic.{◌≢◌}
-use mathlib.Core.List.{List, [], ◌∷◌}
+use mathlib.Core.List.{[], ◌∷◌}
 use Prim.Native.Nat.{ℕ, zero, suc, ◌+◌, ◌-◌, ◌*◌, ◌^◌, ◌≤◌, ◌<◌}
 use native.Mathlib.Omega.{arith}
 use native.Mathlib.Nat.{div-lt_iff_lt-mul}
@@ -20,7 +20,7 @@ use Rattle.terms.proofs.Sums.{each_last, each_less, sums_le, sum_same, sum_one, 
 use Rattle.terms.proofs.Whole.{eqZ→eq, eq_z_refl, position_within}
 use Rattle.terms.specs.Counting.{Each, sum, bit, AtMost}
 use Rattle.convergence.specs.Settling.{is_null, nulls, rule_of, enough, settled}
-use Rattle.convergence.specs.Trust.{Given, confessed, gave, is, support, has_confessed, confessions, says_of, Seen, none, one, many, pick, see, see_entry, seen, choose, Only, trusted}
+use Rattle.convergence.specs.Trust.{Given, confessed, gave, is, support, has_confessed, confessions, says_of, Seen, none, one, many, pick, see, see_entry, seen, choose, trusted}
 use Rattle.convergence.specs.Phases.{End, Faults, gives, list_of, given_to, entries_at, after, sound_at, start_end, end_after, lowest, highest, spread}
 use Rattle.convergence.specs.Demand3.{halved, HeldBetween, KeptBetween, AcceptedSize, Halves, FewStruck}
 use Rattle.convergence.specs.Recovery.{end_from, EachHolds, ConvergesFrom, WithinOneStep, settled_phases, AtLastOneStep, AtLastFrom, lost_at, QuietRecovery, SettlesBetween, TrustedIsSaid}
@@ -29,7 +29,7 @@ use Rattle.convergence.proofs.Same.{trusted_same_of}
 use Rattle.convergence.proofs.Order.{passes}
 use Rattle.convergence.proofs.Kept.{low, high, Holds, kept_in, range}
 use Rattle.convergence.proofs.Ends.{number, Inside, held_position, Run, spread_within, any_two}
-use Rattle.convergence.proofs.Demand3.{settled_is, keeps_one, Limits, nearer, kept_between, rounding_le, size_large, run, converges}
+use Rattle.convergence.proofs.Demand3.{settled_is, keeps_one, Limits, nearer, kept_between, rounding_le, size_large, run}
 use Rattle.convergence.proofs.Quiet.{quiet_phase}
 
 held : (x : Entry) → x ≢ None → x ≡ Some (number x)

@@ -1,7 +1,7 @@
 -- Document 01, "Strikes" and the two rounds, for a whole ring: from one phase end to the next. In the field's terms: the mobile Byzantine
 -- fault model of Garay. Struck is faulty, healed is cured and aware of it, healthy is healthy; sound is fault-free in the phase's last
 -- round; a position is a state. Document 004 calls each of the two rounds a phase.
-use Rattle.std.specs.Prelude.{Bool, true, false, not, cond, ℕ, zero, suc, ◌+◌, ◌%◌, ltb, ℤ, None, Some}
+use Rattle.std.specs.Prelude.{Bool, true, false, not, cond, ℕ, zero, suc, ltb, ℤ, None, Some}
 use Rattle.std.specs.Int.Signed.{le_z}
 use Rattle.terms.specs.Positions.{gap, rounding}
 use Rattle.terms.specs.Entry.{Entry}

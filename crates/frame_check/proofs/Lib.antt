@@ -1,2 +1,3 @@
 -- What other crates may cite: laws of the frame check.
 pub mod Laws
+pub mod Known

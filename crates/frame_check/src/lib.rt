@@ -1,40 +1,65 @@
 // Frames: the frame check.
 #![tactic(auto)]
 
-ghost use Rattle.std.specs.Prelude.{◌≡◌, true, ◌+◌, IfOk};
+ghost use Rattle.std.specs.Prelude.{◌≡◌, ◌+◌, IfOk};
 ghost use Rattle.terms.specs.Refused.{number, number_of};
-ghost use Rattle.frame_check.specs.Check.{kind_of, is_known, length_of, frame_refusal, rest_of};
+ghost use Rattle.frame_check.specs.Check.{length_of, frame_refusal, rest_of};
+ghost use Rattle.frame_check.specs.Kinds.{kind_number, kind_named, Named};
 
 use terms::Refusal;
 
-pub const POSITION: u16 = 1;
+// The kinds of frames, with the numbers that name them in a frame.
+#[derive(Clone, Copy, Debug, PartialEq, Eq)]
+pub enum Kind {
+    Position = 1,
+    Silence = 2,
+    List = 3,
+    Confession = 4,
+}
 
-pub const SILENCE: u16 = 2;
-
-pub const LIST: u16 = 3;
-
-pub const CONFESSION: u16 = 4;
-
-fn is_known(kind: u16) -> bool
-    ensures { result ≡ is_known (kind_of kind) }
-{
-    if kind < POSITION {
-        false
-    } else {
-        kind <= CONFESSION
+impl Kind {
+    // The number of the kind.
+    pub fn number(self) -> u16
+        ensures { result ≡ kind_number self }
+    {
+        self as u16
     }
 }
 
-// The length of a frame of a known kind, with the count that a list has. Tests in a row, and no table of jumps, since the kind is not
-// foreseen.
-fn length_of(kind: u16, count: u8) -> usize
-    requires { is_known (kind_of kind) ≡ true }
-    ensures { result ≡ length_of (kind_of kind) count }
+// The kind that a number names, or refusal 7.
+impl TryFrom<u16> for Kind {
+    type Error = Refusal;
+
+    ghost try_from_gives = { Named };
+
+    // By halves, and no table of jumps, since the kind is not foreseen.
+    fn try_from(number: u16) -> Result<Self, Refusal> {
+        if number < 1 || 4 < number {
+            return Err(Refusal::UnknownKind);
+        }
+        if number < 3 {
+            return Ok(if number == 1 {
+                Kind::Position
+            } else {
+                Kind::Silence
+            });
+        }
+        Ok(if number == 3 {
+            Kind::List
+        } else {
+            Kind::Confession
+        })
+    }
+}
+
+// The length of a frame of a kind, with the count that a list has. Tests in a row, and no table of jumps, since the kind is not foreseen.
+fn length_of(kind: Kind, count: u8) -> usize
+    ensures { result ≡ length_of (kind_named kind) count }
 {
-    if kind == LIST {
+    if kind == Kind::List {
         return 12 + 4 * (count as usize);
     }
-    if kind == POSITION {
+    if kind == Kind::Position {
         return 11;
     }
     7
@@ -51,10 +76,7 @@ pub fn frame_refusal(frame: &[u8]) -> Result<(), Refusal>
     if fields::half_at(frame, 0) as usize != len {
         return Err(Refusal::StatedLengthDiffers);
     }
-    let kind = fields::half_at(frame, 2);
-    if !is_known(kind) {
-        return Err(Refusal::UnknownKind);
-    }
+    let kind = Kind::try_from(fields::half_at(frame, 2))?;
     if len != length_of(kind, fields::byte_at(frame, 7)) {
         return Err(Refusal::WrongLengthForKind);
     }

@@ -1,6 +1,5 @@
 -- The parts of what a frame said, as hearing takes them: a frame is refused, or it says an entry, gives a list, or is a confession.
 use Rattle.std.specs.Prelude.{true, false, None}
-use Rattle.terms.specs.Entry.{Entry}
 use Rattle.frame_spec.specs.declared.Said.{Said}
 use Rattle.frame_codec.specs.declared.Parts.{Parts}
 

@@ -2,7 +2,8 @@
 #![tactic(auto)]
 
 ghost use Rattle.std.specs.Prelude.{true, ◌≡◌, [], ◌≤◌, length, get_or, drop, pos};
-ghost use Rattle.frame_check.specs.Check.{kind_of, position, list};
+ghost use Rattle.frame_check.specs.Check.{position, list};
+ghost use Rattle.frame_check.specs.Kinds.{kind_number, kind_named};
 ghost use Rattle.frame_spec.specs.Said.{round_of, rest_field, entries_in, said, said_of, table_in, meant};
 ghost use Rattle.frame_codec.specs.Parts.{parts_of};
 ghost use Rattle.frame_codec.specs.Steps.{from_marks, common_refusal, said_unless, told};
@@ -10,19 +11,17 @@ ghost use Rattle.fields.specs.Bytes.{word_of, over};
 ghost use Rattle.terms.specs.Refused.{number_of, numbered};
 ghost use Rattle.frame_spec.specs.Written.{header, entry_bytes, position_frame, list_frame, frame_of, written, buffered};
 
+use frame_check::Kind;
 use frame_spec::Said;
 use terms::{Entry, Refusal, Table};
 
-// The round that a kind belongs to, 2 if the kind is unknown.
-fn round_of(kind: u16) -> u8
-    ensures { result ≡ round_of (kind_of kind) }
+// The round that a kind belongs to.
+fn round_of(kind: Kind) -> u8
+    ensures { result ≡ round_of (kind_named kind) }
 {
     match kind {
-        frame_check::POSITION => 0,
-        frame_check::SILENCE => 0,
-        frame_check::LIST => 1,
-        frame_check::CONFESSION => 1,
-        _ => 2,
+        Kind::Position | Kind::Silence => 0,
+        Kind::List | Kind::Confession => 1,
     }
 }
 
@@ -62,21 +61,20 @@ fn read_list(rest: &[u8], n: u8) -> Result<Said, Refusal>
 }
 
 // 10 and 11, by the kind, and what the frame says.
-fn read_rest(rest: &[u8], kind: u16, n: u8) -> Result<Said, Refusal>
-    ensures { told result ≡ said_unless (from_marks (kind_of kind) n rest.now) (kind_of kind) n rest.now }
+fn read_rest(rest: &[u8], kind: Kind, n: u8) -> Result<Said, Refusal>
+    ensures { told result ≡ said_unless (from_marks (kind_named kind) n rest.now) (kind_named kind) n rest.now }
 {
     match kind {
-        frame_check::POSITION => read_position(rest),
-        frame_check::SILENCE => Ok(Said::Collection(None)),
-        frame_check::LIST => read_list(rest, n),
-        frame_check::CONFESSION => Ok(Said::Confession),
-        _ => Err(Refusal::UnknownKind),
+        Kind::Position => read_position(rest),
+        Kind::Silence => Ok(Said::Collection(None)),
+        Kind::List => read_list(rest, n),
+        Kind::Confession => Ok(Said::Confession),
     }
 }
 
 // 22, 9, 23, before the checks of the rest: the round of the kind, the sender and the phase.
-fn common_refusal(frame: &[u8], kind: u16, phase: u16, round: u8, link: u8) -> Result<(), Refusal>
-    ensures { number_of result ≡ common_refusal (kind_of kind) phase round link frame.now }
+fn common_refusal(frame: &[u8], kind: Kind, phase: u16, round: u8, link: u8) -> Result<(), Refusal>
+    ensures { number_of result ≡ common_refusal (kind_named kind) phase round link frame.now }
 {
     if round_of(kind) != round {
         return Err(Refusal::OtherRound);
@@ -95,7 +93,7 @@ fn accepted(frame: &[u8], n: u8, phase: u16, round: u8, link: u8) -> Result<Said
     ensures { told result ≡ said_of (said n phase round link frame.now) }
 {
     let rest = frame_check::check(frame)?;
-    let kind = fields::half_at(frame, 2);
+    let kind = Kind::try_from(fields::half_at(frame, 2)).unwrap();
     common_refusal(frame, kind, phase, round, link)?;
     read_rest(rest, kind, n)
 }
@@ -165,20 +163,20 @@ pub fn table_in(frame: &[u8], n: u8) -> Table
 // ---- Frames written: the frame that says something, at the front of a buffer.
 
 // The common fields, seven bytes.
-fn put_header(size: u16, kind: u16, sender: u8, phase: u16, buffer: &mut [u8])
+fn put_header(size: u16, kind: Kind, sender: u8, phase: u16, buffer: &mut [u8])
     requires { 7 ≤ length buffer.old }
-    ensures { buffer.new ≡ header size kind sender phase (drop 7 buffer.old) }
+    ensures { buffer.new ≡ header size (kind_number kind) sender phase (drop 7 buffer.old) }
 {
     fields::put_half(buffer, 0, size);
-    fields::put_half(buffer, 2, kind);
+    fields::put_half(buffer, 2, kind.number());
     buffer[4] = sender;
     fields::put_half(buffer, 5, phase);
 }
 
 // A frame of the common fields alone.
-fn write_bare(kind: u16, sender: u8, phase: u16, buffer: &mut [u8]) -> Result<usize, Refusal>
-    ensures answer { numbered result ≡ written (header 7 kind sender phase []) buffer.old }
-    ensures bytes { buffer.new ≡ buffered (header 7 kind sender phase []) buffer.old }
+fn write_bare(kind: Kind, sender: u8, phase: u16, buffer: &mut [u8]) -> Result<usize, Refusal>
+    ensures answer { numbered result ≡ written (header 7 (kind_number kind) sender phase []) buffer.old }
+    ensures bytes { buffer.new ≡ buffered (header 7 (kind_number kind) sender phase []) buffer.old }
 {
     if buffer.len() < 7 {
         return Err(Refusal::BufferTooShort);
@@ -195,7 +193,7 @@ fn write_position(v: i32, sender: u8, phase: u16, buffer: &mut [u8]) -> Result<u
     if buffer.len() < 11 {
         return Err(Refusal::BufferTooShort);
     }
-    put_header(11, frame_check::POSITION, sender, phase, buffer);
+    put_header(11, Kind::Position, sender, phase, buffer);
     fields::put_word(buffer, 7, fields::unsigned(v));
     Ok(11)
 }
@@ -236,7 +234,7 @@ fn write_list(
     if buffer.len() < size as usize {
         return Err(Refusal::BufferTooShort);
     }
-    put_header(size, frame_check::LIST, sender, phase, buffer);
+    put_header(size, Kind::List, sender, phase, buffer);
     buffer[7] = n;
     fields::put_word(buffer, 8, marks);
     put_entries(entries, n, buffer);
@@ -258,10 +256,10 @@ pub fn write(
     match what {
         Said::Refused(_) => Ok(0),
         Said::Collection(entry) => match entry {
-            None => write_bare(frame_check::SILENCE, sender, phase, buffer),
+            None => write_bare(Kind::Silence, sender, phase, buffer),
             Some(v) => write_position(v, sender, phase, buffer),
         },
         Said::List => write_list(table.marks, &table.entries, n, sender, phase, buffer),
-        Said::Confession => write_bare(frame_check::CONFESSION, sender, phase, buffer),
+        Said::Confession => write_bare(Kind::Confession, sender, phase, buffer),
     }
 }

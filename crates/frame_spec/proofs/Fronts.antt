@@ -14,7 +14,6 @@ use borrow.Author.Tests.{le-leb, lt-leb}
 use Rattle.terms.specs.Refusals as refusal
 use Rattle.terms.specs.declared.Table.{Table}
 use Rattle.fields.specs.Bytes.{put2, put4, word_of, over}
-use Rattle.frame_spec.specs.Length.{Written}
 use Rattle.frame_spec.specs.Written.{header, entry_bytes, position_frame, list_frame, written, buffered}
 use Rattle.frame_spec.proofs.Listing.{bytes_length}
 

@@ -13,7 +13,6 @@ use lib.Seq.{ext_get_or}
 use lib.IntN.{ℤ, pos}
 use borrow.Author.Tests.{lt-ltb, le-leb, eq-eqb}
 use Rattle.terms.specs.Positions.{is_position}
-use Rattle.terms.specs.Entry.{Entry}
 use Rattle.terms.specs.declared.Table.{Table}
 use Rattle.fields.specs.Bytes.{signed_of, signed_at, word_of}
 use Rattle.marks.specs.Marks.{bit_of, marks_below}

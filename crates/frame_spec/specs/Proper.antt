@@ -1,7 +1,6 @@
 -- What the laws of frames speak of: which meanings are accepted, which a frame can say to a ring of n heads, and in which round.
 use Rattle.std.specs.Prelude.{◌≡◌, true, List, ℕ, ◌^◌, ◌≤◌, ◌<◌, length, get_or, pos, None, Some}
 use Rattle.terms.specs.Positions.{is_position}
-use Rattle.terms.specs.Entry.{Entry}
 use Rattle.terms.specs.declared.Table.{Table}
 use Rattle.marks.specs.Marks.{bit_of}
 use Rattle.entries.specs.Entries.{fits}

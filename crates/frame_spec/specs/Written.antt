@@ -1,7 +1,6 @@
 -- The frame that says something, from sender k in phase p of a ring of n heads; and a frame put at the front of a lent buffer.
 use Rattle.std.specs.Prelude.{Bool, cond, List, [], ◌∷◌, ◌++◌, ℕ, zero, suc, ◌+◌, ◌*◌, leb, length, get_or, drop, ℤ, pos, None, Some, Ok, Err}
 use Rattle.terms.specs.Refusals as refusal
-use Rattle.terms.specs.Entry.{Entry}
 use Rattle.terms.specs.declared.Table.{Table}
 use Rattle.fields.specs.Bytes.{put2, put4, word_of}
 use Rattle.frame_spec.specs.Length.{Written}

@@ -8,13 +8,11 @@ use native.Mathlib.Omega.{arith}
 use borrow.Author.Tests.{leb-true}
 use Rattle.terms.specs.Refusals as refusal
 use Rattle.terms.specs.Sizes.{is_listener}
-use Rattle.terms.specs.Entry.{Entry}
 use Rattle.convergence.specs.Settling.{nulls, rule_of, midpoint, enough}
 use Rattle.terms.specs.Positions.{rounding}
 use Rattle.convergence.proofs.Demand3.{rounding_le, keeps_one}
 use Rattle.convergence.proofs.Kept.{in_kept}
 use Rattle.settle_midpoint.specs.Answers.{settling}
-use Rattle.settle_midpoint.specs.Settled.{Settled}
 use Rattle.head_spec.specs.Kept.{LastKept}
 use Rattle.head_spec.specs.declared.Seat.{Seat}
 use Rattle.head_spec.specs.declared.Head.{Head}

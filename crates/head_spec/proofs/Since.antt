@@ -7,7 +7,6 @@ use Rattle.settle_midpoint.specs.declared.Kept.{Kept}
 use Rattle.head_spec.specs.declared.Seat.{Seat}
 use Rattle.head_spec.specs.declared.Head.{Head}
 use Rattle.head_spec.specs.declared.Closed.{Closed}
-use Rattle.head_spec.specs.Kept.{Offer}
 use Rattle.head_spec.specs.Seats.{most_counted}
 use Rattle.head_spec.specs.Calls.{started, restarted, started_listener, answer, closed_collection, closed_phase, close, adopt_refusal, adopted, adopt}
 use Rattle.head_spec.specs.Since.{CountStays, starts, restarts, listens, listens_again, hears, closes, adopts, CountHolds}

@@ -10,10 +10,8 @@ use lib.ListN.{length, take, drop}
 use lib.Seq.{take-append_seam}
 use Rattle.terms.specs.Refusals as refusal
 use Rattle.terms.specs.Sizes.{is_listener}
-use Rattle.terms.specs.Entry.{Entry}
 use Rattle.frame_spec.specs.Said.{collected, listed, confessed}
 use Rattle.frame_spec.specs.Written.{fits_in, written, buffered}
-use Rattle.frame_spec.specs.Length.{Written}
 use Rattle.frame_spec.specs.Proper.{Proper, round_of_meaning}
 use Rattle.frame_spec.proofs.ReadsBack.{reads_back}
 use Rattle.head_spec.specs.declared.Head.{Head}

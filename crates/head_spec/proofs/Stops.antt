@@ -12,11 +12,9 @@ use Rattle.terms.specs.Refusals as refusal
 use Rattle.terms.specs.Sizes.{is_listener}
 use Rattle.terms.specs.declared.Family.{Family}
 use Rattle.settle_midpoint.specs.declared.Kept.{Kept}
-use Rattle.frame_spec.specs.Length.{Written}
 use Rattle.head_spec.specs.declared.Head.{Head}
 use Rattle.head_spec.specs.declared.Answer.{Answer}
 use Rattle.head_spec.specs.declared.Closed.{Closed}
-use Rattle.head_spec.specs.Kept.{Offer}
 use Rattle.head_spec.specs.Calls.{answer, start_refusal, started, start, restart_refusal, restarted, restart, start_listener_refusal, started_listener, start_listener, restart_listener_refusal, restart_listener}
 use Rattle.head_spec.specs.Calls.{hear_refusal, hear, write_answer, write_buffer, closing, closed_phase, close, adopt}
 

@@ -13,7 +13,6 @@ use Rattle.settle_midpoint.specs.Answers.{settling}
 use Rattle.settle_midpoint.specs.Settled.{Settled}
 use Rattle.frame_spec.specs.Said.{Meaning, refused, collected, listed, confessed, said}
 use Rattle.frame_spec.specs.Proper.{AllBytes, AcceptedMeaning}
-use Rattle.frame_spec.specs.Length.{Written}
 use Rattle.head_spec.specs.declared.Seat.{Seat}
 use Rattle.head_spec.specs.declared.Head.{Head}
 use Rattle.head_spec.specs.Record.{heard_entry, given_of}

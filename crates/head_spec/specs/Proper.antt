@@ -2,7 +2,6 @@
 use Rattle.std.specs.Prelude.{◌≡◌, ◌≢◌, false, true, List, [], ℕ, ◌^◌, ◌≤◌, ◌<◌, length, get_or, None, Some}
 use Rattle.terms.specs.Sizes.{rounds_of, is_listener}
 use Rattle.terms.specs.Positions.{is_position}
-use Rattle.terms.specs.Entry.{Entry}
 use Rattle.terms.specs.declared.Family.{Family}
 use Rattle.terms.specs.declared.Table.{Table}
 use Rattle.marks.specs.Marks.{bit_of}

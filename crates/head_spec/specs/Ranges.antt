@@ -2,7 +2,6 @@
 -- answered it, or none. proofs/Ranges.antt proves it.
 use Rattle.std.specs.Prelude.{◌≡◌, true, List, ℕ, ℤ, ◌≤ℤ◌, None, Some}
 use Rattle.terms.specs.Sizes.{is_listener}
-use Rattle.terms.specs.Entry.{Entry}
 use Rattle.terms.specs.declared.Family.{Family}
 use Rattle.settle_midpoint.specs.declared.Kept.{Kept}
 use Rattle.frame_spec.specs.Proper.{AllBytes}

@@ -9,7 +9,6 @@ use lib.IntN.{ℤ, nat_abs, ◌+ℤ◌}
 use Rattle.terms.specs.Positions.{is_position, eq_z}
 use Rattle.terms.proofs.Booleans.{and_both}
 use Rattle.texts.specs.Numbers.{decimal, hex, spaced}
-use Rattle.head_spec.specs.Kept.{LastKept}
 use Rattle.reading.specs.declared.Reading.{Reading}
 use Rattle.reading.specs.Exact.{exact}
 use Rattle.reading.specs.Readings.{range_of, reading_between}

@@ -14,7 +14,6 @@ use lib.ListN.{length, take, drop}
 use lib.Seq.{take-append_seam}
 use lib.IntN.{ℤ}
 use Rattle.terms.specs.Refusals as refusal
-use Rattle.terms.specs.Entry.{Entry}
 use Rattle.terms.specs.declared.Family.{Family}
 use Rattle.terms.specs.Sizes.{is_listener}
 use Rattle.marks.specs.Marks.{bit_of}
@@ -22,7 +21,6 @@ use Rattle.frame_spec.specs.Said.{Meaning, refused, collected, listed, confessed
 use Rattle.frame_spec.specs.Proper.{AcceptedMeaning}
 use Rattle.frame_spec.proofs.Accepting.{accepted}
 use Rattle.frame_spec.specs.Written.{frame_of, fits_in, written, buffered}
-use Rattle.frame_spec.specs.Length.{Written}
 use Rattle.frame_spec.proofs.OneMeaning.{said_round}
 use Rattle.head_spec.specs.declared.Seat.{Seat}
 use Rattle.head_spec.specs.declared.Head.{Head}

@@ -12,6 +12,7 @@ ghost use Rattle.frame_slots.specs.Slots.{planted_in};
 ghost use Rattle.ring_play.specs.Inner.Collection.{is_position_frame, own_entry, sent_by, heard_of, heard_with, Shared, position_from};
 
 use crate::{Stage, round, sides};
+use frame_check::Kind;
 use settle_midpoint::Order;
 use terms::{Entry, Family, HEADS, Lists, Positions, Table, Words};
 
@@ -25,7 +26,7 @@ fn is_position_frame(frame: &[u8], phase: u16, k: u8) -> bool
     if fields::half_at(frame, 0) != 11 {
         return false;
     }
-    if fields::half_at(frame, 2) != frame_check::POSITION {
+    if fields::half_at(frame, 2) != Kind::Position as u16 {
         return false;
     }
     if fields::byte_at(frame, 4) != k {

@@ -29,7 +29,6 @@ use Rattle.convergence.proofs.Same.{SameOf, nulls_same, ordered_same, midpoint_s
 use Rattle.convergence.proofs.Demand3.{Limits, settled_is, few_nulls_in_phase}
 use Rattle.frame_spec.specs.Said.{collected, listed, confessed, said}
 use Rattle.settle_midpoint.specs.Answers.{kept}
-use Rattle.head_spec.specs.Kept.{LastKept}
 use Rattle.head_spec.specs.declared.Head.{Head}
 use Rattle.head_spec.specs.Record.{given, entries_by, heard_entry, given_of}
 use Rattle.head_spec.specs.Calls.{closed_collection}

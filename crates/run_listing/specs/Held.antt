@@ -1,6 +1,5 @@
 -- A phase end as the player holds it.
 use Rattle.std.specs.Prelude.{not, ◌||◌, List, ℕ, get_or, ℤ, pos, Some}
-use Rattle.terms.specs.Entry.{Entry}
 use Rattle.marks.specs.Marks.{bit_of}
 use Rattle.convergence.specs.Phases.{End}
 use Rattle.ring_spec.specs.Rounds.{is_receiver}

@@ -52,11 +52,7 @@ fn outer(v: i32, e: Entry, high: bool) -> Entry
     let Some(w) = e else {
         return Some(v);
     };
-    if (v <= w) == high {
-        Some(w)
-    } else {
-        Some(v)
-    }
+    if (v <= w) == high { Some(w) } else { Some(v) }
 }
 
 // How many receivers are looked at: without listeners the heads, else all.

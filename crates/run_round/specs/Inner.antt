@@ -1,7 +1,6 @@
 -- What the private functions promise each other. Readers of the public promises do not need this file.
 use Rattle.std.specs.Prelude.{cond, true, false, List, [], ◌≡◌, ℕ, ◌/◌, ◌%◌, ◌^◌, get_or, ℤ, pos, Some}
 use Rattle.terms.specs.Sizes.{ends_with}
-use Rattle.terms.specs.Entry.{Entry}
 use Rattle.marks.specs.Marks.{bit_of}
 use Rattle.terms.specs.Counting.{Each}
 use Rattle.ring_spec.specs.Rounds.{Ring, lost, receivers, is_receiver, phase_of, ends_phase, phase_end, after_round}

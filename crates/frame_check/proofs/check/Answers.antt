@@ -6,7 +6,7 @@ use native.Mathlib.Nat.{le_refl}
 use native.Mathlib.Omega.{arith}
 use lib.ListN.{length, take, drop, length-drop}
 use lib.Seq.{take_all}
-use Rattle.frame_check.proofs.Laws.{accepted_long, accepted_rest, refused_rest}
+use Rattle.frame_check.proofs.Laws.{accepted_long, accepted_rest}
 use Rattle.frame_check.proofs.check.Goals as goal
 
 -- a part up to the end, as the machine counts its bytes

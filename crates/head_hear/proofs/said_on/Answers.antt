@@ -1,7 +1,6 @@
 -- A refusal of the link stands whatever its frame says, and else the frame decides. Past the checks the link's number is below n, a byte.
 use mathlib.Core.Path.{sym, ◌∙◌, ap}
 use mathlib.Core.Bool.{not}
-use Prim.Native.Nat.{ℕ}
 use native.Mathlib.Omega.{arith}
 use lib.Dec.{ltb}
 use borrow.Author.Tests.{ltb-true}

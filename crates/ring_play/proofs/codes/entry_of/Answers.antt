@@ -1,7 +1,6 @@
 -- `ring_play::codes::entry_of` meets its contract: no entry for no code, and else the code as a position.
 use Rattle.std.specs.Prelude.{Some}
 use Rattle.std.proofs.Common.{sym, ap, ◌∙◌, to_z-of_z, w32, to_z}
-use Rattle.terms.specs.Entry.{Entry}
 use Rattle.ring_play.proofs.codes.Codes.{entry_null, entry_position, bits_other}
 use Rattle.ring_play.proofs.codes.entry_of.Goals as goal
 

@@ -1,7 +1,6 @@
 -- `ring_play::collection::entry_in` meets its contract: only the frame of a position in range says one.
 use Rattle.std.specs.Prelude.{Some}
 use Rattle.std.proofs.Common.{ℤ, refl, ap, ◌∙◌, to_z-of_z, w32}
-use Rattle.terms.specs.Entry.{Entry}
 use Rattle.ring_play.proofs.collection.Positions.{heard_in_lem}
 use Rattle.ring_play.proofs.collection.entry_in.Goals as goal
 

@@ -16,11 +16,11 @@ returns-then-half_at-ne11 c =
     let s = c.args.frame.now in
     rw (ne_eqb (length_field s) 11 (λ e. c.if-half_at-ne11.true (c.half_at.ensures ∙ e)), and-false (eqb (length s) 11)) refl
 
-pub returns-then-half_at-ne-POSITION : goal.returns-then-half_at-ne-POSITION
+pub returns-then-half_at : goal.returns-then-half_at
 unfolding is_position_frame
-returns-then-half_at-ne-POSITION c =
+returns-then-half_at c =
     let s = c.args.frame.now in
-    rw (ne_eqb (at2 s 2) 1 (λ e. c.if-half_at-ne-POSITION.true (c.half_at-2.ensures ∙ e)), and-false (eqb (length_field s) 11), and-false (eqb (length s) 11)) refl
+    rw (ne_eqb (at2 s 2) 1 (λ e. c.if-half_at.true (c.half_at-2.ensures ∙ e)), and-false (eqb (length_field s) 11), and-false (eqb (length s) 11)) refl
 
 pub returns-then-byte_at-k : goal.returns-then-byte_at-k
 unfolding is_position_frame
@@ -43,7 +43,7 @@ returns c =
     rw (
       eq-eqb (length s) 11 c.if-frame-ne11.false,
       eq-eqb (length_field s) 11 (sym c.half_at.ensures ∙ c.if-half_at-ne11.false),
-      eq-eqb (at2 s 2) 1 (sym c.half_at-2.ensures ∙ c.if-half_at-ne-POSITION.false),
+      eq-eqb (at2 s 2) 1 (sym c.half_at-2.ensures ∙ c.if-half_at.false),
       eq-eqb (sender_field s) a.k (sym c.byte_at.ensures ∙ c.if-byte_at-k.false),
     )
     (ap (λ (x : ℕ). eqb x a.phase) c.half_at-3.ensures)
