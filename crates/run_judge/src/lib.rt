@@ -5,24 +5,52 @@ ghost use Rattle.std.specs.Prelude.{◌≡◌, ◌&&◌, leb, ℕ, ◌<◌, get_
 ghost use Rattle.terms.specs.Refused.{number_of};
 ghost use Rattle.ring_spec.specs.Rounds.{is_receiver, most_rounds};
 ghost use Rattle.run_spec.specs.RunFile.{record_kind, is_plant_length, allowed_when, position_in, positions_fit, start_fault, few_marks, round_fault, listeners_fault, strikes_fault, rises, pair_fits, plant_fault};
+ghost use Rattle.run_judge.specs.Kinds.{kind_named, Named};
 
 use run_spec::Pair;
 use terms::{Family, Numbers, Refusal};
 
-// The kinds of records.
-pub const START: u16 = 0x10;
+// The kinds of records, with the numbers that name them in a record.
+#[derive(Clone, Copy, Debug, PartialEq, Eq)]
+pub enum Kind {
+    Start = 0x10,
+    Round = 0x11,
+    Plant = 0x12,
+    // Of document 02, A6: the struck listeners of a round.
+    Strikes = 0x13,
+    // Of document 02, A9: the start of a ring whose phases have one round.
+    StartOne = 0x14,
+    // Of document 02, A6: the number of listeners.
+    Listeners = 0x15,
+}
 
-// Of document 02, A9: the start of a ring whose phases have one round.
-pub const START_ONE: u16 = 0x14;
+impl Kind {
+    // The number of the kind.
+    pub fn number(self) -> u16
+        ensures { record_kind result ≡ kind_named self }
+    {
+        self as u16
+    }
+}
 
-pub const ROUND: u16 = 0x11;
+// The kind that a number names, or refusal 13.
+impl TryFrom<u16> for Kind {
+    type Error = Refusal;
 
-pub const PLANT: u16 = 0x12;
+    ghost try_from_gives = { Named };
 
-// Of document 02, A6: the number of listeners, and those struck in a round.
-pub const LISTENERS: u16 = 0x15;
-
-pub const STRIKES: u16 = 0x13;
+    fn try_from(number: u16) -> Result<Self, Refusal> {
+        match number {
+            0x10 => Ok(Kind::Start),
+            0x11 => Ok(Kind::Round),
+            0x12 => Ok(Kind::Plant),
+            0x13 => Ok(Kind::Strikes),
+            0x14 => Ok(Kind::StartOne),
+            0x15 => Ok(Kind::Listeners),
+            _ => Err(Refusal::BadRunRecord),
+        }
+    }
+}
 
 // Phases are numbered 1 to 65,535.
 const MOST_PHASES: u32 = 65535;
@@ -58,14 +86,13 @@ pub fn is_plant_length(len: u16) -> bool
 pub fn is_allowed(kind: u16, len: u16, begun: bool, first: bool, pending: bool, bare: bool) -> bool
     ensures { result ≡ allowed_when (record_kind kind) begun first pending bare len }
 {
-    match kind {
-        START => !begun && is_up_to(len, LONGEST),
-        ROUND => begun && len == 8,
-        PLANT => pending && is_plant_length(len),
-        LISTENERS => first && len == 5,
-        STRIKES => bare && len == 6,
-        START_ONE => !begun && is_up_to(len, LONGEST),
-        _ => false,
+    match Kind::try_from(kind) {
+        Ok(Kind::Start | Kind::StartOne) => !begun && is_up_to(len, LONGEST),
+        Ok(Kind::Round) => begun && len == 8,
+        Ok(Kind::Plant) => pending && is_plant_length(len),
+        Ok(Kind::Strikes) => bare && len == 6,
+        Ok(Kind::Listeners) => first && len == 5,
+        Err(_) => false,
     }
 }
 

@@ -10,10 +10,11 @@ ghost use Rattle.run_piece.specs.Steps.{Quiet, Used, Reads, Waits, Passes, plant
 ghost use Rattle.run_piece.specs.Inner.{Missing, BeginsWhole, headed_to, RecordTaken};
 
 use frame_slots::{PlantedBytes, PlantedLengths};
+use run_judge::Kind;
 use run_record::RecordResult;
 use run_spec::Pair;
 use run_state::{CARRY, Carry, Player};
-use terms::{Lists, Positions, Words, Refusal};
+use terms::{Lists, Positions, Refusal, Words};
 use texts::Text;
 
 // What comes of a piece: the player after it, how many of its bytes were taken, and the line that they show, if any.
@@ -162,7 +163,7 @@ fn plant_size(bytes: &[u8]) -> usize
     if len < 6 {
         return 0;
     }
-    if fields::half_at(bytes, 2) != run_judge::PLANT {
+    if fields::half_at(bytes, 2) != Kind::Plant as u16 {
         return 0;
     }
     let size = fields::half_at(bytes, 0);
@@ -268,7 +269,7 @@ pub fn is_calm(p: Player, bytes: &[u8]) -> bool
     if fields::half_at(bytes, 0) != 8 {
         return false;
     }
-    if fields::half_at(bytes, 2) != run_judge::ROUND {
+    if fields::half_at(bytes, 2) != Kind::Round as u16 {
         return false;
     }
     let family = p.family;

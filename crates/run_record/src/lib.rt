@@ -12,6 +12,7 @@ ghost use Rattle.run_record.specs.Next.{allowed_to, record_taken, Next};
 ghost use Rattle.run_record.specs.Inner.{due_to, PendingPlayed};
 
 use frame_slots::{PlantedBytes, PlantedLengths};
+use run_judge::Kind;
 use run_spec::Pair;
 use run_state::Player;
 use terms::{Family, HEADS, Lists, Numbers, Positions, Refusal, Words};
@@ -207,14 +208,14 @@ fn take_allowed(
         p (memory_lent positions.old marks.old lists.old planted.old lengths.old) result (memory_lent positions.new marks.new lists.new planted.new lengths.new) }
     ensures len_bound { result.text.len ≤ 64 }
 {
-    match fields::half_at(bytes, 2) {
-        run_judge::START => take_start(Family::TwoRounds, p, bytes, positions),
-        run_judge::ROUND => take_round(p, bytes, positions, marks, lists, planted, lengths),
-        run_judge::PLANT => take_plant(p, bytes, planted, lengths),
-        run_judge::LISTENERS => take_listeners(p, bytes),
-        run_judge::STRIKES => take_strikes(p, bytes),
-        run_judge::START_ONE => take_start(Family::OneRound, p, bytes, positions),
-        _ => refuse(p, Refusal::BadRunRecord),
+    match Kind::try_from(fields::half_at(bytes, 2)) {
+        Ok(Kind::Start) => take_start(Family::TwoRounds, p, bytes, positions),
+        Ok(Kind::StartOne) => take_start(Family::OneRound, p, bytes, positions),
+        Ok(Kind::Round) => take_round(p, bytes, positions, marks, lists, planted, lengths),
+        Ok(Kind::Plant) => take_plant(p, bytes, planted, lengths),
+        Ok(Kind::Strikes) => take_strikes(p, bytes),
+        Ok(Kind::Listeners) => take_listeners(p, bytes),
+        Err(refusal) => refuse(p, refusal),
     }
 }
 

@@ -13,7 +13,6 @@ use lib.Dec.{eqb}
 use lib.ListN.{length, get_or, take}
 use lib.Seq.{length-take-le, take_all}
 use lib.IntN.{ℤ, pos}
-use Rattle.terms.specs.Entry.{Entry}
 use Rattle.terms.specs.Counting.{Each}
 use Rattle.convergence.specs.Phases.{spread}
 use Rattle.convergence.specs.Demand3.{Demand3}

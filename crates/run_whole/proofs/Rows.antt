@@ -9,7 +9,6 @@ use native.Mathlib.Decide.{dec_lt}
 use lib.ListN.{length, get_or, take, drop, length-append, get_or-append}
 use lib.Seq.{take-add, take-take, take_at, drop_at, take-length, length-take-le, get_or_at, paste}
 use lib.IntN.{ℤ, pos}
-use Rattle.terms.specs.Entry.{Entry}
 use Rattle.terms.specs.declared.Family.{Family}
 use Rattle.terms.specs.Counting.{Each}
 use Rattle.ring_spec.specs.Rounds.{Round, PhaseEnd, receivers, is_receiver, is_out, all_listeners, ends_after}

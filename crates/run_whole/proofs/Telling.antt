@@ -10,7 +10,6 @@ use lib.ListN.{length, get_or, set, take, drop, length-append, length-drop, leng
 use lib.Seq.{take_at, take-length, drop-append-add, drop-drop, drop-set-lt, get_or-set_same, get_or-set_other, paste, length-paste, drop-paste}
 use lib.IntN.{ℤ, pos}
 use borrow.Author.Tests.{leb-true, eq-eqb, ne_eqb}
-use Rattle.terms.specs.Entry.{Entry}
 use Rattle.terms.specs.Counting.{Each}
 use Rattle.terms.proofs.Booleans.{and_both}
 use Rattle.ring_spec.specs.Rounds.{Ring, PhaseEnd, receivers, is_out}

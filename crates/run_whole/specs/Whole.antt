@@ -1,7 +1,6 @@
 -- The promise of playing a whole file: one record about all of it, and demand 3 of what the buffers hold.
 use Rattle.std.specs.Prelude.{Bool, true, false, not, ◌&&◌, List, ◌++◌, ◌≡◌, ℕ, ◌+◌, ◌-◌, ◌*◌, ◌≤◌, ◌<◌, length, get_or, drop, replicate, ℤ, pos, Some}
 use Rattle.terms.specs.Refusals as refusal
-use Rattle.terms.specs.Entry.{Entry}
 use Rattle.marks.specs.Marks.{bit_of}
 use Rattle.terms.specs.Counting.{Each}
 use Rattle.convergence.specs.Phases.{End}

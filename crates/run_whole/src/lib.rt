@@ -10,9 +10,9 @@ ghost use Rattle.run_whole.specs.Whole.{Whole, Plays, PlaysInto};
 ghost use Rattle.run_whole.specs.Inner.{Put, sound_number, sound_row, word_at, EndKept, Going};
 
 use frame_slots::{PlantedBytes, PlantedLengths};
-use run_judge::HEAD_MARKS;
+use run_judge::{HEAD_MARKS, Kind};
 use run_state::{Carry, Counts, Player};
-use terms::{HEADS, Lists, Positions, RECEIVERS, Words, Refusal};
+use terms::{HEADS, Lists, Positions, RECEIVERS, Refusal, Words};
 use texts::Text;
 
 // How the file ends, or 24 if a buffer is too short; how many bytes the listing has; how many phase ends were played, the start among them;
@@ -38,7 +38,7 @@ struct Place {
 fn ends_by_bytes(file: &[u8]) -> usize
     ensures { result ≡ ends_by_bytes file.now }
 {
-    if fields::half_at(file, 2) == run_judge::START_ONE {
+    if fields::half_at(file, 2) == Kind::StartOne as u16 {
         return file.len() / 8 + 1;
     }
     file.len() / 16 + 1

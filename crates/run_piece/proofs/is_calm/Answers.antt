@@ -1,9 +1,7 @@
 -- `run_piece::is_calm` meets its contract: its tests are those of the definition, in the same order.
 use mathlib.Core.Path.{sym, ◌∙◌}
-use mathlib.Core.Bool.{true}
 use borrow.Author.Tests.{eq-eqb, ne_eqb, le-leb, lt-leb}
 use Rattle.terms.proofs.Refused.{taken_number}
-use Rattle.run_piece.specs.Steps.{is_settled}
 use Rattle.run_piece.proofs.is_calm.Goals as goal
 
 pub returns-then-not-is_settled : goal.returns-then-not-is_settled
@@ -16,10 +14,10 @@ pub returns-then-half_at-ne8 : goal.returns-then-half_at-ne8
 returns-then-half_at-ne8 c =
     rw (sym c.is_settled.ensures ∙ c.if-not-is_settled.false, le-leb _ _ c.if-bytes-lt8.false, ← c.half_at.ensures, ne_eqb _ _ c.if-half_at-ne8.true)
 
-pub returns-then-half_at-ne-ROUND : goal.returns-then-half_at-ne-ROUND
-returns-then-half_at-ne-ROUND c =
-    rw (sym c.is_settled.ensures ∙ c.if-not-is_settled.false, le-leb _ _ c.if-bytes-lt8.false, ← c.half_at.ensures, eq-eqb _ _ c.if-half_at-ne8.false, ← c.half_at-2.ensures, ne_eqb _ _ c.if-half_at-ne-ROUND.true)
+pub returns-then-half_at : goal.returns-then-half_at
+returns-then-half_at c =
+    rw (sym c.is_settled.ensures ∙ c.if-not-is_settled.false, le-leb _ _ c.if-bytes-lt8.false, ← c.half_at.ensures, eq-eqb _ _ c.if-half_at-ne8.false, ← c.half_at-2.ensures, ne_eqb _ _ c.if-half_at.true)
 
 pub returns : goal.returns
 returns c =
-    rw (sym c.is_settled.ensures ∙ c.if-not-is_settled.false, le-leb _ _ c.if-bytes-lt8.false, ← c.half_at.ensures, eq-eqb _ _ c.if-half_at-ne8.false, ← c.half_at-2.ensures, eq-eqb _ _ c.if-half_at-ne-ROUND.false, ← c.round_fault.ensures) (c.is_ok.ensures.value ∙ taken_number c.round_fault.result)
+    rw (sym c.is_settled.ensures ∙ c.if-not-is_settled.false, le-leb _ _ c.if-bytes-lt8.false, ← c.half_at.ensures, eq-eqb _ _ c.if-half_at-ne8.false, ← c.half_at-2.ensures, eq-eqb _ _ c.if-half_at.false, ← c.round_fault.ensures) (c.is_ok.ensures.value ∙ taken_number c.round_fault.result)
