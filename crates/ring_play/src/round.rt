@@ -1,10 +1,9 @@
 // What all kinds of rounds need: how many heads and listeners are played, who settles, and to whom the same is planted.
-ghost use Rattle.std.specs.Prelude.{◌≡◌, ℕ, ◌-◌, ◌<◌, ◌≤◌, true, ◌↔◌, length, pos, if◌then◌else◌, slice_index_or};
+ghost use Rattle.std.specs.Prelude.{◌≡◌, ℕ, ◌-◌, ◌<◌, ◌≤◌, true, ◌↔◌, length, pos, if◌then◌else◌, slice_index_or, Some};
 ghost use Rattle.terms.specs.Refused.{numbered};
 ghost use Rattle.frame_slots.specs.Slots.{planted_in};
 ghost use Rattle.ring_play.specs.Memory.{heads, listeners, receiver_end, settles, SamePlanted, position_of};
 ghost use Rattle.ring_play.specs.declared.Stage.{Stage};
-ghost use Rattle.ring_play.specs.declared.round.Before.TheVariants.{As};
 ghost use Rattle.ring_play.specs.Inner.Before.{SettlesBefore, AsBefore};
 ghost use Rattle.ring_play.specs.Inner.Struck.{NextStruck};
 
@@ -95,13 +94,6 @@ pub(crate) fn position_in(answer: Result<Kept, Refusal>) -> i32
     }
 }
 
-// A receiver that settles before another; none before the first.
-#[derive(Clone, Copy)]
-pub(crate) enum Before {
-    None,
-    As(usize),
-}
-
 // Whether receiver i is played and not struck.
 pub(crate) fn settles(s: Stage, i: usize) -> bool
     ensures { result ≡ settles s i }
@@ -139,69 +131,61 @@ pub(crate) fn same_before(
     planted: &[u8],
     lengths: &[u8],
     i: usize,
-    before: Before,
-) -> Before
+    before: Option<usize>,
+) -> Option<usize>
     requires { (i < 48) × SettlesBefore s i before }
     ensures { AsBefore s (planted_in planted.now lengths.now) i result }
 {
-    if let Before::As(m) = before {
+    if let Some(m) = before {
         if is_same_planted(s, planted, lengths, i, m) {
-            return Before::As(m);
+            return Some(m);
         }
     }
-    Before::None
+    None
 }
 
-// The last two receivers that settled, told apart by what is planted to them if that can be: liars tell two groups two things.
+// The last two receivers that settled, told apart by what is planted to them if that can be: liars tell two groups two things. None before
+// there are so many.
 #[derive(Clone, Copy)]
 pub(crate) struct Two {
-    pub newer: Before,
-    pub older: Before,
+    pub newer: Option<usize>,
+    pub older: Option<usize>,
 }
 
 // The one of the two to which the same is planted as to receiver i. To answer none is free, and shows in the time alone.
-pub(crate) fn same_of_two(s: Stage, planted: &[u8], lengths: &[u8], i: usize, two: Two) -> Before
+pub(crate) fn same_of_two(
+    s: Stage,
+    planted: &[u8],
+    lengths: &[u8],
+    i: usize,
+    two: Two,
+) -> Option<usize>
     requires { (i < 48) × SettlesBefore s i two.newer × SettlesBefore s i two.older }
     ensures { AsBefore s (planted_in planted.now lengths.now) i result }
 {
     let newer = two.newer;
     let one = same_before(s, planted, lengths, i, newer);
-    if let Before::As(_) = one {
+    if let Some(_) = one {
         return one;
     }
     let older = two.older;
     same_before(s, planted, lengths, i, older)
 }
 
-// Whether that is receiver m. Nothing hangs on the answer but the time.
-fn is_at(b: Before, m: usize) -> bool
-    ensures { Unit {0} }
-{
-    match b {
-        Before::None => false,
-        Before::As(k) => k == m,
-    }
-}
-
 // Receiver i is the newer one now. `found` is the one of the two that was told as it is: the other one stays. Which one stays is free, and
 // shows in the time alone.
-pub(crate) fn remember(two: Two, found: Before, i: usize) -> Two
-    ensures { (result.newer ≡ As i)
+pub(crate) fn remember(two: Two, found: Option<usize>, i: usize) -> Two
+    ensures { (result.newer ≡ Some i)
         × ((s : Stage) (k : ℕ) → SettlesBefore s k two.newer → SettlesBefore s k two.older → SettlesBefore s k result.older) }
 {
-    let newer = two.newer;
-    let older = two.older;
-    if let Before::As(m) = found {
-        if is_at(newer, m) {
-            return Two {
-                newer: Before::As(i),
-                older,
-            };
-        }
-    }
+    let older = if found == two.newer {
+        two.older
+    } else {
+        two.newer
+    };
     Two {
-        newer: Before::As(i),
-        older: newer,
+        newer: Some(i),
+        older,
     }
 }
 

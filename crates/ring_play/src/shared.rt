@@ -11,17 +11,10 @@ ghost use Rattle.ring_play.specs.Memory.{heads};
 ghost use Rattle.ring_play.specs.Inner.Planted.{Alike, AllSettled, SettlesAll};
 ghost use Rattle.ring_play.specs.Inner.Told.{Counted, Told, SharedBy, settled_by, settled_at, taken_here, EarlierOf};
 
-use crate::round::{Before, Two};
+use crate::round::Two;
 use crate::{Stage, codes, round};
 use settle_trust::Links;
 use terms::{HEADS, Lists, Numbers, Positions, Words};
-
-// The position that was settled before; none before the first.
-#[derive(Clone, Copy)]
-enum Earlier {
-    None,
-    At(i32),
-}
 
 // Hears a confession frame on link k: a list counts for each entry at which it has the code, a confession is marked.
 fn count_frame(
@@ -87,7 +80,7 @@ fn position_counted(
     need: u32,
     confessed: u32,
     settled: &mut Numbers,
-    earlier: Earlier,
+    earlier: Option<i32>,
 ) -> i32
     requires { EarlierOf s earlier settled.old }
     ensures position { result ≡ settled_by s (taken_here s need codes.now same.now confessed) }
@@ -96,7 +89,7 @@ fn position_counted(
     let n = round::head_count(s) as usize;
     let left = need_after(need, confessed, n);
     if codes::trust_codes(codes, same, left, confessed, n, settled) {
-        if let Earlier::At(position) = earlier {
+        if let Some(position) = earlier {
             return position;
         }
     }
@@ -119,19 +112,19 @@ fn fill_positions(
 {
     let end = round::receiver_end(s);
     let mut settled = [0i32; HEADS];
-    let mut earlier = Earlier::None;
+    let mut earlier: Option<i32> = None;
     let mut two = Two {
-        newer: Before::None,
-        older: Before::None,
+        newer: None,
+        older: None,
     };
     for i in 0..end {
         if round::settles(s, i) {
             match round::same_of_two(s, planted, lengths, i, two) {
-                Before::As(m) => {
+                Some(m) => {
                     positions[i] = positions[m];
-                    two = round::remember(two, Before::As(m), i);
+                    two = round::remember(two, Some(m), i);
                 }
-                Before::None => {
+                None => {
                     let mut same = *counts;
                     let confessed = count_planted(s, planted, lengths, i, codes, &mut same);
                     let position = position_counted(
@@ -143,9 +136,9 @@ fn fill_positions(
                         &mut settled,
                         earlier,
                     );
-                    earlier = Earlier::At(position);
+                    earlier = Some(position);
                     positions[i] = position;
-                    two = round::remember(two, Before::None, i);
+                    two = round::remember(two, None, i);
                 }
             }
         }

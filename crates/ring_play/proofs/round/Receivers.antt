@@ -1,11 +1,10 @@
 -- Receivers: a head stands below the ring's size, a listener at 32 or above. Those that settle stand below the end, and that is at most 48.
+use Rattle.std.specs.Prelude.{None, Some, Option}
 use Rattle.std.proofs.Common.{◌≡◌, ℕ, ◌+◌, ◌-◌, ◌<◌, ◌≤◌, true, false, sym, refl, ◌∙◌, true≢false, arith, le-ltb, eq-eqb, ne_eqb, le-leb}
 use mathlib.Core.Logic.{by_cases}
 use native.Mathlib.Decide.{dec_lt, ℕ_discrete}
 use borrow.Author.Tests.{lt-leb}
 use Rattle.ring_play.specs.declared.Stage.{Stage}
-use Rattle.ring_play.specs.declared.round.Before.{Before}
-use Rattle.ring_play.specs.declared.round.Before.TheVariants.{None, As}
 use Rattle.ring_play.specs.Memory.{heads, listeners, receiver_end, settles}
 use Rattle.ring_play.specs.Inner.Before.{SettlesBefore}
 
@@ -55,6 +54,6 @@ module _ (s : Stage) where
 
   -- ---- a receiver that settles before receiver i
 
-  pub settles_more : (i : ℕ) (x : Before) → SettlesBefore s i x → SettlesBefore s (i + 1) x
+  pub settles_more : (i : ℕ) (x : Option ℕ) → SettlesBefore s i x → SettlesBefore s (i + 1) x
   settles_more i None h = tt
-  settles_more i (As m) h = (omega (arith, h.0), h.1)
+  settles_more i (Some m) h = (omega (arith, h.0), h.1)

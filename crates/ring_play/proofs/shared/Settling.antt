@@ -1,5 +1,6 @@
 -- What a receiver settles in a confession round depends on what links 0 .. n - 1 give alone, and on that by its trusted entries. So receivers to which the same is
 -- planted settle the same, and so do receivers with the same codes.
+use Rattle.std.specs.Prelude.{Some, Option}
 use Rattle.std.proofs.Common.{◌≡◌, ℕ, ◌<◌, Bool, true, false, cond, List, get_or, ℤ, pos, refl, ap, ◌∙◌, lt-ltb}
 use Rattle.terms.specs.Entry.{Entry}
 use Rattle.marks.specs.Marks.{bit_of}
@@ -15,8 +16,6 @@ use Rattle.settle_midpoint.proofs.Middle.{settling_same}
 use Rattle.ring_play.specs.Inner.Codes.{entry_of}
 use Rattle.head_spec.specs.Record.{given_of}
 use Rattle.ring_play.specs.declared.Stage.{Stage}
-use Rattle.ring_play.specs.declared.shared.Earlier.{Earlier}
-use Rattle.ring_play.specs.declared.shared.Earlier.TheVariants.{At}
 use Rattle.ring_play.specs.Memory.{heads, SamePlanted, position_of}
 use Rattle.ring_play.specs.Inner.Planted.{given_or_planted, position_settled}
 use Rattle.ring_play.specs.Inner.Told.{settled_by, settled_at, EarlierOf}
@@ -39,7 +38,7 @@ pub codes_alike : (s : Stage) (a b : List ℤ) → Each (heads s) (λ j. get_or 
 codes_alike s a b h = settled_entries s _ _ (λ j l. ap entry_of (h j l))
 
 -- what was settled earlier
-pub earlier_at : (s : Stage) (codes : List ℤ) {x : Earlier} {p : ℤ} → x ≡ At p → EarlierOf s x codes → p ≡ settled_at s codes
+pub earlier_at : (s : Stage) (codes : List ℤ) {x : Option ℤ} {p : ℤ} → x ≡ Some p → EarlierOf s x codes → p ≡ settled_at s codes
 earlier_at s codes e h = rw e at h
 
 -- receivers told alike settle the same

@@ -1,5 +1,5 @@
 -- What a receiver counts and settles, from what is shared and what is planted to it.
-use Rattle.std.specs.Prelude.{◌≡◌, ℕ, ◌+◌, ◌-◌, ◌<◌, false, cond, List, ℤ, pos, slice_index, slice_index_or}
+use Rattle.std.specs.Prelude.{◌≡◌, ℕ, ◌+◌, ◌-◌, ◌<◌, false, cond, List, ℤ, pos, slice_index, slice_index_or, None, Some, Option}
 use Rattle.terms.specs.Entry.{Entry}
 use Rattle.marks.specs.Marks.{bit_of, with_mark, count_below}
 use Rattle.terms.specs.Counting.{Each, sum}
@@ -12,8 +12,6 @@ use Rattle.ring_play.specs.Inner.Codes.{entry_of, entry_in, code_taken, holds}
 use Rattle.ring_play.specs.Inner.Shares.{Shares}
 use Rattle.head_spec.specs.Record.{given_of}
 use Rattle.ring_play.specs.declared.Stage.{Stage}
-use Rattle.ring_play.specs.declared.shared.Earlier.{Earlier}
-use Rattle.ring_play.specs.declared.shared.Earlier.TheVariants.{None, At}
 use Rattle.ring_play.specs.Memory.{heads, position_of}
 use Rattle.ring_play.specs.Inner.Planted.{is_struck}
 
@@ -55,6 +53,6 @@ abbrev pub taken_here : (s : Stage) (need : ℕ) (codes : List ℤ) (same : List
 taken_here s need codes same confesses j = entry_of (code_taken codes same (needed_here s need confesses) confesses j)
 
 -- what was settled earlier, if anything, was settled from these codes
-abbrev pub EarlierOf : Stage → Earlier → List ℤ → Type 0
+abbrev pub EarlierOf : Stage → Option ℤ → List ℤ → Type 0
 EarlierOf s None codes = Unit {0}
-EarlierOf s (At p) codes = p ≡ settled_at s codes
+EarlierOf s (Some p) codes = p ≡ settled_at s codes

@@ -17,13 +17,13 @@ own_taken s need codes same confessed own p q taken =
     settled_entries s _ _
     (λ j l. ap entry_of (taken j (omega arith) ∙ ap (λ (x : ℕ). code_taken codes same x confessed j) (q ∙ ap (λ (x : ℕ). need - count_below confessed x) p)))
 
-pub returns-in-At : goal.returns-in-At
-returns-in-At c =
+pub returns-in-Some : goal.returns-in-Some
+returns-in-Some c =
     let a = c.args in
     let own = c.trust_codes.new.taken in
     let alike = codes_alike a.s own a.settled.now (λ j q. c.trust_codes.ensures.alike c.if-trust_codes.true j (omega (arith, c.head_count-n.ensures))) in
-    let fits : to_z w32 (of_z w32 c.in-At.position) ≡ c.in-At.position = search rules in
-    let e = fits ∙ earlier_at a.s a.settled.now c.in-At.is c.requires ∙ sym alike in
+    let fits : to_z w32 (of_z w32 c.in-Some.position) ≡ c.in-Some.position = search rules in
+    let e = fits ∙ earlier_at a.s a.settled.now c.in-Some.is c.requires ∙ sym alike in
     record { position = e ∙ own_taken a.s a.need a.codes.now a.same.now a.confessed own c.head_count-n.ensures c.need_after-left.ensures c.trust_codes.ensures.codes; codes = e }
 
 pub returns : goal.returns
