@@ -1,6 +1,6 @@
 // What all receivers of a confession round share: the lists that every head hears are compared once, and each receiver adds what is planted
 // to it.
-ghost use Rattle.std.specs.Prelude.{◌≡◌, ◌+◌, ◌-◌, ◌*◌, ◌<◌, ◌≤◌, true, false, length, pos, if◌then◌else◌, nat_eq, nat_le, slice_index, slice_index_or};
+ghost use Rattle.std.specs.Prelude.{◌≡◌, ◌+◌, ◌-◌, ◌*◌, ◌<◌, ◌≤◌, true, false, pos, if◌then◌else◌, nat_eq, nat_le, slice_index, slice_index_or};
 ghost use Rattle.terms.specs.Positions.{eq_z};
 ghost use Rattle.marks.specs.Marks.{bit_of};
 ghost use Rattle.terms.specs.Counting.{Each, sum};
@@ -39,8 +39,8 @@ fn codes_of(marks: u32, list: &Numbers, n: usize) -> Numbers
 }
 
 // One more for each of the first n entries of a list that has the code.
-fn count_codes(marks: u32, list: &Numbers, codes: &Numbers, same: &mut [u32], n: usize)
-    requires { (n ≤ 32) × (length same.old ≡ 32) }
+fn count_codes(marks: u32, list: &Numbers, codes: &Numbers, same: &mut Words, n: usize)
+    requires { n ≤ 32 }
     ensures { Tallied n marks list.now codes.now same.old same.new }
 {
     for j in 0..n {
@@ -50,8 +50,8 @@ fn count_codes(marks: u32, list: &Numbers, codes: &Numbers, same: &mut [u32], n:
 }
 
 // The same of a list without nulls, whose codes are its numbers.
-fn count_numbers(marks: u32, list: &Numbers, codes: &Numbers, same: &mut [u32], n: usize)
-    requires { (n ≤ 32) × (length same.old ≡ 32) × Each n (λ j. bit_of marks j ≡ true) }
+fn count_numbers(marks: u32, list: &Numbers, codes: &Numbers, same: &mut Words, n: usize)
+    requires { (n ≤ 32) × Each n (λ j. bit_of marks j ≡ true) }
     ensures { Tallied n marks list.now codes.now same.old same.new }
 {
     for j in 0..n {
@@ -60,8 +60,8 @@ fn count_numbers(marks: u32, list: &Numbers, codes: &Numbers, same: &mut [u32], 
 }
 
 // The same of any list.
-pub(crate) fn tally(marks: u32, list: &Numbers, codes: &Numbers, same: &mut [u32], n: usize)
-    requires { (n ≤ 32) × (length same.old ≡ 32) }
+pub(crate) fn tally(marks: u32, list: &Numbers, codes: &Numbers, same: &mut Words, n: usize)
+    requires { n ≤ 32 }
     ensures { Tallied n marks list.now codes.now same.old same.new }
 {
     if marks::all_marked(marks, n) {
@@ -95,10 +95,9 @@ fn lead(x: i32, c: i32, l: u32) -> u32
 }
 
 // A row of codes votes at each of the first n entries.
-fn vote(row: &Numbers, codes: &mut [i32], leads: &mut [u32], n: usize)
-    requires { (n ≤ 32) × (length codes.old ≡ 32) × (length leads.old ≡ 32) × Each n (λ j. slice_index leads.old j < 4294967295) }
-    ensures { (length codes.new ≡ 32) × (length leads.new ≡ 32)
-        × Each n (λ j. Voted (slice_index_or row.now j (pos 0)) (slice_index_or codes.old j (pos 0)) (slice_index leads.old j)
+fn vote(row: &Numbers, codes: &mut Numbers, leads: &mut Words, n: usize)
+    requires { (n ≤ 32) × Each n (λ j. slice_index leads.old j < 4294967295) }
+    ensures { Each n (λ j. Voted (slice_index_or row.now j (pos 0)) (slice_index_or codes.old j (pos 0)) (slice_index leads.old j)
         (slice_index_or codes.new j (pos 0)) (slice_index leads.new j)) }
 {
     for j in 0..n {
@@ -111,10 +110,9 @@ fn vote(row: &Numbers, codes: &mut [i32], leads: &mut [u32], n: usize)
 }
 
 // A list votes.
-fn vote_for(marks: u32, list: &Numbers, codes: &mut [i32], leads: &mut [u32], n: usize)
-    requires { (n ≤ 32) × (length codes.old ≡ 32) × (length leads.old ≡ 32) × Each n (λ j. slice_index leads.old j < 4294967295) }
-    ensures { (length codes.new ≡ 32) × (length leads.new ≡ 32)
-        × Each n (λ j. Voted (code_at marks list.now j) (slice_index_or codes.old j (pos 0)) (slice_index leads.old j)
+fn vote_for(marks: u32, list: &Numbers, codes: &mut Numbers, leads: &mut Words, n: usize)
+    requires { (n ≤ 32) × Each n (λ j. slice_index leads.old j < 4294967295) }
+    ensures { Each n (λ j. Voted (code_at marks list.now j) (slice_index_or codes.old j (pos 0)) (slice_index leads.old j)
         (slice_index_or codes.new j (pos 0)) (slice_index leads.new j)) }
 {
     if marks::all_marked(marks, n) {
@@ -138,9 +136,9 @@ fn gives_list(confessed: u32, listed: u32, k: usize) -> bool
 }
 
 // Each list votes; answers how many there are.
-fn vote_all(lists: &Lists, links: Links, n: usize, codes: &mut [i32], leads: &mut [u32]) -> usize
-    requires { (n ≤ 32) × (length codes.old ≡ 32) × (length leads.old ≡ 32) × Each n (λ j. slice_index leads.old j ≡ 0) }
-    ensures { (length codes.new ≡ 32) × (length leads.new ≡ 32) × (result ≤ n)
+fn vote_all(lists: &Lists, links: Links, n: usize, codes: &mut Numbers, leads: &mut Words) -> usize
+    requires { (n ≤ 32) × Each n (λ j. slice_index leads.old j ≡ 0) }
+    ensures { (result ≤ n)
         × Each n (λ j. CodeLeads (λ w. sum n (λ k. holds j w (given_by links lists.now k))) result
         (slice_index_or codes.new j (pos 0)) (slice_index leads.new j)) }
 {
@@ -155,10 +153,9 @@ fn vote_all(lists: &Lists, links: Links, n: usize, codes: &mut [i32], leads: &mu
 }
 
 // For each entry, how many lists have the code.
-fn tally_all(lists: &Lists, links: Links, n: usize, codes: &Numbers, same: &mut [u32])
-    requires { (n ≤ 32) × (length same.old ≡ 32) × Each n (λ j. slice_index same.old j ≡ 0) }
-    ensures { (length same.new ≡ 32)
-        × Each n (λ j. slice_index same.new j
+fn tally_all(lists: &Lists, links: Links, n: usize, codes: &Numbers, same: &mut Words)
+    requires { (n ≤ 32) × Each n (λ j. slice_index same.old j ≡ 0) }
+    ensures { Each n (λ j. slice_index same.new j
         ≡ sum n (λ k. holds j (slice_index_or codes.now j (pos 0)) (given_by links lists.now k))) }
 {
     for k in 0..n {
@@ -177,10 +174,9 @@ fn are_alone(leads: &Words, confessed: u32, n: usize, count: usize, most: usize)
 }
 
 // No code for the entries of links that confessed.
-fn drop_confessed(codes: &mut [i32], confessed: u32, n: usize)
-    requires { (n ≤ 32) × (length codes.old ≡ 32) }
-    ensures { (length codes.new ≡ 32)
-        × Each n (λ j. slice_index_or codes.new j (pos 0) ≡ (if bit_of confessed j then no_code else slice_index_or codes.old j (pos 0))) }
+fn drop_confessed(codes: &mut Numbers, confessed: u32, n: usize)
+    requires { n ≤ 32 }
+    ensures { Each n (λ j. slice_index_or codes.new j (pos 0) ≡ (if bit_of confessed j then no_code else slice_index_or codes.old j (pos 0))) }
 {
     for j in 0..n {
         if marks::marked(confessed, j) {

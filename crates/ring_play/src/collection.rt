@@ -1,6 +1,6 @@
 // The rounds of a whole ring in which heads send positions, played on the heads' memory: a collection round, which leaves the list of each
 // head that is not struck, and a phase of one round, which leaves a position. What all unstruck heads say is heard once.
-ghost use Rattle.std.specs.Prelude.{◌≡◌, ℕ, ◌<◌, cond, List, length, pos, slice_index_or};
+ghost use Rattle.std.specs.Prelude.{◌≡◌, ℕ, ◌<◌, cond, List, pos, slice_index_or};
 ghost use Rattle.terms.specs.declared.Table.{Table};
 ghost use Rattle.entries.specs.Tables.{table_at, table_of, mark, value_of};
 ghost use Rattle.frame_spec.specs.Said.{said};
@@ -14,7 +14,7 @@ ghost use Rattle.ring_play.specs.Inner.Collection.{is_position_frame, own_entry,
 use crate::{Stage, round, sides};
 use frame_check::Kind;
 use settle_midpoint::Order;
-use terms::{Entry, Family, HEADS, Lists, Positions, Table, Words};
+use terms::{Entry, Family, HEADS, Lists, Numbers, Positions, Table, Words};
 
 // Whether a frame is that of a position, from head k in this phase. The position may be out of range.
 fn is_position_frame(frame: &[u8], phase: u16, k: u8) -> bool
@@ -116,12 +116,12 @@ fn list_for(
     planted: &[u8],
     lengths: &[u8],
     i: usize,
-    entries: &mut [i32],
+    entries: &mut Numbers,
 ) -> u32
-    requires { (i < 48) × (length entries.old ≡ 32) × Shared s (record { marks = sent; entries = entries.old }) }
-    ensures { (length entries.new ≡ 32) × ((S : Shared s (record { marks = sent; entries = entries.old }))
+    requires { (i < 48) × Shared s (record { marks = sent; entries = entries.old }) }
+    ensures { (S : Shared s (record { marks = sent; entries = entries.old }))
         → ◌≡◌ {A = Table} (record { marks = result; entries = entries.new })
-        (table_of (heads s) (heard_with s S.entry (planted_in planted.now lengths.now) i))) }
+        (table_of (heads s) (heard_with s S.entry (planted_in planted.now lengths.now) i)) }
 {
     let mut marks = sent;
     for k in round::struck_heads(s) {
@@ -138,10 +138,10 @@ fn fill_lists(
     sent: Table,
     planted: &[u8],
     lengths: &[u8],
-    marks: &mut [u32],
-    lists: &mut [[i32; HEADS]],
+    marks: &mut Words,
+    lists: &mut Lists,
 )
-    requires { (length marks.old ≡ 32) × (length lists.old ≡ 32) × Shared s sent }
+    requires { Shared s sent }
     ensures { (S : Shared s sent) (i : ℕ) → row_in marks.new lists.new i
         ≡ cond (hears s i)
         (table_of (heads s) (heard_with s S.entry (planted_in planted.now lengths.now) i))
@@ -216,9 +216,9 @@ fn fill_positions(
     order: Order,
     planted: &[u8],
     lengths: &[u8],
-    positions: &mut [i32],
+    positions: &mut Positions,
 )
-    requires { (length positions.old ≡ 48) × Shared s sent × (order ≡ order_of (ordered (heads s) (table_at sent))) }
+    requires { Shared s sent × (order ≡ order_of (ordered (heads s) (table_at sent))) }
     ensures { (S : Shared s sent) (i : ℕ) → slice_index_or positions.new i (pos 0)
         ≡ cond (settles s i)
         (position_from s (table_at (table_of (heads s) (heard_with s S.entry (planted_in planted.now lengths.now) i))))

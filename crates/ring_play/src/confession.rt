@@ -1,6 +1,6 @@
 // A confession round of a whole ring, played on the heads' memory: each receiver, head or listener, that is not struck settles by the same
 // functions that the head's calls are made of. What all unstruck heads say is read once.
-ghost use Rattle.std.specs.Prelude.{◌≡◌, ℕ, ◌<◌, cond, List, length, pos, slice_index_or};
+ghost use Rattle.std.specs.Prelude.{◌≡◌, ℕ, ◌<◌, cond, List, pos, slice_index_or};
 ghost use Rattle.frame_spec.specs.Said.{said};
 ghost use Rattle.settle_trust.specs.Received.{given_by};
 ghost use Rattle.ring_play.specs.Memory.{settles, Sayable, new_position};
@@ -121,9 +121,9 @@ fn fill_positions(
     lengths: &[u8],
     base: Links,
     rows: &mut Lists,
-    positions: &mut [i32],
+    positions: &mut Positions,
 )
-    requires { Unplanted s base rows.old × (length positions.old ≡ 48) }
+    requires { Unplanted s base rows.old }
     ensures { (i : ℕ) → slice_index_or positions.new i (pos 0)
         ≡ cond (settles s i)
         (position_settled s (given_or_planted s (given_by base rows.old) (planted_in planted.now lengths.now) i))

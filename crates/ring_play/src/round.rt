@@ -1,5 +1,5 @@
 // What all kinds of rounds need: how many heads and listeners are played, who settles, and to whom the same is planted.
-ghost use Rattle.std.specs.Prelude.{◌≡◌, ℕ, ◌-◌, ◌<◌, ◌≤◌, true, ◌↔◌, length, pos, if◌then◌else◌, slice_index_or, Some};
+ghost use Rattle.std.specs.Prelude.{◌≡◌, ℕ, ◌-◌, ◌<◌, ◌≤◌, true, ◌↔◌, pos, if◌then◌else◌, slice_index_or, Some};
 ghost use Rattle.terms.specs.Refused.{numbered};
 ghost use Rattle.frame_slots.specs.Slots.{planted_in};
 ghost use Rattle.ring_play.specs.Memory.{heads, listeners, receiver_end, settles, SamePlanted, position_of};
@@ -9,7 +9,7 @@ ghost use Rattle.ring_play.specs.Inner.Struck.{NextStruck};
 
 use crate::Stage;
 use settle_midpoint::Kept;
-use terms::Refusal;
+use terms::{Positions, Refusal};
 
 // How many heads are played.
 pub(crate) fn head_count(s: Stage) -> u8
@@ -190,8 +190,7 @@ pub(crate) fn remember(two: Two, found: Option<usize>, i: usize) -> Two
 }
 
 // Stores one position for each unstruck receiver.
-pub(crate) fn fill_same(s: Stage, position: i32, positions: &mut [i32])
-    requires { length positions.old ≡ 48 }
+pub(crate) fn fill_same(s: Stage, position: i32, positions: &mut Positions)
     ensures { (i : ℕ) → slice_index_or positions.new i (pos 0) ≡ (if settles s i then position else slice_index_or positions.old i (pos 0)) }
 {
     let end = receiver_end(s);

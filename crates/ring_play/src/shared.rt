@@ -1,6 +1,6 @@
 // A confession round of a whole ring, from what the unstruck heads give all receivers: their lists are compared once, and each receiver
 // adds what is planted to it alone.
-ghost use Rattle.std.specs.Prelude.{◌≡◌, ◌-◌, ◌<◌, ◌≤◌, true, false, length, slice_index};
+ghost use Rattle.std.specs.Prelude.{◌≡◌, ◌-◌, ◌<◌, ◌≤◌, true, false, slice_index};
 ghost use Rattle.marks.specs.Marks.{count_below};
 ghost use Rattle.terms.specs.Counting.{Each};
 ghost use Rattle.frame_spec.specs.Said.{said};
@@ -104,9 +104,9 @@ fn fill_positions(
     codes: &Numbers,
     counts: &Words,
     need: u32,
-    positions: &mut [i32],
+    positions: &mut Positions,
 )
-    requires { (length positions.old ≡ 48) × SharedBy s need codes.now counts.now }
+    requires { SharedBy s need codes.now counts.now }
     ensures { (S : SharedBy s need codes.now counts.now) → Alike s S.given
         → AllSettled s S.given (planted_in planted.now lengths.now) positions.old positions.new }
 {

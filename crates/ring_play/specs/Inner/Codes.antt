@@ -1,5 +1,5 @@
 -- Entries as codes: one number for each, so that two entries are the same if their codes are.
-use Rattle.std.specs.Prelude.{◌≡◌, ℕ, ◌+◌, ◌%◌, ◌^◌, cond, List, length, ℤ, pos, nat_le, slice_index, slice_index_or, None, Some}
+use Rattle.std.specs.Prelude.{◌≡◌, ℕ, ◌+◌, ◌%◌, ◌^◌, cond, List, ℤ, pos, nat_le, slice_index, slice_index_or, None, Some}
 use Rattle.terms.specs.Positions.{eq_z}
 use Rattle.terms.specs.Entry.{Entry}
 use Rattle.marks.specs.Marks.{bit_of}
@@ -38,5 +38,4 @@ holds j c (gave l) = bit (eq_z (code_of (l j)) c)
 
 -- one more for each entry at which a list has the code; counts are words
 pub record Tallied (n marks : ℕ) (E codes : List ℤ) (same same' : List ℕ) : Type 0 where
-  pub long : length same' ≡ length same
   pub counts : Each n (λ j. slice_index same' j ≡ (slice_index same j + bit (eq_z (code_at marks E j) (slice_index_or codes j (pos 0)))) % 2 ^ 32)

@@ -5,4 +5,4 @@ use Rattle.ring_play.proofs.codes.tally.Goals as goal
 
 pub count_numbers-requires : goal.count_numbers-requires
 count_numbers-requires c =
-    (c.requires.0, c.requires.1, λ j l. all_bits c.args.marks c.args.n j (sym c.all_marked.ensures ∙ c.if-all_marked.true) l)
+    (c.requires, λ j l. all_bits c.args.marks c.args.n j (sym c.all_marked.ensures ∙ c.if-all_marked.true) l)

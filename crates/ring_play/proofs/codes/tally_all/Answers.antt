@@ -7,7 +7,7 @@ use Rattle.ring_play.proofs.codes.tally_all.Goals.{then-gives_list, else-gives_l
 
 pub loop-k-init : goal.loop-k-init
 unfolding sum
-loop-k-init c = c.requires.2
+loop-k-init c = c.requires.1
 
 pub loop-k-preserved : goal.loop-k-preserved
 loop-k-preserved c =

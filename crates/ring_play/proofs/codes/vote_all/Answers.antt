@@ -9,7 +9,7 @@ use Rattle.ring_play.proofs.codes.vote_all.Goals.{then-gives_list, else-gives_li
 pub loop-k-init : goal.loop-k-init
 unfolding sum
 loop-k-init c =
-    (search rules, λ j l. rw (c.requires.3 j l) (leads_none _ (λ w. refl) _))
+    (search rules, λ j l. rw (c.requires.1 j l) (leads_none _ (λ w. refl) _))
 
 pub loop-k-preserved : goal.loop-k-preserved
 loop-k-preserved c =
@@ -19,7 +19,7 @@ loop-k-preserved c =
     elim c.if-gives_list.branch [
       | then-gives_list w ↦ (
         rw w.count-is (omega arith),
-        rw (w.codes-is, w.leads-is, w.count-is) (λ j q. vote_given a.links a.lists.now j l.k (l.invariant.1 j q) (e ∙ w.if-gives_list.true) (w.vote_for.ensures.2 j q)),
+        rw (w.codes-is, w.leads-is, w.count-is) (λ j q. vote_given a.links a.lists.now j l.k (l.invariant.1 j q) (e ∙ w.if-gives_list.true) (w.vote_for.ensures j q)),
       )
       | else-gives_list w ↦ (
         rw w.count-is (omega arith),
@@ -30,4 +30,4 @@ loop-k-preserved c =
 pub returns : goal.returns
 returns c =
     let e : c.loop-k.k ≡ c.args.n = omega arith in
-    (search rules, search rules, omega arith, rw e at c.loop-k.invariant.1)
+    (omega arith, rw e at c.loop-k.invariant.1)

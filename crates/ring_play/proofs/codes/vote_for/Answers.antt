@@ -8,4 +8,4 @@ use Rattle.ring_play.proofs.codes.vote_for.Goals as goal
 pub returns-then-all_marked : goal.returns-then-all_marked
 returns-then-all_marked c =
     let bits : Each c.args.n (λ j. bit_of c.args.marks j ≡ true) = λ j l. all_bits c.args.marks c.args.n j (sym c.all_marked.ensures ∙ c.if-all_marked.true) l in
-    (c.vote.ensures.0, c.vote.ensures.1, λ j l. rw (bits j l) (c.vote.ensures.2 j l))
+    λ j l. rw (bits j l) (c.vote.ensures j l)

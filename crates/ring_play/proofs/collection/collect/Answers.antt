@@ -1,5 +1,5 @@
 -- `ring_play::collection::collect` meets its contract: what the unstruck heads send is read once, and each head that is not struck lists it with what is planted to it.
-use Rattle.std.proofs.Common.{cond, ap, ◌∙◌, rules}
+use Rattle.std.proofs.Common.{cond, ap, ◌∙◌}
 use Rattle.terms.specs.declared.Table.{Table}
 use Rattle.ring_play.specs.Memory.{hears, row_in}
 use Rattle.frame_slots.specs.Slots.{planted_in}
@@ -10,7 +10,7 @@ use Rattle.ring_play.proofs.collection.collect.Goals as goal
 pub fill_lists-requires : goal.fill_lists-requires
 fill_lists-requires c =
     let a = c.args in
-    (search rules, search rules, sent_shared a.s a.positions.now c.entries_sent-sent.ensures)
+    sent_shared a.s a.positions.now c.entries_sent-sent.ensures
 
 pub returns : goal.returns
 returns c =

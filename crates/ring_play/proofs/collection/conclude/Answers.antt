@@ -1,6 +1,6 @@
 -- `ring_play::collection::conclude` meets its contract: what the unstruck heads send is read once, and each receiver that is not struck settles from it with what is planted
 -- to it.
-use Rattle.std.proofs.Common.{◌≡◌, ℕ, ◌<◌, cond, List, get_or, ℤ, pos, ap, ◌∙◌, rules}
+use Rattle.std.proofs.Common.{◌≡◌, ℕ, ◌<◌, cond, List, get_or, ℤ, pos, ap, ◌∙◌}
 use Rattle.entries.specs.Tables.{table_at, table_of}
 use Rattle.convergence.specs.Settling.{ordered}
 use Rattle.settle_midpoint.specs.Orders.{order_of}
@@ -29,7 +29,6 @@ returns-then-s-eq0 c fit i =
 
 pub fill_positions-requires : goal.fill_positions-requires
 fill_positions-requires c = (
-  search rules,
   sent_shared c.args.s c.args.positions.now c.entries_sent-sent.ensures,
   c.order_of-order.ensures ∙ ap (λ (n : ℕ). order_of (ordered n (table_at c.entries_sent-sent.result))) c.head_count.ensures,
 )

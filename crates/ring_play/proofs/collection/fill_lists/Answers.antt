@@ -1,5 +1,5 @@
 -- `ring_play::collection::fill_lists` meets its contract: before head i, the unstruck heads below i have their list, and all others have what they had.
-use Rattle.std.proofs.Common.{◌≡◌, ℕ, ◌<◌, not, List, [], length, get_or, set, ℤ, sym, ap, ◌∙◌, arith, get_or-set_same, set-set}
+use Rattle.std.proofs.Common.{◌≡◌, ℕ, ◌<◌, not, List, [], length, get_or, set, ℤ, sym, ap, ◌∙◌, arith, rules, get_or-set_same, set-set}
 use Rattle.terms.specs.declared.Table.{Table}
 use Rattle.ring_play.specs.declared.Stage.{Stage}
 use Rattle.ring_play.specs.Inner.Collection.{Shared}
@@ -20,13 +20,18 @@ pub loop-i-preserved : goal.loop-i-preserved
 loop-i-preserved c =
     let a = c.args in
     let l = c.loop-i in
+    let marks_long : length l.marks ≡ 32 = search rules in
     let b = ap not (sym c.marked.ensures) in
     elim c.if-not-marked.branch [
-      | then-not-marked w ↦
-          λ S.
-          rw (w.marks-is, w.lists-is, set-set l.lists l.i a.sent.entries _)
-          (filled_row _ _ _ l.marks l.lists l.i (l.invariant S) (omega arith) (omega arith) (b ∙ ap not w.if-not-marked.true)
-          (w.list_for.ensures.1 (shared_here a.s a.sent l.lists l.i (omega (arith)) S)))
-      | else-not-marked w ↦
-          λ S. rw (w.marks-is, w.lists-is) (filled_passed _ _ _ l.i (l.invariant S) (b ∙ ap not w.if-not-marked.false))
+      | then-not-marked w ↦ (
+        search rules,
+        λ S.
+            rw (w.marks-is, w.lists-is, set-set l.lists l.i a.sent.entries _)
+            (filled_row _ _ _ l.marks l.lists l.i (l.invariant.1 S) (omega (arith, marks_long)) (omega arith) (b ∙ ap not w.if-not-marked.true)
+            (w.list_for.ensures (shared_here a.s a.sent l.lists l.i (omega arith) S))),
+      )
+      | else-not-marked w ↦ (
+        search rules,
+        λ S. rw (w.marks-is, w.lists-is) (filled_passed _ _ _ l.i (l.invariant.1 S) (b ∙ ap not w.if-not-marked.false)),
+      )
     ]

@@ -38,7 +38,7 @@ fill_positions-requires c =
     let links = c.links_of-links.result in
     let m : length links.marks ≡ 32 = search rules in
     let r : length c.copied-rows.result ≡ 32 = search rules in
-    (rw c.copied-rows.ensures (own_untold a.s a.marks.now a.lists.now links c.links_of-links.ensures m (rw c.copied-rows.ensures at r)), search rules)
+    rw c.copied-rows.ensures (own_untold a.s a.marks.now a.lists.now links c.links_of-links.ensures m (rw c.copied-rows.ensures at r))
 
 pub returns : goal.returns
 returns c fit i =

@@ -1,5 +1,5 @@
 -- `ring_play::confession::fill_positions` meets its contract: before receiver i, the unstruck ones below i have their new position, and all others the one they had.
-use Rattle.std.proofs.Common.{pos, sym, ap, ◌∙◌, arith, to_z-of_z, w32}
+use Rattle.std.proofs.Common.{◌≡◌, length, pos, sym, ap, ◌∙◌, arith, to_z-of_z, rules, w32}
 use Rattle.frame_slots.specs.Slots.{planted_in}
 use Rattle.ring_play.specs.Inner.Planted.{position_settled}
 use Rattle.ring_play.proofs.round.Filling.{filled_passed, filled_set}
@@ -10,6 +10,7 @@ use Rattle.ring_play.proofs.confession.fill_positions.Goals.{then-settles, else-
 pub loop-i-preserved : goal.loop-i-preserved
 loop-i-preserved c =
     let l = c.loop-i in
+    let long : length l.positions ≡ 48 = search rules in
     let b = sym c.settles.ensures in
     let a = c.args in
     elim c.if-settles.branch [
@@ -18,7 +19,7 @@ loop-i-preserved c =
           ∙ ap (position_settled a.s) (planted_kept a.s a.base a.rows.now l.rows l.invariant.2 (planted_in a.planted.now a.lengths.now) l.i) in
           let k = w.position_for-position.ensures.kept in (
             l.invariant.0,
-            rw w.positions-is (filled_set _ _ _ l.positions (pos 0) l.i l.invariant.1 (omega arith) (b ∙ w.if-settles.true) e),
+            rw w.positions-is (filled_set _ _ _ l.positions (pos 0) l.i l.invariant.1 (omega (arith, long)) (b ∙ w.if-settles.true) e),
             rw w.rows-is (record { long = k.long; gives = k.gives ∙ l.invariant.2.gives }),
           )
       | else-settles w ↦ (
