@@ -64,20 +64,14 @@ fn own_entry(s: Stage, positions: &Positions, k: usize) -> Entry
 fn mark_of(e: Entry) -> u32
     ensures { result ≡ mark e }
 {
-    match e {
-        None => 0,
-        Some(_) => 1,
-    }
+    e.is_some() as u32
 }
 
 // The value of an entry, 0 if it is null.
 fn value_of(e: Entry) -> i32
     ensures { result ≡ value_of e }
 {
-    match e {
-        None => 0,
-        Some(v) => v,
-    }
+    e.unwrap_or(0)
 }
 
 // What the unstruck heads send, with null for the struck ones.

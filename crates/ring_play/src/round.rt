@@ -136,12 +136,7 @@ pub(crate) fn same_before(
     requires { (i < 48) × SettlesBefore s i before }
     ensures { AsBefore s (planted_in planted.now lengths.now) i result }
 {
-    if let Some(m) = before {
-        if is_same_planted(s, planted, lengths, i, m) {
-            return Some(m);
-        }
-    }
-    None
+    before.filter(|m| is_same_planted(s, planted, lengths, i, *m))
 }
 
 // The last two receivers that settled, told apart by what is planted to them if that can be: liars tell two groups two things. None before
@@ -163,13 +158,8 @@ pub(crate) fn same_of_two(
     requires { (i < 48) × SettlesBefore s i two.newer × SettlesBefore s i two.older }
     ensures { AsBefore s (planted_in planted.now lengths.now) i result }
 {
-    let newer = two.newer;
-    let one = same_before(s, planted, lengths, i, newer);
-    if let Some(_) = one {
-        return one;
-    }
-    let older = two.older;
-    same_before(s, planted, lengths, i, older)
+    let newer = same_before(s, planted, lengths, i, two.newer);
+    newer.or_else(|| same_before(s, planted, lengths, i, two.older))
 }
 
 // Receiver i is the newer one now. `found` is the one of the two that was told as it is: the other one stays. Which one stays is free, and
