@@ -1,9 +1,9 @@
 // What all receivers of a confession round share: the lists that every head hears are compared once, and each receiver adds what is planted
 // to it.
-ghost use Rattle.std.specs.Prelude.{◌≡◌, ◌+◌, ◌-◌, ◌*◌, ◌<◌, ◌≤◌, true, false, pos, if◌then◌else◌, nat_eq, nat_le, slice_index, slice_index_or};
+ghost use Rattle.std.specs.Prelude.{◌≡◌, ℤ, ◌%◌, ◌^◌, ◌+◌, ◌-◌, ◌*◌, ◌<◌, ◌≤◌, true, false, pos, if◌then◌else◌, nat_eq, nat_le, slice_index, slice_index_or};
 ghost use Rattle.terms.specs.Positions.{eq_z};
 ghost use Rattle.marks.specs.Marks.{bit_of};
-ghost use Rattle.terms.specs.Counting.{Each, sum};
+ghost use Rattle.terms.specs.Counting.{Each, sum, bit};
 ghost use Rattle.settle_trust.specs.Received.{given_by};
 ghost use Rattle.ring_play.specs.Inner.Codes.{no_code, entry_of, code_at, code_taken, holds, Tallied};
 ghost use Rattle.ring_play.specs.Inner.Shares.{Shares};
@@ -38,36 +38,26 @@ fn codes_of(marks: u32, list: &Numbers, n: usize) -> Numbers
     codes
 }
 
-// One more for each of the first n entries of a list that has the code.
-fn count_codes(marks: u32, list: &Numbers, codes: &Numbers, same: &mut Words, n: usize)
-    requires { n ≤ 32 }
-    ensures { Tallied n marks list.now codes.now same.old same.new }
+// One more for each of the first n entries whose code, which `at` gives, is the one that it is compared with.
+fn count_same<F: Fn(usize) -> i32>(at: F, codes: &Numbers, same: &mut Words, n: usize)
+    requires { (n ≤ 32) × Each n (λ j. F.pre at j) }
+    ensures { Each n (λ j. (x : ℤ) × F.post at j x
+        × (slice_index same.new j ≡ (slice_index same.old j + bit (eq_z x (slice_index_or codes.now j (pos 0)))) % 2 ^ 32)) }
 {
     for j in 0..n {
-        let x = code(marks, j, list[j]);
-        same[j] = same[j].wrapping_add((x == codes[j]) as u32);
+        same[j] = same[j].wrapping_add((at(j) == codes[j]) as u32);
     }
 }
 
-// The same of a list without nulls, whose codes are its numbers.
-fn count_numbers(marks: u32, list: &Numbers, codes: &Numbers, same: &mut Words, n: usize)
-    requires { (n ≤ 32) × Each n (λ j. bit_of marks j ≡ true) }
-    ensures { Tallied n marks list.now codes.now same.old same.new }
-{
-    for j in 0..n {
-        same[j] = same[j].wrapping_add((list[j] == codes[j]) as u32);
-    }
-}
-
-// The same of any list.
+// One more for each of the first n entries of a list that has the code. The codes of a list without nulls are its numbers.
 pub(crate) fn tally(marks: u32, list: &Numbers, codes: &Numbers, same: &mut Words, n: usize)
     requires { n ≤ 32 }
     ensures { Tallied n marks list.now codes.now same.old same.new }
 {
     if marks::all_marked(marks, n) {
-        count_numbers(marks, list, codes, same, n);
+        count_same(|j| list[j], codes, same, n);
     } else {
-        count_codes(marks, list, codes, same, n);
+        count_same(|j| code(marks, j, list[j]), codes, same, n);
     }
 }
 
