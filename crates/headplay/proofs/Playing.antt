@@ -13,7 +13,6 @@ use borrow.Author.Tests.{leb-true, ne_eqb}
 use Rattle.terms.specs.declared.Family.TheVariants.{TwoRounds}
 use Rattle.fields.specs.Bytes.{at2}
 use Rattle.head_spec.specs.declared.Head.{Head}
-use Rattle.head_spec.specs.Kept.{Offer}
 use Rattle.head_spec.specs.Calls.{started}
 use Rattle.headplay.specs.declared.Outcome.{Outcome}
 use Rattle.headplay.specs.Script.{turn, record_size, played_up_to, played}

@@ -1,2 +1,3 @@
 -- What a record of a script does.
+pub mod Calls
 pub mod Script

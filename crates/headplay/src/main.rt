@@ -18,10 +18,12 @@
 ghost use Rattle.std.specs.Prelude.{◌≡◌, pos, length, take};
 ghost use Rattle.terms.specs.declared.Family.TheVariants.{TwoRounds};
 ghost use Rattle.head_spec.specs.Batch.{hear_batch, batch_answers, batch_count};
-ghost use Rattle.head_spec.specs.Calls.{started, start, restart, start_listener, restart_listener, hear, close, adopt, write_answer, write_buffer};
+ghost use Rattle.head_spec.specs.Calls.{started, start, restart, start_listener, restart_listener, hear, close, adopt};
 ghost use Rattle.head_spec.specs.Offers.{lapsed_by};
-ghost use Rattle.head_lent.specs.Answers.{closed_number, written_number, written_or};
-ghost use Rattle.headplay.specs.Script.{answered, family_at, opening, batched, write_outcome, closed, turn, record_size, played};
+ghost use Rattle.head_lent.specs.Answers.{closed_number};
+ghost use Rattle.fields.specs.Bytes.{at4, signed_at};
+ghost use Rattle.headplay.specs.Calls.{Named};
+ghost use Rattle.headplay.specs.Script.{answered, family_at, batched, write_outcome, closed, turn, record_size, played};
 
 use head_spec::{Answer, Closed, Closing, Head, Offer};
 use settle_midpoint::Kept;
@@ -32,89 +34,116 @@ const STDIN_FILENO: i32 = 0;
 
 const STDOUT_FILENO: i32 = 1;
 
-// ---- The record, lent: each function puts it into a local, lends that to the call, and gives back what the call answers and the record
-// that it left.
+// ---- The record, lent: each function owns the record, lends it to the call, and gives back what the call answers and the record that it
+// left. Those of a start or a restart read their arguments where they stand in a script's record s.
 
-fn start(h: Head, family: Family, n: u32, f: u32, number: u32, position: i32) -> Answer
-    ensures { result ≡ start h family n f number position }
+fn start(s: &[u8], mut h: Head) -> Answer
+    ensures { result ≡ start h (family_at s.now) (at4 s.now 3) (at4 s.now 7) (at4 s.now 11) (signed_at s.now 15) }
 {
-    let mut g = h;
-    let refusal = terms::number_of(head_lent::start(&mut g, family, n, f, number, position));
-    Answer { refusal, head: g }
+    text(b"start");
+    let position = fields::signed(fields::word_at(s, 15));
+    let started = head_lent::start(
+        &mut h,
+        family_at(s),
+        fields::word_at(s, 3),
+        fields::word_at(s, 7),
+        fields::word_at(s, 11),
+        position,
+    );
+    Answer {
+        refusal: terms::number_of(started),
+        head: h,
+    }
 }
 
-fn restart(h: Head, family: Family, n: u32, f: u32, number: u32, phase: u32, round: u32) -> Answer
-    ensures { result ≡ restart h family n f number phase round }
+fn restart(s: &[u8], mut h: Head) -> Answer
+    ensures { result ≡ restart h (family_at s.now) (at4 s.now 3) (at4 s.now 7) (at4 s.now 11) (at4 s.now 15) (at4 s.now 19) }
 {
-    let mut g = h;
-    let refusal = terms::number_of(head_lent::restart(&mut g, family, n, f, number, phase, round));
-    Answer { refusal, head: g }
+    text(b"restart");
+    let restarted = head_lent::restart(
+        &mut h,
+        family_at(s),
+        fields::word_at(s, 3),
+        fields::word_at(s, 7),
+        fields::word_at(s, 11),
+        fields::word_at(s, 15),
+        fields::word_at(s, 19),
+    );
+    Answer {
+        refusal: terms::number_of(restarted),
+        head: h,
+    }
 }
 
-fn start_listener(h: Head, family: Family, n: u32, f: u32, number: u32) -> Answer
-    ensures { result ≡ start_listener h family n f number }
+fn start_listener(s: &[u8], mut h: Head) -> Answer
+    ensures { result ≡ start_listener h (family_at s.now) (at4 s.now 3) (at4 s.now 7) (at4 s.now 11) }
 {
-    let mut g = h;
-    let refusal = terms::number_of(head_lent::start_listener(&mut g, family, n, f, number));
-    Answer { refusal, head: g }
+    text(b"start_listener");
+    let started = head_lent::start_listener(
+        &mut h,
+        family_at(s),
+        fields::word_at(s, 3),
+        fields::word_at(s, 7),
+        fields::word_at(s, 11),
+    );
+    Answer {
+        refusal: terms::number_of(started),
+        head: h,
+    }
 }
 
-fn restart_listener(
-    h: Head,
-    family: Family,
-    n: u32,
-    f: u32,
-    number: u32,
-    phase: u32,
-    round: u32,
-) -> Answer
-    ensures { result ≡ restart_listener h family n f number phase round }
+fn restart_listener(s: &[u8], mut h: Head) -> Answer
+    ensures { result ≡ restart_listener h (family_at s.now) (at4 s.now 3) (at4 s.now 7) (at4 s.now 11) (at4 s.now 15) (at4 s.now 19) }
 {
-    let mut g = h;
-    let refusal = terms::number_of(head_lent::restart_listener(&mut g, family, n, f, number, phase, round));
-    Answer { refusal, head: g }
+    text(b"restart_listener");
+    let restarted = head_lent::restart_listener(
+        &mut h,
+        family_at(s),
+        fields::word_at(s, 3),
+        fields::word_at(s, 7),
+        fields::word_at(s, 11),
+        fields::word_at(s, 15),
+        fields::word_at(s, 19),
+    );
+    Answer {
+        refusal: terms::number_of(restarted),
+        head: h,
+    }
 }
 
-fn hear(h: Head, link: u32, frame: &[u8]) -> Answer
+fn hear(mut h: Head, link: u32, frame: &[u8]) -> Answer
     ensures { result ≡ hear h link frame.now }
 {
-    let mut g = h;
-    let refusal = head_lent::hear(&mut g, link, frame);
-    Answer { refusal, head: g }
+    text(b"hear");
+    let refusal = head_lent::hear(&mut h, link, frame);
+    Answer { refusal, head: h }
 }
 
-fn hear_batch(h: Head, batch: &[u8], answers: &mut [u8], count: &mut usize) -> Answer
+fn hear_batch(mut h: Head, batch: &[u8], answers: &mut [u8], count: &mut usize) -> Answer
     ensures { (result ≡ hear_batch h batch.now (length answers.old))
         × (answers.new ≡ batch_answers h batch.now answers.old)
         × (count.new ≡ batch_count batch.now (length answers.old) count.old) }
 {
-    let mut g = h;
-    let refusal = head_lent::hear_batch(&mut g, batch, answers, count);
-    Answer { refusal, head: g }
+    let refusal = head_lent::hear_batch(&mut h, batch, answers, count);
+    Answer { refusal, head: h }
 }
 
-fn write(h: Head, buffer: &mut [u8], length: &mut usize) -> u8
-    ensures { (result ≡ written_number (write_answer h buffer.old))
-        × (buffer.new ≡ write_buffer h buffer.old)
-        × (length.new ≡ written_or (write_answer h buffer.old) length.old) }
-{
-    head_lent::write(&h, buffer, length)
-}
-
-fn close(h: Head) -> Closing
+fn close(mut h: Head) -> Closing
     ensures { result ≡ close h }
 {
-    let mut g = h;
-    let closed = head_lent::close(&mut g);
-    Closing { closed, head: g }
+    let closed = head_lent::close(&mut h);
+    Closing { closed, head: h }
 }
 
-fn adopt(h: Head, offer: Offer) -> Answer
+fn adopt(mut h: Head, offer: Offer) -> Answer
     ensures { result ≡ adopt h offer }
 {
-    let mut g = h;
-    let refusal = terms::number_of(head_lent::adopt(&mut g, offer));
-    Answer { refusal, head: g }
+    text(b"adopt");
+    let adopted = head_lent::adopt(&mut h, offer);
+    Answer {
+        refusal: terms::number_of(adopted),
+        head: h,
+    }
 }
 
 // ---- Text on standard output.
@@ -170,6 +199,45 @@ fn front(s: &[u8], len: usize) -> &[u8]
 
 // ---- The calls of a script.
 
+// The calls, with the numbers that name them in a script.
+#[derive(Clone, Copy, Debug, PartialEq, Eq)]
+enum Call {
+    Start = 0,
+    Restart = 1,
+    StartListener = 2,
+    RestartListener = 3,
+    Hear = 4,
+    HearBatch = 5,
+    Write = 6,
+    Close = 7,
+    Adopt = 8,
+}
+
+// A number that names no call is a look at the record.
+#[derive(Clone, Copy, Debug, PartialEq, Eq)]
+struct Look;
+
+impl TryFrom<u8> for Call {
+    type Error = Look;
+
+    ghost try_from_gives = { Named };
+
+    fn try_from(number: u8) -> Result<Self, Look> {
+        match number {
+            0 => Ok(Call::Start),
+            1 => Ok(Call::Restart),
+            2 => Ok(Call::StartListener),
+            3 => Ok(Call::RestartListener),
+            4 => Ok(Call::Hear),
+            5 => Ok(Call::HearBatch),
+            6 => Ok(Call::Write),
+            7 => Ok(Call::Close),
+            8 => Ok(Call::Adopt),
+            _ => Err(Look),
+        }
+    }
+}
+
 // A call's number, and what the host holds after it.
 #[derive(Clone, Copy)]
 struct Outcome {
@@ -181,10 +249,9 @@ struct Outcome {
 fn answered(a: Answer, offer: Offer) -> Outcome
     ensures { result ≡ answered a offer }
 {
-    let head = a.head;
     Outcome {
         number: a.refusal,
-        head,
+        head: a.head,
         offer: head_calls::lapsed(a.refusal, offer),
     }
 }
@@ -197,32 +264,6 @@ fn family_at(s: &[u8]) -> Family
         return Family::TwoRounds;
     }
     Family::OneRound
-}
-
-// Calls 0 to 3.
-fn opening(call: u8, s: &[u8], h: Head) -> Answer
-    ensures { result ≡ opening call s.now h }
-{
-    let family = family_at(s);
-    let n = fields::word_at(s, 3);
-    let f = fields::word_at(s, 7);
-    let number = fields::word_at(s, 11);
-    let fourth = fields::word_at(s, 15);
-    let fifth = fields::word_at(s, 19);
-    if call == 0 {
-        text(b"start");
-        return start(h, family, n, f, number, fields::signed(fourth));
-    }
-    if call == 1 {
-        text(b"restart");
-        return restart(h, family, n, f, number, fourth, fifth);
-    }
-    if call == 2 {
-        text(b"start_listener");
-        return start_listener(h, family, n, f, number);
-    }
-    text(b"restart_listener");
-    restart_listener(h, family, n, f, number, fourth, fifth)
 }
 
 // The offer after frames with these answers were heard.
@@ -242,10 +283,9 @@ fn batched(h: Head, batch: &[u8], answers: &mut [u8], offer: Offer) -> Outcome
     let given = front(answers, len);
     text(b"hear_batch");
     bytes(given);
-    let head = a.head;
     Outcome {
         number: a.refusal,
-        head,
+        head: a.head,
         offer: lapsed_by(given, offer),
     }
 }
@@ -254,7 +294,7 @@ fn written(h: Head, buffer: &mut [u8], offer: Offer) -> Outcome
     ensures { result ≡ write_outcome h (length buffer.old) offer }
 {
     let mut len: usize = 0;
-    let number = write(h, buffer, &mut len);
+    let number = head_lent::write(&h, buffer, &mut len);
     text(b"write");
     if number == 0 {
         bytes(front(buffer, len));
@@ -288,12 +328,10 @@ fn closed(h: Head, offer: Offer) -> Outcome
     ensures { result ≡ closed h offer }
 {
     let out = close(h);
-    let c = out.closed;
-    let head = out.head;
     Outcome {
-        number: closed_number(c),
-        head,
-        offer: head_calls::offered(c, offer),
+        number: closed_number(out.closed),
+        head: out.head,
+        offer: head_calls::offered(out.closed, offer),
     }
 }
 
@@ -301,37 +339,29 @@ fn closed(h: Head, offer: Offer) -> Outcome
 fn turn(s: &[u8], h: Head, offer: Offer) -> Outcome
     ensures { result ≡ turn s.now h offer }
 {
-    let call = fields::byte_at(s, 2);
     let room = fields::byte_at(s, 3) as usize;
     let mut space = io::buffer();
-    if call < 4 {
-        return answered(opening(call, s, h), offer);
-    }
-    if call == 4 {
-        text(b"hear");
-        return answered(
+    match Call::try_from(fields::byte_at(s, 2)) {
+        Ok(Call::Start) => answered(start(s, h), offer),
+        Ok(Call::Restart) => answered(restart(s, h), offer),
+        Ok(Call::StartListener) => answered(start_listener(s, h), offer),
+        Ok(Call::RestartListener) => answered(restart_listener(s, h), offer),
+        Ok(Call::Hear) => answered(
             hear(h, fields::word_at(s, 3), fields::bytes_from(s, 7)),
             offer,
-        );
-    }
-    if call == 5 {
-        return batched(h, fields::bytes_from(s, 4), &mut space[..room], offer);
-    }
-    if call == 6 {
-        return written(h, &mut space[..room], offer);
-    }
-    if call == 7 {
-        return closed(h, offer);
-    }
-    if call == 8 {
-        text(b"adopt");
-        return answered(adopt(h, offer), offer);
-    }
-    text(b"look");
-    Outcome {
-        number: 0,
-        head: h,
-        offer,
+        ),
+        Ok(Call::HearBatch) => batched(h, fields::bytes_from(s, 4), &mut space[..room], offer),
+        Ok(Call::Write) => written(h, &mut space[..room], offer),
+        Ok(Call::Close) => closed(h, offer),
+        Ok(Call::Adopt) => answered(adopt(h, offer), offer),
+        Err(Look) => {
+            text(b"look");
+            Outcome {
+                number: 0,
+                head: h,
+                offer,
+            }
+        }
     }
 }
 
@@ -339,17 +369,14 @@ fn turn(s: &[u8], h: Head, offer: Offer) -> Outcome
 fn show(x: Outcome) {
     text(b":");
     count(x.number as u64);
-    let h = x.head;
-    let seat = h.seat;
+    let seat = x.head.seat;
     count(seat.phase as u64);
     count(seat.round as u64);
-    let position = seat.position;
-    match position {
+    match seat.position {
         None => text(b" none"),
         Some(v) => steps(v),
     }
-    let offer = x.offer;
-    match offer {
+    match x.offer {
         None => text(b" none"),
         Some(k) => kept(k),
     }

@@ -19,5 +19,5 @@ pub returns : goal.returns
 returns c =
     fold_over fronts (λ y. y.now) _ (λ cs o. o ≡ lapsed_by cs c.args.offer) _
     (λ cs a n b f' h k.
-        (let e : b ≡ lapsed n.now a = search rules in e ∙ ap (lapsed n.now) h ∙ sym (one_more cs n.now c.args.offer), search rules))
+    (let e : b ≡ lapsed n.now a = search rules in e ∙ ap (lapsed n.now) h ∙ sym (one_more cs n.now c.args.offer), search rules))
     _ c.args.answers.now c.args.offer c.fold.result (YieldsList-from_slice c.args.answers.now c.iter.ensures.rest).runs (none c.args.offer) c.fold.ensures.ran
