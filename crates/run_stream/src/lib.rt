@@ -16,7 +16,7 @@ use frame_slots::{PlantedBytes, PlantedLengths};
 use run_piece::{FeedResult, PassResult};
 use run_spec::Pair;
 use run_state::{Carry, Counts, Player};
-use terms::{Lists, Positions, Words, Refusal};
+use terms::{Lists, Positions, Refusal, Words};
 use texts::Text;
 
 // A page of the listing, of 256 lines at least.
