@@ -59,8 +59,8 @@
  * reads a mixture. So an interrupt handler makes no call on the block: after each call that changes it the program takes a copy of the
  * window, into the one of two buffers that is not shown, and then shows it; the handler reads the copy.
  *
- * The functions call memcpy, memmove and memset, and nothing else. Stack: focus_play takes less than FOCUS_STACK_PLAY bytes, each
- * other call less than FOCUS_STACK (measured by host/c/stack.c, not proved).
+ * The functions call memcpy and memset, and nothing else. Stack: focus_play takes less than FOCUS_STACK_PLAY bytes, each other call
+ * less than FOCUS_STACK (measured by host/c/stack.c, not proved).
  *
  * docs/TRUST.md says what must be believed of all this, and what whoever builds a ring of it owes. Link with the one library that
  * `host/install PREFIX` makes:

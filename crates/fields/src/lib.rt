@@ -4,6 +4,7 @@
 
 ghost use Rattle.std.specs.Prelude.{◌≡◌, ◌+◌, ◌*◌, ◌≤◌, ◌<◌, length, get_or, drop, set, []};
 ghost use Rattle.fields.specs.Bytes.{at2, at4, signed_of, word_of, put2, put4, over, copied};
+ghost use Rattle.std.proofs.Math.Seq.{paste};
 
 // The byte at a place.
 pub fn byte_at(s: &[u8], at: usize) -> u8
@@ -138,7 +139,57 @@ pub fn put_word(s: &mut [u8], at: usize, x: u32)
     }
 }
 
-// Copies bytes over a slice from a place on, if they fit there.
+// Copies eight bytes over a slice from a place on, all of which is there. They are read before one is written, so that it can be done at once.
+fn copy_eight(s: &mut [u8], at: usize, bytes: &[u8])
+    requires { (at + 8 ≤ length s.old) × (8 ≤ length bytes.now) }
+    ensures { s.new ≡ paste s.old at bytes.now 8 }
+{
+    let b0 = bytes[0];
+    let b1 = bytes[1];
+    let b2 = bytes[2];
+    let b3 = bytes[3];
+    let b4 = bytes[4];
+    let b5 = bytes[5];
+    let b6 = bytes[6];
+    let b7 = bytes[7];
+    s[at] = b0;
+    s[at + 1] = b1;
+    s[at + 2] = b2;
+    s[at + 3] = b3;
+    s[at + 4] = b4;
+    s[at + 5] = b5;
+    s[at + 6] = b6;
+    s[at + 7] = b7;
+}
+
+// The same of the first `count` bytes, one by one.
+fn copy_few(s: &mut [u8], at: usize, bytes: &[u8], count: usize)
+    requires { (at + count ≤ length s.old) × (count ≤ length bytes.now) }
+    ensures { s.new ≡ paste s.old at bytes.now count }
+{
+    // A `while`, as below.
+    let mut j: usize = 0;
+    while j < count {
+        s[at + j] = bytes[j];
+        j += 1;
+    }
+}
+
+// The same of all bytes.
+fn copy_within(s: &mut [u8], at: usize, bytes: &[u8])
+    requires { at + length bytes.now ≤ length s.old }
+    ensures { s.new ≡ paste s.old at bytes.now (length bytes.now) }
+{
+    // A `while`: with a `for` over the eights, and one over what is left, the player takes more instructions.
+    let mut j: usize = 0;
+    while 8 <= bytes.len() - j {
+        copy_eight(s, at + j, &bytes[j..]);
+        j += 8;
+    }
+    copy_few(s, at + j, &bytes[j..], bytes.len() % 8);
+}
+
+// Copies bytes over a slice from a place on, if they fit there. Not by `copy_from_slice`, which calls `memmove`: the library for C needs none.
 pub fn put_bytes(s: &mut [u8], at: usize, bytes: &[u8])
     ensures { s.new ≡ copied s.old at bytes.now }
 {
@@ -149,5 +200,5 @@ pub fn put_bytes(s: &mut [u8], at: usize, bytes: &[u8])
     if size - at < bytes.len() {
         return;
     }
-    s[at..at + bytes.len()].copy_from_slice(bytes);
+    copy_within(s, at, bytes);
 }

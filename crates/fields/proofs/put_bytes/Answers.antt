@@ -1,8 +1,7 @@
 -- `fields::put_bytes` meets its contract: the bytes are copied just if they fit.
 use borrow.Author.Rules.{rules}
-use native.Mathlib.Omega.{arith}
-use mathlib.Core.Path.{sym}
-use Rattle.fields.proofs.Copying.{copied_over, copied_not}
+use mathlib.Core.Path.{sym, ◌∙◌}
+use Rattle.fields.proofs.Copying.{copied_fits, copied_not}
 use Rattle.fields.proofs.put_bytes.Goals as goal
 
 pub returns-then-size-at : goal.returns-then-size-at
@@ -12,4 +11,4 @@ pub returns-then-size-at-2 : goal.returns-then-size-at-2
 returns-then-size-at-2 c = sym (copied_not _ _ _ (search rules))
 
 pub returns : goal.returns
-returns c = copied_over _ _ _ c.copy_from_slice.ensures.after (omega arith)
+returns c = c.copy_within.ensures ∙ sym (copied_fits _ _ _ (search rules))
