@@ -1,6 +1,7 @@
 /* The stack that each call takes: it is run on a stack of its own that was painted before, and the lowest byte that changed tells.
  * Every call is made with the largest ring, and focus_play with each of the files that are named. The header's two numbers,
- * FOCUS_STACK and FOCUS_STACK_PLAY, must be above what is found.
+ * FOCUS_STACK and FOCUS_STACK_PLAY, must be above what is found; and every call but focus_play and focus_host_page takes less than OTHERS,
+ * as docs/TRUST.md (B5) says.
  *
  *     stack FILE.run..
  */
@@ -9,7 +10,7 @@
 
 #include <ucontext.h>
 
-enum { SIZE = 1 << 20, PAINT = 0x5a, N = 32, F = 8, MOST = 1 << 22 };
+enum { SIZE = 1 << 20, PAINT = 0x5a, N = 32, F = 8, MOST = 1 << 22, OTHERS = 1024 };
 
 static _Alignas(64) uint8_t area[SIZE];
 static ucontext_t here, there;
@@ -106,19 +107,19 @@ static size_t shown(const char *name, void (*call)(void), size_t most) {
     size_t depth = depth_of(call) - base;
     printf("%-36s %7zu\n", name, depth);
     same(name, depth < most, 1);
-    if (most == FOCUS_STACK && deepest < depth)
+    if (most != FOCUS_STACK_PLAY && deepest < depth)
         deepest = depth;
     return depth;
 }
 
 /* a call that must be taken */
 static void taken(const char *name, void (*call)(void)) {
-    shown(name, call, FOCUS_STACK);
+    shown(name, call, OTHERS);
     same(name, number, FOCUS_OK);
 }
 
 static void answers_only(const char *name, void (*call)(void)) {
-    shown(name, call, FOCUS_STACK);
+    shown(name, call, OTHERS);
 }
 
 /* a batch of all links: positions, or lists, with liars and with as many confessions as there may be */
@@ -186,7 +187,8 @@ static void of_a_head(void) {
     answers_only("focus_head_reading", readings);
     for (int k = 1; k < N; k++)
         heads[k] = heads[0];
-    taken("focus_host_page", host_page);
+    shown("focus_host_page", host_page, FOCUS_STACK);
+    same("focus_host_page", number, FOCUS_OK);
     answers_only("focus_head_register", reads_register);
     answers_only("focus_head_window", reads_window);
     taken("focus_head_set_register", sets_register);
@@ -203,7 +205,7 @@ static void of_garbage(void) {
     heads[0].opaque[6] = 0;
     heads[0].opaque[14] = 0;
     answers_only("focus_head_close, more garbage", closes);
-    answers_only("focus_host_page, garbage", host_page);
+    shown("focus_host_page, garbage", host_page, FOCUS_STACK);
 }
 
 static size_t of_a_file(const char *name) {

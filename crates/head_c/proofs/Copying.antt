@@ -7,7 +7,7 @@ use native.Mathlib.Omega.{arith}
 use native.Mathlib.Numerals.{add-one}
 use native.Mathlib.Decide.{ℕ_discrete, dec_lt}
 use lib.ListN.{length, get_or, set, take, drop, length-append, length-set, get_or-append}
-use lib.Seq.{get_or_at, get_or-take, get_or-drop, get_or-set_same, get_or-set_other, get_or-append-add, ext_get_or}
+use lib.Seq.{get_or_at, get_or-take, get_or-drop, get_or-set_same, get_or-set_other, get_or-append-add, ext_get_or, take_all, take-suc, take-suc-set}
 use lib.Seq.{length-take-le, length-paste, length_paste_head, paste, paste-suc}
 use Rattle.head_c.specs.Blocks.{up_to}
 
@@ -46,6 +46,29 @@ module _ {A : Type 0} where
       at_each i l = by_cases (ℕ_discrete i k)
           (λ q. rw q (e ∙ sym (get_or-set_same (up_to n f) k v v (omega (arith, up_to_long n f)))))
           (λ d. h i l d ∙ sym (get_or-set_other (up_to n f) k i v v d ∙ up_to_at n f i v l))
+
+-- ---- filled from the front
+
+-- r has n elements, the first j of them those of s
+pub record Filled {A : Type 0} (n : ℕ) (s : List A) (j : ℕ) (r : List A) : Type 0 where
+  pub long : length r ≡ n
+  pub first : take j r ≡ take j s
+
+pub filled_none : {A : Type 0} {n : ℕ} (s r : List A) → length r ≡ n → Filled n s 0 r
+filled_none s r e = record { long = e; first = refl }
+
+-- one element more
+pub filled_more : {A : Type 0} {n j : ℕ} {s r : List A} {v : A} (d : A) → Filled n s j r → v ≡ get_or s j d → j < n → length s ≡ n
+    → Filled n s (j + 1) (set r j v)
+filled_more {A = A} {n} {j} {s} {r} {v} d F q l e =
+    record {
+      long = length-set r j v ∙ F.long;
+      first =
+          rw (add-one j, take-suc-set r j v (omega (arith, F.long)), take-suc s j d (omega arith), F.first, q);
+    }
+
+pub filled_all : {A : Type 0} {n j : ℕ} {s r : List A} → Filled n s j r → j ≡ n → length s ≡ n → r ≡ s
+filled_all {n = n} {j} {s} {r} F q e = sym (take_all j r (omega (arith, F.long))) ∙ F.first ∙ take_all j s (omega arith)
 
 -- ---- copied
 

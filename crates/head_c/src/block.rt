@@ -113,7 +113,9 @@ pub(crate) fn links_in(h: &[u32]) -> Links
     ensures { result ≡ (head_of h.now).links }
 {
     let mut marks = [0u32; HEADS];
-    marks.copy_from_slice(&h[place::LIST_MARKS..place::LIST_MARKS + HEADS]);
+    for k in 0..HEADS {
+        marks[k] = h[place::LIST_MARKS + k];
+    }
     Links {
         confessed: h[place::CONFESSED],
         listed: h[place::LISTED],

@@ -1,15 +1,18 @@
--- The mark words stand in a row.
-use Rattle.std.proofs.Common.{sym, ◌∙◌, ◌+◌, get_or, take, drop, arith}
-use lib.ListN.{length-drop}
-use lib.Seq.{get_or-take, get_or-drop, length-take-le}
+-- Word after word: after k turns the first k mark words are there.
+use mathlib.Core.Path.{refl, sym}
+use native.Mathlib.Omega.{arith}
 use Rattle.head_c.specs.Blocks.{head_of}
-use Rattle.head_c.proofs.Copying.{up_to_list}
+use Rattle.head_c.proofs.Copying.{up_to_long, up_to_at, filled_none, filled_more, filled_all}
 use Rattle.head_c.proofs.block.links_in.Goals as goal
+
+pub loop-k-init : goal.loop-k-init
+loop-k-init c = filled_none _ _ refl
+
+pub loop-k-preserved : goal.loop-k-preserved
+loop-k-preserved c =
+    let l = c.loop-k in
+    filled_more 0 l.invariant (sym (up_to_at 32 _ l.k 0 (omega arith))) (omega arith) (up_to_long 32 _)
 
 pub returns : goal.returns
 unfolding head_of
-returns c =
-    let w = c.args.h.now in
-    let marks = up_to_list 32 (λ k. get_or w (60 + k) 0) (take 32 (drop 60 w)) 0 (length-take-le 32 (drop 60 w) (omega (arith, length-drop 60 w)))
-    (λ k l. sym (get_or-take 32 (drop 60 w) k 0 l ∙ get_or-drop 60 w k 0)) in
-    rw (c.copy_from_slice.ensures.after, sym marks)
+returns c = rw (filled_all c.loop-k.invariant (omega arith) (up_to_long 32 _))
