@@ -92,3 +92,13 @@ pub fn check(frame: &[u8]) -> Result<&[u8], Refusal>
     frame_refusal(frame)?;
     Ok(&frame[7..])
 }
+
+// The rest of a frame, as that part of the caller's own bytes; of a frame that is refused nothing.
+pub fn rest(frame: &[u8]) -> &[u8]
+    ensures { result.now ≡ rest_of frame.now }
+{
+    match check(frame) {
+        Ok(rest) => rest,
+        Err(_) => &[],
+    }
+}

@@ -83,10 +83,9 @@ pub(crate) fn scaled(s: Result<i64, Refusal>) -> u64 {
 
 // A frame, checked.
 pub(crate) fn check(frame: &[u8]) -> u64 {
-    let checked = frame_check::check(frame);
-    taken(checked);
+    taken(frame_check::check(frame));
     text(b", rest of ");
-    count(checked.unwrap_or(&[]).len() as u64);
+    count(frame_check::rest(frame).len() as u64);
     text(b" bytes");
     OTHER
 }
