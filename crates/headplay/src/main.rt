@@ -37,6 +37,7 @@ const STDOUT_FILENO: i32 = 1;
 // ---- The record, lent: each function owns the record, lends it to the call, and gives back what the call answers and the record that it
 // left. Those of a start or a restart read their arguments where they stand in a script's record s.
 
+#[inline(never)]
 fn start(s: &[u8], mut h: Head) -> Answer
     ensures { result ≡ start h (family_at s.now) (at4 s.now 3) (at4 s.now 7) (at4 s.now 11) (signed_at s.now 15) }
 {
@@ -56,6 +57,7 @@ fn start(s: &[u8], mut h: Head) -> Answer
     }
 }
 
+#[inline(never)]
 fn restart(s: &[u8], mut h: Head) -> Answer
     ensures { result ≡ restart h (family_at s.now) (at4 s.now 3) (at4 s.now 7) (at4 s.now 11) (at4 s.now 15) (at4 s.now 19) }
 {
@@ -75,6 +77,7 @@ fn restart(s: &[u8], mut h: Head) -> Answer
     }
 }
 
+#[inline(never)]
 fn start_listener(s: &[u8], mut h: Head) -> Answer
     ensures { result ≡ start_listener h (family_at s.now) (at4 s.now 3) (at4 s.now 7) (at4 s.now 11) }
 {
@@ -92,6 +95,7 @@ fn start_listener(s: &[u8], mut h: Head) -> Answer
     }
 }
 
+#[inline(never)]
 fn restart_listener(s: &[u8], mut h: Head) -> Answer
     ensures { result ≡ restart_listener h (family_at s.now) (at4 s.now 3) (at4 s.now 7) (at4 s.now 11) (at4 s.now 15) (at4 s.now 19) }
 {
@@ -111,6 +115,7 @@ fn restart_listener(s: &[u8], mut h: Head) -> Answer
     }
 }
 
+#[inline(never)]
 fn hear(mut h: Head, link: u32, frame: &[u8]) -> Answer
     ensures { result ≡ hear h link frame.now }
 {
@@ -119,6 +124,7 @@ fn hear(mut h: Head, link: u32, frame: &[u8]) -> Answer
     Answer { refusal, head: h }
 }
 
+#[inline(never)]
 fn hear_batch(mut h: Head, batch: &[u8], answers: &mut [u8], count: &mut usize) -> Answer
     ensures { (result ≡ hear_batch h batch.now (length answers.old))
         × (answers.new ≡ batch_answers h batch.now answers.old)
@@ -128,6 +134,7 @@ fn hear_batch(mut h: Head, batch: &[u8], answers: &mut [u8], count: &mut usize) 
     Answer { refusal, head: h }
 }
 
+#[inline(never)]
 fn close(mut h: Head) -> Closing
     ensures { result ≡ close h }
 {
@@ -135,6 +142,7 @@ fn close(mut h: Head) -> Closing
     Closing { closed, head: h }
 }
 
+#[inline(never)]
 fn adopt(mut h: Head, offer: Offer) -> Answer
     ensures { result ≡ adopt h offer }
 {
