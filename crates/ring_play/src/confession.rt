@@ -154,6 +154,26 @@ fn copied(lists: &Lists) -> Lists
     *lists
 }
 
+// The same from a copy of the lists. It is never inlined: the copy's place is cleared wherever it is entered, and few rounds come here.
+#[inline(never)]
+fn fill_each(
+    s: Stage,
+    planted: &[u8],
+    lengths: &[u8],
+    base: Links,
+    lists: &Lists,
+    positions: &mut Positions,
+)
+    requires { Unplanted s base lists.now }
+    ensures { (i : ℕ) → slice_index_or positions.new i (pos 0)
+        ≡ cond (settles s i)
+        (position_settled s (given_or_planted s (given_by base lists.now) (planted_in planted.now lengths.now) i))
+        (slice_index_or positions.old i (pos 0)) }
+{
+    let mut rows = copied(lists);
+    fill_positions(s, planted, lengths, base, &mut rows, positions);
+}
+
 // A confession round: the new position of each receiver that is not struck, from the lists, which are such that a frame can say them, and
 // what is planted. The other positions stay as they were. An honest frame reads back as what it says, so none is written.
 pub fn confess(
@@ -177,6 +197,5 @@ pub fn confess(
     if shared::settle_all(s, lists, links, planted, lengths, positions) {
         return;
     }
-    let mut rows = copied(lists);
-    fill_positions(s, planted, lengths, links, &mut rows, positions);
+    fill_each(s, planted, lengths, links, lists, positions);
 }

@@ -112,6 +112,7 @@ pub(crate) fn settles(s: Stage, i: usize) -> bool
 }
 
 // Whether the same is planted from each struck head to receivers i and m: what the one hears of them, the other does too.
+#[inline(always)]
 pub(crate) fn is_same_planted(s: Stage, planted: &[u8], lengths: &[u8], i: usize, m: usize) -> bool
     requires { (i < 48) × (m < 48) }
     ensures { (result ≡ true) ↔ SamePlanted s (planted_in planted.now lengths.now) i m }
@@ -125,7 +126,8 @@ pub(crate) fn is_same_planted(s: Stage, planted: &[u8], lengths: &[u8], i: usize
 }
 
 // The receiver `before`, which settles before i, if the same is planted to both: what is made of what the one hears, is made of what the
-// other hears. To answer none is free, and shows in the time alone.
+// other hears. To answer none is free, and shows in the time alone. It is inlined, since it is asked twice for each receiver.
+#[inline(always)]
 pub(crate) fn same_before(
     s: Stage,
     planted: &[u8],
@@ -136,7 +138,10 @@ pub(crate) fn same_before(
     requires { (i < 48) × SettlesBefore s i before }
     ensures { AsBefore s (planted_in planted.now lengths.now) i result }
 {
-    before.filter(|m| is_same_planted(s, planted, lengths, i, *m))
+    match before {
+        Some(m) if is_same_planted(s, planted, lengths, i, m) => before,
+        _ => None,
+    }
 }
 
 // The last two receivers that settled, told apart by what is planted to them if that can be: liars tell two groups two things. None before

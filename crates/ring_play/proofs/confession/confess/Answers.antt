@@ -32,18 +32,18 @@ returns-then-settle_all c fit i =
     c.settle_all.ensures.settles c.if-settle_all.true (alike_given a.s a.marks.now a.lists.now c.links_of-links.result a.lists.now own) i
     ∙ new_is a.s a.marks.now a.lists.now c.links_of-links.result own (planted_in a.planted.now a.lengths.now) i (get_or a.positions.now i (pos 0))
 
-pub fill_positions-requires : goal.fill_positions-requires
-fill_positions-requires c =
+pub fill_each-requires : goal.fill_each-requires
+fill_each-requires c =
     let a = c.args in
     let links = c.links_of-links.result in
     let m : length links.marks ≡ 32 = search rules in
-    let r : length c.copied-rows.result ≡ 32 = search rules in
-    rw c.copied-rows.ensures (own_untold a.s a.marks.now a.lists.now links c.links_of-links.ensures m (rw c.copied-rows.ensures at r))
+    let r : length a.lists.now ≡ 32 = search rules in
+    own_untold a.s a.marks.now a.lists.now links c.links_of-links.ensures m r
 
 pub returns : goal.returns
 returns c fit i =
     let a = c.args in
     let own = own_given a.s (phase_small a.s c.well_formed.0) a.marks.now a.lists.now c.links_of-links.result c.links_of-links.ensures fit in
-    c.fill_positions.ensures i
-    ∙ rw (c.copied-rows.ensures, c.settle_all.ensures.stays c.if-settle_all.false)
+    c.fill_each.ensures i
+    ∙ rw (c.settle_all.ensures.stays c.if-settle_all.false)
     (new_is a.s a.marks.now a.lists.now c.links_of-links.result own (planted_in a.planted.now a.lengths.now) i (get_or a.positions.now i (pos 0)))
